@@ -1,0 +1,14 @@
+-- The numbers of refusals in replies.
+use Rattle.std.specs.Prelude.{ℕ}
+use Rattle.acdm_milestones.specs.declared.refusal.Refusal.{Refusal}
+use Rattle.acdm_milestones.specs.declared.refusal.Refusal.TheVariants.{NotOwner, UnknownFlight, MissingMilestone, Barred, NotSet, TimeOrder, AlreadyPlanned, FullBoard}
+
+abbrev pub refusal_code : Refusal → ℕ
+refusal_code NotOwner = 201
+refusal_code UnknownFlight = 202
+refusal_code MissingMilestone = 203
+refusal_code Barred = 204
+refusal_code NotSet = 205
+refusal_code TimeOrder = 206
+refusal_code AlreadyPlanned = 207
+refusal_code FullBoard = 503

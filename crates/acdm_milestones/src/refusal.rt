@@ -1,0 +1,42 @@
+//! Why a command is refused.
+ghost use Rattle.std.specs.Prelude.{◌≡◌};
+ghost use Rattle.acdm_milestones.specs.Codes.{refusal_code};
+
+/// Why the board refuses a command.
+#[derive(Clone, Copy, Debug, PartialEq, Eq)]
+pub enum Refusal {
+    /// 201: the role does not own the action.
+    NotOwner,
+    /// 202: the flight is not on the board.
+    UnknownFlight,
+    /// 203: a milestone that it needs was not reached.
+    MissingMilestone,
+    /// 204: a milestone that bars it was reached.
+    Barred,
+    /// 205: TOBT or TSAT is needed and not set.
+    NotSet,
+    /// 206: a time would stand before the time that it follows.
+    TimeOrder,
+    /// 207: the flight has its schedule and its flight plan already.
+    AlreadyPlanned,
+    /// 503: the board has as many flights as it takes.
+    FullBoard,
+}
+
+impl Refusal {
+    /// The number of the refusal in a reply.
+    pub fn code(self) -> u16
+        ensures { result ≡ refusal_code self }
+    {
+        match self {
+            Refusal::NotOwner => 201,
+            Refusal::UnknownFlight => 202,
+            Refusal::MissingMilestone => 203,
+            Refusal::Barred => 204,
+            Refusal::NotSet => 205,
+            Refusal::TimeOrder => 206,
+            Refusal::AlreadyPlanned => 207,
+            Refusal::FullBoard => 503,
+        }
+    }
+}

@@ -1,0 +1,82 @@
+//! The partners, and what each may do.
+ghost use Rattle.std.specs.Prelude.{◌≡◌};
+ghost use Rattle.acdm_milestones.specs.Tables.{owns as is_owner, reports};
+
+use crate::milestone::Milestone;
+
+/// A partner's role.
+#[derive(Clone, Copy, Debug, PartialEq, Eq)]
+pub enum Role {
+    /// The network manager, `NM`.
+    NetworkManager,
+    /// Air traffic control, `ATC`.
+    AirTrafficControl,
+    /// The airport operator, `APT`.
+    AirportOperator,
+    /// An aircraft operator, `AO`.
+    AircraftOperator,
+    /// A ground handler, `GH`.
+    GroundHandler,
+}
+
+/// What a partner asks for, without its details.
+#[derive(Clone, Copy, Debug, PartialEq, Eq)]
+pub enum Action {
+    /// A report of a milestone.
+    Report(Milestone),
+    /// A schedule.
+    Schedule,
+    /// A load of a local program.
+    Load,
+    /// The removal of a local program.
+    Unload,
+    /// A tick of the clock for all flights.
+    Tick,
+    /// A question for a flight's record.
+    Show,
+    /// A question for all alerts.
+    Alerts,
+}
+
+fn is_operator_or_handler(role: Role) -> bool
+    ensures { result ≡ reports role Milestone.TobtUpdate }
+{
+    matches!(role, Role::AircraftOperator | Role::GroundHandler)
+}
+
+fn reports_milestone(role: Role, milestone: Milestone) -> bool
+    ensures { result ≡ reports role milestone }
+{
+    match milestone {
+        Milestone::FlightPlanActivated => matches!(role, Role::NetworkManager),
+        Milestone::TwoHoursBeforeEobt => matches!(role, Role::NetworkManager),
+        Milestone::TakeOffFromOutstation => matches!(role, Role::NetworkManager),
+        Milestone::LocalRadarUpdate => matches!(role, Role::AirTrafficControl),
+        Milestone::FinalApproach => matches!(role, Role::AirTrafficControl),
+        Milestone::Landed => matches!(role, Role::AirTrafficControl),
+        Milestone::InBlock => matches!(role, Role::AirportOperator),
+        Milestone::GroundHandlingStarts => matches!(role, Role::GroundHandler),
+        Milestone::TobtUpdate => is_operator_or_handler(role),
+        Milestone::TsatIssue => matches!(role, Role::AirTrafficControl),
+        Milestone::BoardingStarts => is_operator_or_handler(role),
+        Milestone::AircraftReady => is_operator_or_handler(role),
+        Milestone::StartUpRequest => matches!(role, Role::AirTrafficControl),
+        Milestone::StartUpApproved => matches!(role, Role::AirTrafficControl),
+        Milestone::OffBlock => matches!(role, Role::AirportOperator | Role::AirTrafficControl),
+        Milestone::TakeOff => matches!(role, Role::AirTrafficControl),
+    }
+}
+
+/// Whether a role may do this (this project's profile): a milestone belongs to its reporters, schedule,
+/// load, unload and tick to the airport operator, and questions to everyone.
+pub fn owns(role: Role, action: Action) -> bool
+    ensures { result ≡ is_owner role action }
+{
+    match action {
+        Action::Report(milestone) => reports_milestone(role, milestone),
+        Action::Schedule | Action::Load | Action::Unload | Action::Tick => {
+            matches!(role, Role::AirportOperator)
+        }
+        Action::Show | Action::Alerts => true,
+    }
+}

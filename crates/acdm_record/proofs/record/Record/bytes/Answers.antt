@@ -1,0 +1,7 @@
+use Rattle.std.proofs.Common.{◌≡◌, ap, sym, ◌∙◌, arith}
+use Rattle.acdm_record.specs.Fields.{bytes_of}
+use Rattle.acdm_record.proofs.Whole.{bytes_of-fields_at}
+use Rattle.acdm_record.proofs.record.Record.bytes.Goals as goal
+
+pub returns : goal.returns
+returns c = sym (bytes_of-fields_at c.self.inside.bytes c.self.told c.in_range.ensures c.self.invariant.filled) ∙ ap bytes_of c.self.view_is

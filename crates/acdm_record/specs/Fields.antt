@@ -1,0 +1,101 @@
+-- What a record is: a number for each number field and a text for each text field; and its bytes.
+use Rattle.std.specs.Prelude.{ℕ, ◌+◌, ◌-◌, ◌<◌, ◌≤◌, ◌≡◌, ◌^◌, Bool, true, ◌==◌, ◌&&◌, nat_le, nat_lt, List, [], ◌∷◌, ◌++◌, map, length, take, drop, slice_index, slice_index_or, slice_set, replicate}
+use Rattle.std.specs.List.{flat_map, before_first, list_all}
+use Rattle.std.specs.Int.{bit_at}
+use Rattle.byteorder.specs.Endian.{little_number, little_bytes}
+use Rattle.acdm_record.specs.declared.field.Field.{Field}
+use Rattle.acdm_record.specs.declared.field.Field.TheVariants.{Flight, Reached, Alerts, Layout}
+use Rattle.acdm_record.specs.declared.field.TextField.{TextField}
+use Rattle.acdm_record.specs.Place.{offset_of, width_of, index_of, fields, text_offset_of, text_width_of, text_index_of, text_fields, Name, number, text, layout}
+
+-- the numbers in the order of `fields`, and the texts in that of `text_fields`
+pub record Fields : Type 0 where
+  pub numbers : List ℕ
+  pub texts : List (List ℕ)
+
+-- the record that has these values
+abbrev pub fields_of : (Field → ℕ) → (TextField → List ℕ) → Fields
+fields_of n t = record { numbers = map n fields; texts = map t text_fields }
+
+-- the value under a name
+abbrev pub number_of : Fields → Field → ℕ
+number_of r f = slice_index r.numbers (index_of f)
+
+abbrev pub text_of : Fields → TextField → List ℕ
+text_of r t = slice_index_or r.texts (text_index_of t) []
+
+-- the record with another value under one name
+abbrev pub set_number : Fields → Field → ℕ → Fields
+set_number r f v = record { numbers = slice_set r.numbers (index_of f) v; texts = r.texts }
+
+abbrev pub set_text : Fields → TextField → List ℕ → Fields
+set_text r t v = record { numbers = r.numbers; texts = slice_set r.texts (text_index_of t) v }
+
+-- a text, and zero bytes up to the width
+abbrev pub padded : ℕ → List ℕ → List ℕ
+padded width t = t ++ replicate (width - length t) 0
+
+-- the bytes of one field
+abbrev pub spelled : Fields → Name → List ℕ
+spelled r (number f) = little_bytes (width_of f) (number_of r f)
+spelled r (text t) = padded (text_width_of t) (text_of r t)
+
+-- the bytes of a record
+unfoldable pub bytes_of : Fields → List ℕ
+bytes_of r = flat_map (spelled r) layout
+
+-- the bytes at a place
+abbrev pub part : ℕ → ℕ → List ℕ → List ℕ
+part offset width bytes = take width (drop offset bytes)
+
+-- what bytes say under a name
+abbrev pub number_at : List ℕ → Field → ℕ
+number_at bytes f = little_number (width_of f) (part (offset_of f) (width_of f) bytes)
+
+abbrev pub text_at : List ℕ → TextField → List ℕ
+text_at bytes t = before_first (λ b. b == 0) (part (text_offset_of t) (text_width_of t) bytes)
+
+-- the record that bytes say
+abbrev pub fields_at : List ℕ → Fields
+fields_at bytes = fields_of (number_at bytes) (text_at bytes)
+
+-- each text is left-justified and filled with zeros
+abbrev pub ArePadded : List ℕ → Type 0
+ArePadded bytes = (t : TextField) → part (text_offset_of t) (text_width_of t) bytes ≡ padded (text_width_of t) (text_at bytes t)
+
+-- the bytes of a text: from 0x21 to 0x7E
+abbrev pub is_text_byte : ℕ → Bool
+is_text_byte b = nat_le 33 b && nat_le b 126
+
+abbrev pub is_text : List ℕ → Bool
+is_text t = list_all is_text_byte t
+
+-- what a number may be beside fitting its bytes: the layout is 1, the reached word has no bit above 16,
+-- and the alert word has neither bit 0 nor bit 6
+abbrev pub is_allowed : Field → ℕ → Bool
+is_allowed Layout v = v == 1
+is_allowed Reached v = nat_lt v 131072
+is_allowed Alerts v = bit_at v 0 == 0 && bit_at v 6 == 0
+is_allowed _ v = true
+
+-- what each number of a record is, and each text
+abbrev pub AreAllowed : Fields → Type 0
+AreAllowed r = (f : Field) → is_allowed f (number_of r f) ≡ true
+
+abbrev pub AreTexts : Fields → Type 0
+AreTexts r = (t : TextField) → is_text (text_of r t) ≡ true
+
+-- the bytes of a record: its texts are printable and filled with zeros, its numbers are allowed
+pub record IsRecord (bytes : List ℕ) : Type 0 where
+  pub filled : ArePadded bytes
+  pub texts : AreTexts (fields_at bytes)
+  pub numbers : AreAllowed (fields_at bytes)
+
+-- a new record: the flight number, the layout, and nothing else
+abbrev pub new_number : ℕ → Field → ℕ
+new_number flight Flight = flight
+new_number flight Layout = 1
+new_number flight _ = 0
+
+abbrev pub new_record : ℕ → Fields
+new_record flight = fields_of (new_number flight) (λ _. [])

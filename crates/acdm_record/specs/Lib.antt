@@ -1,0 +1,4 @@
+pub mod Place
+pub mod Fields
+pub mod Texts
+pub mod Assign

@@ -1,0 +1,10 @@
+//! The record of a flight: 128 bytes that callers see as a map from field names to values.
+#![tactic(auto)]
+
+mod field;
+mod record;
+mod text;
+
+pub use field::{Field, TextField};
+pub use record::Record;
+pub use text::Text;

@@ -1,0 +1,134 @@
+//! The record itself.
+ghost use Rattle.std.specs.Prelude.{◌≡◌, ◌<◌, ◌≤◌, ◌^◌, ◌==◌, length, IsTrue, ℕ, slice_index};
+ghost use Rattle.std.specs.List.{before_first, position_or_len};
+ghost use Rattle.acdm_record.specs.Place.{width_of, text_width_of};
+ghost use Rattle.acdm_record.specs.Fields.{number_of, set_number, text_of, set_text, is_text, bytes_of, new_record, padded, is_allowed};
+
+use crate::field::{Field, TextField};
+use byteorder::{ByteOrder, LittleEndian};
+use std::marker::Model;
+
+/// A flight's record. It takes 128 bytes.
+#[derive(Drop)]
+pub struct Record {
+    bytes: [u8; 128],
+}
+
+impl Model for Record {
+    ghost use Rattle.acdm_record.specs.Fields.{Fields, fields_at, IsRecord};
+
+    ghost Value = { Fields };
+
+    ghost view = { λ r. fields_at r.bytes };
+
+    ghost invariant = { λ r. IsRecord r.bytes };
+}
+
+// What stands before the first zero byte.
+fn before_zero(part: &[u8]) -> &[u8]
+    ensures { result.now ≡ before_first (λ b. b == 0) part.now }
+{
+    &part[..zero_place(part)]
+}
+
+// The place of the first zero byte, or the length.
+fn zero_place(part: &[u8]) -> usize
+    ensures place { result ≡ position_or_len (λ b. b == 0) part.now }
+    ensures inside { result ≤ length part.now }
+{
+    for (i, byte) in part.iter().enumerate() {
+        if *byte == 0 {
+            return i;
+        }
+    }
+    part.len()
+}
+
+// Bytes are below 256, which a proof is told of a slice and not of an array behind a reference.
+fn in_range(bytes: &[u8])
+    ensures { (i : ℕ) → slice_index bytes.now i < 256 }
+{}
+
+// Writes a text, and zero bytes behind it.
+fn write_padded(part: &mut [u8], text: &[u8])
+    requires { length text.now ≤ length part.old }
+    ensures { part.new ≡ padded (length part.old) text.now }
+{
+    part.fill(0);
+    part[..text.len()].copy_from_slice(text);
+}
+
+impl Record {
+    /// The number under a name.
+    pub fn get(&self, field: Field) -> u64
+        ensures value { result ≡ number_of self.now field }
+        ensures fits { result < 256 ^ width_of field }
+        ensures allowed { IsTrue (is_allowed field result) }
+    {
+        let (offset, width) = field.place();
+        let part = &self.bytes[offset..offset + width];
+        in_range(part);
+        LittleEndian::read_uint(part, width)
+    }
+
+    /// Puts a number under a name, and leaves every other name as it is.
+    ///
+    /// The number fits the bytes of its field. The layout stays 1, the reached word has no bit above 16,
+    /// and the alert word has neither bit 0 nor bit 6.
+    pub fn set(&mut self, field: Field, value: u64)
+        requires fits { value < 256 ^ width_of field }
+        requires allowed { IsTrue (is_allowed field value) }
+        ensures { self.new ≡ set_number self.old field value }
+    {
+        let (offset, width) = field.place();
+        LittleEndian::write_uint(&mut self.bytes[offset..offset + width], value, width);
+    }
+
+    /// The text under a name, without the zeros behind it.
+    pub fn text(&self, field: TextField) -> &[u8]
+        ensures value { result.now ≡ text_of self.now field }
+        ensures printable { IsTrue (is_text result.now) }
+        ensures short { length result.now ≤ text_width_of field }
+    {
+        let (offset, width) = field.place();
+        before_zero(&self.bytes[offset..offset + width])
+    }
+
+    /// Puts a text under a name, and leaves every other name as it is.
+    ///
+    /// The text has at most as many bytes as its field, each from 0x21 to 0x7E; it may be empty.
+    pub fn set_text(&mut self, field: TextField, text: &[u8])
+        requires printable { IsTrue (is_text text.now) }
+        requires short { length text.now ≤ text_width_of field }
+        ensures { self.new ≡ set_text self.old field text.now }
+    {
+        let (offset, width) = field.place();
+        write_padded(&mut self.bytes[offset..offset + width], text);
+    }
+
+    /// Another record with the same bytes.
+    pub fn copy(&self) -> Record
+        ensures { result ≡ self.now }
+    {
+        Record { bytes: self.bytes }
+    }
+
+    /// The bytes of the record.
+    pub fn bytes(&self) -> &[u8; 128]
+        ensures { result.now ≡ bytes_of self.now }
+    {
+        in_range(&self.bytes);
+        &self.bytes
+    }
+
+    /// A new record: the flight number, the layout, and nothing else.
+    pub fn new(flight: u64) -> Self
+        ensures { result ≡ new_record flight }
+    {
+        let mut bytes = [0; 128];
+        bytes[62] = 1;
+        let mut record = Record { bytes };
+        record.set(Field::Flight, flight);
+        record
+    }
+}
