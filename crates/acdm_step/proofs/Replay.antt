@@ -1,0 +1,178 @@
+-- A step on the replay of a legal history is the replay of the longer history.
+use Rattle.std.proofs.Common.{◌≡◌, ◌≢◌, ℕ, ◌+◌, ◌<◌, ◌≤◌, Bool, true, false, cond, not, ◌&&◌, ◌||◌, ◌==◌, nat_lt, List, [], ◌∷◌, ◌++◌, map, length, get_or, set, Option, Some, None, refl, sym, ap, subst, ◌∙◌, arith, eqb-true, eq-eqb, ne_eqb}
+use Rattle.std.proofs.lemmas.List.{length-map, map_push, get_or_past}
+use Rattle.std.specs.List.{position_or_len}
+use Rattle.acdm_record.specs.Fields.{Fields, new_record}
+use Rattle.acdm_milestones.specs.declared.role.Role.{Role}
+use Rattle.acdm_milestones.specs.declared.role.Action.TheVariants as actions
+use Rattle.acdm_milestones.specs.declared.refusal.Refusal.TheVariants.{NotOwner, UnknownFlight}
+use Rattle.acdm_milestones.specs.Tables.{number, owns}
+use Rattle.acdm_step.specs.declared.command.Command.{Command}
+use Rattle.acdm_step.specs.declared.command.Command.TheVariants.{Schedule, Report}
+use Rattle.acdm_step.specs.declared.entry.Outcome.{Outcome}
+use Rattle.acdm_step.specs.declared.entry.Outcome.TheVariants.{Done, Refused}
+use Rattle.acdm_step.specs.declared.entry.Entry.{Entry}
+use Rattle.acdm_step.specs.History.{History, flight_of, is_of, is_done, creates, created, record_of, with_flight, flights, exists, outcome_for, outcome_of, IsLegal, replay, after, would_create}
+use Rattle.acdm_step.specs.Board.{changed, has_number, place_of, is_there, record_on, put, board_outcome, board_after}
+use Rattle.acdm_step.proofs.Records.{record_same, record_changed}
+use Rattle.acdm_step.proofs.Flights.{is_it, has, and_false, found, inside, outside, absent, updated, flights_distinct, grows, has-with_flight}
+
+-- ---- creation
+
+first_owned : (a b : Bool) (rest : Outcome) → is_done (cond (not a) (Refused NotOwner) (cond (not false && not b) (Refused UnknownFlight) rest)) ≡ true → b ≡ true
+first_owned true true rest h = refl
+first_owned true false rest h = h
+first_owned false true rest h = refl
+first_owned false false rest h = h
+
+-- a command that is accepted where its flight is not there creates it
+admitted_creates : (c : Command) (count : ℕ) (r : Fields) (role : Role) → is_done (outcome_for false count r role c) ≡ true → creates c ≡ true
+admitted_creates (Schedule s) count r role h = refl
+admitted_creates (Report p) count r role h = first_owned (owns role (actions.Report p.milestone)) (number p.milestone == 1) _ h
+
+-- what an accepted entry creates
+creates_or_not : (fs : List ℕ) (b : Bool) (f : ℕ) → has f fs ≡ true → with_flight fs (cond b (Some f) None) ≡ fs
+creates_or_not fs true f h = ap (λ b. cond b fs (fs ++ f ∷ [])) h
+creates_or_not fs false f h = refl
+
+-- ---- a flight that is not there has nothing set
+
+module _ (f : ℕ) (e : Entry) (J : History) (legal : e.outcome ≡ outcome_of J e.role e.moment e.command) (gone : has f (with_flight (flights J) (created e)) ≡ false) where
+  -- an accepted entry of a flight that is not there would have created it
+  not_named : is_done e.outcome ≡ true → (flight_of e.command == f) ≡ true → ⊥
+  not_named d n =
+      let same : flight_of e.command ≡ f = eqb-true (flight_of e.command) f n in
+      let before : has f (flights J) ≡ false = grows f (flights J) (created e) gone in
+      let there : exists J (flight_of e.command) ≡ false = subst (λ g. has g (flights J) ≡ false) (sym same) before in
+      let done : is_done (outcome_of J e.role e.moment e.command) ≡ true = sym (ap is_done legal) ∙ d in
+      let done' : is_done (outcome_for false (length (flights J)) (record_of J (flight_of e.command)) e.role e.command) ≡ true =
+      sym (ap (λ b. is_done (outcome_for b (length (flights J)) (record_of J (flight_of e.command)) e.role e.command)) there) ∙ done in
+      let makes = admitted_creates e.command (length (flights J)) (record_of J (flight_of e.command)) e.role done' in
+      let made : created e ≡ Some f = ap (λ b. cond (b && creates e.command) (Some (flight_of e.command)) None) d ∙ ap (λ b. cond b (Some (flight_of e.command)) None) makes ∙ ap Some same in
+      let yes : has f (with_flight (flights J) (created e)) ≡ true = ap (λ o. has f (with_flight (flights J) o)) made ∙ has-with_flight f (flights J) in
+      cc
+
+  unset : is_of f e ≡ false
+  unset =
+      elim (is_done e.outcome) as (λ b. is_done e.outcome ≡ b → (b && (flight_of e.command == f)) ≡ false) [
+        | true ↦ λ d. elim (flight_of e.command == f) as (λ b. (flight_of e.command == f) ≡ b → b ≡ false) [ true ↦ λ n. absurd (not_named d n) | false ↦ λ n. refl ] refl
+        | false ↦ λ d. refl
+      ] refl
+
+nothing_set : (f : ℕ) (J : History) → IsLegal J → exists J f ≡ false → record_of J f ≡ new_record f
+nothing_set f [] l h = refl
+nothing_set f (e ∷ J) l h =
+    record_same e J f (unset f e J l.2 h) ∙ nothing_set f J l.0 (grows f (flights J) (created e) h)
+
+-- ---- the records of a history
+
+abbrev pub records_of : History → List Fields
+records_of J = map (record_of J) (flights J)
+
+place-replay : (J : History) (f : ℕ) (gs : List ℕ) → place_of (map (record_of J) gs) f ≡ position_or_len (is_it f) gs
+place-replay J f [] = refl
+place-replay J f (g ∷ gs) = ap (λ n. cond (not (is_it f g)) (1 + n) 0) (place-replay J f gs)
+
+pub there-replay : (J : History) (f : ℕ) → is_there (records_of J) f ≡ exists J f
+there-replay J f =
+    ap (λ n. nat_lt n (length (records_of J))) (place-replay J f (flights J)) ∙ ap (λ n. nat_lt (position_or_len (is_it f) (flights J)) n) (length-map (flights J) (record_of J)) ∙ inside f (flights J)
+
+pub record_on-replay : (J : History) (f : ℕ) → IsLegal J → record_on (records_of J) f ≡ record_of J f
+record_on-replay J f l =
+    ap (λ n. get_or (records_of J) n (new_record f)) (place-replay J f (flights J))
+    ∙ (elim (exists J f) as (λ b. exists J f ≡ b → get_or (records_of J) (position_or_len (is_it f) (flights J)) (new_record f) ≡ record_of J f) [
+      | true ↦ λ e. found f (record_of J) (new_record f) (flights J) e
+      | false ↦ λ e.
+          let out = outside f (flights J) e in
+          let len = length-map (flights J) (record_of J) in
+          get_or_past (records_of J) (position_or_len (is_it f) (flights J)) (new_record f) (omega arith) ∙ sym (nothing_set f J l e)
+    ] refl)
+
+pub outcome-replay : (J : History) (role : Role) (m : ℕ) (c : Command) → IsLegal J → board_outcome (records_of J) role c ≡ outcome_of J role m c
+unfolding board_outcome
+outcome-replay J role m c l =
+    ap (λ b. outcome_for b (length (records_of J)) (record_on (records_of J) (flight_of c)) role c) (there-replay J (flight_of c))
+    ∙ ap (λ n. outcome_for (exists J (flight_of c)) n (record_on (records_of J) (flight_of c)) role c) (length-map (flights J) (record_of J))
+    ∙ ap (λ r. outcome_for (exists J (flight_of c)) (length (flights J)) r role c) (record_on-replay J (flight_of c) l)
+
+module _ (e : Entry) (J : History) (legal : IsLegal J) (right : e.outcome ≡ outcome_of J e.role e.moment e.command) where
+  same_map : (gs : List ℕ) → is_done e.outcome ≡ false → map (record_of (e ∷ J)) gs ≡ map (record_of J) gs
+  same_map [] d = refl
+  same_map (g ∷ gs) d =
+      let here = record_same e J g (ap (λ b. b && (flight_of e.command == g)) d) in
+      let rest = same_map gs d in
+      λ t. here t ∷ rest t
+
+  refused-replay : is_done e.outcome ≡ false → records_of (e ∷ J) ≡ records_of J
+  refused-replay d =
+      let none : created e ≡ None = ap (λ b. cond (b && creates e.command) (Some (flight_of e.command)) None) d in
+      let fs : flights (e ∷ J) ≡ flights J = ap (with_flight (flights J)) none in
+      ap (map (record_of (e ∷ J))) fs ∙ same_map (flights J) d
+
+  others : (g : ℕ) → g ≢ flight_of e.command → record_of (e ∷ J) g ≡ record_of J g
+  others g ne =
+      record_same e J g (and_false (is_done e.outcome) (flight_of e.command == g) (ne_eqb (flight_of e.command) g (λ x. ne (sym x))))
+
+  kept : is_done e.outcome ≡ true → exists J (flight_of e.command) ≡ true → flights (e ∷ J) ≡ flights J
+  kept d t =
+      ap (λ b. with_flight (flights J) (cond (b && creates e.command) (Some (flight_of e.command)) None)) d
+      ∙ creates_or_not (flights J) (creates e.command) (flight_of e.command) t
+
+  added : is_done e.outcome ≡ true → exists J (flight_of e.command) ≡ false → flights (e ∷ J) ≡ flights J ++ flight_of e.command ∷ []
+  added d t =
+      let done : is_done (outcome_for false (length (flights J)) (record_of J (flight_of e.command)) e.role e.command) ≡ true =
+      sym (ap (λ b. is_done (outcome_for b (length (flights J)) (record_of J (flight_of e.command)) e.role e.command)) t) ∙ sym (ap is_done right) ∙ d in
+      ap (λ b. with_flight (flights J) (cond (b && creates e.command) (Some (flight_of e.command)) None)) d
+      ∙ ap (λ b. with_flight (flights J) (cond b (Some (flight_of e.command)) None)) (admitted_creates e.command (length (flights J)) (record_of J (flight_of e.command)) e.role done)
+      ∙ ap (λ b. cond b (flights J) (flights J ++ flight_of e.command ∷ [])) t
+
+  accepted-replay : is_done e.outcome ≡ true → put (records_of J) (flight_of e.command) (changed (record_on (records_of J) (flight_of e.command)) e.command) ≡ records_of (e ∷ J)
+  accepted-replay d =
+      let f : ℕ = flight_of e.command in
+      let now : changed (record_on (records_of J) f) e.command ≡ record_of (e ∷ J) f = ap (λ r. changed r e.command) (record_on-replay J f legal) ∙ sym (record_changed e J d) in
+      ap (put (records_of J) f) now ∙
+      (elim (exists J f) as (λ b. exists J f ≡ b → put (records_of J) f (record_of (e ∷ J) f) ≡ records_of (e ∷ J)) [
+        | true ↦ λ t.
+            let there : is_there (records_of J) f ≡ true = there-replay J f ∙ t in
+            let fs : flights (e ∷ J) ≡ flights J = kept d t in
+            ap (λ b. cond b (set (records_of J) (place_of (records_of J) f) (record_of (e ∷ J) f)) (records_of J ++ record_of (e ∷ J) f ∷ [])) there
+            ∙ ap (λ n. set (records_of J) n (record_of (e ∷ J) f)) (place-replay J f (flights J))
+            ∙ sym (updated f (record_of J) (record_of (e ∷ J)) others (flights J) (flights_distinct J) t)
+            ∙ ap (map (record_of (e ∷ J))) (sym fs)
+        | false ↦ λ t.
+            let there : is_there (records_of J) f ≡ false = there-replay J f ∙ t in
+            let fs : flights (e ∷ J) ≡ flights J ++ f ∷ [] = added d t in
+            ap (λ b. cond b (set (records_of J) (place_of (records_of J) f) (record_of (e ∷ J) f)) (records_of J ++ record_of (e ∷ J) f ∷ [])) there
+            ∙ ap (λ b. b ++ record_of (e ∷ J) f ∷ []) (sym (absent f (record_of J) (record_of (e ∷ J)) others (flights J) t))
+            ∙ sym (map_push (record_of (e ∷ J)) (flights J) f)
+            ∙ ap (map (record_of (e ∷ J))) (sym fs)
+      ] refl)
+
+pub step-replay : (J : History) (session : ℕ) (role : Role) (m : ℕ) (c : Command) → IsLegal J → board_after (records_of J) role c ≡ records_of (after J session role m c)
+unfolding board_after
+step-replay J session role m c l =
+    let e : Entry = record { number = length J; session = session; role = role; moment = m; command = c; outcome = outcome_of J role m c } in
+    ap (λ o. cond (is_done o) (put (records_of J) (flight_of c) (changed (record_on (records_of J) (flight_of c)) c)) (records_of J)) (outcome-replay J role m c l)
+    ∙ (elim (is_done (outcome_of J role m c)) as (λ b. is_done (outcome_of J role m c) ≡ b → cond b (put (records_of J) (flight_of c) (changed (record_on (records_of J) (flight_of c)) c)) (records_of J) ≡ records_of (e ∷ J)) [
+      | true ↦ λ d. accepted-replay e J l refl d
+      | false ↦ λ d. sym (refused-replay e J l refl d)
+    ] refl)
+
+-- what creates a flight on the board creates it after the history
+pub creating-replay : (J : History) (role : Role) (m : ℕ) (c : Command) (b : List Fields) → IsLegal J → b ≡ records_of J → (is_done (board_outcome b role c) && not (is_there b (flight_of c))) ≡ would_create J role m c
+creating-replay J role m c b l e =
+    ap (λ rs. is_done (board_outcome rs role c) && not (is_there rs (flight_of c))) e
+    ∙ ap (λ o. is_done o && not (is_there (records_of J) (flight_of c))) (outcome-replay J role m c l)
+    ∙ ap (λ t. is_done (outcome_of J role m c) && not t) (there-replay J (flight_of c))
+
+-- the record at a flight's place
+module _ (J : History) (f place : ℕ) (rs : List Fields) (is : rs ≡ records_of J) (at : place ≡ place_of rs f) where
+  at_flight : place ≡ position_or_len (is_it f) (flights J)
+  at_flight = at ∙ ap (λ b. place_of b f) is ∙ place-replay J f (flights J)
+
+  pub exists_by_place : exists J f ≡ nat_lt place (length rs)
+  exists_by_place = sym (there-replay J f) ∙ sym (ap (λ b. nat_lt (place_of b f) (length b)) is) ∙ sym (ap (λ n. nat_lt n (length rs)) at)
+
+  pub record_by_place : exists J f ≡ true → (d : Fields) → get_or rs place d ≡ record_of J f
+  record_by_place h d =
+      ap (λ b. get_or b place d) is ∙ ap (λ n. get_or (records_of J) n d) at_flight ∙ found f (record_of J) d (flights J) h

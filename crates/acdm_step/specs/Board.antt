@@ -1,0 +1,38 @@
+-- One step on the records themselves, in order of creation.
+use Rattle.std.specs.Prelude.{ℕ, Bool, ◌==◌, nat_lt, if◌then◌else◌, List, [], ◌∷◌, ◌++◌, length, slice_index_or, slice_set}
+use Rattle.std.specs.List.{position_or_len}
+use Rattle.acdm_record.specs.declared.field.Field.TheVariants.{Flight}
+use Rattle.acdm_record.specs.Fields.{Fields, number_of, new_record}
+use Rattle.acdm_record.specs.Assign.{with_all}
+use Rattle.acdm_milestones.specs.declared.role.Role.{Role}
+use Rattle.acdm_milestones.specs.Tables.{marked}
+use Rattle.acdm_step.specs.declared.command.Command.{Command}
+use Rattle.acdm_step.specs.declared.entry.Outcome.{Outcome}
+use Rattle.acdm_step.specs.History.{assigned_by, bit_of, flight_of, is_done, outcome_for}
+
+-- a record after an accepted command
+abbrev pub changed : Fields → Command → Fields
+changed r c = marked (with_all r (assigned_by c)) (bit_of c)
+
+-- the place of a flight's record, or how many there are
+abbrev pub has_number : ℕ → Fields → Bool
+has_number f r = number_of r Flight == f
+
+abbrev pub place_of : List Fields → ℕ → ℕ
+place_of board f = position_or_len (has_number f) board
+
+abbrev pub is_there : List Fields → ℕ → Bool
+is_there board f = nat_lt (place_of board f) (length board)
+
+-- the record of a flight, or the one that it begins with
+abbrev pub record_on : List Fields → ℕ → Fields
+record_on board f = slice_index_or board (place_of board f) (new_record f)
+
+abbrev pub put : List Fields → ℕ → Fields → List Fields
+put board f r = if is_there board f then slice_set board (place_of board f) r else board ++ r ∷ []
+
+unfoldable pub board_outcome : List Fields → Role → Command → Outcome
+board_outcome board role c = outcome_for (is_there board (flight_of c)) (length board) (record_on board (flight_of c)) role c
+
+unfoldable pub board_after : List Fields → Role → Command → List Fields
+board_after board role c = if is_done (board_outcome board role c) then put board (flight_of c) (changed (record_on board (flight_of c)) c) else board

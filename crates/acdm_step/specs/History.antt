@@ -1,0 +1,188 @@
+-- What the board is after a history of entries (this project's profile). A history is the list of its entries,
+-- the newest first. Each question is asked of the whole history.
+use Rattle.std.specs.Prelude.{ℕ, ◌+◌, ◌^◌, ◌≡◌, Bool, true, false, ◌||◌, ◌&&◌, ◌==◌, not, nat_lt, if◌then◌else◌, List, [], ◌∷◌, ◌++◌, map, length, bit_or, Option, Some, None, Result, Ok, Err}
+use Rattle.std.specs.List.{list_any}
+use Rattle.acdm_record.specs.declared.field.Field.{Field}
+use Rattle.acdm_record.specs.declared.field.Field.TheVariants.{Flight, Reached, Alerts, Mttt, Exot, Stand, Layout, Exit, Sobt}
+use Rattle.acdm_record.specs.declared.field.TextField.{TextField}
+use Rattle.acdm_record.specs.declared.field.TextField.TheVariants.{Callsign, ScheduledType, PlanType, ScheduledRegistration, PlanRegistration, ScheduledDestination, PlanDestination}
+use Rattle.acdm_record.specs.Place.{index_of, text_index_of}
+use Rattle.acdm_record.specs.Fields.{Fields, fields_of}
+use Rattle.acdm_record.specs.Assign.{Assignment, number_is, text_is}
+use Rattle.acdm_milestones.specs.declared.role.Role.{Role}
+use Rattle.acdm_milestones.specs.declared.role.Action.TheVariants as actions
+use Rattle.acdm_milestones.specs.declared.milestone.Milestone.{Milestone}
+use Rattle.acdm_milestones.specs.declared.refusal.Refusal.{Refusal}
+use Rattle.acdm_milestones.specs.declared.refusal.Refusal.TheVariants.{UnknownFlight, NotOwner, AlreadyPlanned, FullBoard}
+use Rattle.acdm_milestones.specs.Tables.{number, owns, times_of, has_reached, admission}
+use Rattle.acdm_step.specs.declared.command.Plan.{Plan}
+use Rattle.acdm_step.specs.declared.command.Command.{Command}
+use Rattle.acdm_step.specs.declared.command.Command.TheVariants.{Schedule, Report}
+use Rattle.acdm_step.specs.declared.entry.Outcome.{Outcome}
+use Rattle.acdm_step.specs.declared.entry.Outcome.TheVariants.{Done, Refused}
+use Rattle.acdm_step.specs.declared.entry.Entry.{Entry}
+
+abbrev pub History : Type 0
+History = List Entry
+
+abbrev pub most_flights : ℕ
+most_flights = 4096
+
+-- ---- what one command says
+
+-- the flight of a command
+abbrev pub flight_of : Command → ℕ
+flight_of (Schedule s) = s.flight
+flight_of (Report r) = r.flight
+
+abbrev pub planned : Option Plan → List Assignment
+planned None = []
+planned (Some p) = text_is Callsign p.callsign ∷ text_is PlanType p.aircraft ∷ text_is PlanRegistration p.registration ∷ text_is PlanDestination p.destination ∷ []
+
+-- what a command assigns to its flight where it is accepted
+abbrev pub assigned_by : Command → List Assignment
+assigned_by (Schedule s) =
+    text_is Callsign s.plan.callsign ∷ text_is ScheduledType s.plan.aircraft ∷ text_is ScheduledRegistration s.plan.registration ∷ text_is ScheduledDestination s.plan.destination
+    ∷ number_is Sobt s.sobt ∷ number_is Mttt s.mttt ∷ number_is Exit s.exit ∷ number_is Exot s.exot ∷ number_is Stand s.stand ∷ []
+assigned_by (Report r) = times_of r.milestone r.time ++ planned r.plan
+
+-- the bit that it sets in the reached word: 0 for a schedule, m for milestone m
+abbrev pub bit_of : Command → ℕ
+bit_of (Schedule s) = 0
+bit_of (Report r) = number r.milestone
+
+-- whether it creates its flight where that is not there: a schedule and milestone 1 do
+abbrev pub creates : Command → Bool
+creates (Schedule s) = true
+creates (Report r) = number r.milestone == 1
+
+-- ---- what one entry says
+
+abbrev pub is_done : Outcome → Bool
+is_done Done = true
+is_done (Refused x) = false
+
+-- an accepted entry of a flight
+abbrev pub is_of : ℕ → Entry → Bool
+is_of f e = is_done e.outcome && flight_of e.command == f
+
+-- the flight that an entry creates where it is not there yet
+abbrev pub created : Entry → Option ℕ
+created e = if is_done e.outcome && creates e.command then Some (flight_of e.command) else None
+
+-- ---- what the whole history says of a flight
+
+-- all that was assigned, the last first, and the bits that were reached
+pub record Told : Type 0 where
+  pub assigned : List Assignment
+  pub reached : ℕ
+
+-- new assignments before earlier ones, the last of them first
+abbrev pub onto : List Assignment → List Assignment → List Assignment
+onto [] earlier = earlier
+onto (a ∷ more) earlier = onto more (a ∷ earlier)
+
+-- what an accepted command adds; a refused entry, or one of another flight, adds nothing
+abbrev pub with_command : Command → Told → Told
+with_command c t = record { assigned = onto (assigned_by c) t.assigned; reached = bit_or t.reached (2 ^ bit_of c) }
+
+abbrev pub tell : Entry → ℕ → Told → Told
+tell e f t = if is_of f e then with_command e.command t else t
+
+abbrev pub told : History → ℕ → Told
+told [] f = record { assigned = []; reached = 0 }
+told (e ∷ J) f = tell e f (told J f)
+
+-- the value that was assigned last, else 0 or the empty text
+abbrev pub last_number : List Assignment → Field → ℕ
+last_number [] f = 0
+last_number (number_is g v ∷ more) f = if index_of g == index_of f then v else last_number more f
+last_number (text_is t v ∷ more) f = last_number more f
+
+abbrev pub last_text : List Assignment → TextField → List ℕ
+last_text [] t = []
+last_text (number_is g v ∷ more) t = last_text more t
+last_text (text_is u v ∷ more) t = if text_index_of u == text_index_of t then v else last_text more t
+
+-- a number of the record of flight f
+abbrev pub number_in : ℕ → Told → Field → ℕ
+number_in f t Flight = f
+number_in f t Layout = 1
+number_in f t Reached = t.reached
+number_in f t Alerts = 0
+number_in f t name = last_number t.assigned name
+
+abbrev pub record_from : ℕ → Told → Fields
+record_from f t = fields_of (number_in f t) (last_text t.assigned)
+
+-- the record of a flight
+abbrev pub record_of : History → ℕ → Fields
+record_of J f = record_from f (told J f)
+
+-- whether an accepted entry of the flight reached this bit: what a bit of the reached word means
+abbrev pub has_come_to : History → ℕ → ℕ → Bool
+has_come_to J f m = list_any (λ e. is_of f e && bit_of e.command == m) J
+
+-- ---- the flights
+
+-- the flights in order of creation
+abbrev pub with_flight : List ℕ → Option ℕ → List ℕ
+with_flight fs None = fs
+with_flight fs (Some f) = if list_any (λ g. g == f) fs then fs else fs ++ f ∷ []
+
+abbrev pub flights : History → List ℕ
+flights [] = []
+flights (e ∷ J) = with_flight (flights J) (created e)
+
+abbrev pub exists : History → ℕ → Bool
+exists J f = list_any (λ g. g == f) (flights J)
+
+-- ---- outcomes, by the first refusal that applies
+
+-- of a schedule or a report of a flight that is there or not, among so many, with this record
+abbrev pub schedule_outcome : Bool → ℕ → Fields → Role → Outcome
+schedule_outcome there count r role =
+    if not (owns role actions.Schedule) then Refused NotOwner
+    else (if has_reached r 0 && has_reached r 1 then Refused AlreadyPlanned
+    else (if not there && not (nat_lt count most_flights) then Refused FullBoard
+    else Done))
+
+abbrev pub outcome_from : Result (Unit {0}) Refusal → Outcome
+outcome_from (Ok x) = Done
+outcome_from (Err x) = Refused x
+
+abbrev pub report_outcome : Bool → ℕ → Fields → Role → Milestone → ℕ → Outcome
+report_outcome there count r role m time =
+    if not (owns role (actions.Report m)) then Refused NotOwner
+    else (if not there && not (number m == 1) then Refused UnknownFlight
+    else (if not there && not (nat_lt count most_flights) then Refused FullBoard
+    else outcome_from (admission r role m time)))
+
+abbrev pub outcome_for : Bool → ℕ → Fields → Role → Command → Outcome
+outcome_for there count r role (Schedule s) = schedule_outcome there count r role
+outcome_for there count r role (Report p) = report_outcome there count r role p.milestone p.time
+
+-- what comes of a command after a history
+abbrev pub outcome_of : History → Role → ℕ → Command → Outcome
+outcome_of J role moment c = outcome_for (exists J (flight_of c)) (length (flights J)) (record_of J (flight_of c)) role c
+
+-- ---- histories that the platform may have
+
+abbrev pub IsLegal : History → Type 0
+IsLegal [] = Unit {0}
+IsLegal (e ∷ J) = IsLegal J × (e.number ≡ length J) × (e.outcome ≡ outcome_of J e.role e.moment e.command)
+
+-- the board after a history: the records in order of creation
+pub record Board : Type 0 where
+  pub records : List Fields
+
+abbrev pub replay : History → Board
+replay J = record { records = map (record_of J) (flights J) }
+
+-- the history with one more command
+abbrev pub after : History → ℕ → Role → ℕ → Command → History
+after J session role moment command = record { number = length J; session = session; role = role; moment = moment; command = command; outcome = outcome_of J role moment command } ∷ J
+
+-- whether a command would create a flight
+abbrev pub would_create : History → Role → ℕ → Command → Bool
+would_create J role moment c = is_done (outcome_of J role moment c) && not (exists J (flight_of c))

@@ -1,0 +1,133 @@
+//! What a command does to the record of its flight.
+ghost use Rattle.std.specs.Prelude.{◌≡◌, ◌==◌};
+ghost use Rattle.acdm_record.specs.Assign.{with_all};
+ghost use Rattle.acdm_step.specs.History.{schedule_outcome, report_outcome, outcome_for, flight_of, planned};
+ghost use Rattle.acdm_step.specs.Board.{changed as after_command};
+
+use crate::command::{Command, Plan, Report, Schedule};
+use crate::entry::Outcome;
+use acdm_milestones::{
+    Action, Milestone, Refusal, Role, admit, has_reached, mark_reached, owns, set_time,
+};
+use acdm_record::{Field, Record, TextField};
+
+/// How many flights a board has at most.
+pub const MOST_FLIGHTS: usize = 4096;
+
+fn set_scheduled(record: &mut Record, schedule: &Schedule)
+    ensures { record.new ≡ after_command record.old (Command.Schedule schedule.now) }
+{
+    record.set_text(TextField::Callsign, schedule.plan.callsign.as_bytes());
+    record.set_text(TextField::ScheduledType, schedule.plan.aircraft.as_bytes());
+    record.set_text(
+        TextField::ScheduledRegistration,
+        schedule.plan.registration.as_bytes(),
+    );
+    record.set_text(
+        TextField::ScheduledDestination,
+        schedule.plan.destination.as_bytes(),
+    );
+    record.set(Field::Sobt, u64::from(schedule.sobt));
+    record.set(Field::Mttt, u64::from(schedule.mttt));
+    record.set(Field::Exit, u64::from(schedule.exit));
+    record.set(Field::Exot, u64::from(schedule.exot));
+    record.set(Field::Stand, u64::from(schedule.stand));
+    mark_reached(record, 0);
+}
+
+fn set_planned(record: &mut Record, plan: &Option<Plan>)
+    ensures { record.new ≡ with_all record.old (planned plan.now) }
+{
+    if let Some(plan) = plan {
+        record.set_text(TextField::Callsign, plan.callsign.as_bytes());
+        record.set_text(TextField::PlanType, plan.aircraft.as_bytes());
+        record.set_text(TextField::PlanRegistration, plan.registration.as_bytes());
+        record.set_text(TextField::PlanDestination, plan.destination.as_bytes());
+    }
+}
+
+fn set_reported(record: &mut Record, report: &Report)
+    ensures { record.new ≡ after_command record.old (Command.Report report.now) }
+{
+    set_time(record, report.milestone, report.time);
+    set_planned(record, &report.plan);
+    mark_reached(record, report.milestone.number());
+}
+
+/// Sets what an accepted command assigns to the record of its flight.
+pub(crate) fn change(record: &mut Record, command: &Command)
+    ensures { record.new ≡ after_command record.old command.now }
+{
+    match command {
+        Command::Schedule(schedule) => set_scheduled(record, schedule),
+        Command::Report(report) => set_reported(record, report),
+    }
+}
+
+fn outcome_of_schedule(record: &Record, is_there: bool, count: usize, role: Role) -> Outcome
+    ensures { result ≡ schedule_outcome is_there count record.now role }
+{
+    if !owns(role, Action::Schedule) {
+        return Outcome::Refused(Refusal::NotOwner);
+    }
+    if has_reached(record, 0) && has_reached(record, 1) {
+        return Outcome::Refused(Refusal::AlreadyPlanned);
+    }
+    if !is_there && count >= MOST_FLIGHTS {
+        return Outcome::Refused(Refusal::FullBoard);
+    }
+    Outcome::Done
+}
+
+fn outcome_of_report(
+    record: &Record,
+    is_there: bool,
+    count: usize,
+    role: Role,
+    milestone: Milestone,
+    time: u32,
+) -> Outcome
+    ensures { result ≡ report_outcome is_there count record.now role milestone time }
+{
+    if !owns(role, Action::Report(milestone)) {
+        return Outcome::Refused(Refusal::NotOwner);
+    }
+    if !is_there && !matches!(milestone, Milestone::FlightPlanActivated) {
+        return Outcome::Refused(Refusal::UnknownFlight);
+    }
+    if !is_there && count >= MOST_FLIGHTS {
+        return Outcome::Refused(Refusal::FullBoard);
+    }
+    match admit(record, role, milestone, time) {
+        Ok(()) => Outcome::Done,
+        Err(refusal) => Outcome::Refused(refusal),
+    }
+}
+
+/// What comes of a command, by the record of its flight.
+pub(crate) fn outcome(
+    record: &Record,
+    is_there: bool,
+    count: usize,
+    role: Role,
+    command: &Command,
+) -> Outcome
+    ensures { result ≡ outcome_for is_there count record.now role command.now }
+{
+    match command {
+        Command::Schedule(_) => outcome_of_schedule(record, is_there, count, role),
+        Command::Report(report) => {
+            outcome_of_report(record, is_there, count, role, report.milestone, report.time)
+        }
+    }
+}
+
+/// The flight of a command.
+pub(crate) fn flight_of_command(command: &Command) -> u64
+    ensures { result ≡ flight_of command.now }
+{
+    match command {
+        Command::Schedule(schedule) => schedule.flight,
+        Command::Report(report) => report.flight,
+    }
+}

@@ -1,0 +1,118 @@
+//! What partners ask for.
+ghost use Rattle.std.specs.Prelude.{◌≡◌, ◌≤◌, IsTrue};
+ghost use Rattle.acdm_step.specs.Facts.{has_its_plan, has_its_time};
+
+use acdm_milestones::Milestone;
+use acdm_record::Text;
+use std::marker::Model;
+
+/// What is planned for a flight.
+#[derive(Drop)]
+pub struct Plan {
+    pub callsign: Text<8>,
+    pub aircraft: Text<4>,
+    pub registration: Text<8>,
+    pub destination: Text<4>,
+}
+
+/// Creates a flight, or sets what is scheduled of one.
+///
+/// The flight is at least 1, SOBT is a minute since 1970-01-01T00:00Z and at least 1, MTTT and EXOT are at
+/// most 1440 minutes, EXIT is in minutes.
+#[derive(Drop)]
+pub struct Schedule {
+    pub(crate) flight: u64,
+    pub(crate) plan: Plan,
+    pub(crate) sobt: u32,
+    pub(crate) mttt: u16,
+    pub(crate) exit: u8,
+    pub(crate) exot: u16,
+    pub(crate) stand: u16,
+}
+
+impl Model for Schedule {
+    ghost use Rattle.acdm_step.specs.Facts.{ScheduleFacts, IsSchedule};
+
+    ghost Value = { ScheduleFacts };
+
+    ghost view = { λ s. record { flight = s.flight; plan = s.plan; sobt = s.sobt; mttt = s.mttt; exit = s.exit; exot = s.exot; stand = s.stand } };
+
+    ghost invariant = { λ s. IsSchedule s.flight s.sobt s.mttt s.exot };
+}
+
+impl Schedule {
+    /// A schedule of these values, which are in their ranges.
+    pub fn new(
+        flight: u64,
+        plan: Plan,
+        sobt: u32,
+        mttt: u16,
+        exit: u8,
+        exot: u16,
+        stand: u16,
+    ) -> Schedule
+        requires flight_given { 1 ≤ flight }
+        requires sobt_given { 1 ≤ sobt }
+        requires mttt_in_range { mttt ≤ 1440 }
+        requires exot_in_range { exot ≤ 1440 }
+        ensures { result ≡ record { flight = flight; plan = plan; sobt = sobt; mttt = mttt; exit = exit; exot = exot; stand = stand } }
+    {
+        Schedule {
+            flight,
+            plan,
+            sobt,
+            mttt,
+            exit,
+            exot,
+            stand,
+        }
+    }
+}
+
+/// Reports a milestone of a flight.
+///
+/// The flight is at least 1. The time is in minutes since 1970-01-01T00:00Z, and 0 (no time) with milestones
+/// 2 and 9 alone. A plan comes with milestone 1, and with it alone.
+#[derive(Drop)]
+pub struct Report {
+    pub(crate) flight: u64,
+    pub(crate) milestone: Milestone,
+    pub(crate) time: u32,
+    pub(crate) plan: Option<Plan>,
+}
+
+impl Model for Report {
+    ghost use Rattle.acdm_step.specs.Facts.{ReportFacts, IsReport};
+
+    ghost Value = { ReportFacts };
+
+    ghost view = { λ r. record { flight = r.flight; milestone = r.milestone; time = r.time; plan = r.plan } };
+
+    ghost invariant = { λ r. IsReport r.flight r.milestone r.time r.plan };
+}
+
+impl Report {
+    /// A report of these values, which are in their ranges.
+    pub fn new(flight: u64, milestone: Milestone, time: u32, plan: Option<Plan>) -> Report
+        requires flight_given { 1 ≤ flight }
+        requires plan_with_first { IsTrue (has_its_plan milestone plan) }
+        requires timed { IsTrue (has_its_time milestone time) }
+        ensures { result ≡ record { flight = flight; milestone = milestone; time = time; plan = plan } }
+    {
+        Report {
+            flight,
+            milestone,
+            time,
+            plan,
+        }
+    }
+}
+
+/// What a partner asks for.
+#[derive(Drop)]
+pub enum Command {
+    /// To create a flight, or to set what is scheduled of it.
+    Schedule(Schedule),
+    /// To report a milestone.
+    Report(Report),
+}

@@ -1,0 +1,121 @@
+//! The core: the records of the flights in order of creation.
+ghost use Rattle.std.specs.Prelude.{◌≡◌, ◌==◌, ◌&&◌, ◌≤◌, ℕ, [], not, IsTrue, IfOk, OnErr, OnOk, IfSome, if◌then◌else◌, Option, Some, None};
+ghost use Rattle.std.specs.Option.{option_copied};
+ghost use Rattle.acdm_milestones.specs.Tables.{has_reached};
+ghost use Rattle.acdm_step.specs.History.{History, IsLegal, replay, after, outcome_of, would_create, exists, record_of as record_in, has_come_to, is_done, flight_of};
+ghost use Rattle.acdm_step.specs.Board.{place_of, is_there, board_outcome, board_after};
+
+use crate::change::{change, flight_of_command, outcome};
+use crate::command::Command;
+use crate::entry::Outcome;
+use acdm_milestones::Role;
+use acdm_record::{Field, Record};
+use std::alloc::{AllocError, Global};
+use std::marker::Model;
+
+// The place of a flight's record, or how many there are.
+fn place_in(records: &[Record], flight: u64) -> usize
+    ensures { result ≡ place_of records.now flight }
+{
+    for (i, record) in records.iter().enumerate() {
+        if record.get(Field::Flight) == flight {
+            return i;
+        }
+    }
+    records.len()
+}
+
+// A step on the records. Room for a new flight is made before anything changes.
+fn step(records: &mut Vec<Record>, role: Role, command: &Command) -> Result<Outcome, AllocError>
+    ensures outcome { IfOk result (λ outcome. outcome ≡ board_outcome records.old.items role command.now) }
+    ensures records { OnOk result (records.new.items ≡ board_after records.old.items role command.now) }
+    ensures err { OnErr result (records.new.items ≡ records.old.items) }
+    ensures creating { OnErr result (IsTrue (is_done (board_outcome records.old.items role command.now) && not (is_there records.old.items (flight_of command.now)))) }
+{
+    let flight = flight_of_command(command);
+    let place = place_in(records.as_slice(), flight);
+    let count = records.len();
+    if place < count {
+        let record = &mut records[place];
+        let result = outcome(record, true, count, role, command);
+        if !result.is_done() {
+            return Ok(result);
+        }
+        change(record, command);
+        return Ok(result);
+    }
+    let mut record = Record::new(flight);
+    let result = outcome(&record, false, count, role, command);
+    if !result.is_done() {
+        return Ok(result);
+    }
+    records.reserve(1)?;
+    change(&mut record, command);
+    if records.push(record).is_err() {
+        unreachable!();
+    }
+    Ok(result)
+}
+
+/// The board of a history: the record of each flight, in order of creation.
+#[derive(Drop)]
+pub struct Core {
+    records: Vec<Record>,
+}
+
+impl Model for Core {
+    ghost use Rattle.acdm_step.specs.History.{Board};
+
+    ghost Value = { Board };
+
+    ghost view = { λ c. record { records = c.records.items } };
+}
+
+impl Core {
+    /// The board of the empty history. It takes no memory.
+    pub fn new(alloc: Global) -> Core
+        ensures { result ≡ replay [] }
+    {
+        Core {
+            records: Vec::new(alloc),
+        }
+    }
+
+    /// The record of a flight, `None` where it is not on the board.
+    pub fn record_of(&self, flight: u64) -> Option<&Record>
+        ensures record { (J : History) → self.now ≡ replay J →
+            option_copied result ≡ (if exists J flight then Some (record_in J flight) else None) }
+        // A bit of the reached word is set exactly where an accepted entry reached it.
+        ensures reached { (J : History) → self.now ≡ replay J →
+            IfSome result (λ r. (bit : ℕ) → has_reached r.now bit ≡ has_come_to J flight bit) }
+    {
+        let records = self.records.as_slice();
+        let place = place_in(records, flight);
+        if place < records.len() {
+            Some(&records[place])
+        } else {
+            None
+        }
+    }
+
+    /// What comes of a command at a moment (minutes since 1970-01-01T00:00Z), and the board after it.
+    ///
+    /// Memory is asked for only where a flight would be created, before anything changes.
+    pub fn apply(
+        &mut self,
+        role: Role,
+        moment: u32,
+        command: &Command,
+    ) -> Result<Outcome, AllocError>
+        ensures outcome { IfOk result (λ outcome. (J : History) → IsLegal J → self.old ≡ replay J →
+            outcome ≡ outcome_of J role moment command.now) }
+        ensures board { OnOk result ((J : History) (session : ℕ) → IsLegal J → self.old ≡ replay J →
+            self.new ≡ replay (after J session role moment command.now)) }
+        ensures err { OnErr result (self.new ≡ self.old) }
+        ensures creating { OnErr result ((J : History) → IsLegal J → self.old ≡ replay J →
+            IsTrue (would_create J role moment command.now)) }
+    {
+        let _now = moment;
+        step(&mut self.records, role, command)
+    }
+}
