@@ -12,3 +12,6 @@ pub use milestone::Milestone;
 pub use reached::{has_reached, mark_reached};
 pub use refusal::Refusal;
 pub use role::{Action, Role, owns};
+
+#[cfg(test)]
+mod tests;

@@ -8,3 +8,6 @@ mod text;
 pub use field::{Field, TextField};
 pub use record::Record;
 pub use text::Text;
+
+#[cfg(test)]
+mod tests;

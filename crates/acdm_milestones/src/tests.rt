@@ -1,0 +1,230 @@
+//! Each milestone, admitted once and refused once for each reason, by the published table.
+use crate::{Action, Milestone, Refusal, Role, admit, has_reached, mark_reached, owns, set_time};
+use acdm_record::{Field, Record};
+
+const NM: Role = Role::NetworkManager;
+
+const ATC: Role = Role::AirTrafficControl;
+
+const APT: Role = Role::AirportOperator;
+
+const AO: Role = Role::AircraftOperator;
+
+const GH: Role = Role::GroundHandler;
+
+// One row of the table: number, an owner, a role that is none, the milestones needed, whether TOBT or TSAT
+// is needed, and the milestone that bars it.
+#[derive(Clone, Copy)]
+struct Row {
+    number: u64,
+    owner: Role,
+    other: Role,
+    needs: [u32; 3],
+    set: Option<Field>,
+    bar: u32,
+}
+
+const fn make_row(
+    number: u64,
+    owner: Role,
+    other: Role,
+    needs: [u32; 3],
+    set: Option<Field>,
+    bar: u32,
+) -> Row {
+    Row {
+        number,
+        owner,
+        other,
+        needs,
+        set,
+        bar,
+    }
+}
+
+// A record with these milestones reached (0 for none) and this time set.
+fn record_with(reached: &[u32], set: Option<Field>) -> Record {
+    let mut record = Record::new(7);
+    for bit in reached {
+        if 1 <= *bit && *bit <= 16 {
+            mark_reached(&mut record, *bit);
+        }
+    }
+    match set {
+        Some(Field::Tobt) => record.set(Field::Tobt, 29_000_760),
+        Some(Field::Tsat) => record.set(Field::Tsat, 29_000_760),
+        _ => {}
+    }
+    record
+}
+
+fn rows() -> [Row; 16] {
+    let tobt = Some(Field::Tobt);
+    let tsat = Some(Field::Tsat);
+    [
+        make_row(1, NM, ATC, [0, 0, 0], None, 15),
+        make_row(2, NM, APT, [0, 0, 1], None, 16),
+        make_row(3, NM, GH, [0, 0, 1], None, 6),
+        make_row(4, ATC, NM, [0, 0, 1], None, 6),
+        make_row(5, ATC, AO, [0, 0, 1], None, 6),
+        make_row(6, ATC, APT, [0, 0, 1], None, 7),
+        make_row(7, APT, ATC, [1, 0, 6], None, 15),
+        make_row(8, GH, AO, [1, 0, 7], None, 15),
+        make_row(9, GH, ATC, [0, 0, 1], None, 14),
+        make_row(10, ATC, GH, [0, 0, 1], tobt, 15),
+        make_row(11, AO, APT, [0, 0, 1], tobt, 15),
+        make_row(12, GH, NM, [0, 0, 1], tobt, 15),
+        make_row(13, ATC, AO, [1, 0, 10], tsat, 15),
+        make_row(14, ATC, APT, [1, 10, 13], tsat, 15),
+        make_row(15, APT, GH, [1, 0, 14], None, 16),
+        make_row(16, ATC, APT, [1, 0, 15], None, 16),
+    ]
+}
+
+#[test]
+fn each_milestone_is_admitted_and_refused(rt: HostRuntime) {
+    let time = 29_000_700;
+    for row in rows() {
+        let milestone = Milestone::from_number(row.number).expect(&rt, "a number of the table");
+        assert_eq!(rt; u64::from(milestone.number()), row.number);
+        let [first, second, last] = row.needs;
+        let mut record = record_with([first, second, last].as_slice(), row.set);
+        assert_eq!(rt;
+            admit(&record, row.owner, milestone, time),
+            Ok(()),
+            "{}",
+            row.number
+        );
+        assert_eq!(rt;
+            admit(&record, row.other, milestone, time),
+            Err(Refusal::NotOwner)
+        );
+        if last != 0 {
+            let early = record_with([first, second].as_slice(), row.set);
+            assert_eq!(rt;
+                admit(&early, row.owner, milestone, time),
+                Err(Refusal::MissingMilestone)
+            );
+        }
+        if row.set.is_some() {
+            let unset = record_with([first, second, last].as_slice(), None);
+            assert_eq!(rt;
+                admit(&unset, row.owner, milestone, time),
+                Err(Refusal::NotSet)
+            );
+        }
+        if row.bar <= 16 {
+            mark_reached(&mut record, row.bar);
+        }
+        assert_eq!(rt;
+            admit(&record, row.owner, milestone, time),
+            Err(Refusal::Barred)
+        );
+    }
+}
+
+// The milestone that a time of its neighbor bounds, that neighbor, and whether the neighbor is the earlier.
+#[test]
+fn times_stay_in_order(rt: HostRuntime) {
+    let cases = [
+        (Milestone::InBlock, APT, [1, 6, 0], Field::Aldt, true),
+        (
+            Milestone::GroundHandlingStarts,
+            GH,
+            [1, 7, 0],
+            Field::Aibt,
+            true,
+        ),
+        (
+            Milestone::StartUpApproved,
+            ATC,
+            [1, 10, 13],
+            Field::Asrt,
+            true,
+        ),
+        (Milestone::TakeOff, ATC, [1, 15, 0], Field::Aobt, true),
+        (Milestone::Landed, ATC, [1, 0, 0], Field::Aibt, false),
+        (
+            Milestone::StartUpRequest,
+            ATC,
+            [1, 10, 0],
+            Field::Asat,
+            false,
+        ),
+        (Milestone::OffBlock, ATC, [1, 14, 0], Field::Atot, false),
+    ];
+    for (milestone, role, needs, neighbor, is_earlier) in cases {
+        let mut record = record_with(needs.as_slice(), Some(Field::Tsat));
+        set_neighbor(&mut record, neighbor);
+        let wrong = if is_earlier { 29_000_699 } else { 29_000_701 };
+        assert_eq!(rt;
+            admit(&record, role, milestone, wrong),
+            Err(Refusal::TimeOrder)
+        );
+        assert_eq!(rt; admit(&record, role, milestone, 29_000_700), Ok(()));
+    }
+}
+
+fn set_neighbor(record: &mut Record, field: Field) {
+    match field {
+        Field::Aldt => record.set(Field::Aldt, 29_000_700),
+        Field::Aibt => record.set(Field::Aibt, 29_000_700),
+        Field::Asrt => record.set(Field::Asrt, 29_000_700),
+        Field::Aobt => record.set(Field::Aobt, 29_000_700),
+        Field::Asat => record.set(Field::Asat, 29_000_700),
+        Field::Atot => record.set(Field::Atot, 29_000_700),
+        _ => {}
+    }
+}
+
+#[test]
+fn the_first_refusal_is_answered(rt: HostRuntime) {
+    let mut record = record_with([15].as_slice(), None);
+    assert_eq!(rt;
+        admit(&record, APT, Milestone::StartUpRequest, 1),
+        Err(Refusal::NotOwner)
+    );
+    assert_eq!(rt;
+        admit(&record, ATC, Milestone::StartUpRequest, 1),
+        Err(Refusal::MissingMilestone)
+    );
+    mark_reached(&mut record, 1);
+    mark_reached(&mut record, 10);
+    assert_eq!(rt;
+        admit(&record, ATC, Milestone::StartUpRequest, 1),
+        Err(Refusal::Barred)
+    );
+}
+
+#[test]
+fn a_deleted_tobt_clears_tsat(rt: HostRuntime) {
+    let mut record = record_with([1].as_slice(), Some(Field::Tsat));
+    set_time(&mut record, Milestone::TobtUpdate, 29_000_700);
+    assert_eq!(rt; record.get(Field::Tobt), 29_000_700);
+    assert_eq!(rt; record.get(Field::Tsat), 29_000_760);
+    set_time(&mut record, Milestone::TobtUpdate, 0);
+    assert_eq!(rt; record.get(Field::Tobt), 0);
+    assert_eq!(rt; record.get(Field::Tsat), 0);
+}
+
+#[test]
+fn questions_are_everyones_and_commands_the_airports(rt: HostRuntime) {
+    for role in [NM, ATC, APT, AO, GH] {
+        let is_airport = role == APT;
+        for action in [Action::Schedule, Action::Load, Action::Unload, Action::Tick] {
+            assert_eq!(rt; owns(role, action), is_airport);
+        }
+        assert!(rt; owns(role, Action::Show));
+        assert!(rt; owns(role, Action::Alerts));
+    }
+    assert!(rt; owns(AO, Action::Report(Milestone::BoardingStarts)));
+    assert!(rt; owns(ATC, Action::Report(Milestone::OffBlock)));
+}
+
+#[test]
+fn numbers_outside_the_table_are_no_milestones(rt: HostRuntime) {
+    assert!(rt; Milestone::from_number(0).is_none());
+    assert!(rt; Milestone::from_number(17).is_none());
+    assert!(rt; !has_reached(&Record::new(7), 0));
+    assert_eq!(rt; Refusal::FullBoard.code(), 503);
+}
