@@ -1,0 +1,40 @@
+-- Lines that are read, computed by the definitions alone.
+use Rattle.std.proofs.Common.{◌≡◌, ℕ, List, codes, Option, Some, None, Result, Ok, Err, refl}
+use Rattle.std.specs.Str.{is_utf8, chars}
+use Rattle.serde_json.proofs.OnLiterals.{serde_json_on_literals}
+use Rattle.jiff.proofs.OnLiterals.{jiff_on_literals}
+use Rattle.acdm_step.specs.declared.role.Role.TheVariants.{NetworkManager, AirTrafficControl, AirportOperator}
+use Rattle.acdm_step.specs.declared.role.Milestone.TheVariants.{Landed, PlanActivated}
+use Rattle.acdm_step.specs.declared.command.Command.TheVariants.{Schedule, Report}
+use Rattle.acdm_sessions.specs.declared.fault.Fault.TheVariants.{Prefix, NoJson, Kind, Range, UnknownCommand}
+use Rattle.acdm_sessions.specs.Meant.{meant, head_of, natural_of, number_field, text_field, time_field, plan_field, schedule_field, report_field, command_named, command_of, json_of}
+
+landed_line : meant (codes "3 29000700 ATC {\"cmd\":\"report\",\"flight\":7,\"milestone\":6,\"time\":\"2025-02-20T09:00:00Z\"}")
+    ≡ Ok record { session = 3; moment = 29000700; role = AirTrafficControl; command = Report record { flight = 7; milestone = Landed; time = 29000700; plan = None } }
+unfolding meant head_of natural_of number_field text_field time_field plan_field schedule_field report_field command_named command_of json_of is_utf8 chars serde_json_on_literals jiff_on_literals
+landed_line = refl
+
+bad_prefix : meant (codes "65 29000580 APT {\"cmd\":\"alerts\"}") ≡ Err Prefix
+unfolding meant head_of natural_of number_field text_field time_field plan_field schedule_field report_field command_named command_of json_of is_utf8 chars serde_json_on_literals jiff_on_literals
+bad_prefix = refl
+
+no_json : meant (codes "1 29000580 APT {\"cmd\":\"tick\"") ≡ Err NoJson
+unfolding meant head_of natural_of number_field text_field time_field plan_field schedule_field report_field command_named command_of json_of is_utf8 chars serde_json_on_literals jiff_on_literals
+no_json = refl
+
+schedule_line : meant (codes "1 29000580 APT {\"cmd\":\"schedule\",\"flight\":7,\"callsign\":\"DLH7\",\"type\":\"A320\",\"reg\":\"DAIBC\",\"dest\":\"EDDM\",\"sobt\":\"2025-02-20T10:00:00Z\",\"mttt\":40,\"exit\":5,\"exot\":10,\"stand\":12}")
+    ≡ Ok record { session = 1; moment = 29000580; role = AirportOperator; command = Schedule record { flight = 7; plan = record { callsign = codes "DLH7"; aircraft = codes "A320"; registration = codes "DAIBC"; destination = codes "EDDM" }; sobt = 29000760; mttt = 40; exit = 5; exot = 10; stand = 12 } }
+unfolding meant head_of natural_of number_field text_field time_field plan_field schedule_field report_field command_named command_of json_of is_utf8 chars serde_json_on_literals jiff_on_literals
+schedule_line = refl
+
+wrong_kind : meant (codes "1 29000580 ATC {\"cmd\":\"report\",\"flight\":\"7\",\"milestone\":6}") ≡ Err Kind
+unfolding meant head_of natural_of number_field text_field time_field plan_field schedule_field report_field command_named command_of json_of is_utf8 chars serde_json_on_literals jiff_on_literals
+wrong_kind = refl
+
+negative_flight : meant (codes "1 29000580 ATC {\"cmd\":\"report\",\"flight\":-7,\"milestone\":6}") ≡ Err Kind
+unfolding meant head_of natural_of number_field text_field time_field plan_field schedule_field report_field command_named command_of json_of is_utf8 chars serde_json_on_literals jiff_on_literals
+negative_flight = refl
+
+no_such_milestone : meant (codes "1 29000580 ATC {\"cmd\":\"report\",\"flight\":7,\"milestone\":17,\"time\":\"2025-02-20T10:00:00Z\"}") ≡ Err Range
+unfolding meant head_of natural_of number_field text_field time_field plan_field schedule_field report_field command_named command_of json_of is_utf8 chars serde_json_on_literals jiff_on_literals
+no_such_milestone = refl

@@ -1,0 +1,14 @@
+use Rattle.std.proofs.Common.{◌≡◌, ◌+◌, ◌-◌, ◌≤◌, length, take, drop, ℕ, List, arith, length-drop}
+use Rattle.std.proofs.lemmas.List.{take_rest}
+use Rattle.acdm_sessions.proofs.Writing.{Appends-further}
+use Rattle.acdm_sessions.proofs.reply.write_whole.Goals as goal
+
+pub loop-at-preserved : goal.loop-at-preserved
+loop-at-preserved g c =
+    let bytes : List ℕ = c.args.bytes.now in
+    let bound = rw (take_rest bytes c.loop-at.at) at c.in-Ok.ensures.bound in
+    record {
+      inside = omega (arith, length-drop c.loop-at.at bytes);
+      wrote = Appends-further _ _ _ bytes c.loop-at.at c.in-Ok.taken c.loop-at.invariant.wrote (rw (take_rest bytes c.loop-at.at) at c.in-Ok.ensures.bytes);
+      well = grind arith;
+    }

@@ -1,0 +1,181 @@
+-- What a line of partners means: JSON and timestamps are read as serde_json and jiff state.
+use Rattle.std.specs.Prelude.{ℕ, ◌+◌, ◌-◌, ◌*◌, ◌/◌, ◌^◌, ◌<◌, ◌≡◌, ℤ, pos, negsuc, Bool, true, false, ◌||◌, ◌&&◌, ◌==◌, not, nat_le, nat_lt, if◌then◌else◌, List, [], ◌∷◌, length, codes, slice_index, take, drop, position, Option, Some, None, option_and_then, option_map, Result, Ok, Err}
+use Rattle.std.specs.Str.{is_utf8, bytes_eq}
+use Rattle.std.specs.Char.{is_ascii_digit}
+use Rattle.serde_json.specs.Data.{Data}
+use Rattle.serde_json.specs.Read.{read}
+use Rattle.serde_json.specs.Find.{get, as_number, as_u64, as_str}
+use Rattle.jiff_fmt.specs.Temporal.{parse_timestamp}
+use Rattle.acdm_step.specs.Texts.{text_from}
+use Rattle.acdm_step.specs.declared.role.Role.{Role}
+use Rattle.acdm_step.specs.declared.role.Role.TheVariants.{NetworkManager, AirTrafficControl, AirportOperator, AircraftOperator, GroundHandler}
+use Rattle.acdm_step.specs.declared.role.Milestone.{Milestone}
+use Rattle.acdm_step.specs.declared.role.Milestone.TheVariants.{PlanActivated, Landed, InBlock}
+use Rattle.acdm_step.specs.declared.command.Plan.{Plan}
+use Rattle.acdm_step.specs.declared.command.Command.{Command}
+use Rattle.acdm_step.specs.declared.command.Command.TheVariants.{Schedule, Report}
+use Rattle.acdm_sessions.specs.declared.fault.Fault.{Fault}
+use Rattle.acdm_sessions.specs.declared.fault.Fault.TheVariants.{Prefix, NoJson, UnknownCommand, Kind, Range, TooLong}
+use Rattle.acdm_sessions.specs.declared.request.LineError.{LineError}
+use Rattle.acdm_sessions.specs.declared.request.LineError.TheVariants as errors
+use Rattle.acdm_sessions.specs.declared.request.Request.{Request}
+
+-- one reading after another, the first fault ending it
+infixl 10 ◌>>=◌
+abbrev pub ◌>>=◌ : {A B : Type 0} → Result A Fault → (A → Result B Fault) → Result B Fault
+(Ok x) >>= f = f x
+(Err e) >>= f = Err e
+
+abbrev pub or_fault : {A : Type 0} → Fault → Option A → Result A Fault
+or_fault e None = Err e
+or_fault e (Some x) = Ok x
+
+abbrev pub demand : Fault → Bool → Result (Unit {0}) Fault
+demand e true = Ok tt
+demand e false = Err e
+
+-- What a function returned is what reading gives, unless memory ran out.
+abbrev pub Gives : {X : Type 0} → Result X LineError → Result X Fault → Type 0
+Gives (Ok x) reading = reading ≡ Ok x
+Gives (Err errors.Memory) reading = Unit {0}
+Gives (Err (errors.Fault f)) reading = reading ≡ Err f
+
+-- the same of a value that is seen by view
+abbrev pub GivesView : {X Y : Type 0} → (X → Y) → Result X LineError → Result Y Fault → Type 0
+GivesView view (Ok x) reading = reading ≡ Ok (view x)
+GivesView view (Err errors.Memory) reading = Unit {0}
+GivesView view (Err (errors.Fault f)) reading = reading ≡ Err f
+
+-- ---- the words before the JSON
+
+abbrev pub is_space : ℕ → Bool
+is_space b = b == 32
+
+-- the bytes before the first space, and those after it
+abbrev pub word_at : List ℕ → Result (List ℕ × List ℕ) Fault
+word_at line = or_fault Prefix (option_map (λ i. (take i line, drop (i + 1) line)) (position is_space line))
+
+-- digits, the highest first
+abbrev pub digits_from : ℕ → List ℕ → Option ℕ
+digits_from n [] = Some n
+digits_from n (c ∷ cs) = if is_ascii_digit c then digits_from (n * 10 + (c - 48)) cs else None
+
+-- a number of at most ten digits, without leading zeros
+unfoldable pub natural_of : List ℕ → Option ℕ
+natural_of w = if length w == 0 || (nat_lt 10 (length w) || slice_index w 0 == 48) then None else digits_from 0 w
+
+abbrev pub within : Fault → ℕ → ℕ → ℕ → Result ℕ Fault
+within e low high n = if nat_le low n && nat_le n high then Ok n else Err e
+
+-- a number from 1 to high
+abbrev pub number_word : ℕ → List ℕ → Result ℕ Fault
+number_word high w = or_fault Prefix (natural_of w) >>= within Prefix 1 high
+
+abbrev pub role_named : List ℕ → Option Role
+role_named w =
+    if bytes_eq w (codes "NM") then Some NetworkManager
+    else (if bytes_eq w (codes "ATC") then Some AirTrafficControl
+    else (if bytes_eq w (codes "APT") then Some AirportOperator
+    else (if bytes_eq w (codes "AO") then Some AircraftOperator
+    else (if bytes_eq w (codes "GH") then Some GroundHandler else None))))
+
+pub record Head : Type 0 where
+  pub session : ℕ
+  pub moment : ℕ
+  pub role : Role
+  pub rest : List ℕ
+
+unfoldable pub head_of : List ℕ → Result Head Fault
+head_of line = do
+  first ← word_at line
+  session ← number_word 64 first.0
+  second ← word_at first.1
+  moment ← number_word 4294967295 second.0
+  third ← word_at second.1
+  role ← or_fault Prefix (role_named third.0)
+  Ok (record { session = session; moment = moment; role = role; rest = third.1 })
+
+-- ---- fields
+
+-- a number under a key, within these bounds
+unfoldable pub number_field : List ℕ → ℕ → ℕ → Data → Result ℕ Fault
+number_field key low high d = or_fault Kind (option_and_then as_u64 (option_and_then as_number (get key d))) >>= within Range low high
+
+-- a text under a key, of 1 to so many printable bytes
+unfoldable pub text_field : List ℕ → ℕ → Data → Result (List ℕ) Fault
+text_field key most d = or_fault Kind (option_and_then as_str (get key d)) >>= λ t. or_fault Range (text_from most t)
+
+-- the minute of an instant, which must be after the first and fit 32 bits
+abbrev pub minute_of : ℤ → Result ℕ Fault
+minute_of (pos n) = within Range 1 4294967295 (n / 60000000000)
+minute_of (negsuc n) = Err Range
+
+abbrev pub minute_read : {E : Type 0} → Result ℤ E → Result ℕ Fault
+minute_read (Ok z) = minute_of z
+minute_read (Err e) = Err Range
+
+unfoldable pub time_field : List ℕ → Data → Result ℕ Fault
+time_field key d = or_fault Kind (option_and_then as_str (get key d)) >>= λ t. minute_read (parse_timestamp t)
+
+unfoldable pub plan_field : Data → Result Plan Fault
+plan_field d = do
+  callsign ← text_field (codes "callsign") 8 d
+  aircraft ← text_field (codes "type") 4 d
+  registration ← text_field (codes "reg") 8 d
+  destination ← text_field (codes "dest") 4 d
+  Ok (record { callsign = callsign; aircraft = aircraft; registration = registration; destination = destination })
+
+-- for now, of the first path alone
+abbrev pub milestone_of : ℕ → Result Milestone Fault
+milestone_of n =
+    if n == 1 then Ok PlanActivated else (if n == 6 then Ok Landed else (if n == 7 then Ok InBlock else Err Range))
+
+abbrev pub most_flight : ℕ
+most_flight = 2 ^ 64 - 1
+
+unfoldable pub schedule_field : Data → Result Command Fault
+schedule_field d = do
+  flight ← number_field (codes "flight") 1 most_flight d
+  plan ← plan_field d
+  sobt ← time_field (codes "sobt") d
+  mttt ← number_field (codes "mttt") 0 1440 d
+  exit ← number_field (codes "exit") 0 255 d
+  exot ← number_field (codes "exot") 0 1440 d
+  stand ← number_field (codes "stand") 0 65535 d
+  Ok (Schedule record { flight = flight; plan = plan; sobt = sobt; mttt = mttt; exit = exit; exot = exot; stand = stand })
+
+-- a plan comes with the first milestone alone
+abbrev pub plan_for : Milestone → Data → Result (Option Plan) Fault
+plan_for PlanActivated d = plan_field d >>= λ p. Ok (Some p)
+plan_for _ d = Ok None
+
+unfoldable pub report_field : Data → Result Command Fault
+report_field d = do
+  flight ← number_field (codes "flight") 1 most_flight d
+  number ← number_field (codes "milestone") 0 most_flight d
+  milestone ← milestone_of number
+  time ← time_field (codes "time") d
+  plan ← plan_for milestone d
+  Ok (Report record { flight = flight; milestone = milestone; time = time; plan = plan })
+
+unfoldable pub command_named : List ℕ → Data → Result Command Fault
+command_named name d =
+    if bytes_eq name (codes "schedule") then schedule_field d
+    else (if bytes_eq name (codes "report") then report_field d else Err UnknownCommand)
+
+unfoldable pub command_of : Data → Result Command Fault
+command_of d = or_fault UnknownCommand (option_and_then as_str (get (codes "cmd") d)) >>= λ name. command_named name d
+
+unfoldable pub json_of : List ℕ → Result Data Fault
+json_of bytes = if is_utf8 bytes then or_fault NoJson (read bytes) else Err NoJson
+
+abbrev pub most_line : ℕ
+most_line = 70000
+
+unfoldable pub meant : List ℕ → Result Request Fault
+meant line = do
+  _ ← demand TooLong (nat_le (length line) most_line)
+  head ← head_of line
+  d ← json_of head.rest
+  command ← command_of d
+  Ok (record { session = head.session; moment = head.moment; role = head.role; command = command })

@@ -1,0 +1,95 @@
+//! A reader or writer with a count of its faults.
+ghost use Rattle.std.specs.Prelude.{◌≡◌, ◌+◌, is_err};
+ghost use Rattle.std.specs.Io.{ReadsAtMost, WritesAtMost};
+ghost use Rattle.std.specs.Io.KnownBytes.{ReadConsumes, WriteAppends, Keeps};
+ghost use Rattle.acdm_sessions.specs.Counted.{Watched, faults_after, write_failed};
+
+use std::io::{self, Read, Write};
+use std::marker::Model;
+
+/// A reader or a writer, and how often it failed. A fault is any error, and a write that takes
+/// none of some bytes.
+#[derive(Drop)]
+pub struct Counted<T> {
+    inner: T,
+    faults: u64,
+}
+
+impl<T> Model for Counted<T> {
+    ghost use Rattle.acdm_sessions.specs.Counted.{Watched};
+
+    ghost Value = { Watched T };
+
+    ghost view = { λ c. record { inner = c.inner; faults = c.faults } };
+}
+
+impl<T> Counted<T> {
+    /// A reader or a writer that has not failed yet.
+    pub fn new(inner: T) -> Counted<T>
+        ensures { result ≡ record { inner = inner; faults = 0 } }
+    {
+        Counted { inner, faults: 0 }
+    }
+
+    /// How often it failed.
+    pub fn faults(&self) -> u64
+        ensures { result ≡ self.now.faults }
+    {
+        self.faults
+    }
+
+    /// The reader or the writer itself.
+    pub fn into_inner(self) -> T
+        ensures { result ≡ self.inner }
+    {
+        let Counted { inner, faults: _ } = self;
+        inner
+    }
+}
+
+impl<R: Read> Read for Counted<R> {
+    ghost remaining = { λ c. R.remaining c.inner };
+
+    fn read(&mut self, buf: &mut [u8]) -> io::Result<usize>
+        ensures bound { ReadsAtMost result buf.new }
+        ensures bytes { ReadConsumes (R.remaining self.old.inner) (R.remaining self.new.inner) result buf.new }
+        ensures faults { self.new.faults ≡ faults_after (is_err result) self.old.faults }
+    {
+        let result = self.inner.read(buf);
+        if result.is_err() {
+            self.faults = self.faults.saturating_add(1);
+        }
+        result
+    }
+}
+
+impl<W: Write> Write for Counted<W> {
+    ghost contents = { λ c. W.contents c.inner };
+
+    fn write(&mut self, buf: &[u8]) -> io::Result<usize>
+        ensures bound { WritesAtMost result buf.now }
+        ensures bytes { WriteAppends (W.contents self.old.inner) (W.contents self.new.inner) result buf.now }
+        ensures faults { self.new.faults ≡ faults_after (write_failed result buf.now) self.old.faults }
+    {
+        let result = self.inner.write(buf);
+        let failed = match &result {
+            Ok(taken) => *taken == 0 && !buf.is_empty(),
+            Err(_) => true,
+        };
+        if failed {
+            self.faults = self.faults.saturating_add(1);
+        }
+        result
+    }
+
+    fn flush(&mut self) -> io::Result<()>
+        ensures bytes { Keeps (W.contents self.old.inner) (W.contents self.new.inner) }
+        ensures faults { self.new.faults ≡ faults_after (is_err result) self.old.faults }
+    {
+        let result = self.inner.flush();
+        if result.is_err() {
+            self.faults = self.faults.saturating_add(1);
+        }
+        result
+    }
+}

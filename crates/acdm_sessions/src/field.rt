@@ -1,0 +1,169 @@
+//! The fields of a command.
+ghost use Rattle.std.specs.Prelude.{◌≡◌};
+ghost use Rattle.serde_json.specs.View.{view};
+ghost use Rattle.acdm_sessions.specs.Meant.{Gives, number_field, text_field, time_field, plan_field, schedule_field, report_field, command_of, json_of, milestone_of, minute_of, plan_for, GivesView};
+
+use crate::fault::Fault;
+use crate::request::LineError;
+use acdm_step::{Command, Milestone, Plan, Report, Schedule, Text};
+use jiff::Timestamp;
+use serde_json::Value;
+use std::alloc::Global;
+
+#[tactic(auto, unfolding(crate::specs::Meant::number_field))]
+fn number_in(value: &Value, key: &str, low: u64, high: u64) -> Result<u64, LineError>
+    ensures { Gives result (number_field key.now low high (view value.now)) }
+{
+    let Some(number) = value.get(key).and_then(Value::as_u64) else {
+        return Err(LineError::Fault(Fault::Kind));
+    };
+    if low <= number && number <= high {
+        Ok(number)
+    } else {
+        Err(LineError::Fault(Fault::Range))
+    }
+}
+
+// The minute of a text that is an instant.
+#[tactic(auto, unfolding(crate::specs::Meant::time_field))]
+fn time_in(value: &Value, key: &str) -> Result<u32, LineError>
+    ensures { Gives result (time_field key.now (view value.now)) }
+{
+    let Some(text) = value.get(key).and_then(Value::as_str) else {
+        return Err(LineError::Fault(Fault::Kind));
+    };
+    let Ok(instant) = text.parse::<Timestamp>() else {
+        return Err(LineError::Fault(Fault::Range));
+    };
+    minute_at(instant)
+}
+
+fn minute_at(instant: Timestamp) -> Result<u32, LineError>
+    ensures { Gives result (minute_of instant.nanosecond) }
+{
+    let minute = instant.as_second() / 60;
+    if 1 <= minute && minute <= 4_294_967_295 {
+        Ok(minute as u32)
+    } else {
+        Err(LineError::Fault(Fault::Range))
+    }
+}
+
+#[tactic(auto, unfolding(crate::specs::Meant::text_field))]
+fn text_in<const N: usize>(value: &Value, key: &str) -> Result<Text<N>, LineError>
+    ensures { Gives result (text_field key.now N (view value.now)) }
+{
+    let Some(text) = value.get(key).and_then(Value::as_str) else {
+        return Err(LineError::Fault(Fault::Kind));
+    };
+    let Some(kept) = Text::from_bytes(text.as_bytes()) else {
+        return Err(LineError::Fault(Fault::Range));
+    };
+    Ok(kept)
+}
+
+#[tactic(auto, unfolding(crate::specs::Meant::plan_field))]
+fn plan_in(value: &Value) -> Result<Plan, LineError>
+    ensures { Gives result (plan_field (view value.now)) }
+{
+    let callsign = text_in(value, "callsign")?;
+    let aircraft = text_in(value, "type")?;
+    let registration = text_in(value, "reg")?;
+    let destination = text_in(value, "dest")?;
+    Ok(Plan {
+        callsign,
+        aircraft,
+        registration,
+        destination,
+    })
+}
+
+fn milestone_at(number: u64) -> Result<Milestone, LineError>
+    ensures { Gives result (milestone_of number) }
+{
+    match number {
+        1 => Ok(Milestone::PlanActivated),
+        6 => Ok(Milestone::Landed),
+        7 => Ok(Milestone::InBlock),
+        _ => Err(LineError::Fault(Fault::Range)),
+    }
+}
+
+#[tactic(auto, unfolding(crate::specs::Meant::schedule_field, crate::specs::Meant::number_field))]
+fn schedule_in(value: &Value) -> Result<Command, LineError>
+    ensures { Gives result (schedule_field (view value.now)) }
+{
+    let flight = number_in(value, "flight", 1, u64::MAX)?;
+    let plan = plan_in(value)?;
+    let sobt = time_in(value, "sobt")?;
+    let mttt = number_in(value, "mttt", 0, 1440)?;
+    let exit = number_in(value, "exit", 0, 255)?;
+    let exot = number_in(value, "exot", 0, 1440)?;
+    let stand = number_in(value, "stand", 0, 65535)?;
+    Ok(Command::Schedule(Schedule {
+        flight,
+        plan,
+        sobt,
+        mttt: mttt as u16,
+        exit: exit as u8,
+        exot: exot as u16,
+        stand: stand as u16,
+    }))
+}
+
+fn plan_of(value: &Value, milestone: Milestone) -> Result<Option<Plan>, LineError>
+    ensures { Gives result (plan_for milestone (view value.now)) }
+{
+    match milestone {
+        Milestone::PlanActivated => Ok(Some(plan_in(value)?)),
+        _ => Ok(None),
+    }
+}
+
+#[tactic(auto, unfolding(crate::specs::Meant::report_field))]
+fn report_in(value: &Value) -> Result<Command, LineError>
+    ensures { Gives result (report_field (view value.now)) }
+{
+    let flight = number_in(value, "flight", 1, u64::MAX)?;
+    let number = number_in(value, "milestone", 0, u64::MAX)?;
+    let milestone = milestone_at(number)?;
+    let time = time_in(value, "time")?;
+    let plan = plan_of(value, milestone)?;
+    Ok(Command::Report(Report {
+        flight,
+        milestone,
+        time,
+        plan,
+    }))
+}
+
+#[tactic(auto, unfolding(crate::specs::Meant::command_of, crate::specs::Meant::command_named))]
+pub(crate) fn command_in(value: &Value) -> Result<Command, LineError>
+    ensures { Gives result (command_of (view value.now)) }
+{
+    let Some(name) = value.get("cmd").and_then(Value::as_str) else {
+        return Err(LineError::Fault(Fault::UnknownCommand));
+    };
+    if name == "schedule" {
+        schedule_in(value)
+    } else if name == "report" {
+        report_in(value)
+    } else {
+        Err(LineError::Fault(Fault::UnknownCommand))
+    }
+}
+
+pub(crate) fn json_in(alloc: Global, bytes: &[u8]) -> Result<Value, LineError>
+    ensures { GivesView view result (json_of bytes.now) }
+{
+    match Value::from_slice(alloc, bytes) {
+        Ok(value) => Ok(value),
+        Err(error) => {
+            if error.is_memory() {
+                Err(LineError::Memory)
+            } else {
+                Err(LineError::Fault(Fault::NoJson))
+            }
+        }
+    }
+}

@@ -1,0 +1,123 @@
+//! The words before the JSON of a line.
+ghost use Rattle.std.specs.Prelude.{◌≡◌, ◌<◌, length, position, IfSome};
+ghost use Rattle.acdm_sessions.specs.Meant.{Gives, GivesView, is_space, word_at, natural_of, number_word, role_named, head_of, meant};
+
+use crate::fault::Fault;
+use crate::field::{command_in, json_in};
+use crate::request::{LineError, Request};
+use acdm_step::Role;
+use std::alloc::Global;
+
+// The place of the first space.
+fn space_in(line: &[u8]) -> Option<usize>
+    ensures place { result ≡ position is_space line.now }
+    ensures inside { IfSome result (λ i. i < length line.now) }
+{
+    line.iter().position(|byte| *byte == b' ')
+}
+
+// The bytes before the first space, and those after it.
+fn word_in(line: &[u8]) -> Result<(&[u8], &[u8]), LineError>
+    ensures { GivesView (λ x. (x.0.now, x.1.now)) result (word_at line.now) }
+{
+    let Some(end) = space_in(line) else {
+        return Err(LineError::Fault(Fault::Prefix));
+    };
+    Ok((&line[..end], &line[end + 1..]))
+}
+
+// A number without leading zeros.
+#[tactic(auto, unfolding(crate::specs::Meant::natural_of))]
+fn natural_in(word: &[u8]) -> Option<u64>
+    ensures { result ≡ natural_of word.now }
+{
+    if word.is_empty() || word.len() > 10 || word[0] == b'0' {
+        return None;
+    }
+    let mut number = 0u64;
+    for byte in word {
+        if !byte.is_ascii_digit() {
+            return None;
+        }
+        number = number * 10 + u64::from(*byte - b'0');
+    }
+    Some(number)
+}
+
+fn number_in(word: &[u8], high: u64) -> Result<u64, LineError>
+    ensures { Gives result (number_word high word.now) }
+{
+    let Some(number) = natural_in(word) else {
+        return Err(LineError::Fault(Fault::Prefix));
+    };
+    if 1 <= number && number <= high {
+        Ok(number)
+    } else {
+        Err(LineError::Fault(Fault::Prefix))
+    }
+}
+
+fn role_in(word: &[u8]) -> Option<Role>
+    ensures { result ≡ role_named word.now }
+{
+    if word == b"NM".as_slice() {
+        Some(Role::NetworkManager)
+    } else if word == b"ATC".as_slice() {
+        Some(Role::AirTrafficControl)
+    } else if word == b"APT".as_slice() {
+        Some(Role::AirportOperator)
+    } else if word == b"AO".as_slice() {
+        Some(Role::AircraftOperator)
+    } else if word == b"GH".as_slice() {
+        Some(Role::GroundHandler)
+    } else {
+        None
+    }
+}
+
+#[derive(Drop)]
+struct Head<'a> {
+    session: u8,
+    moment: u32,
+    role: Role,
+    rest: &'a [u8],
+}
+
+#[tactic(auto, unfolding(crate::specs::Meant::head_of))]
+fn head_in(line: &[u8]) -> Result<Head<'_>, LineError>
+    ensures { GivesView (λ h. record { session = h.session; moment = h.moment; role = h.role; rest = h.rest.now }) result (head_of line.now) }
+{
+    let (first, line) = word_in(line)?;
+    let session = number_in(first, 64)?;
+    let (second, line) = word_in(line)?;
+    let moment = number_in(second, 4_294_967_295)?;
+    let (third, rest) = word_in(line)?;
+    let Some(role) = role_in(third) else {
+        return Err(LineError::Fault(Fault::Prefix));
+    };
+    Ok(Head {
+        session: session as u8,
+        moment: moment as u32,
+        role,
+        rest,
+    })
+}
+
+/// What a line asks for, or the first fault in it.
+#[tactic(auto, unfolding(crate::specs::Meant::meant))]
+pub fn request_of(alloc: Global, line: &[u8]) -> Result<Request, LineError>
+    ensures { Gives result (meant line.now) }
+{
+    if line.len() > 70_000 {
+        return Err(LineError::Fault(Fault::TooLong));
+    }
+    let head = head_in(line)?;
+    let value = json_in(alloc, head.rest)?;
+    let command = command_in(&value)?;
+    Ok(Request {
+        session: head.session,
+        moment: head.moment,
+        role: head.role,
+        command,
+    })
+}

@@ -1,0 +1,23 @@
+//! Lines in, replies out.
+#![tactic(auto)]
+
+mod answer;
+mod counted;
+mod fault;
+mod field;
+mod head;
+mod line;
+mod lines;
+mod reply;
+mod request;
+mod run_error;
+mod stream;
+mod window;
+
+pub use answer::Answer;
+pub use counted::Counted;
+pub use fault::{Bad, Fault};
+pub use head::request_of;
+pub use request::{LineError, Request};
+pub use run_error::RunError;
+pub use stream::run;

@@ -1,0 +1,75 @@
+//! From a reader to a writer.
+ghost use Rattle.std.specs.Prelude.{◌≡◌, ◌+◌, ◌-◌, ◌^◌, ◌<◌, Bool, true, Err, OnOk, OnErr, IfSome, IfErr};
+ghost use Rattle.std.specs.Io.KnownBytes.{Appends, IsAtEnd};
+ghost use Rattle.acdm_sessions.specs.Counted.{faults_after};
+ghost use Rattle.acdm_sessions.specs.Reply.{AppendsPart};
+ghost use Rattle.acdm_sessions.specs.Run.{FailsOrEndless};
+ghost use Rattle.acdm_sessions.specs.Output.{answer_to, desk_after, reply_text, Serves, ServesWhole, ServesPart};
+
+use crate::answer::answer_line;
+use crate::counted::Counted;
+use crate::lines::{Ending, Lines};
+use crate::reply::write_reply;
+use crate::run_error::RunError;
+use acdm_board::Desk;
+use std::alloc::Global;
+use std::io::{Read, Write};
+
+// Answers one line, and lets its reply go.
+fn serve_line<W: Write>(
+    alloc: Global,
+    line: &[u8],
+    writer: &mut Counted<W>,
+    desk: &mut Desk,
+) -> Result<(), RunError>
+    ensures ok { OnOk result ((short : Bool) × (desk.new ≡ desk_after desk.old short line.now)
+        × Appends (W.contents writer.old.inner) (W.contents writer.new.inner) (reply_text (answer_to desk.old short line.now))) }
+    ensures part { OnErr result ((short : Bool) × (desk.new ≡ desk_after desk.old short line.now)
+        × AppendsPart (W.contents writer.old.inner) (W.contents writer.new.inner) (reply_text (answer_to desk.old short line.now))) }
+    ensures well { OnOk result (writer.new.faults ≡ writer.old.faults) }
+    ensures fault { OnErr result (writer.new.faults ≡ faults_after true writer.old.faults) }
+    ensures kind { IfErr result (λ e. e ≡ RunError.Write) }
+{
+    let answer = answer_line(alloc, line, desk);
+    write_reply(writer, answer)
+}
+
+/// Answers each line that is read, at once, until the input ends.
+///
+/// A line is `SESSION MINUTE ROLE JSON`, and its reply `ok N`, `no N CODE` or `bad CODE`
+/// (this project's profile). Lines are cut at each line feed, and a last one may lack it.
+pub fn run<R: Read, W: Write>(
+    alloc: Global,
+    reader: &mut Counted<R>,
+    writer: &mut Counted<W>,
+    desk: &mut Desk,
+) -> Result<(), RunError>
+    requires reads { reader.old.faults < 2 ^ 64 - 1 }
+    requires writes { writer.old.faults < 2 ^ 64 - 1 }
+
+    // Where neither fails, all that the reader had left was read, and its output was written.
+    ensures output { OnOk result (IfSome (R.remaining reader.old.inner) (λ text.
+        Serves text desk.old desk.new (W.contents writer.old.inner) (W.contents writer.new.inner))) }
+    ensures ended { OnOk result (IsAtEnd (R.remaining reader.new.inner)) }
+    ensures read_well { OnOk result (reader.new.faults ≡ reader.old.faults) }
+    ensures wrote_well { OnOk result (writer.new.faults ≡ writer.old.faults) }
+
+    // When each error comes, and what stands then.
+    ensures read { result ≡ Err RunError.Read → FailsOrEndless reader.old.faults reader.new.faults (R.remaining reader.old.inner) }
+    ensures read_in_part { result ≡ Err RunError.Read → ServesWhole (R.remaining reader.old.inner) (R.remaining reader.new.inner) desk.old desk.new (W.contents writer.old.inner) (W.contents writer.new.inner) }
+    ensures write { result ≡ Err RunError.Write → writer.new.faults ≡ writer.old.faults + 1 }
+    ensures written_in_part { result ≡ Err RunError.Write → IfSome (R.remaining reader.old.inner) (λ text.
+        ServesPart text desk.old desk.new (W.contents writer.old.inner) (W.contents writer.new.inner)) }
+    ensures memory { result ≡ Err RunError.Memory → (reader.new ≡ reader.old) × (writer.new ≡ writer.old) × (desk.new ≡ desk.old) }
+{
+    let Ok(mut lines) = Lines::new(alloc) else {
+        return Err(RunError::Memory);
+    };
+    while let Ending::LineFeed = lines.next(reader)? {
+        serve_line(alloc, lines.line.as_slice(), writer, desk)?;
+    }
+    if lines.line.as_slice().is_empty() {
+        return Ok(());
+    }
+    serve_line(alloc, lines.line.as_slice(), writer, desk)
+}

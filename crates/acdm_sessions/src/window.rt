@@ -1,0 +1,100 @@
+//! What was read and not yet taken.
+ghost use Rattle.std.specs.Prelude.{◌≡◌, ◌+◌, ◌-◌, ◌<◌, ◌≤◌, [], true, length, drop, position, OnOk, OnErr, IfOk, IfErr, IfSome};
+ghost use Rattle.std.specs.Io.KnownBytes.{Consumes, IsAtEnd, Keeps};
+ghost use Rattle.acdm_sessions.specs.Counted.{faults_after};
+ghost use Rattle.acdm_sessions.specs.Lines.{is_line_feed, most_held};
+
+use crate::counted::Counted;
+use crate::run_error::RunError;
+use std::alloc::{AllocError, Global};
+use std::io::Read;
+use std::marker::Model;
+
+const MOST_HELD: usize = 65_536;
+
+/// The bytes of one read that are still to be taken.
+#[derive(Drop)]
+pub(crate) struct Window {
+    bytes: Vec<u8>,
+    start: usize,
+    end: usize,
+}
+
+impl Model for Window {
+    ghost use Rattle.std.specs.Prelude.{ℕ, List, ◌≡◌, ◌≤◌, slice_range, length};
+    ghost use Rattle.acdm_sessions.specs.Lines.{most_held};
+
+    ghost Value = { List ℕ };
+
+    ghost view = { λ w. slice_range w.bytes.items w.start w.end };
+
+    ghost invariant = { λ w. (w.start ≤ w.end) × (w.end ≤ length w.bytes.items) × (length w.bytes.items ≡ most_held) };
+}
+
+impl Window {
+    /// An empty window, with its room for one read.
+    pub(crate) fn new(alloc: Global) -> Result<Window, AllocError>
+        ensures { IfOk result (λ w. w ≡ []) }
+    {
+        let mut bytes = Vec::new(alloc);
+        bytes.resize(MOST_HELD, 0)?;
+        Ok(Window {
+            bytes,
+            start: 0,
+            end: 0,
+        })
+    }
+
+    /// The bytes that are still to be taken.
+    pub(crate) fn as_slice(&self) -> &[u8]
+        ensures bytes { result.now ≡ self.now }
+        ensures fits { length self.now ≤ most_held }
+    {
+        &self.bytes[self.start..self.end]
+    }
+
+    /// The place of the first line feed.
+    pub(crate) fn line_feed(&self) -> Option<usize>
+        ensures place { result ≡ position is_line_feed self.now }
+        ensures inside { IfSome result (λ i. i < length self.now) }
+    {
+        self.as_slice().iter().position(|byte| *byte == b'\n')
+    }
+
+    /// Takes all bytes.
+    pub(crate) fn clear(&mut self)
+        ensures { self.new ≡ [] }
+    {
+        self.start = 0;
+        self.end = 0;
+    }
+
+    /// Takes so many bytes, or all where there are fewer.
+    pub(crate) fn consume(&mut self, amount: usize)
+        ensures { self.new ≡ drop amount self.old }
+    {
+        self.start += amount.min(self.end - self.start);
+    }
+
+    /// Reads once, in place of what is held. Nothing is held afterwards where the input has ended.
+    pub(crate) fn fill<R: Read>(&mut self, reader: &mut Counted<R>) -> Result<(), RunError>
+        ensures bytes { OnOk result (Consumes (R.remaining reader.old.inner) (R.remaining reader.new.inner) self.new) }
+        ensures end { OnOk result (self.new ≡ [] → IsAtEnd (R.remaining reader.new.inner)) }
+        ensures err { OnErr result (Keeps (R.remaining reader.old.inner) (R.remaining reader.new.inner)) }
+        ensures ok { OnOk result (reader.new.faults ≡ reader.old.faults) }
+        ensures fault { OnErr result (reader.new.faults ≡ faults_after true reader.old.faults) }
+        ensures kind { IfErr result (λ e. e ≡ RunError.Read) }
+        ensures none { OnErr result (self.new ≡ []) }
+        ensures fits { length self.new ≤ most_held }
+    {
+        self.start = 0;
+        self.end = 0;
+        match reader.read(self.bytes.as_mut_slice()) {
+            Ok(count) => {
+                self.end = count;
+                Ok(())
+            }
+            Err(_) => Err(RunError::Read),
+        }
+    }
+}
