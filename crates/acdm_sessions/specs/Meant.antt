@@ -1,4 +1,5 @@
--- What a line of partners means: JSON and timestamps are read as serde_json and jiff state.
+-- What a partner's line means (this project's profile). JSON (RFC 8259) is read as serde_json states it,
+-- and times (RFC 3339 and its kin) as jiff states them.
 use Rattle.std.specs.Prelude.{ℕ, ◌+◌, ◌-◌, ◌*◌, ◌/◌, ◌^◌, ◌<◌, ◌≡◌, ℤ, pos, negsuc, Bool, true, false, ◌||◌, ◌&&◌, ◌==◌, not, nat_le, nat_lt, if◌then◌else◌, List, [], ◌∷◌, length, codes, slice_index, take, drop, position, Option, Some, None, option_and_then, option_map, Result, Ok, Err}
 use Rattle.std.specs.Str.{is_utf8, bytes_eq}
 use Rattle.std.specs.Char.{is_ascii_digit}
@@ -6,11 +7,12 @@ use Rattle.serde_json.specs.Data.{Data}
 use Rattle.serde_json.specs.Read.{read}
 use Rattle.serde_json.specs.Find.{get, as_number, as_u64, as_str}
 use Rattle.jiff_fmt.specs.Temporal.{parse_timestamp}
-use Rattle.acdm_step.specs.Texts.{text_from}
-use Rattle.acdm_step.specs.declared.role.Role.{Role}
-use Rattle.acdm_step.specs.declared.role.Role.TheVariants.{NetworkManager, AirTrafficControl, AirportOperator, AircraftOperator, GroundHandler}
-use Rattle.acdm_step.specs.declared.role.Milestone.{Milestone}
-use Rattle.acdm_step.specs.declared.role.Milestone.TheVariants.{PlanActivated, Landed, InBlock}
+use Rattle.acdm_record.specs.Texts.{text_from}
+use Rattle.acdm_milestones.specs.declared.role.Role.{Role}
+use Rattle.acdm_milestones.specs.declared.role.Role.TheVariants.{NetworkManager, AirTrafficControl, AirportOperator, AircraftOperator, GroundHandler}
+use Rattle.acdm_milestones.specs.declared.milestone.Milestone.{Milestone}
+use Rattle.acdm_milestones.specs.declared.milestone.Milestone.TheVariants.{FlightPlanActivated, Landed, InBlock}
+use Rattle.acdm_milestones.specs.Tables.{milestone_numbered}
 use Rattle.acdm_step.specs.declared.command.Plan.{Plan}
 use Rattle.acdm_step.specs.declared.command.Command.{Command}
 use Rattle.acdm_step.specs.declared.command.Command.TheVariants.{Schedule, Report}
@@ -71,6 +73,7 @@ within e low high n = if nat_le low n && nat_le n high then Ok n else Err e
 abbrev pub number_word : ℕ → List ℕ → Result ℕ Fault
 number_word high w = or_fault Prefix (natural_of w) >>= within Prefix 1 high
 
+-- the roles by their names
 abbrev pub role_named : List ℕ → Option Role
 role_named w =
     if bytes_eq w (codes "NM") then Some NetworkManager
@@ -79,12 +82,14 @@ role_named w =
     else (if bytes_eq w (codes "AO") then Some AircraftOperator
     else (if bytes_eq w (codes "GH") then Some GroundHandler else None))))
 
+-- what stands before the JSON, and the JSON
 pub record Head : Type 0 where
   pub session : ℕ
   pub moment : ℕ
   pub role : Role
   pub rest : List ℕ
 
+-- a session, a minute and a role, each before one space; all after the third space is the JSON
 unfoldable pub head_of : List ℕ → Result Head Fault
 head_of line = do
   first ← word_at line
@@ -114,9 +119,11 @@ abbrev pub minute_read : {E : Type 0} → Result ℤ E → Result ℕ Fault
 minute_read (Ok z) = minute_of z
 minute_read (Err e) = Err Range
 
+-- a time under a key
 unfoldable pub time_field : List ℕ → Data → Result ℕ Fault
 time_field key d = or_fault Kind (option_and_then as_str (get key d)) >>= λ t. minute_read (parse_timestamp t)
 
+-- what is planned: callsign, aircraft type, registration and destination
 unfoldable pub plan_field : Data → Result Plan Fault
 plan_field d = do
   callsign ← text_field (codes "callsign") 8 d
@@ -125,14 +132,20 @@ plan_field d = do
   destination ← text_field (codes "dest") 4 d
   Ok (record { callsign = callsign; aircraft = aircraft; registration = registration; destination = destination })
 
--- for now, of the first path alone
+-- the milestones that are taken so far
+abbrev pub taken_so_far : Milestone → Result Milestone Fault
+taken_so_far FlightPlanActivated = Ok FlightPlanActivated
+taken_so_far Landed = Ok Landed
+taken_so_far InBlock = Ok InBlock
+taken_so_far _ = Err Range
+
 abbrev pub milestone_of : ℕ → Result Milestone Fault
-milestone_of n =
-    if n == 1 then Ok PlanActivated else (if n == 6 then Ok Landed else (if n == 7 then Ok InBlock else Err Range))
+milestone_of n = or_fault Range (milestone_numbered n) >>= taken_so_far
 
 abbrev pub most_flight : ℕ
 most_flight = 2 ^ 64 - 1
 
+-- the fields of a schedule, the first faulty one deciding
 unfoldable pub schedule_field : Data → Result Command Fault
 schedule_field d = do
   flight ← number_field (codes "flight") 1 most_flight d
@@ -146,9 +159,10 @@ schedule_field d = do
 
 -- a plan comes with the first milestone alone
 abbrev pub plan_for : Milestone → Data → Result (Option Plan) Fault
-plan_for PlanActivated d = plan_field d >>= λ p. Ok (Some p)
+plan_for FlightPlanActivated d = plan_field d >>= λ p. Ok (Some p)
 plan_for _ d = Ok None
 
+-- the fields of a report
 unfoldable pub report_field : Data → Result Command Fault
 report_field d = do
   flight ← number_field (codes "flight") 1 most_flight d
@@ -158,20 +172,25 @@ report_field d = do
   plan ← plan_for milestone d
   Ok (Report record { flight = flight; milestone = milestone; time = time; plan = plan })
 
+-- the command of this name
 unfoldable pub command_named : List ℕ → Data → Result Command Fault
 command_named name d =
     if bytes_eq name (codes "schedule") then schedule_field d
     else (if bytes_eq name (codes "report") then report_field d else Err UnknownCommand)
 
+-- the command under `cmd`; a value that has none is no known command
 unfoldable pub command_of : Data → Result Command Fault
 command_of d = or_fault UnknownCommand (option_and_then as_str (get (codes "cmd") d)) >>= λ name. command_named name d
 
+-- the value of JSON text, which is UTF-8
 unfoldable pub json_of : List ℕ → Result Data Fault
 json_of bytes = if is_utf8 bytes then or_fault NoJson (read bytes) else Err NoJson
 
+-- the longest line, in bytes without its line feed
 abbrev pub most_line : ℕ
 most_line = 70000
 
+-- what a line asks for, or the first fault in it: the order of tests is 105, 100, 101, 102, and then the fields
 unfoldable pub meant : List ℕ → Result Request Fault
 meant line = do
   _ ← demand TooLong (nat_le (length line) most_line)

@@ -4,7 +4,7 @@ use Rattle.std.specs.Fmt.{decimal}
 use Rattle.std.specs.Io.KnownBytes.{Appends}
 use Rattle.acdm_step.specs.declared.entry.Outcome.{Outcome}
 use Rattle.acdm_step.specs.declared.entry.Outcome.TheVariants.{Done, Refused}
-use Rattle.acdm_step.specs.Codes.{refusal_code}
+use Rattle.acdm_milestones.specs.Codes.{refusal_code}
 use Rattle.acdm_step.specs.History.{after, outcome_of}
 use Rattle.acdm_board.specs.Desk.{DeskView}
 use Rattle.acdm_sessions.specs.declared.fault.Fault.{Fault}

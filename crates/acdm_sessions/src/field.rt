@@ -1,18 +1,22 @@
 //! The fields of a command.
-ghost use Rattle.std.specs.Prelude.{◌≡◌};
+ghost use Rattle.std.specs.Prelude.{◌≡◌, ◌≤◌, IfOk, IsTrue};
+ghost use Rattle.acdm_step.specs.Facts.{has_its_plan};
 ghost use Rattle.serde_json.specs.View.{view};
 ghost use Rattle.acdm_sessions.specs.Meant.{Gives, number_field, text_field, time_field, plan_field, schedule_field, report_field, command_of, json_of, milestone_of, minute_of, plan_for, GivesView};
 
 use crate::fault::Fault;
 use crate::request::LineError;
-use acdm_step::{Command, Milestone, Plan, Report, Schedule, Text};
+use acdm_milestones::Milestone;
+use acdm_record::Text;
+use acdm_step::{Command, Plan, Report, Schedule};
 use jiff::Timestamp;
 use serde_json::Value;
 use std::alloc::Global;
 
 #[tactic(auto, unfolding(crate::specs::Meant::number_field))]
 fn number_in(value: &Value, key: &str, low: u64, high: u64) -> Result<u64, LineError>
-    ensures { Gives result (number_field key.now low high (view value.now)) }
+    ensures reads { Gives result (number_field key.now low high (view value.now)) }
+    ensures within { IfOk result (λ n. (low ≤ n) × (n ≤ high)) }
 {
     let Some(number) = value.get(key).and_then(Value::as_u64) else {
         return Err(LineError::Fault(Fault::Kind));
@@ -27,7 +31,8 @@ fn number_in(value: &Value, key: &str, low: u64, high: u64) -> Result<u64, LineE
 // The minute of a text that is an instant.
 #[tactic(auto, unfolding(crate::specs::Meant::time_field))]
 fn time_in(value: &Value, key: &str) -> Result<u32, LineError>
-    ensures { Gives result (time_field key.now (view value.now)) }
+    ensures reads { Gives result (time_field key.now (view value.now)) }
+    ensures given { IfOk result (λ t. 1 ≤ t) }
 {
     let Some(text) = value.get(key).and_then(Value::as_str) else {
         return Err(LineError::Fault(Fault::Kind));
@@ -39,7 +44,8 @@ fn time_in(value: &Value, key: &str) -> Result<u32, LineError>
 }
 
 fn minute_at(instant: Timestamp) -> Result<u32, LineError>
-    ensures { Gives result (minute_of instant.nanosecond) }
+    ensures reads { Gives result (minute_of instant.nanosecond) }
+    ensures given { IfOk result (λ t. 1 ≤ t) }
 {
     let minute = instant.as_second() / 60;
     if 1 <= minute && minute <= 4_294_967_295 {
@@ -81,10 +87,10 @@ fn plan_in(value: &Value) -> Result<Plan, LineError>
 fn milestone_at(number: u64) -> Result<Milestone, LineError>
     ensures { Gives result (milestone_of number) }
 {
-    match number {
-        1 => Ok(Milestone::PlanActivated),
-        6 => Ok(Milestone::Landed),
-        7 => Ok(Milestone::InBlock),
+    match Milestone::from_number(number) {
+        Some(milestone @ (Milestone::FlightPlanActivated | Milestone::Landed | Milestone::InBlock)) => {
+            Ok(milestone)
+        }
         _ => Err(LineError::Fault(Fault::Range)),
     }
 }
@@ -100,22 +106,23 @@ fn schedule_in(value: &Value) -> Result<Command, LineError>
     let exit = number_in(value, "exit", 0, 255)?;
     let exot = number_in(value, "exot", 0, 1440)?;
     let stand = number_in(value, "stand", 0, 65535)?;
-    Ok(Command::Schedule(Schedule {
+    Ok(Command::Schedule(Schedule::new(
         flight,
         plan,
         sobt,
-        mttt: mttt as u16,
-        exit: exit as u8,
-        exot: exot as u16,
-        stand: stand as u16,
-    }))
+        mttt as u16,
+        exit as u8,
+        exot as u16,
+        stand as u16,
+    )))
 }
 
 fn plan_of(value: &Value, milestone: Milestone) -> Result<Option<Plan>, LineError>
-    ensures { Gives result (plan_for milestone (view value.now)) }
+    ensures reads { Gives result (plan_for milestone (view value.now)) }
+    ensures with_first { IfOk result (λ p. IsTrue (has_its_plan milestone p)) }
 {
     match milestone {
-        Milestone::PlanActivated => Ok(Some(plan_in(value)?)),
+        Milestone::FlightPlanActivated => Ok(Some(plan_in(value)?)),
         _ => Ok(None),
     }
 }
@@ -129,12 +136,7 @@ fn report_in(value: &Value) -> Result<Command, LineError>
     let milestone = milestone_at(number)?;
     let time = time_in(value, "time")?;
     let plan = plan_of(value, milestone)?;
-    Ok(Command::Report(Report {
-        flight,
-        milestone,
-        time,
-        plan,
-    }))
+    Ok(Command::Report(Report::new(flight, milestone, time, plan)))
 }
 
 #[tactic(auto, unfolding(crate::specs::Meant::command_of, crate::specs::Meant::command_named))]

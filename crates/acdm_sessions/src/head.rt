@@ -1,11 +1,11 @@
 //! The words before the JSON of a line.
-ghost use Rattle.std.specs.Prelude.{◌≡◌, ◌<◌, length, position, IfSome};
+ghost use Rattle.std.specs.Prelude.{◌≡◌, ◌<◌, ◌≤◌, length, position, IfSome, IfOk};
 ghost use Rattle.acdm_sessions.specs.Meant.{Gives, GivesView, is_space, word_at, natural_of, number_word, role_named, head_of, meant};
 
 use crate::fault::Fault;
 use crate::field::{command_in, json_in};
 use crate::request::{LineError, Request};
-use acdm_step::Role;
+use acdm_milestones::Role;
 use std::alloc::Global;
 
 // The place of the first space.
@@ -45,7 +45,8 @@ fn natural_in(word: &[u8]) -> Option<u64>
 }
 
 fn number_in(word: &[u8], high: u64) -> Result<u64, LineError>
-    ensures { Gives result (number_word high word.now) }
+    ensures reads { Gives result (number_word high word.now) }
+    ensures within { IfOk result (λ n. (1 ≤ n) × (n ≤ high)) }
 {
     let Some(number) = natural_in(word) else {
         return Err(LineError::Fault(Fault::Prefix));
@@ -85,7 +86,9 @@ struct Head<'a> {
 
 #[tactic(auto, unfolding(crate::specs::Meant::head_of))]
 fn head_in(line: &[u8]) -> Result<Head<'_>, LineError>
-    ensures { GivesView (λ h. record { session = h.session; moment = h.moment; role = h.role; rest = h.rest.now }) result (head_of line.now) }
+    ensures session { IfOk result (λ h. (1 ≤ h.session) × (h.session ≤ 64)) }
+    ensures moment { IfOk result (λ h. 1 ≤ h.moment) }
+    ensures reads { GivesView (λ h. record { session = h.session; moment = h.moment; role = h.role; rest = h.rest.now }) result (head_of line.now) }
 {
     let (first, line) = word_in(line)?;
     let session = number_in(first, 64)?;
@@ -103,10 +106,12 @@ fn head_in(line: &[u8]) -> Result<Head<'_>, LineError>
     })
 }
 
-/// What a line asks for, or the first fault in it.
+/// What a line of `run` asks for, or the first fault in it. The line stands without its line feed.
 #[tactic(auto, unfolding(crate::specs::Meant::meant))]
 pub fn request_of(alloc: Global, line: &[u8]) -> Result<Request, LineError>
-    ensures { Gives result (meant line.now) }
+    ensures reads { Gives result (meant line.now) }
+    ensures session { IfOk result (λ r. (1 ≤ r.session) × (r.session ≤ 64)) }
+    ensures moment { IfOk result (λ r. 1 ≤ r.moment) }
 {
     if line.len() > 70_000 {
         return Err(LineError::Fault(Fault::TooLong));

@@ -1,6 +1,7 @@
 //! What a line gives.
 use crate::fault::Fault;
-use acdm_step::{Command, Role};
+use acdm_milestones::Role;
+use acdm_step::Command;
 
 /// Why a line gave no request.
 #[derive(Clone, Copy, Debug, PartialEq, Eq)]
