@@ -21,3 +21,6 @@ pub use head::request_of;
 pub use request::{LineError, Request};
 pub use run_error::RunError;
 pub use stream::run;
+
+#[cfg(test)]
+mod tests;
