@@ -1,5 +1,5 @@
 //! A reader or writer with a count of its faults.
-ghost use Rattle.std.specs.Prelude.{◌≡◌, ◌+◌, is_err};
+ghost use Rattle.std.specs.Prelude.{◌≡◌, true, is_err};
 ghost use Rattle.std.specs.Io.{ReadsAtMost, WritesAtMost};
 ghost use Rattle.std.specs.Io.KnownBytes.{ReadConsumes, WriteAppends, Keeps};
 ghost use Rattle.acdm_sessions.specs.Counted.{Watched, faults_after, write_failed};
@@ -38,6 +38,14 @@ impl<T> Counted<T> {
         self.faults
     }
 
+    // Counts one fault more.
+    fn note_fault(&mut self)
+        ensures { self.new ≡ record self.old { faults = faults_after true self.old.faults } }
+    {
+        let Counted { faults, .. } = self;
+        *faults = faults.saturating_add(1);
+    }
+
     /// The reader or the writer itself.
     pub fn into_inner(self) -> T
         ensures { result ≡ self.inner }
@@ -57,7 +65,7 @@ impl<R: Read> Read for Counted<R> {
     {
         let result = self.inner.read(buf);
         if result.is_err() {
-            self.faults = self.faults.saturating_add(1);
+            self.note_fault();
         }
         result
     }
@@ -77,7 +85,7 @@ impl<W: Write> Write for Counted<W> {
             Err(_) => true,
         };
         if failed {
-            self.faults = self.faults.saturating_add(1);
+            self.note_fault();
         }
         result
     }
@@ -88,7 +96,7 @@ impl<W: Write> Write for Counted<W> {
     {
         let result = self.inner.flush();
         if result.is_err() {
-            self.faults = self.faults.saturating_add(1);
+            self.note_fault();
         }
         result
     }

@@ -14,16 +14,16 @@ use itoa::Buffer;
 use std::io::Write;
 use std::marker::Model;
 
-const MOST_TEXT: usize = 64;
+const MOST_BYTES: usize = 64;
 
 /// A short text on its way to a writer, so that a reply is one write.
 #[derive(Drop)]
-struct Text {
-    bytes: [u8; MOST_TEXT],
+struct ReplyText {
+    bytes: [u8; MOST_BYTES],
     len: usize,
 }
 
-impl Model for Text {
+impl Model for ReplyText {
     ghost use Rattle.std.specs.Prelude.{ℕ, List, ◌≤◌, take};
 
     ghost Value = { List ℕ };
@@ -33,12 +33,12 @@ impl Model for Text {
     ghost invariant = { λ t. t.len ≤ 64 };
 }
 
-impl Text {
-    fn new() -> Text
+impl ReplyText {
+    fn new() -> ReplyText
         ensures { result ≡ [] }
     {
-        Text {
-            bytes: [0; MOST_TEXT],
+        ReplyText {
+            bytes: [0; MOST_BYTES],
             len: 0,
         }
     }
@@ -68,10 +68,10 @@ impl Text {
     }
 }
 
-fn text_of(answer: Answer) -> Text
+fn text_of(answer: Answer) -> ReplyText
     ensures { result ≡ reply_text answer }
 {
-    let mut text = Text::new();
+    let mut text = ReplyText::new();
     match answer {
         Answer::Entered(reply) => match reply.outcome {
             Outcome::Done => {
