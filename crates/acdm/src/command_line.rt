@@ -1,0 +1,83 @@
+//! The command line.
+ghost use Rattle.std.specs.Prelude.{◌≡◌, ◌≤◌, false, IfOk, IfSome, map, codes, option_map};
+ghost use Rattle.clap.specs.Words.{app_of, subcommand_rows_of};
+ghost use Rattle.clap.specs.declared.builder.Command.TheViews.{out-Command as fields_of};
+ghost use Rattle.acdm.specs.CommandLine.{program as the_program, run_app, value_in, Names, AsksFor};
+
+use clap::error::ErrorKind;
+use clap::{Arg, ArgMatches, Command, Error};
+use std::alloc::{AllocError, Global};
+
+const MOST_ENTRIES: usize = 1_000_000;
+
+/// What the words of a command line ask for.
+#[derive(Clone, Copy, Debug, PartialEq, Eq)]
+pub enum Line {
+    /// `run`, with room for so many entries in the journal, from 1 to 1,000,000.
+    Run { journal: usize },
+}
+
+fn run_command<'a>(alloc: Global) -> Result<Command<'a>, AllocError>
+    ensures shape { IfOk result (λ c. app_of c ≡ run_app) }
+    ensures local { IfOk result (λ c. (fields_of c).has_globals ≡ false) }
+{
+    let journal = Arg::new(alloc, "journal")
+        .long("journal")
+        .value_name("N")
+        .default_value("100000")
+        .help("How many entries the journal takes, 1 to 1000000");
+    Command::new(alloc, "run")
+        .about("Answers the lines of standard input on standard output")
+        .arg(journal)
+}
+
+fn program<'a>(alloc: Global) -> Result<Command<'a>, AllocError>
+    ensures { IfOk result (λ c. app_of c ≡ the_program) }
+{
+    let run = run_command(alloc)?;
+    Command::new(alloc, "acdm")
+        .about("The shared board of an A-CDM airport")
+        .subcommand_required(true)
+        .subcommand(run)
+}
+
+// The number of entries that a text names, from 1 to 1,000,000.
+fn entries_in(text: &str) -> Option<usize>
+    ensures { IfSome result (λ n. Names text.now n × (1 ≤ n) × (n ≤ 1000000)) }
+{
+    match text.parse::<usize>() {
+        Ok(entries) if 1 <= entries && entries <= MOST_ENTRIES => Some(entries),
+        _ => None,
+    }
+}
+
+// The value of an argument of the subcommand of this name.
+fn value<'a>(matches: &ArgMatches<'a>, name: &str, id: &str) -> Option<&'a str>
+    ensures { option_map (λ s. s.now) result ≡ value_in name.now id.now (subcommand_rows_of matches.now) }
+{
+    let (found, inner) = matches.subcommand()?;
+    if found != name {
+        return None;
+    }
+    inner.get_str(id)
+}
+
+/// What these words ask for; the first is the program's name.
+///
+/// The journal is what `--journal` says, else 100,000. Words that name no such command are refused by `clap`,
+/// and so is a journal outside 1 to 1,000,000. A request for help counts as a refusal.
+pub fn parse<'a>(alloc: Global, words: &'a [&'a str]) -> Result<Line, Error>
+    ensures { IfOk result (AsksFor (map (λ w. w.now) words.entry.now)) }
+{
+    let mut command = program(alloc)?;
+    let matches = command.try_get_matches_from_mut(words)?;
+    if let Some(text) = value(&matches, "run", "journal") {
+        if let Some(journal) = entries_in(text) {
+            return Ok(Line::Run { journal });
+        }
+    }
+    Err(command.error(
+        ErrorKind::ValueValidation,
+        "invalid value for '--journal <N>': it is not a number from 1 to 1000000",
+    )?)
+}
