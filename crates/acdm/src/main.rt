@@ -3,6 +3,8 @@
 
 mod command_line;
 mod serving;
+#[cfg(test)]
+mod tests;
 
 use command_line::{Line, parse};
 use serving::run_on;

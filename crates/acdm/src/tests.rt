@@ -1,0 +1,120 @@
+//! Command lines, and the statuses and lines of the commands.
+use crate::command_line::{Line, parse};
+use crate::serving::run_on;
+use acdm_board::Desk;
+use acdm_sessions::{Counted, run};
+use std::io::{self, Read, Write};
+use std::test::Fail;
+
+// At 2025-02-20T07:00Z the airport schedules flight 7, and the network manager activates its flight plan.
+const SCHEDULE: &str =
+    r#"1 29000580 APT {"cmd":"schedule","flight":7,"callsign":"DLH7","type":"A320","reg":"DAIBC","dest":"EDDM","sobt":"2025-02-20T10:00:00Z","mttt":40,"exit":5,"exot":10,"stand":12}
+"#;
+
+const FLIGHT_PLAN: &str =
+    r#"2 29000580 NM {"cmd":"report","flight":7,"milestone":1,"time":"2025-02-20T10:00:00Z","callsign":"DLH7","type":"A320","reg":"DAIBC","dest":"EDDM"}
+"#;
+
+#[test]
+fn a_journal_is_read_or_the_usual_one(rt: HostRuntime) -> Result<(), Fail> {
+    let alloc = rt.alloc();
+    for (words, journal) in [
+        (["acdm", "run"].as_slice(), 100_000),
+        (["acdm", "run", "--journal", "1"].as_slice(), 1),
+        (["acdm", "run", "--journal=1000000"].as_slice(), 1_000_000),
+    ] {
+        let line = parse(alloc, words).map_err(|_| "a command line is refused")?;
+        assert_eq!(rt; line, Line::Run { journal });
+    }
+    Ok(())
+}
+
+#[test]
+fn other_words_are_refused(rt: HostRuntime) {
+    for words in [
+        ["acdm"].as_slice(),
+        ["acdm", "walk"].as_slice(),
+        ["acdm", "--help"].as_slice(),
+        ["acdm", "run", "now"].as_slice(),
+        ["acdm", "run", "--journal"].as_slice(),
+        ["acdm", "run", "--journal", "0"].as_slice(),
+        ["acdm", "run", "--journal", "1000001"].as_slice(),
+        ["acdm", "run", "--journal", "many"].as_slice(),
+        ["acdm", "run", "--save", "journal.txt"].as_slice(),
+    ] {
+        assert!(rt; parse(rt.alloc(), words).is_err(), "{words:?}");
+    }
+}
+
+/// Fails at each read and write.
+#[derive(Drop)]
+struct Broken;
+
+impl Read for Broken {
+    fn read(&mut self, _buf: &mut [u8]) -> io::Result<usize> {
+        Err(io::Error::from(io::ErrorKind::BrokenPipe))
+    }
+}
+
+impl Write for Broken {
+    fn write(&mut self, _buf: &[u8]) -> io::Result<usize> {
+        Err(io::Error::from(io::ErrorKind::BrokenPipe))
+    }
+
+    fn flush(&mut self) -> io::Result<()> {
+        Ok(())
+    }
+}
+
+#[test]
+fn a_run_ends_with_its_status(rt: HostRuntime) -> Result<(), Fail> {
+    let alloc = rt.alloc();
+    let mut replies = Vec::new(alloc);
+    let mut errors = Vec::new(alloc);
+    let status = run_on(alloc, 10, SCHEDULE.as_bytes(), &mut replies, &mut errors);
+    assert_eq!(rt; status, 0);
+    assert_eq!(rt; replies.as_slice(), b"ok 0\n".as_slice());
+    assert_eq!(rt; errors.as_slice(), b"".as_slice());
+    let status = run_on(alloc, 10, Broken, &mut replies, &mut errors);
+    assert_eq!(rt; status, 2);
+    assert_eq!(rt; errors.as_slice(), b"acdm: read failed\n".as_slice());
+    errors.clear();
+    let status = run_on(alloc, 10, SCHEDULE.as_bytes(), Broken, &mut errors);
+    assert_eq!(rt; status, 2);
+    assert_eq!(rt; errors.as_slice(), b"acdm: write failed\n".as_slice());
+    Ok(())
+}
+
+#[test]
+fn a_full_journal_leaves_the_flight_as_it_was(rt: HostRuntime) -> Result<(), Fail> {
+    let alloc = rt.alloc();
+    let mut replies = Counted::new(Vec::new(alloc));
+    let mut one = Desk::new(alloc, 1);
+    run(
+        alloc,
+        &mut Counted::new(SCHEDULE.as_bytes()),
+        &mut replies,
+        &mut one,
+    )?;
+    run(
+        alloc,
+        &mut Counted::new(FLIGHT_PLAN.as_bytes()),
+        &mut replies,
+        &mut one,
+    )?;
+    assert_eq!(rt;
+        replies.into_inner().as_slice(),
+        b"ok 0\nbad 502\n".as_slice()
+    );
+    let mut expected = Desk::new(alloc, 10);
+    run(
+        alloc,
+        &mut Counted::new(SCHEDULE.as_bytes()),
+        &mut Counted::new(Vec::new(alloc)),
+        &mut expected,
+    )?;
+    let kept = one.core().record_of(7).ok_or("the flight is gone")?;
+    let scheduled = expected.core().record_of(7).ok_or("no flight was made")?;
+    assert_eq!(rt; kept.bytes().as_slice(), scheduled.bytes().as_slice());
+    Ok(())
+}
