@@ -5,4 +5,5 @@ pub mod Writing
 pub mod Serving
 pub mod Running
 pub mod Json
-pub mod Rows
+pub mod MeantRows
+pub mod OutputRows

@@ -1,5 +1,5 @@
 -- What a run has served at any time of the text that it reads.
-use Rattle.std.proofs.Common.{◌≡◌, ℕ, ◌+◌, ◌<◌, ◌≤◌, Bool, List, [], ◌∷◌, ◌++◌, length, Option, Some, None, IfSome, Result, Ok, Err, OnOk, OnErr, refl, sym, ap, subst, ◌∙◌, arith, append_assoc, append-nil}
+use Rattle.std.proofs.Common.{◌≡◌, ℕ, ◌<◌, ◌≤◌, Bool, List, [], ◌∷◌, ◌++◌, length, Option, Some, None, IfSome, Result, Ok, Err, OnOk, OnErr, refl, sym, ap, subst, ◌∙◌, arith, append_assoc, append-nil}
 use Rattle.std.specs.Io.KnownBytes.{Appends, prepend_known}
 use Rattle.acdm_board.specs.Desk.{DeskView}
 use Rattle.acdm_sessions.specs.declared.lines.Ending.{Ending}
@@ -46,10 +46,14 @@ pub sofar-line : (a b c : Option (List ℕ)) (before d now : DeskView) (old mid 
 sofar-line None b c before d now old mid new s bytes h t e w = tt
 sofar-line (Some text) None c before d now old mid new s bytes h t e w = absurd h
 sofar-line (Some text) (Some left) None before d now old mid new s bytes h t e w = absurd t
-sofar-line (Some text) (Some left) (Some rest) before d now old mid new s bytes h t e w =
-    (h.0 ++ (t.0 ++ 10 ∷ []), h.1 ++ s ∷ [], IsWhole-append h.0 (t.0 ++ 10 ∷ []) h.2 (IsWhole-line t.0), text_with text h.0 left t.0 rest h.3 t.2,
-    subst (λ ls. Served (h.1 ++ s ∷ []) ls before now old new) (sym (lines_with h.0 t.0 h.2 t.1))
-    (served_more h.1 (lines_of h.0) before d now old mid new s t.0 h.4 (desk_to d now mid new s bytes t.0 t.3 e) (reply_to d now mid new s bytes t.0 t.3 w)))
+sofar-line (Some text) (Some left) (Some rest) before d now old mid new s bytes h t e w = (
+  h.0 ++ (t.0 ++ 10 ∷ []),
+  h.1 ++ s ∷ [],
+  IsWhole-append h.0 (t.0 ++ 10 ∷ []) h.2 (IsWhole-line t.0),
+  text_with text h.0 left t.0 rest h.3 t.2,
+  subst (λ ls. Served (h.1 ++ s ∷ []) ls before now old new) (sym (lines_with h.0 t.0 h.2 t.1))
+      (served_more h.1 (lines_of h.0) before d now old mid new s t.0 h.4 (desk_to d now mid new s bytes t.0 t.3 e) (reply_to d now mid new s bytes t.0 t.3 w)),
+)
 
 -- the lines of a text that ends with the rest of a line
 lines_to_end : (text whole left : List ℕ) → IsWhole whole → text ≡ whole ++ left → (b : ℕ) (bs : List ℕ) → left ≡ b ∷ bs → IsLine left → lines_of text ≡ lines_of whole ++ left ∷ []
@@ -98,10 +102,14 @@ partly-line None b c before d now old mid new s bytes h t e w = tt
 partly-line (Some text) None c before d now old mid new s bytes h t e w = absurd h
 partly-line (Some text) (Some left) None before d now old mid new s bytes h t e w = absurd t
 partly-line (Some text) (Some left) (Some rest) before d now old mid new s bytes h t e w =
-    let all : lines_of h.0 ++ t.0 ∷ [] ≡ lines_of (h.0 ++ (t.0 ++ 10 ∷ [])) = sym (lines_with h.0 t.0 h.2 t.1) in
-    (h.0 ++ (t.0 ++ 10 ∷ []), rest, h.1 ++ s ∷ [], text_with text h.0 left t.0 rest h.3 t.2,
-    desk_of h.1 (lines_of h.0) before d now old mid s t.0 h.4 (desk_to d now mid new s bytes t.0 t.3 e) ∙ ap (desk_after_all before (h.1 ++ s ∷ [])) all,
-    subst (λ ls. AppendsPart old new (replies before (h.1 ++ s ∷ []) ls)) all (served_partly h.1 (lines_of h.0) before d old mid new s t.0 h.4 (partly_to d now mid new s bytes t.0 t.3 w)))
+    let all : lines_of h.0 ++ t.0 ∷ [] ≡ lines_of (h.0 ++ (t.0 ++ 10 ∷ [])) = sym (lines_with h.0 t.0 h.2 t.1) in (
+      h.0 ++ (t.0 ++ 10 ∷ []),
+      rest,
+      h.1 ++ s ∷ [],
+      text_with text h.0 left t.0 rest h.3 t.2,
+      desk_of h.1 (lines_of h.0) before d now old mid s t.0 h.4 (desk_to d now mid new s bytes t.0 t.3 e) ∙ ap (desk_after_all before (h.1 ++ s ∷ [])) all,
+      subst (λ ls. AppendsPart old new (replies before (h.1 ++ s ∷ []) ls)) all (served_partly h.1 (lines_of h.0) before d old mid new s t.0 h.4 (partly_to d now mid new s bytes t.0 t.3 w)),
+    )
 
 pub partly-rest : (a b c : Option (List ℕ)) (before d now : DeskView) (old mid new : Option (List ℕ)) (s : Bool) (bytes : List ℕ)
     → Sofar a b before d old mid → TakesRest b c bytes → 0 < length bytes → now ≡ desk_after d s bytes → AppendsPart mid new (reply_text (answer_to d s bytes))
@@ -111,10 +119,14 @@ partly-rest (Some text) None c before d now old mid new s bytes h t some e w = a
 partly-rest (Some text) (Some left) None before d now old mid new s bytes h t some e w = absurd t
 partly-rest (Some text) (Some []) (Some rest) before d now old mid new s bytes h t some e w = absurd (omega (arith, ap length t.2))
 partly-rest (Some text) (Some (b ∷ bs)) (Some rest) before d now old mid new s bytes h t some e w =
-    let all : lines_of h.0 ++ (b ∷ bs) ∷ [] ≡ lines_of text = sym (lines_to_end text h.0 (b ∷ bs) h.2 h.3 b bs refl t.0) in
-    (text, [], h.1 ++ s ∷ [], sym (append-nil text),
-    desk_of h.1 (lines_of h.0) before d now old mid s (b ∷ bs) h.4 (desk_to d now mid new s bytes (b ∷ bs) t.2 e) ∙ ap (desk_after_all before (h.1 ++ s ∷ [])) all,
-    subst (λ ls. AppendsPart old new (replies before (h.1 ++ s ∷ []) ls)) all (served_partly h.1 (lines_of h.0) before d old mid new s (b ∷ bs) h.4 (partly_to d now mid new s bytes (b ∷ bs) t.2 w)))
+    let all : lines_of h.0 ++ (b ∷ bs) ∷ [] ≡ lines_of text = sym (lines_to_end text h.0 (b ∷ bs) h.2 h.3 b bs refl t.0) in (
+      text,
+      [],
+      h.1 ++ s ∷ [],
+      sym (append-nil text),
+      desk_of h.1 (lines_of h.0) before d now old mid s (b ∷ bs) h.4 (desk_to d now mid new s bytes (b ∷ bs) t.2 e) ∙ ap (desk_after_all before (h.1 ++ s ∷ [])) all,
+      subst (λ ls. AppendsPart old new (replies before (h.1 ++ s ∷ []) ls)) all (served_partly h.1 (lines_of h.0) before d old mid new s (b ∷ bs) h.4 (partly_to d now mid new s bytes (b ∷ bs) t.2 w)),
+    )
 
 -- ---- reads
 

@@ -1,16 +1,15 @@
 -- How the output grows with each line.
-use Rattle.std.proofs.Common.{◌≡◌, ℕ, ◌+◌, ◌<◌, ◌≤◌, Bool, true, false, cond, nat_le, List, [], ◌∷◌, ◌++◌, length, take, Option, Some, None, Result, Ok, Err, refl, sym, ap, subst, ◌∙◌, arith, append_assoc, append-nil, length-append, leb-true, leb-false}
+use Rattle.std.proofs.Common.{◌≡◌, ℕ, ◌+◌, ◌<◌, Bool, true, false, cond, nat_le, List, [], ◌∷◌, ◌++◌, length, take, Option, Err, refl, sym, ap, subst, ◌∙◌, arith, append_assoc, append-nil, length-append, leb-true, leb-false}
 use Rattle.std.proofs.lemmas.Bool.{lt-leb}
 use Rattle.std.proofs.Math.Seq.{take-append-add}
 use Rattle.std.proofs.lemmas.List.{take_all, length-take-le}
 use Rattle.std.specs.Io.KnownBytes.{Appends}
 use Rattle.acdm_board.specs.Desk.{DeskView}
 use Rattle.acdm_sessions.specs.declared.fault.Fault.TheVariants.{TooLong}
-use Rattle.acdm_sessions.specs.Lines.{is_line_feed, IsLine, IsWhole, lines_of, with_first, kept}
+use Rattle.acdm_sessions.specs.Lines.{is_line_feed, IsWhole, lines_of, with_first, kept}
 use Rattle.acdm_sessions.specs.Reply.{AppendsPart}
 use Rattle.acdm_sessions.specs.Meant.{meant, most_line}
 use Rattle.acdm_sessions.specs.Output.{answer_meant, desk_meant, answer_to, desk_after, reply_text, replies, desk_after_all}
-use Rattle.acdm_sessions.proofs.Feeds.{lines_of-line}
 use Rattle.acdm_sessions.proofs.Writing.{Appends-both}
 
 -- ---- whole lines
@@ -82,9 +81,9 @@ meant-kept line =
     elim (nat_le (length line) 70001) as (λ v. nat_le (length line) 70001 ≡ v → meant (kept line) ≡ meant line) [
       | true ↦ λ fits. ap meant (take_all 70001 line (leb-true (length line) 70001 fits))
       | false ↦ λ over.
-        let long : 70001 < length line = leb-false (length line) 70001 over in
-        let cut : length (kept line) ≡ 70001 = length-take-le 70001 line (omega arith) in
-        too_long (kept line) (lt-leb (length (kept line)) 70000 (omega arith)) ∙ sym (too_long line (lt-leb (length line) 70000 (omega arith)))
+          let long : 70001 < length line = leb-false (length line) 70001 over in
+          let cut : length (kept line) ≡ 70001 = length-take-le 70001 line (omega arith) in
+          too_long (kept line) (lt-leb (length (kept line)) 70000 (omega arith)) ∙ sym (too_long line (lt-leb (length line) 70000 (omega arith)))
     ] refl
 
 pub desk-kept : (d : DeskView) (s : Bool) (line : List ℕ) → desk_after d s (kept line) ≡ desk_after d s line

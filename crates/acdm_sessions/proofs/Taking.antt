@@ -1,9 +1,9 @@
 -- How a line is taken from a text that is read piece by piece.
-use Rattle.std.proofs.Common.{◌≡◌, ℕ, ◌+◌, ◌-◌, ◌<◌, ◌≤◌, List, [], ◌∷◌, ◌++◌, length, Option, Some, None, refl, sym, ap, subst, ◌∙◌, arith, append_assoc, append-nil, length-append}
+use Rattle.std.proofs.Common.{◌≡◌, ℕ, ◌+◌, ◌-◌, ◌<◌, List, [], ◌∷◌, ◌++◌, length, Option, Some, None, refl, sym, ap, subst, ◌∙◌, arith, append_assoc, append-nil, length-append}
 use Rattle.std.specs.Io.KnownBytes.{prepend_known, Consumes, IsAtEnd, Keeps}
 use Rattle.acdm_sessions.specs.Lines.{IsLine, kept, TakesLine, TakesRest, TakesPart, EachReadGave}
 use Rattle.acdm_sessions.proofs.Kept.{take-take-append}
-use Rattle.acdm_sessions.proofs.Feeds.{FeedAt, IsLine-append}
+use Rattle.acdm_sessions.proofs.Feeds.{IsLine-append}
 
 -- nothing was taken yet
 pub part-begins : (known : Option (List ℕ)) → TakesPart known known []
@@ -51,10 +51,12 @@ rest-taken (Some text) (Some rest) bytes e t =
 pub line-taken : (old known : Option (List ℕ)) (held end later bytes : List ℕ) → IsLine end → held ≡ end ++ 10 ∷ later → TakesPart old (prepend_known held known) bytes → TakesLine old (prepend_known later known) (kept (bytes ++ end))
 line-taken None known held end later bytes whole e t = tt
 line-taken (Some text) None held end later bytes whole e t = absurd t
-line-taken (Some text) (Some rest) held end later bytes whole e t =
-    (t.0 ++ end, IsLine-append t.0 end t.1 whole,
-    t.2 ∙ ap (λ l. t.0 ++ (l ++ rest)) e ∙ ap (λ l. t.0 ++ l) (append_assoc end (10 ∷ later) rest) ∙ sym (append_assoc t.0 end (10 ∷ (later ++ rest))),
-    kept-grows bytes t.0 end t.3)
+line-taken (Some text) (Some rest) held end later bytes whole e t = (
+  t.0 ++ end,
+  IsLine-append t.0 end t.1 whole,
+  t.2 ∙ ap (λ l. t.0 ++ (l ++ rest)) e ∙ ap (λ l. t.0 ++ l) (append_assoc end (10 ∷ later) rest) ∙ sym (append_assoc t.0 end (10 ∷ (later ++ rest))),
+  kept-grows bytes t.0 end t.3,
+)
 
 -- one more read gave something
 pub gave-more : (old known new : Option (List ℕ)) (held : List ℕ) (before after : ℕ) → Consumes known new held → 0 < length held → 0 < after → EachReadGave old known before after → EachReadGave old new before (after - 1)

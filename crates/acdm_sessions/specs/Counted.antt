@@ -1,5 +1,5 @@
 -- What callers see of a reader or a writer that counts its faults.
-use Rattle.std.specs.Prelude.{ℕ, ◌≡◌, ◌+◌, ◌-◌, ◌^◌, ◌<◌, Bool, true, false, ◌&&◌, ◌==◌, nat_lt, if◌then◌else◌, List, length, Result, Ok, Err, is_ok, not}
+use Rattle.std.specs.Prelude.{ℕ, ◌+◌, ◌-◌, ◌^◌, Bool, true, ◌&&◌, ◌==◌, nat_lt, if◌then◌else◌, List, length, Result, Ok, Err}
 
 -- the reader or writer itself, and how often it failed
 pub record Watched (T : Type 0) : Type 0 where

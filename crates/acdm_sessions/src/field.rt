@@ -87,10 +87,11 @@ fn plan_in(value: &Value) -> Result<Plan, LineError>
 fn milestone_at(number: u64) -> Result<Milestone, LineError>
     ensures { Gives result (milestone_of number) }
 {
-    match Milestone::from_number(number) {
-        Some(milestone @ (Milestone::FlightPlanActivated | Milestone::Landed | Milestone::InBlock)) => {
-            Ok(milestone)
-        }
+    let Some(milestone) = Milestone::from_number(number) else {
+        return Err(LineError::Fault(Fault::Range));
+    };
+    match milestone {
+        Milestone::FlightPlanActivated | Milestone::Landed | Milestone::InBlock => Ok(milestone),
         _ => Err(LineError::Fault(Fault::Range)),
     }
 }

@@ -6,16 +6,19 @@ use std::io::{self, Read, Write};
 use std::test::Fail;
 
 // Minute 29000700 is 2025-02-20T09:00Z.
-const TURN_ROUND: &str = r#"1 29000700 APT {"cmd":"schedule","flight":7,"callsign":"DLH7","type":"A320","reg":"DAIBC","dest":"EDDM","sobt":"2025-02-20T10:00:00Z","mttt":40,"exit":5,"exot":10,"stand":12}
+const TURN_ROUND: &str =
+    r#"1 29000700 APT {"cmd":"schedule","flight":7,"callsign":"DLH7","type":"A320","reg":"DAIBC","dest":"EDDM","sobt":"2025-02-20T10:00:00Z","mttt":40,"exit":5,"exot":10,"stand":12}
 2 29000700 NM {"cmd":"report","flight":7,"milestone":1,"time":"2025-02-20T10:00:00Z","callsign":"DLH7","type":"A320","reg":"DAIBC","dest":"EDDM"}
 3 29000700 ATC {"cmd":"report","flight":7,"milestone":6,"time":"2025-02-20T09:00:00Z"}
 1 29000700 APT {"cmd":"report","flight":7,"milestone":7,"time":"2025-02-20T08:59:00Z"}
 "#;
 
-const IN_BLOCK: &str = r#"1 29000700 APT {"cmd":"report","flight":7,"milestone":7,"time":"2025-02-20T09:00:00Z"}
+const IN_BLOCK: &str =
+    r#"1 29000700 APT {"cmd":"report","flight":7,"milestone":7,"time":"2025-02-20T09:00:00Z"}
 "#;
 
-const LANDED: &str = r#"3 29000700 ATC {"cmd":"report","flight":7,"milestone":6,"time":"2025-02-20T09:00:00Z"}
+const LANDED: &str =
+    r#"3 29000700 ATC {"cmd":"report","flight":7,"milestone":6,"time":"2025-02-20T09:00:00Z"}
 "#;
 
 fn replies_to(rt: &HostRuntime, parts: &[&str], capacity: usize) -> Result<String, Fail> {
@@ -41,7 +44,10 @@ fn lines_are_answered_in_order(rt: HostRuntime) -> Result<(), Fail> {
     let turn_round = replies_to(&rt, &[TURN_ROUND, IN_BLOCK], 10)?;
     assert_eq!(rt; turn_round.as_str(), "ok 0\nok 1\nok 2\nno 3 206\nok 4\n");
     let barred = replies_to(&rt, &[TURN_ROUND, IN_BLOCK, LANDED], 10)?;
-    assert_eq!(rt; barred.as_str(), "ok 0\nok 1\nok 2\nno 3 206\nok 4\nno 5 204\n");
+    assert_eq!(rt;
+        barred.as_str(),
+        "ok 0\nok 1\nok 2\nno 3 206\nok 4\nno 5 204\n"
+    );
     let landed = replies_to(&rt, &[TURN_ROUND, LANDED], 10)?;
     assert_eq!(rt; landed.as_str(), "ok 0\nok 1\nok 2\nno 3 206\nok 4\n");
     Ok(())
@@ -49,7 +55,8 @@ fn lines_are_answered_in_order(rt: HostRuntime) -> Result<(), Fail> {
 
 #[test]
 fn a_full_journal_is_told(rt: HostRuntime) -> Result<(), Fail> {
-    let start = r#"1 29000580 APT {"cmd":"schedule","flight":7,"callsign":"DLH7","type":"A320","reg":"DAIBC","dest":"EDDM","sobt":"2025-02-20T10:00:00Z","mttt":40,"exit":5,"exot":10,"stand":12}
+    let start =
+        r#"1 29000580 APT {"cmd":"schedule","flight":7,"callsign":"DLH7","type":"A320","reg":"DAIBC","dest":"EDDM","sobt":"2025-02-20T10:00:00Z","mttt":40,"exit":5,"exot":10,"stand":12}
 2 29000580 NM {"cmd":"report","flight":7,"milestone":1,"time":"2025-02-20T10:00:00Z","callsign":"DLH7","type":"A320","reg":"DAIBC","dest":"EDDM"}
 "#;
     assert_eq!(rt; replies_to(&rt, &[start], 1)?.as_str(), "ok 0\nbad 502\n");
@@ -71,12 +78,30 @@ fn faulty_lines_make_no_entry(rt: HostRuntime) -> Result<(), Fail> {
         ("1 29000580 APT []\n", "bad 102\n"),
         ("1 29000580 APT  {\"cmd\":6}\n", "bad 102\n"),
         ("1 29000580 APT {\"cmd\":\"report\"}\n", "bad 103\n"),
-        ("1 29000580 APT {\"cmd\":\"report\",\"flight\":\"7\"}\n", "bad 103\n"),
-        ("1 29000580 APT {\"cmd\":\"report\",\"flight\":-7}\n", "bad 103\n"),
-        ("1 29000580 APT {\"cmd\":\"report\",\"flight\":0}\n", "bad 104\n"),
-        ("1 29000580 ATC {\"cmd\":\"report\",\"flight\":7,\"milestone\":17,\"time\":\"2025-02-20T10:00:00Z\"}\n", "bad 104\n"),
-        ("1 29000580 ATC {\"cmd\":\"report\",\"flight\":7,\"milestone\":6,\"time\":null}\n", "bad 103\n"),
-        ("1 29000580 ATC {\"cmd\":\"report\",\"flight\":7,\"milestone\":6,\"time\":\"10:00\"}\n", "bad 104\n"),
+        (
+            "1 29000580 APT {\"cmd\":\"report\",\"flight\":\"7\"}\n",
+            "bad 103\n",
+        ),
+        (
+            "1 29000580 APT {\"cmd\":\"report\",\"flight\":-7}\n",
+            "bad 103\n",
+        ),
+        (
+            "1 29000580 APT {\"cmd\":\"report\",\"flight\":0}\n",
+            "bad 104\n",
+        ),
+        (
+            "1 29000580 ATC {\"cmd\":\"report\",\"flight\":7,\"milestone\":17,\"time\":\"2025-02-20T10:00:00Z\"}\n",
+            "bad 104\n",
+        ),
+        (
+            "1 29000580 ATC {\"cmd\":\"report\",\"flight\":7,\"milestone\":6,\"time\":null}\n",
+            "bad 103\n",
+        ),
+        (
+            "1 29000580 ATC {\"cmd\":\"report\",\"flight\":7,\"milestone\":6,\"time\":\"10:00\"}\n",
+            "bad 104\n",
+        ),
     ] {
         assert_eq!(rt; replies_to(&rt, &[line], 1)?.as_str(), reply, "for {line}");
     }
@@ -94,9 +119,18 @@ fn replies_to_padded(rt: &HostRuntime, line: &str, length: usize) -> Result<Stri
 #[test]
 fn lines_of_up_to_70000_bytes_are_read(rt: HostRuntime) -> Result<(), Fail> {
     let tick = "1 29000580 APT {\"cmd\":\"tack\"}";
-    assert_eq!(rt; replies_to_padded(&rt, tick, 70_000)?.as_str(), "bad 102\nno 0 202\n");
-    assert_eq!(rt; replies_to_padded(&rt, tick, 70_001)?.as_str(), "bad 105\nno 0 202\n");
-    assert_eq!(rt; replies_to_padded(&rt, tick, 300_000)?.as_str(), "bad 105\nno 0 202\n");
+    assert_eq!(rt;
+        replies_to_padded(&rt, tick, 70_000)?.as_str(),
+        "bad 102\nno 0 202\n"
+    );
+    assert_eq!(rt;
+        replies_to_padded(&rt, tick, 70_001)?.as_str(),
+        "bad 105\nno 0 202\n"
+    );
+    assert_eq!(rt;
+        replies_to_padded(&rt, tick, 300_000)?.as_str(),
+        "bad 105\nno 0 202\n"
+    );
     Ok(())
 }
 
@@ -128,7 +162,10 @@ fn a_reader_that_fails_ends_the_run(rt: HostRuntime) {
     assert_eq!(rt; ended, Err(RunError::Read));
     assert_eq!(rt; reader.faults(), 1);
     assert_eq!(rt; writer.faults(), 0);
-    assert_eq!(rt; writer.into_inner().as_slice(), b"ok 0\nok 1\nok 2\nno 3 206\n".as_slice());
+    assert_eq!(rt;
+        writer.into_inner().as_slice(),
+        b"ok 0\nok 1\nok 2\nno 3 206\n".as_slice()
+    );
 }
 
 /// Takes so many bytes, and then fails.
@@ -154,13 +191,19 @@ impl Write for Narrow {
 #[test]
 fn a_writer_that_fails_ends_the_run(rt: HostRuntime) {
     let mut reader = Counted::new(TURN_ROUND.as_bytes());
-    let mut writer = Counted::new(Narrow { taken: Vec::new(rt.alloc()), room: 8 });
+    let mut writer = Counted::new(Narrow {
+        taken: Vec::new(rt.alloc()),
+        room: 8,
+    });
     let mut desk = Desk::new(rt.alloc(), 10);
     let ended = run(rt.alloc(), &mut reader, &mut writer, &mut desk);
     assert_eq!(rt; ended, Err(RunError::Write));
     assert_eq!(rt; writer.faults(), 1);
     assert_eq!(rt; reader.faults(), 0);
-    assert_eq!(rt; writer.into_inner().taken.as_slice(), b"ok 0\nok ".as_slice());
+    assert_eq!(rt;
+        writer.into_inner().taken.as_slice(),
+        b"ok 0\nok ".as_slice()
+    );
 }
 
 /// Gives a line for each read, and asks that the earlier ones were answered by then.
@@ -207,8 +250,15 @@ impl Write for Prompt<'_> {
 fn each_reply_comes_before_the_next_line_is_waited_for(rt: HostRuntime) -> Result<(), Fail> {
     let answered = Cell::new(0);
     let lines = [LANDED, LANDED, IN_BLOCK];
-    let mut reader = Counted::new(Patient { lines: &lines, asked: 0, answered: &answered, waits: true });
-    let mut writer = Counted::new(Prompt { answered: &answered });
+    let mut reader = Counted::new(Patient {
+        lines: &lines,
+        asked: 0,
+        answered: &answered,
+        waits: true,
+    });
+    let mut writer = Counted::new(Prompt {
+        answered: &answered,
+    });
     let mut desk = Desk::new(rt.alloc(), 10);
     run(rt.alloc(), &mut reader, &mut writer, &mut desk)?;
     assert_eq!(rt; answered.get(), 3);

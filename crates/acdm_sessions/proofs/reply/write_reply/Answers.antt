@@ -1,4 +1,4 @@
-use Rattle.std.proofs.Common.{◌≡◌, length, take, ap, ◌∙◌}
+use Rattle.std.proofs.Common.{◌≡◌, length, ◌∙◌}
 use Rattle.acdm_sessions.specs.Output.{reply_text}
 use Rattle.acdm_sessions.proofs.Writing.{Appends-whole}
 use Rattle.acdm_sessions.proofs.reply.write_reply.Goals as goal

@@ -1,4 +1,4 @@
-use Rattle.std.proofs.Common.{◌≡◌, ◌+◌, ◌-◌, ◌≤◌, length, take, drop, ℕ, List, arith, length-drop}
+use Rattle.std.proofs.Common.{ℕ, List, arith, length-drop}
 use Rattle.std.proofs.lemmas.List.{take_rest}
 use Rattle.acdm_sessions.proofs.Writing.{Appends-further}
 use Rattle.acdm_sessions.proofs.reply.write_whole.Goals as goal

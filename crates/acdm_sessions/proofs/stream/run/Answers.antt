@@ -1,5 +1,4 @@
-use Rattle.std.proofs.Common.{rules, ◌≡◌, ℕ, ◌<◌, ◌≢◌, Option, List, length, Ok, refl, sym, ap, ◌∙◌, arith}
-use Rattle.std.specs.Io.KnownBytes.{prepend_known}
+use Rattle.std.proofs.Common.{rules, ◌<◌, ◌≢◌, length, Ok, sym, ap, ◌∙◌, arith}
 use Rattle.std.proofs.lemmas.Bool.{eqb-true, eqb-false}
 use Rattle.acdm_sessions.proofs.Running.{sofar-line, sofar-ends, sofar-rest, sofar-part, partly-line, partly-rest, gave-both, OnOk-weaker, OnErr-at_err, input-from_not_line_feed}
 use Rattle.acdm_sessions.proofs.stream.run.Goals as goal

@@ -9,7 +9,7 @@ invariant-loop-lines g l = record {
   sofar : Sofar (g.R.Read.remaining l.initial.reader.inner) (prepend_known l.lines.window (g.R.Read.remaining l.reader.inner)) l.initial.desk l.desk (g.W.Write.contents l.initial.writer.inner) (g.W.Write.contents l.writer.inner);
   gave : EachReadGave (g.R.Read.remaining l.initial.reader.inner) (g.R.Read.remaining l.reader.inner) 1099511627776 l.lines.reads_left;
   read_well : l.reader.faults ≡ l.initial.reader.faults;
-  wrote_well : l.writer.faults ≡ l.initial.writer.faults
+  wrote_well : l.writer.faults ≡ l.initial.writer.faults;
 }
 
 abbrev pub decreases-loop-lines : goal.decreases-loop-lines

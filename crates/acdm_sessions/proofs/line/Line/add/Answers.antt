@@ -1,4 +1,4 @@
-use Rattle.std.proofs.Common.{◌≡◌, ◌≤◌, ◌++◌, true, not, is_ok, length, sym, ap, ◌∙◌, arith}
+use Rattle.std.proofs.Common.{◌≡◌, ◌≤◌, true, not, is_ok, length, sym, ap, ◌∙◌, arith}
 use Rattle.acdm_sessions.proofs.Kept.{take-append-room}
 use Rattle.acdm_sessions.proofs.line.Line.add.Goals as goal
 

@@ -1,11 +1,8 @@
-use Rattle.std.proofs.Common.{◌≡◌, ◌≢◌, ℕ, ◌<◌, true, false, List, [], ◌∷◌, ◌++◌, Option, length, refl, sym, ap, ◌∙◌, arith, rules}
-use Rattle.std.specs.Io.KnownBytes.{prepend_known, Consumes}
+use Rattle.std.proofs.Common.{◌≡◌, ◌≢◌, ◌<◌, [], length, sym, ap, ◌∙◌, arith, rules}
 use Rattle.std.proofs.lemmas.Bool.{eqb-true, eqb-false}
 use Rattle.std.proofs.lemmas.List.{nil_from_length}
 use Rattle.std.proofs.lemmas.Result.{err_from_is_err_and}
-use Rattle.acdm_sessions.specs.Lines.{IsLine, kept, TakesLine, TakesRest, TakesPart, EachReadGave, weight}
-use Rattle.acdm_sessions.proofs.Taking.{part-begins, part-taken, part-filled, part-kept, rest-taken, line-taken, gave-more}
-use Rattle.acdm_sessions.proofs.lines.Lines.next.Given as given
+use Rattle.acdm_sessions.proofs.Taking.{part-taken, part-filled, part-kept, rest-taken, line-taken, gave-more}
 use Rattle.acdm_sessions.proofs.lines.Lines.next.Goals as goal
 
 pub returns-then-self-eq0-clause-part : goal.returns-then-self-eq0-clause-part

@@ -1,12 +1,12 @@
 -- Lines that are read, computed by the definitions alone.
-use Rattle.std.proofs.Common.{◌≡◌, ℕ, List, codes, Option, Some, None, Result, Ok, Err, refl}
+use Rattle.std.proofs.Common.{◌≡◌, codes, None, Ok, Err, refl}
 use Rattle.std.specs.Str.{is_utf8, chars}
 use Rattle.serde_json.proofs.OnLiterals.{serde_json_on_literals}
 use Rattle.jiff.proofs.OnLiterals.{jiff_on_literals}
-use Rattle.acdm_milestones.specs.declared.role.Role.TheVariants.{NetworkManager, AirTrafficControl, AirportOperator}
-use Rattle.acdm_milestones.specs.declared.milestone.Milestone.TheVariants.{Landed, FlightPlanActivated}
+use Rattle.acdm_milestones.specs.declared.role.Role.TheVariants.{AirTrafficControl, AirportOperator}
+use Rattle.acdm_milestones.specs.declared.milestone.Milestone.TheVariants.{Landed}
 use Rattle.acdm_step.specs.declared.command.Command.TheVariants.{Schedule, Report}
-use Rattle.acdm_sessions.specs.declared.fault.Fault.TheVariants.{Prefix, NoJson, Kind, Range, UnknownCommand}
+use Rattle.acdm_sessions.specs.declared.fault.Fault.TheVariants.{Prefix, NoJson, Kind, Range}
 use Rattle.acdm_sessions.specs.Meant.{meant, head_of, natural_of, number_field, text_field, time_field, plan_field, schedule_field, report_field, command_named, command_of, json_of}
 
 landed_line : meant (codes "3 29000700 ATC {\"cmd\":\"report\",\"flight\":7,\"milestone\":6,\"time\":\"2025-02-20T09:00:00Z\"}")

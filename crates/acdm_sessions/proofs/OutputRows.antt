@@ -1,0 +1,50 @@
+-- Streams of lines with their replies, computed by the definitions alone.
+use Rattle.std.proofs.Common.{◌≡◌, [], ◌∷◌, codes, refl}
+use Rattle.std.specs.Str.{is_utf8, chars}
+use Rattle.std.specs.Fmt.{digits}
+use Rattle.serde_json.proofs.OnLiterals.{serde_json_on_literals}
+use Rattle.jiff.proofs.OnLiterals.{jiff_on_literals}
+use Rattle.acdm_milestones.specs.declared.refusal.Refusal.TheVariants.{TimeOrder}
+use Rattle.acdm_step.specs.declared.entry.Outcome.TheVariants.{Done, Refused}
+use Rattle.acdm_sessions.specs.declared.fault.Fault.TheVariants.{TooLong}
+use Rattle.acdm_sessions.specs.declared.fault.Bad.TheVariants.{Faulty}
+use Rattle.acdm_sessions.specs.declared.answer.Answer.TheVariants.{Entered, Rejected}
+use Rattle.acdm_sessions.specs.Lines.{lines_of}
+use Rattle.acdm_sessions.specs.Meant.{meant, head_of, natural_of, number_field, text_field, time_field, plan_field, schedule_field, report_field, command_named, command_of, json_of}
+use Rattle.acdm_sessions.specs.Output.{reply_text, output}
+
+-- an empty rest is no line, and an empty line is one
+no_lines : lines_of [] ≡ []
+no_lines = refl
+
+ended_lines : lines_of (codes "a\n\nb\n") ≡ codes "a" ∷ [] ∷ codes "b" ∷ []
+ended_lines = refl
+
+last_line : lines_of (codes "a\nb") ≡ codes "a" ∷ codes "b" ∷ []
+last_line = refl
+
+accepted_reply : reply_text (Entered record { number = 4; outcome = Done }) ≡ codes "ok 4\n"
+unfolding digits
+accepted_reply = refl
+
+refused_reply : reply_text (Entered record { number = 3; outcome = Refused TimeOrder }) ≡ codes "no 3 206\n"
+unfolding digits
+refused_reply = refl
+
+bad_reply : reply_text (Rejected (Faulty TooLong)) ≡ codes "bad 105\n"
+unfolding digits
+bad_reply = refl
+
+faulty_lines : output (record { history = []; capacity = 1 }) [] (codes "65 29000580 APT {}\n1 29000580 APT {\"cmd\":\"tick\"") ≡ codes "bad 100\nbad 101\n"
+unfolding digits meant head_of natural_of number_field text_field time_field plan_field schedule_field report_field command_named command_of json_of is_utf8 chars serde_json_on_literals jiff_on_literals
+faulty_lines = refl
+
+-- a journal of one entry
+one_entry : output (record { history = []; capacity = 1 }) [] (codes "1 29000580 APT {\"cmd\":\"schedule\",\"flight\":7,\"callsign\":\"DLH7\",\"type\":\"A320\",\"reg\":\"DAIBC\",\"dest\":\"EDDM\",\"sobt\":\"2025-02-20T10:00:00Z\",\"mttt\":40,\"exit\":5,\"exot\":10,\"stand\":12}\n2 29000580 NM {\"cmd\":\"report\",\"flight\":7,\"milestone\":1,\"time\":\"2025-02-20T10:00:00Z\",\"callsign\":\"DLH7\",\"type\":\"A320\",\"reg\":\"DAIBC\",\"dest\":\"EDDM\"}\n") ≡ codes "ok 0\nbad 502\n"
+unfolding digits meant head_of natural_of number_field text_field time_field plan_field schedule_field report_field command_named command_of json_of is_utf8 chars serde_json_on_literals jiff_on_literals
+one_entry = refl
+
+-- a turn-round: an in-block time before the landing is refused, and so is a landing after the in-block time
+turn_round : output (record { history = []; capacity = 100000 }) [] (codes "1 29000700 APT {\"cmd\":\"schedule\",\"flight\":7,\"callsign\":\"DLH7\",\"type\":\"A320\",\"reg\":\"DAIBC\",\"dest\":\"EDDM\",\"sobt\":\"2025-02-20T10:00:00Z\",\"mttt\":40,\"exit\":5,\"exot\":10,\"stand\":12}\n2 29000700 NM {\"cmd\":\"report\",\"flight\":7,\"milestone\":1,\"time\":\"2025-02-20T10:00:00Z\",\"callsign\":\"DLH7\",\"type\":\"A320\",\"reg\":\"DAIBC\",\"dest\":\"EDDM\"}\n3 29000700 ATC {\"cmd\":\"report\",\"flight\":7,\"milestone\":6,\"time\":\"2025-02-20T09:00:00Z\"}\n1 29000700 APT {\"cmd\":\"report\",\"flight\":7,\"milestone\":7,\"time\":\"2025-02-20T08:59:00Z\"}\n1 29000700 APT {\"cmd\":\"report\",\"flight\":7,\"milestone\":7,\"time\":\"2025-02-20T09:00:00Z\"}\n3 29000700 ATC {\"cmd\":\"report\",\"flight\":7,\"milestone\":6,\"time\":\"2025-02-20T09:00:00Z\"}\n") ≡ codes "ok 0\nok 1\nok 2\nno 3 206\nok 4\nno 5 204\n"
+unfolding digits meant head_of natural_of number_field text_field time_field plan_field schedule_field report_field command_named command_of json_of is_utf8 chars serde_json_on_literals jiff_on_literals
+turn_round = refl
