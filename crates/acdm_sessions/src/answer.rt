@@ -19,7 +19,8 @@ pub enum Answer {
 
 /// Takes one line: the answer to it, and the desk after it.
 pub(crate) fn answer_line(alloc: Global, line: &[u8], desk: &mut Desk) -> Answer
-    ensures { (short : Bool) × (result ≡ answer_to desk.old short line.now) × (desk.new ≡ desk_after desk.old short line.now) }
+    ensures { (short : Bool) × (result ≡ answer_to desk.old short line.now)
+        × (desk.new ≡ desk_after desk.old short line.now) }
 {
     let request = match request_of(alloc, line) {
         Ok(request) => request,

@@ -60,7 +60,8 @@ impl<R: Read> Read for Counted<R> {
 
     fn read(&mut self, buf: &mut [u8]) -> io::Result<usize>
         ensures bound { ReadsAtMost result buf.new }
-        ensures bytes { ReadConsumes (R.remaining self.old.inner) (R.remaining self.new.inner) result buf.new }
+        ensures bytes { ReadConsumes (R.remaining self.old.inner) (R.remaining self.new.inner)
+            result buf.new }
         ensures faults { self.new.faults ≡ faults_after (is_err result) self.old.faults }
     {
         let result = self.inner.read(buf);
@@ -76,8 +77,10 @@ impl<W: Write> Write for Counted<W> {
 
     fn write(&mut self, buf: &[u8]) -> io::Result<usize>
         ensures bound { WritesAtMost result buf.now }
-        ensures bytes { WriteAppends (W.contents self.old.inner) (W.contents self.new.inner) result buf.now }
-        ensures faults { self.new.faults ≡ faults_after (write_failed result buf.now) self.old.faults }
+        ensures bytes { WriteAppends (W.contents self.old.inner) (W.contents self.new.inner)
+            result buf.now }
+        ensures faults { self.new.faults ≡
+            faults_after (write_failed result buf.now) self.old.faults }
     {
         let result = self.inner.write(buf);
         let failed = match &result {

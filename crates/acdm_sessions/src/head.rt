@@ -88,7 +88,9 @@ struct Head<'a> {
 fn head_in(line: &[u8]) -> Result<Head<'_>, LineError>
     ensures session { IfOk result (λ h. (1 ≤ h.session) × (h.session ≤ 64)) }
     ensures moment { IfOk result (λ h. 1 ≤ h.moment) }
-    ensures reads { GivesView (λ h. record { session = h.session; moment = h.moment; role = h.role; rest = h.rest.now }) result (head_of line.now) }
+    ensures reads { GivesView
+        (λ h. record { session = h.session; moment = h.moment; role = h.role; rest = h.rest.now })
+        result (head_of line.now) }
 {
     let (first, line) = word_in(line)?;
     let session = number_in(first, 64)?;

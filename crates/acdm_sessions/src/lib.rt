@@ -1,4 +1,4 @@
-//! Lines in, replies out.
+//! Partners' lines in, replies out: what a line asks for, and the run from a reader to a writer.
 #![tactic(auto)]
 
 mod answer;

@@ -46,8 +46,11 @@ impl Lines {
 
     /// Takes the bytes that are held, up to the first line feed. Says whether there was one.
     fn take_held(&mut self) -> bool
-        ensures feed { result ≡ true → (part : List ℕ) × IsLine part × (self.old.window ≡ part ++ 10 ∷ self.new.window) × (self.new.line ≡ kept (self.old.line ++ part)) }
-        ensures all { result ≡ false → IsLine self.old.window × (self.new.window ≡ []) × (self.new.line ≡ kept (self.old.line ++ self.old.window)) }
+        ensures feed { result ≡ true → (part : List ℕ) × IsLine part
+            × (self.old.window ≡ part ++ 10 ∷ self.new.window)
+            × (self.new.line ≡ kept (self.old.line ++ part)) }
+        ensures all { result ≡ false → IsLine self.old.window × (self.new.window ≡ [])
+            × (self.new.line ≡ kept (self.old.line ++ self.old.window)) }
         ensures reads { self.new.reads_left ≡ self.old.reads_left }
     {
         match self.window.line_feed() {
@@ -66,17 +69,26 @@ impl Lines {
 
     /// Takes the next line, and says what ended it. It reads only where no whole line is held.
     pub(crate) fn next<R: Read>(&mut self, reader: &mut Counted<R>) -> Result<Ending, RunError>
-        ensures line { result ≡ Ok Ending.LineFeed → TakesLine (prepend_known self.old.window (R.remaining reader.old.inner)) (prepend_known self.new.window (R.remaining reader.new.inner)) self.new.line }
-        ensures rest { result ≡ Ok Ending.Input → TakesRest (prepend_known self.old.window (R.remaining reader.old.inner)) (prepend_known self.new.window (R.remaining reader.new.inner)) self.new.line }
+        ensures line { result ≡ Ok Ending.LineFeed → TakesLine
+            (prepend_known self.old.window (R.remaining reader.old.inner))
+            (prepend_known self.new.window (R.remaining reader.new.inner)) self.new.line }
+        ensures rest { result ≡ Ok Ending.Input → TakesRest
+            (prepend_known self.old.window (R.remaining reader.old.inner))
+            (prepend_known self.new.window (R.remaining reader.new.inner)) self.new.line }
         ensures end { result ≡ Ok Ending.Input → IsAtEnd (R.remaining reader.new.inner) }
-        ensures part { OnErr result (TakesPart (prepend_known self.old.window (R.remaining reader.old.inner)) (prepend_known self.new.window (R.remaining reader.new.inner)) self.new.line) }
+        ensures part { OnErr result (TakesPart
+            (prepend_known self.old.window (R.remaining reader.old.inner))
+            (prepend_known self.new.window (R.remaining reader.new.inner)) self.new.line) }
         ensures none { OnErr result (self.new.window ≡ []) }
         ensures ok { OnOk result (reader.new.faults ≡ reader.old.faults) }
         ensures kind { IfErr result (λ e. e ≡ RunError.Read) }
         ensures fault { OnErr result ((reader.new.faults ≡ faults_after true reader.old.faults)
-            ⊎ ((self.new.reads_left ≡ 0) × EachReadGave (R.remaining reader.old.inner) (R.remaining reader.new.inner) self.old.reads_left self.new.reads_left)) }
-        ensures reads { result ≡ Ok Ending.LineFeed → EachReadGave (R.remaining reader.old.inner) (R.remaining reader.new.inner) self.old.reads_left self.new.reads_left }
-        ensures progress { result ≡ Ok Ending.LineFeed → weight self.new.reads_left self.new.window < weight self.old.reads_left self.old.window }
+            ⊎ ((self.new.reads_left ≡ 0) × EachReadGave (R.remaining reader.old.inner)
+            (R.remaining reader.new.inner) self.old.reads_left self.new.reads_left)) }
+        ensures reads { result ≡ Ok Ending.LineFeed → EachReadGave (R.remaining reader.old.inner)
+            (R.remaining reader.new.inner) self.old.reads_left self.new.reads_left }
+        ensures progress { result ≡ Ok Ending.LineFeed →
+            weight self.new.reads_left self.new.window < weight self.old.reads_left self.old.window }
     {
         self.line.clear();
         while !self.take_held() {

@@ -96,9 +96,11 @@ fn text_of(answer: Answer) -> ReplyText
 
 /// Writes all these bytes.
 fn write_whole<W: Write>(writer: &mut Counted<W>, bytes: &[u8]) -> Result<(), RunError>
-    ensures ok { OnOk result (Appends (W.contents writer.old.inner) (W.contents writer.new.inner) bytes.now) }
+    ensures ok { OnOk result (Appends (W.contents writer.old.inner) (W.contents writer.new.inner)
+        bytes.now) }
     ensures well { OnOk result (writer.new.faults ≡ writer.old.faults) }
-    ensures part { OnErr result (AppendsPart (W.contents writer.old.inner) (W.contents writer.new.inner) bytes.now) }
+    ensures part { OnErr result (AppendsPart (W.contents writer.old.inner)
+        (W.contents writer.new.inner) bytes.now) }
     ensures fault { OnErr result (writer.new.faults ≡ faults_after true writer.old.faults) }
     ensures kind { IfErr result (λ e. e ≡ RunError.Write) }
 {
@@ -114,9 +116,11 @@ fn write_whole<W: Write>(writer: &mut Counted<W>, bytes: &[u8]) -> Result<(), Ru
 
 /// Writes the reply, and lets it go at once.
 pub(crate) fn write_reply<W: Write>(writer: &mut Counted<W>, answer: Answer) -> Result<(), RunError>
-    ensures ok { OnOk result (Appends (W.contents writer.old.inner) (W.contents writer.new.inner) (reply_text answer)) }
+    ensures ok { OnOk result (Appends (W.contents writer.old.inner) (W.contents writer.new.inner)
+        (reply_text answer)) }
     ensures well { OnOk result (writer.new.faults ≡ writer.old.faults) }
-    ensures part { OnErr result (AppendsPart (W.contents writer.old.inner) (W.contents writer.new.inner) (reply_text answer)) }
+    ensures part { OnErr result (AppendsPart (W.contents writer.old.inner)
+        (W.contents writer.new.inner) (reply_text answer)) }
     ensures fault { OnErr result (writer.new.faults ≡ faults_after true writer.old.faults) }
     ensures kind { IfErr result (λ e. e ≡ RunError.Write) }
 {

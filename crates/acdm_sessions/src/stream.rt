@@ -23,9 +23,11 @@ fn serve_line<W: Write>(
     desk: &mut Desk,
 ) -> Result<(), RunError>
     ensures ok { OnOk result ((short : Bool) × (desk.new ≡ desk_after desk.old short line.now)
-        × Appends (W.contents writer.old.inner) (W.contents writer.new.inner) (reply_text (answer_to desk.old short line.now))) }
+        × Appends (W.contents writer.old.inner) (W.contents writer.new.inner)
+        (reply_text (answer_to desk.old short line.now))) }
     ensures part { OnErr result ((short : Bool) × (desk.new ≡ desk_after desk.old short line.now)
-        × AppendsPart (W.contents writer.old.inner) (W.contents writer.new.inner) (reply_text (answer_to desk.old short line.now))) }
+        × AppendsPart (W.contents writer.old.inner) (W.contents writer.new.inner)
+        (reply_text (answer_to desk.old short line.now))) }
     ensures well { OnOk result (writer.new.faults ≡ writer.old.faults) }
     ensures fault { OnErr result (writer.new.faults ≡ faults_after true writer.old.faults) }
     ensures kind { IfErr result (λ e. e ≡ RunError.Write) }
@@ -36,8 +38,15 @@ fn serve_line<W: Write>(
 
 /// Answers each line that is read, at once, until the input ends.
 ///
-/// A line is `SESSION MINUTE ROLE JSON`, and its reply `ok N`, `no N CODE` or `bad CODE`
-/// (this project's profile). Lines are cut at each line feed, and a last one may lack it.
+/// A line is `SESSION MINUTE ROLE JSON`: a session from 1 to 64, a minute since 1970-01-01T00:00Z
+/// from 1 to 4,294,967,295, a role's name, and JSON (RFC 8259). Its reply is `ok N` or `no N CODE`
+/// with the number of its entry, or `bad CODE` where it makes none (this project's profile). Lines
+/// are cut at each line feed, and a last one may lack it. A reply is written and flushed before
+/// more is read. A line of more than 70,000 bytes takes no more memory than one of them.
+///
+/// `Read` where the reader failed, or where 2^40 reads did not reach its end; `Write` where the
+/// writer failed; `Memory` where there was no room for the buffers that a run begins with, and
+/// then nothing was read.
 pub fn run<R: Read, W: Write>(
     alloc: Global,
     reader: &mut Counted<R>,
@@ -55,12 +64,17 @@ pub fn run<R: Read, W: Write>(
     ensures wrote_well { OnOk result (writer.new.faults ≡ writer.old.faults) }
 
     // When each error comes, and what stands then.
-    ensures read { result ≡ Err RunError.Read → FailsOrEndless reader.old.faults reader.new.faults (R.remaining reader.old.inner) }
-    ensures read_in_part { result ≡ Err RunError.Read → ServesWhole (R.remaining reader.old.inner) (R.remaining reader.new.inner) desk.old desk.new (W.contents writer.old.inner) (W.contents writer.new.inner) }
+    ensures read { result ≡ Err RunError.Read →
+        FailsOrEndless reader.old.faults reader.new.faults (R.remaining reader.old.inner) }
+    ensures read_in_part { result ≡ Err RunError.Read →
+        ServesWhole (R.remaining reader.old.inner) (R.remaining reader.new.inner) desk.old desk.new
+        (W.contents writer.old.inner) (W.contents writer.new.inner) }
     ensures write { result ≡ Err RunError.Write → writer.new.faults ≡ writer.old.faults + 1 }
-    ensures written_in_part { result ≡ Err RunError.Write → IfSome (R.remaining reader.old.inner) (λ text.
-        ServesPart text desk.old desk.new (W.contents writer.old.inner) (W.contents writer.new.inner)) }
-    ensures memory { result ≡ Err RunError.Memory → (reader.new ≡ reader.old) × (writer.new ≡ writer.old) × (desk.new ≡ desk.old) }
+    ensures written_in_part { result ≡ Err RunError.Write → IfSome (R.remaining reader.old.inner)
+        (λ text. ServesPart text desk.old desk.new
+        (W.contents writer.old.inner) (W.contents writer.new.inner)) }
+    ensures memory { result ≡ Err RunError.Memory →
+        (reader.new ≡ reader.old) × (writer.new ≡ writer.old) × (desk.new ≡ desk.old) }
 {
     let Ok(mut lines) = Lines::new(alloc) else {
         return Err(RunError::Memory);

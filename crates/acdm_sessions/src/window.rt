@@ -28,7 +28,8 @@ impl Model for Window {
 
     ghost view = { λ w. slice_range w.bytes.items w.start w.end };
 
-    ghost invariant = { λ w. (w.start ≤ w.end) × (w.end ≤ length w.bytes.items) × (length w.bytes.items ≡ most_held) };
+    ghost invariant = { λ w. (w.start ≤ w.end) × (w.end ≤ length w.bytes.items)
+        × (length w.bytes.items ≡ most_held) };
 }
 
 impl Window {
@@ -78,9 +79,11 @@ impl Window {
 
     /// Reads once, in place of what is held. Nothing is held afterwards where the input has ended.
     pub(crate) fn fill<R: Read>(&mut self, reader: &mut Counted<R>) -> Result<(), RunError>
-        ensures bytes { OnOk result (Consumes (R.remaining reader.old.inner) (R.remaining reader.new.inner) self.new) }
+        ensures bytes { OnOk result (Consumes (R.remaining reader.old.inner)
+            (R.remaining reader.new.inner) self.new) }
         ensures end { OnOk result (self.new ≡ [] → IsAtEnd (R.remaining reader.new.inner)) }
-        ensures err { OnErr result (Keeps (R.remaining reader.old.inner) (R.remaining reader.new.inner)) }
+        ensures err { OnErr result (Keeps (R.remaining reader.old.inner)
+            (R.remaining reader.new.inner)) }
         ensures ok { OnOk result (reader.new.faults ≡ reader.old.faults) }
         ensures fault { OnErr result (reader.new.faults ≡ faults_after true reader.old.faults) }
         ensures kind { IfErr result (λ e. e ≡ RunError.Read) }
