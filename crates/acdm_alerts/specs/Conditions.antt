@@ -1,0 +1,80 @@
+-- When a flight has an alert (this project's profile, over the list of alerts of A-CDM airports). All sums are
+-- whole numbers, and never wrap.
+use Rattle.std.specs.Prelude.{ℕ, ◌+◌, ◌*◌, ◌/◌, ◌%◌, ◌^◌, Bool, true, false, ◌||◌, ◌&&◌, ◌==◌, not, nat_le, nat_lt, if◌then◌else◌, Option, Some, None}
+use Rattle.std.specs.Str.{bytes_eq}
+use Rattle.acdm_record.specs.declared.field.Field.{Field}
+use Rattle.acdm_record.specs.declared.field.Field.TheVariants.{Alerts, Mttt, Exit, Sobt, Eobt, Eldt, Aldt, Aibt, Tobt, Tsat, Asbt, Asat, Aobt}
+use Rattle.acdm_record.specs.declared.field.TextField.{TextField}
+use Rattle.acdm_record.specs.declared.field.TextField.TheVariants.{ScheduledType, PlanType, ScheduledRegistration, PlanRegistration, ScheduledDestination, PlanDestination}
+use Rattle.acdm_record.specs.Fields.{Fields, number_of, text_of}
+use Rattle.acdm_milestones.specs.Tables.{has_reached, is_set}
+
+-- the estimated in-block time: AIBT, else ALDT or else ELDT with the taxi-in time
+abbrev pub eibt : Fields → Option ℕ
+eibt r =
+    if is_set r Aibt then Some (number_of r Aibt)
+    else (if is_set r Aldt then Some (number_of r Aldt + number_of r Exit)
+    else (if is_set r Eldt then Some (number_of r Eldt + number_of r Exit)
+    else None))
+
+abbrev pub exceeds : Option ℕ → ℕ → ℕ → Bool
+exceeds None more limit = false
+exceeds (Some n) more limit = nat_lt limit (n + more)
+
+-- the turn-round ends after a time that is set
+abbrev pub turns_after : Fields → Field → Bool
+turns_after r f = is_set r f && exceeds (eibt r) (number_of r Mttt) (number_of r f)
+
+-- two times that are set differ by more than so many minutes
+abbrev pub differ_by : ℕ → Fields → Field → Field → Bool
+differ_by n r f g = is_set r f && (is_set r g && (nat_lt (number_of r f + n) (number_of r g) || nat_lt (number_of r g + n) (number_of r f)))
+
+-- scheduled and planned, and two texts differ
+abbrev pub texts_differ : Fields → TextField → TextField → Bool
+texts_differ r t u = has_reached r 0 && (has_reached r 1 && not (bytes_eq (text_of r t) (text_of r u)))
+
+-- CDM01: no airport slot
+abbrev pub no_airport_slot : Fields → Bool
+no_airport_slot r = has_reached r 1 && not (has_reached r 0)
+
+-- CDM09: boarding not started
+abbrev pub boarding_not_started : Fields → ℕ → Bool
+boarding_not_started r now = is_set r Tobt && (not (is_set r Asbt) && (not (is_set r Aobt) && nat_le (number_of r Tobt) (now + 10)))
+
+-- CDM10: TOBT rejected or deleted
+abbrev pub tobt_deleted : Fields → Bool
+tobt_deleted r = has_reached r 9 && not (is_set r Tobt)
+
+-- CDM11: not compliant with TOBT or TSAT
+abbrev pub tsat_passed : Fields → ℕ → Bool
+tsat_passed r now = is_set r Tsat && (not (is_set r Asat) && nat_lt (number_of r Tsat + 5) now)
+
+-- CDM13: no flight plan
+abbrev pub no_flight_plan : Fields → ℕ → Bool
+no_flight_plan r now = has_reached r 0 && (not (has_reached r 1) && nat_le (number_of r Sobt) (now + 180))
+
+-- the bit of an alert, where it holds
+abbrev pub bit_if : Bool → ℕ → ℕ
+bit_if b n = if b then 2 ^ n else 0
+
+-- the alerts that are computed: CDM01 to 05, 07 to 13, and 07a, which is bit 15
+abbrev pub plan_conditions : Fields → ℕ
+plan_conditions r =
+    bit_if (no_airport_slot r) 1 + bit_if (differ_by 0 r Sobt Eobt) 2 + bit_if (texts_differ r ScheduledType PlanType) 3
+    + bit_if (texts_differ r ScheduledRegistration PlanRegistration) 4 + bit_if (texts_differ r ScheduledDestination PlanDestination) 5
+
+abbrev pub time_conditions : Fields → ℕ → ℕ
+time_conditions r now =
+    bit_if (turns_after r Eobt) 7 + bit_if (differ_by 15 r Tobt Eobt) 8 + bit_if (boarding_not_started r now) 9 + bit_if (tobt_deleted r) 10
+    + bit_if (tsat_passed r now) 11 + bit_if (differ_by 5 r Asat Tsat) 12 + bit_if (no_flight_plan r now) 13 + bit_if (turns_after r Tobt) 15
+
+abbrev pub conditions : Fields → ℕ → ℕ
+conditions r now = plan_conditions r + time_conditions r now
+
+-- what only local programs set and clear: bit 14 (CDM14) and the bits from 16 on
+abbrev pub kept_bits : ℕ → ℕ
+kept_bits word = word / 65536 * 65536 + word / 16384 % 2 * 16384
+
+-- the alert word of a record at a moment
+abbrev pub alert_word : Fields → ℕ → ℕ
+alert_word r now = kept_bits (number_of r Alerts) + conditions r now

@@ -1,0 +1,67 @@
+//! The alerts of a flight as one word.
+ghost use Rattle.std.specs.Prelude.{◌≡◌, ◌==◌, ◌<◌, ◌^◌, IsTrue};
+ghost use Rattle.acdm_record.specs.declared.field.Field.TheVariants.{Alerts};
+ghost use Rattle.acdm_record.specs.Fields.{number_of, is_allowed, set_number};
+
+use acdm_record::{Field, Record};
+use std::marker::Model;
+
+/// The alerts of a flight: bit k is CDM k for k from 1 to 14 without 6, bit 15 is CDM07a, bits 16 to 31 are the local
+/// alerts LOC00 to LOC15.
+#[derive(Clone, Copy)]
+pub struct AlertSet {
+    word: u32,
+}
+
+impl Model for AlertSet {
+    ghost use Rattle.std.specs.Prelude.{ℕ, ◌≡◌, true};
+    ghost use Rattle.acdm_record.specs.declared.field.Field.TheVariants.{Alerts};
+    ghost use Rattle.acdm_record.specs.Fields.{is_allowed};
+
+    ghost Value = { ℕ };
+
+    ghost view = { λ s. s.word };
+
+    ghost invariant = { λ s. is_allowed Alerts s.word ≡ true };
+
+    ghost inverse = { λ n. record { word = n } };
+}
+
+impl AlertSet {
+    /// The set of this word, which has neither bit 0 nor bit 6.
+    pub fn from_word(word: u32) -> AlertSet
+        requires { IsTrue (is_allowed Alerts word) }
+        ensures { result ≡ word }
+    {
+        AlertSet { word }
+    }
+
+    /// The alerts that a record has.
+    pub fn of(record: &Record) -> AlertSet
+        ensures { result ≡ number_of record.now Alerts }
+    {
+        AlertSet::from_word(record.get(Field::Alerts) as u32)
+    }
+
+    /// Puts the set into a record.
+    pub fn store(self, record: &mut Record)
+        ensures { record.new ≡ set_number record.old Alerts self }
+    {
+        record.set(Field::Alerts, u64::from(self.word));
+    }
+
+    /// The alert word.
+    pub fn word(self) -> u32
+        ensures value { result ≡ self }
+        ensures allowed { IsTrue (is_allowed Alerts result) }
+    {
+        self.word
+    }
+
+    /// Whether there is no alert.
+    pub fn is_empty(self) -> bool
+        ensures { result ≡ (self == 0) }
+    {
+        matches!(self.word, 0)
+    }
+}

@@ -1,0 +1,13 @@
+//! The alerts that the board computes of a flight's record.
+#![tactic(auto)]
+
+mod alert_set;
+mod conditions;
+mod names;
+
+pub use alert_set::AlertSet;
+pub use conditions::builtin;
+pub use names::write_names;
+
+#[cfg(test)]
+mod tests;

@@ -1,0 +1,72 @@
+//! The names of alerts, as they are written.
+ghost use Rattle.std.specs.Prelude.{◌≡◌, ◌++◌, ◌∷◌, [], if◌then◌else◌, OnOk};
+ghost use Rattle.std.specs.Io.KnownBytes.{Appends};
+ghost use Rattle.acdm_alerts.specs.Names.{name_of as name_in_table, names_text};
+
+use crate::alert_set::AlertSet;
+use std::io::{self, Write};
+
+// The name of a bit. Bit 6 has none, and no set has it.
+fn name_of(bit: u32) -> &'static str
+    ensures { result.now ≡ name_in_table bit }
+{
+    match bit {
+        1 => "CDM01",
+        2 => "CDM02",
+        3 => "CDM03",
+        4 => "CDM04",
+        5 => "CDM05",
+        7 => "CDM07",
+        8 => "CDM08",
+        9 => "CDM09",
+        10 => "CDM10",
+        11 => "CDM11",
+        12 => "CDM12",
+        13 => "CDM13",
+        14 => "CDM14",
+        15 => "CDM07a",
+        16 => "LOC00",
+        17 => "LOC01",
+        18 => "LOC02",
+        19 => "LOC03",
+        20 => "LOC04",
+        21 => "LOC05",
+        22 => "LOC06",
+        23 => "LOC07",
+        24 => "LOC08",
+        25 => "LOC09",
+        26 => "LOC10",
+        27 => "LOC11",
+        28 => "LOC12",
+        29 => "LOC13",
+        30 => "LOC14",
+        31 => "LOC15",
+        _ => "",
+    }
+}
+
+// Writes the name of a bit that is set, and a comma before it unless it is the first.
+fn write_piece<W: Write>(writer: &mut W, is_first: bool, bit: u32) -> io::Result<()>
+    ensures { OnOk result (Appends (W.contents writer.old) (W.contents writer.new) ((if is_first then [] else 44 ∷ []) ++ name_in_table bit)) }
+{
+    if !is_first {
+        writer.write_all(b",")?;
+    }
+    writer.write_all(name_of(bit).as_bytes())
+}
+
+/// Writes the names of the alerts, by rising bit, with commas between: `CDM08,CDM07a`. It writes nothing for the empty
+/// set.
+pub fn write_names<W: Write>(alerts: AlertSet, writer: &mut W) -> io::Result<()>
+    ensures { OnOk result (Appends (W.contents writer.old) (W.contents writer.new) (names_text alerts)) }
+{
+    let word = alerts.word();
+    let mut is_first = true;
+    for bit in 1..32u32 {
+        if (word >> bit) % 2 == 1 {
+            write_piece(writer, is_first, bit)?;
+            is_first = false;
+        }
+    }
+    Ok(())
+}
