@@ -39,7 +39,7 @@ loop-self-preserved g c =
     record {
       part = part-filled _ _ _ _ _ filled.bytes (part-taken _ _ _ _ _ _ all c.loop-self.invariant.part);
       well = search rules;
-      gave = gave-more _ _ _ _ _ _ filled.bytes some (omega arith) (rw c.take_held.ensures.reads c.loop-self.invariant.gave);
+      gave = gave-more _ _ _ _ _ c.take_held.new.self.reads_left filled.bytes some (omega arith) (rw c.take_held.ensures.reads c.loop-self.invariant.gave);
       lighter = omega arith;
     }
 
