@@ -1,0 +1,18 @@
+//! BPF instructions (RFC 9669): their encoding as bytes, and their listing.
+#![tactic(auto)]
+
+
+
+pub mod fault;
+
+pub mod insn;
+pub mod op;
+pub mod program;
+
+
+
+
+pub use fault::{DecodeError, Fault, NoMemory};
+pub use insn::Insn;
+pub use op::{Bytes, Code, Condition, Op, Operand, Order, Part, Register, Size, Width};
+pub use program::Program;

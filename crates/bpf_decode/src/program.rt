@@ -1,0 +1,59 @@
+//! A program: its slots in order.
+
+use crate::op::Op;
+use std::marker::Model;
+
+/// A program of 1 to 4,096 slots, each of them an instruction but the second slot of a wide load.
+#[derive(Drop)]
+pub struct Program {
+    ops: Vec<Op>,
+}
+
+impl Model for Program {
+    ghost use Rattle.std.specs.Prelude.{List};
+    ghost use Rattle.bpf_decode.specs.declared.op.Op.{Op};
+
+    ghost Value = { List Op };
+
+    ghost use Rattle.bpf_decode.specs.Encoding.{IsProgram};
+
+    ghost view = { λ p. p.ops.items };
+
+    ghost invariant = { λ p. IsProgram p.ops.items };
+}
+
+impl Program {
+    ghost use Rattle.std.specs.Prelude.{◌≡◌, ◌<◌, length, slice_get, Some};
+    ghost use Rattle.bpf_decode.specs.Encoding.{IsProgram};
+
+    /// The program of these slots.
+    pub(crate) fn new(ops: Vec<Op>) -> Program
+        requires { IsProgram ops.items }
+        ensures { result ≡ ops.items }
+    {
+        Program { ops }
+    }
+
+    /// The slots in order.
+    pub fn ops(&self) -> &[Op]
+        ensures slots { result.now ≡ self.now }
+        ensures program { IsProgram self.now }
+    {
+        self.ops.as_slice()
+    }
+
+    /// The number of slots, 1 to 4,096; a wide load counts two.
+    pub fn slot_count(&self) -> usize
+        ensures { result ≡ length self.now }
+    {
+        self.ops.len()
+    }
+
+    /// What one slot says.
+    pub fn op(&self, slot: usize) -> Op
+        requires { slot < length self.now }
+        ensures { slice_get self.now slot ≡ Some result }
+    {
+        self.ops[slot]
+    }
+}
