@@ -2,3 +2,4 @@ pub mod Words
 pub mod Slots
 pub mod Encoding
 pub mod Faults
+pub mod Forms

@@ -4,6 +4,7 @@
 
 
 pub mod fault;
+mod form;
 
 pub mod insn;
 pub mod op;
