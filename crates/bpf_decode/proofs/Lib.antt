@@ -1,1 +1,5 @@
 pub mod WordRows
+pub mod RowLemmas
+pub mod SlotLemmas
+pub mod DecoderLemmas
+pub mod WholeLemmas

@@ -3,3 +3,5 @@ pub mod Slots
 pub mod Encoding
 pub mod Faults
 pub mod Forms
+pub mod Rows
+pub mod Decoding

@@ -1,18 +1,15 @@
 //! BPF instructions (RFC 9669): their encoding as bytes, and their listing.
 #![tactic(auto)]
 
-
-
+mod decoder;
 pub mod fault;
 mod form;
-
 pub mod insn;
 pub mod op;
 pub mod program;
+mod row;
 
-
-
-
+pub use decoder::decode;
 pub use fault::{DecodeError, Fault, NoMemory};
 pub use insn::Insn;
 pub use op::{Bytes, Code, Condition, Op, Operand, Order, Part, Register, Size, Width};

@@ -1,0 +1,137 @@
+//! From bytes to a program.
+
+ghost use Rattle.std.specs.Prelude.{◌≡◌, ◌*◌, ◌%◌, ◌<◌, ◌≤◌, ◌++◌, length, IfOk, IfErr, MatchResult, OnOk};
+ghost use Rattle.std.specs.Int.{cast_unsigned, w32};
+ghost use Rattle.bpf_decode.specs.Slots.{fields};
+ghost use Rattle.bpf_decode.specs.Encoding.{Encodes, AreSlots, slot_of};
+ghost use Rattle.bpf_decode.specs.Decoding.{Begins, Grows, IsStop, Refuses, Stops, parts_of};
+
+use crate::fault::{DecodeError, Fault};
+use crate::insn::Insn;
+use crate::op::{Op, Register};
+use crate::program::Program;
+use crate::row::op_of;
+use std::alloc::{AllocError, Global};
+
+/// The number of bytes in 4,096 slots.
+const MOST_BYTES: usize = 32_768;
+
+/// The program that the bytes encode, of 1 to 4,096 slots. A refusal holds the first fault and its
+/// slot: more bytes than that, no whole slots, or else the least slot that no row of RFC 9669's
+/// instructions fits, with the least number of its faults.
+pub fn decode(alloc: Global, bytes: &[u8]) -> Result<Program, DecodeError>
+    ensures program { IfOk result (λ p. Encodes bytes.now p) }
+    ensures refused { IfErr result (λ e. Refuses bytes.now e) }
+{
+    if bytes.len() > MOST_BYTES {
+        return Err(DecodeError::Refused {
+            fault: Fault::TooLong,
+            slot: 0,
+        });
+    }
+    if bytes.is_empty() || bytes.len() % 8 != 0 {
+        return Err(DecodeError::Refused {
+            fault: Fault::Length,
+            slot: 0,
+        });
+    }
+    let ops = instructions(alloc, bytes)?;
+    Ok(Program::new(ops))
+}
+
+/// The instructions of some slots, with the tails of wide loads.
+fn instructions(alloc: Global, bytes: &[u8]) -> Result<Vec<Op>, DecodeError>
+    requires few { length bytes.now ≤ 32768 }
+    requires slots { AreSlots bytes.now }
+    ensures program { IfOk result (λ ops. Encodes bytes.now ops.items) }
+    ensures refused { IfErr result (λ e. Refuses bytes.now e) }
+{
+    let mut ops = Vec::with_capacity(alloc, bytes.len() / 8)?;
+    let mut rest = bytes;
+    while !rest.is_empty() {
+        let len = push_first(&mut ops, rest)?;
+        rest = &rest[len..];
+    }
+    Ok(ops)
+}
+
+/// Adds the instruction at the front of some slots, and answers the number of its bytes.
+fn push_first(ops: &mut Vec<Op>, rest: &[u8]) -> Result<usize, DecodeError>
+    requires long { 8 ≤ length rest.now }
+    requires slots { length rest.now % 8 ≡ 0 }
+    requires few { length ops.old.items < 4096 }
+    ensures { MatchResult result (λ len. Grows ops.old.items ops.new.items rest.now len) (λ e. IsStop rest.now (length ops.old.items) e) }
+{
+    match first_op(rest, ops.len()) {
+        Ok(op) => {
+            let len = push_parts(ops, op)?;
+            Ok(len)
+        }
+        Err(error) => Err(error),
+    }
+}
+
+/// Adds an instruction, and its tail if it is a wide load; answers the number of its bytes.
+fn push_parts(ops: &mut Vec<Op>, op: Op) -> Result<usize, AllocError>
+    ensures ops { OnOk result (ops.new.items ≡ ops.old.items ++ parts_of op) }
+    ensures len { IfOk result (λ len. len ≡ 8 * length (parts_of op)) }
+{
+    match op {
+        Op::Wide { .. } => {
+            ops.extend_from_slice(&[op, Op::Tail])?;
+            Ok(16)
+        }
+        _ => {
+            ops.extend_from_slice(&[op])?;
+            Ok(8)
+        }
+    }
+}
+
+/// The instruction at the front of some slots, the first of which has this number.
+fn first_op(rest: &[u8], slot: usize) -> Result<Op, DecodeError>
+    requires long { 8 ≤ length rest.now }
+    requires slots { length rest.now % 8 ≡ 0 }
+    requires few { slot < 4096 }
+    ensures { MatchResult result (λ op. Begins rest.now op) (λ e. Stops rest.now slot e) }
+{
+    let insn = Insn::from_bytes(rest);
+    let op = match op_of(insn) {
+        Ok(op) => op,
+        Err(fault) => return Err(DecodeError::Refused { fault, slot }),
+    };
+    match op {
+        Op::Wide { dst, .. } => whole_wide(rest, slot, insn, dst),
+        _ => Ok(op),
+    }
+}
+
+/// A wide load with the value of both of its slots.
+fn whole_wide(rest: &[u8], slot: usize, first: Insn, dst: Register) -> Result<Op, DecodeError>
+    requires long { 8 ≤ length rest.now }
+    requires slots { length rest.now % 8 ≡ 0 }
+    requires few { slot < 4096 }
+    requires first { first ≡ fields rest.now }
+    requires wide { (dst < 11) × (slot_of (Op.Wide dst (cast_unsigned w32 first.imm)) ≡ first) }
+    ensures { MatchResult result (λ op. Begins rest.now op) (λ e. Stops rest.now slot e) }
+{
+    if rest.len() == 8 {
+        return Err(DecodeError::Refused {
+            fault: Fault::CutWide,
+            slot,
+        });
+    }
+    let tail = Insn::from_bytes(&rest[8..]);
+    if tail.opc != 0 || tail.dst != 0 || tail.src != 0 || tail.off != 0 {
+        return Err(DecodeError::Refused {
+            fault: Fault::Field,
+            slot: slot + 1,
+        });
+    }
+    let low = first.imm.cast_unsigned() as u64;
+    let high = tail.imm.cast_unsigned() as u64;
+    Ok(Op::Wide {
+        dst,
+        value: high * 0x1_0000_0000 + low,
+    })
+}
