@@ -3,3 +3,4 @@ pub mod RowLemmas
 pub mod SlotLemmas
 pub mod DecoderLemmas
 pub mod WholeLemmas
+pub mod EncoderLemmas

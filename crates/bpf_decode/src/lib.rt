@@ -2,6 +2,7 @@
 #![tactic(auto)]
 
 mod decoder;
+mod encoder;
 pub mod fault;
 mod form;
 pub mod insn;
@@ -10,6 +11,7 @@ pub mod program;
 mod row;
 
 pub use decoder::decode;
+pub use encoder::encode;
 pub use fault::{DecodeError, Fault, NoMemory};
 pub use insn::Insn;
 pub use op::{Bytes, Code, Condition, Op, Operand, Order, Part, Register, Size, Width};
