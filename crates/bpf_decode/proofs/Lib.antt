@@ -4,3 +4,4 @@ pub mod SlotLemmas
 pub mod DecoderLemmas
 pub mod WholeLemmas
 pub mod EncoderLemmas
+pub mod ListingLemmas

@@ -5,3 +5,4 @@ pub mod Faults
 pub mod Forms
 pub mod Rows
 pub mod Decoding
+pub mod Listing
