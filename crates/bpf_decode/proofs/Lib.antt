@@ -5,3 +5,5 @@ pub mod DecoderLemmas
 pub mod WholeLemmas
 pub mod EncoderLemmas
 pub mod ListingLemmas
+pub mod ReadLemmas
+pub mod OnceLemmas

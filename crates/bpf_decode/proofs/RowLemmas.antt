@@ -134,10 +134,10 @@ in_class n class s =
     cond (eqb class 4) (Arith W32 (code_of_number n) s)
     (cond (eqb class 7) (Arith W64 (code_of_number n) s) (cond (eqb class 6) (Jump W32 (condition_of_number n) s) (Jump W64 (condition_of_number n) s)))
 
-abbrev form_by_opcode : ℕ → Form
+abbrev pub form_by_opcode : ℕ → Form
 form_by_opcode n = found alone n (in_class (n / 16) (n % 8) (source_of_number (n / 8 % 2)))
 
-form_by_opcode_of : (f : Form) → IsForm f → form_by_opcode (opcode_of f) ≡ f
+pub form_by_opcode_of : (f : Form) → IsForm f → form_by_opcode (opcode_of f) ≡ f
 form_by_opcode_of (Arith W32 codes.SignedDiv s) h = absurd cc
 form_by_opcode_of (Arith W32 codes.SignedMod s) h = absurd cc
 form_by_opcode_of (Arith W32 code source.Immediate) h = refl

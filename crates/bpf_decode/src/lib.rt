@@ -18,3 +18,6 @@ pub use insn::Insn;
 pub use listing::line;
 pub use op::{Bytes, Code, Condition, Op, Operand, Order, Part, Register, Size, Width};
 pub use program::Program;
+
+#[cfg(test)]
+mod tests;

@@ -1,0 +1,214 @@
+//! Worked rows of the encoding and of the listing.
+
+use super::*;
+use std::alloc::Global;
+use std::process::Abort;
+use std::test::Fail;
+
+/// The bytes are a program with these lines, which encodes to them again.
+fn lists(rt: &impl Abort, alloc: Global, text: &str, lines: &[&str]) -> Result<(), Fail> {
+    let bytes = hex::decode(alloc, text)?;
+    let program = decode(alloc, &bytes)?;
+    let again = encode(alloc, &program)?;
+    assert_eq!(rt; again.as_slice(), bytes.as_slice(), "{text}");
+    assert_eq!(rt; program.slot_count(), lines.len(), "{text}");
+    for (slot, text) in lines.iter().enumerate() {
+        assert!(rt; slot < program.slot_count());
+        let mut out = Vec::new(alloc);
+        line(&program, slot, &mut out)?;
+        assert_eq!(rt; out.as_slice(), text.as_bytes(), "{text}");
+    }
+    Ok(())
+}
+
+/// The bytes are no program, by this number at this slot.
+fn refuses(
+    rt: &impl Abort,
+    alloc: Global,
+    text: &str,
+    code: u16,
+    slot: usize,
+) -> Result<(), Fail> {
+    let bytes = hex::decode(alloc, text)?;
+    let error = decode(alloc, &bytes).err().ok_or("no program")?;
+    assert_eq!(rt; error.code(), code, "{text}");
+    assert_eq!(rt; error.slot(), slot, "{text}");
+    Ok(())
+}
+
+#[test]
+fn arithmetic(rt: HostRuntime) -> Result<(), Fail> {
+    let rows = [
+        ("0701000005000000", "0: add64 r1, 5"),
+        ("0c21000000000000", "0: add32 r1, r2"),
+        ("1701000005000000", "0: sub64 r1, 5"),
+        ("2f21000000000000", "0: mul64 r1, r2"),
+        ("3401000003000000", "0: div32 r1, 3"),
+        ("3f21010000000000", "0: sdiv64 r1, r2"),
+        ("3401010003000000", "0: sdiv32 r1, 3"),
+        ("4f21000000000000", "0: or64 r1, r2"),
+        ("57010000ff010000", "0: and64 r1, 511"),
+        ("67010000ffffffff", "0: lsh64 r1, -1"),
+        ("7c21000000000000", "0: rsh32 r1, r2"),
+        ("8700000000000000", "0: neg64 r0"),
+        ("8405000000000000", "0: neg32 r5"),
+        ("9c20000000000000", "0: mod32 r0, r2"),
+        ("9700010000000000", "0: smod64 r0, 0"),
+        ("af21000000000000", "0: xor64 r1, r2"),
+        ("b700000000000080", "0: mov64 r0, -2147483648"),
+        ("bfa1000000000000", "0: mov64 r1, r10"),
+        ("c701000003000000", "0: arsh64 r1, 3"),
+        ("bf21080000000000", "0: movsx8_64 r1, r2"),
+        ("bc21100000000000", "0: movsx16_32 r1, r2"),
+        ("bf21200000000000", "0: movsx32_64 r1, r2"),
+        ("d401000010000000", "0: le16 r1"),
+        ("dc01000020000000", "0: be32 r1"),
+        ("d700000040000000", "0: swap64 r0"),
+    ];
+    for (text, line) in rows {
+        lists(&rt, rt.alloc(), text, &[line])?;
+    }
+    Ok(())
+}
+
+#[test]
+fn jumps_and_calls(rt: HostRuntime) -> Result<(), Fail> {
+    let rows = [
+        ("0500030000000000", "0: ja +3"),
+        ("0500ffff00000000", "0: ja -1"),
+        ("0600000003000000", "0: ja32 +3"),
+        ("0600000000000080", "0: ja32 -2147483648"),
+        ("1501020005000000", "0: jeq r1, 5, +2"),
+        ("1e21ffff00000000", "0: jeq32 r1, r2, -1"),
+        ("250503007c000000", "0: jgt r5, 124, +3"),
+        ("3d21000000000000", "0: jge r1, r2, +0"),
+        ("4501010008000000", "0: jset r1, 8, +1"),
+        ("5502010080000000", "0: jne r2, 128, +1"),
+        ("66010100ffffffff", "0: jsgt32 r1, -1, +1"),
+        ("7d21008000000000", "0: jsge r1, r2, -32768"),
+        ("a501ff7f01000000", "0: jlt r1, 1, +32767"),
+        ("be21010000000000", "0: jle32 r1, r2, +1"),
+        ("c501010001000000", "0: jslt r1, 1, +1"),
+        ("dd21010000000000", "0: jsle r1, r2, +1"),
+        ("8500000002000000", "0: call 2"),
+        ("85000000ffffffff", "0: call 4294967295"),
+        ("9500000000000000", "0: exit"),
+    ];
+    for (text, line) in rows {
+        lists(&rt, rt.alloc(), text, &[line])?;
+    }
+    Ok(())
+}
+
+#[test]
+fn memory(rt: HostRuntime) -> Result<(), Fail> {
+    let rows = [
+        ("61107c0000000000", "0: ldxw r0, [r1+124]"),
+        ("69113c0000000000", "0: ldxh r1, [r1+60]"),
+        ("71153f0000000000", "0: ldxb r5, [r1+63]"),
+        ("79a0f8ff00000000", "0: ldxdw r0, [r10-8]"),
+        ("8110000000000000", "0: ldxsw r0, [r1+0]"),
+        ("8910020000000000", "0: ldxsh r0, [r1+2]"),
+        ("9110ffff00000000", "0: ldxsb r0, [r1-1]"),
+        ("620af8ff05000000", "0: stw [r10-8], 5"),
+        ("6a0afeffffffffff", "0: sth [r10-2], -1"),
+        ("720affff05000000", "0: stb [r10-1], 5"),
+        ("7a0a000000000000", "0: stdw [r10+0], 0"),
+        ("631afcff00000000", "0: stxw [r10-4], r1"),
+        ("6b1afeff00000000", "0: stxh [r10-2], r1"),
+        ("731affff00000000", "0: stxb [r10-1], r1"),
+        ("7b1af8ff00000000", "0: stxdw [r10-8], r1"),
+    ];
+    for (text, line) in rows {
+        lists(&rt, rt.alloc(), text, &[line])?;
+    }
+    Ok(())
+}
+
+#[test]
+fn programs(rt: HostRuntime) -> Result<(), Fail> {
+    lists(
+        &rt,
+        rt.alloc(),
+        "b7000000000000009500000000000000",
+        &["0: mov64 r0, 0", "1: exit"],
+    )?;
+    lists(
+        &rt,
+        rt.alloc(),
+        "18010000010000000000000002000000",
+        &["0: lddw r1, 0x0000000200000001", "1: -"],
+    )?;
+    lists(
+        &rt,
+        rt.alloc(),
+        "1800000000000000000000000000008037000100ffffffff9500000000000000",
+        &[
+            "0: lddw r0, 0x8000000000000000",
+            "1: -",
+            "2: sdiv64 r0, -1",
+            "3: exit",
+        ],
+    )?;
+    lists(
+        &rt,
+        rt.alloc(),
+        "71153f0000000000250503007c0000000f510000000000007110000000000000\
+         9500000000000000b7000000000000009500000000000000",
+        &[
+            "0: ldxb r5, [r1+63]",
+            "1: jgt r5, 124, +3",
+            "2: add64 r1, r5",
+            "3: ldxb r0, [r1+0]",
+            "4: exit",
+            "5: mov64 r0, 0",
+            "6: exit",
+        ],
+    )
+}
+
+#[test]
+fn faults(rt: HostRuntime) -> Result<(), Fail> {
+    let rows = [
+        ("", 301, 0),
+        ("950000000000000095000000", 301, 0),
+        ("ff00000000000000", 303, 0),
+        ("9500010000000000", 304, 0),
+        ("b70b000000000000", 305, 0),
+        ("18000000010000000100000000000000", 304, 1),
+        ("1800000001000000", 315, 0),
+        // A cut wide load with a field or a register at fault has the lesser number.
+        ("1810000001000000", 304, 0),
+        ("180b000001000000", 305, 0),
+        // A source of 11 where the row has none is a field at fault.
+        ("b7b0000000000000", 304, 0),
+        ("0fb1000000000000", 305, 0),
+        ("bc21200000000000", 304, 0),
+        ("d401000018000000", 304, 0),
+        ("8c00000000000000", 303, 0),
+        ("0000000000000000", 303, 0),
+        // The first faulty slot decides, then its least number.
+        ("9500000000000000b70b000000000000ff00000000000000", 305, 1),
+        ("ff0b010000000000", 303, 0),
+        ("b70b010000000000", 304, 0),
+    ];
+    for (text, code, slot) in rows {
+        refuses(&rt, rt.alloc(), text, code, slot)?;
+    }
+    Ok(())
+}
+
+#[test]
+fn lengths(rt: HostRuntime) -> Result<(), Fail> {
+    let mut bytes = Vec::new(rt.alloc());
+    for _ in 0..4096 {
+        bytes.extend_from_slice(&[0x95, 0, 0, 0, 0, 0, 0, 0])?;
+    }
+    let program = decode(rt.alloc(), &bytes)?;
+    assert_eq!(rt; program.slot_count(), 4096);
+    bytes.push(0)?;
+    let error = decode(rt.alloc(), &bytes).err().ok_or("no program")?;
+    assert_eq!(rt; error.code(), 302);
+    assert_eq!(rt; error.slot(), 0);
+    Ok(())
+}
