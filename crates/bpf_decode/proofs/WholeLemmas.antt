@@ -101,3 +101,13 @@ pub refuses_behind : (bytes rest : List ℕ) (front : List Op) (e : DecodeError)
     → IsStop rest (length front) e → Refuses bytes e
 refuses_behind bytes rest front (Refused fault at) few slots read stop = stops_behind bytes rest front (code_of fault) stop.0 at few slots read stop.1 stop.2
 refuses_behind bytes rest front Memory few slots read stop = tt
+
+-- ---- lengths
+
+pub encoding_length : (ops : List Op) → AreWhole ops → length (encoding ops) ≡ 8 * length ops
+encoding_length [] w = refl
+encoding_length (Wide dst value ∷ []) w = absurd cc
+encoding_length (Wide dst value ∷ Tail ∷ ops) w = omega (arith, encoding_length ops (w.0, w.1.1.1))
+encoding_length (Wide dst value ∷ op ∷ ops) w = absurd cc
+encoding_length (Tail ∷ ops) w = absurd cc
+encoding_length (op ∷ ops) w = omega (arith, encoding_length ops (w.0, w.1.1))

@@ -1,5 +1,5 @@
 -- What the parts of the decoder answer.
-use Rattle.std.specs.Prelude.{◌≡◌, ℕ, ◌+◌, ◌*◌, List, [], ◌∷◌, ◌++◌, length}
+use Rattle.std.specs.Prelude.{◌≡◌, ℕ, ◌+◌, ◌*◌, List, [], ◌∷◌, ◌++◌, length, Result, Ok, Err}
 use Rattle.bpf_decode.specs.declared.op.Op.{Op}
 use Rattle.bpf_decode.specs.declared.op.Op.TheVariants.{Wide, Tail}
 use Rattle.bpf_decode.specs.declared.fault.DecodeError.{DecodeError}
@@ -33,3 +33,15 @@ IsStop bytes slot Memory = Unit {0}
 -- the instruction at the front of the bytes is added, and it has so many bytes
 abbrev pub Grows : List Op → List Op → List ℕ → ℕ → Type 0
 Grows old new bytes len = (op : Op) × Begins bytes op × (new ≡ old ++ parts_of op) × (len ≡ 8 * length (parts_of op))
+
+-- the answer is this program, or want of memory
+abbrev pub AnswersProgram : List Op → Result (List Op) DecodeError → Type 0
+AnswersProgram ops (Ok found) = found ≡ ops
+AnswersProgram ops (Err (Refused fault slot)) = ⊥
+AnswersProgram ops (Err Memory) = Unit {0}
+
+-- the answer is this fault, or want of memory
+abbrev pub AnswersFault : ℕ → ℕ → Result (List Op) DecodeError → Type 0
+AnswersFault code slot (Ok found) = ⊥
+AnswersFault code slot (Err (Refused fault at)) = (code_of fault ≡ code) × (at ≡ slot)
+AnswersFault code slot (Err Memory) = Unit {0}

@@ -1,10 +1,11 @@
 //! From bytes to a program.
 
-ghost use Rattle.std.specs.Prelude.{◌≡◌, ◌*◌, ◌%◌, ◌<◌, ◌≤◌, ◌++◌, length, IfOk, IfErr, MatchResult, OnOk};
+ghost use Rattle.std.specs.Prelude.{◌≡◌, ◌*◌, ◌%◌, ◌<◌, ◌≤◌, ◌++◌, ℕ, List, length, IfOk, IfErr, MatchResult, OnOk};
 ghost use Rattle.std.specs.Int.{cast_unsigned, w32};
 ghost use Rattle.bpf_decode.specs.Slots.{fields};
-ghost use Rattle.bpf_decode.specs.Encoding.{Encodes, AreSlots, slot_of};
-ghost use Rattle.bpf_decode.specs.Decoding.{Begins, Grows, IsStop, Refuses, Stops, parts_of};
+ghost use Rattle.bpf_decode.specs.Encoding.{Encodes, FirstFault, AreSlots, slot_of};
+ghost use Rattle.bpf_decode.specs.Decoding.{AnswersFault, AnswersProgram, Begins, Grows, IsStop, Refuses, Stops, parts_of};
+ghost use Rattle.bpf_decode.specs.declared.op.Op.{Op};
 
 use crate::fault::{DecodeError, Fault};
 use crate::insn::Insn;
@@ -20,6 +21,19 @@ const MOST_BYTES: usize = 32_768;
 /// slot: more bytes than that, no whole slots, or else the least slot that no row of RFC 9669's
 /// instructions fits, with the least number of its faults.
 pub fn decode(alloc: Global, bytes: &[u8]) -> Result<Program, DecodeError>
+    // What is answered is encoded by the bytes, or is their first fault, unless memory runs out.
+    ensures program { IfOk result (λ p. Encodes bytes.now p) }
+    ensures refused { IfErr result (λ e. Refuses bytes.now e) }
+
+    // There is no other program and no other first fault.
+    ensures only_program { (ops : List Op) → Encodes bytes.now ops → AnswersProgram ops result }
+    ensures only_fault { (code slot : ℕ) → FirstFault bytes.now code slot → AnswersFault code slot result }
+{
+    program_of(alloc, bytes)
+}
+
+/// A program that the bytes encode, or a first fault of theirs.
+fn program_of(alloc: Global, bytes: &[u8]) -> Result<Program, DecodeError>
     ensures program { IfOk result (λ p. Encodes bytes.now p) }
     ensures refused { IfErr result (λ e. Refuses bytes.now e) }
 {

@@ -1,16 +1,8 @@
-use Rattle.std.proofs.Common.{length, sym, arith}
-use Rattle.std.proofs.lemmas.Bool.{eqb-true}
-use Rattle.bpf_decode.specs.Encoding.{too_long, no_slots}
+use Rattle.bpf_decode.proofs.OnceLemmas.{only_program, only_fault}
 use Rattle.bpf_decode.proofs.decoder.decode.Goals as goal
-use Rattle.bpf_decode.proofs.decoder.decode.Goals.{then-is_empty-via-then-is_empty, then-is_empty-via-else-is_empty+then-bytes-ne0}
 
-pub returns-then-bytes-gt-MOST_BYTES-clause-refused :
-    goal.returns-then-bytes-gt-MOST_BYTES-clause-refused
-returns-then-bytes-gt-MOST_BYTES-clause-refused c = too_long c.if-bytes-gt-MOST_BYTES.true
+pub returns-clause-only_program : goal.returns-clause-only_program
+returns-clause-only_program c = λ ops encodes. only_program c.args.bytes.now ops c.program_of.result c.program_of.ensures.program c.program_of.ensures.refused encodes
 
-pub returns-then-is_empty-clause-refused : goal.returns-then-is_empty-clause-refused
-returns-then-is_empty-clause-refused c =
-    no_slots c.if-bytes-gt-MOST_BYTES.false (λ slots. elim c.then-is_empty.branch [
-      | then-is_empty-via-then-is_empty w ↦ omega (arith, slots.0, eqb-true (length c.args.bytes.now) 0 (sym w.if-is_empty.ensures))
-      | then-is_empty-via-else-is_empty+then-bytes-ne0 w ↦ w.if-bytes-ne0.true slots.1
-    ])
+pub returns-clause-only_fault : goal.returns-clause-only_fault
+returns-clause-only_fault c = λ code slot fault. only_fault c.args.bytes.now code slot c.program_of.result c.program_of.ensures.program c.program_of.ensures.refused fault
