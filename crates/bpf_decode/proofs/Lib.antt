@@ -7,3 +7,4 @@ pub mod EncoderLemmas
 pub mod ListingLemmas
 pub mod ReadLemmas
 pub mod OnceLemmas
+pub mod ProgramLemmas

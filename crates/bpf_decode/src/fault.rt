@@ -79,7 +79,7 @@ impl From<AllocError> for DecodeError {
     ghost from_gives = { λ _ e. e ≡ Memory };
 
     fn from(_e: AllocError) -> DecodeError {
-        DecodeError::Memory
+        Self::Memory
     }
 }
 
@@ -88,7 +88,7 @@ impl<T: Drop> From<AllocFailed<T>> for DecodeError {
 
     ghost from_gives = { λ _ e. e ≡ Memory };
 
-    fn from(_e: AllocFailed<T>) -> DecodeError {
-        DecodeError::Memory
+    fn from(failed: AllocFailed<T>) -> DecodeError {
+        DecodeError::from(AllocError::from(failed))
     }
 }

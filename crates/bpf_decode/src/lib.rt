@@ -6,6 +6,7 @@ mod encoder;
 pub mod fault;
 mod form;
 pub mod insn;
+pub mod law;
 mod listing;
 pub mod op;
 pub mod program;
