@@ -1,5 +1,5 @@
 -- An instruction stands at the front of the bytes that its fields were read from.
-use Rattle.std.proofs.Common.{◌≡◌, ◌≢◌, ℕ, ◌+◌, ◌*◌, ◌/◌, ◌%◌, ◌^◌, ◌<◌, ◌≤◌, List, [], ◌∷◌, ◌++◌, length, get_or, take, drop, refl, sym, ap, ◌∙◌, append_assoc, arith, length-append, length-drop}
+use Rattle.std.proofs.Common.{◌≡◌, ◌≢◌, ℕ, ◌+◌, ◌*◌, ◌/◌, ◌%◌, ◌^◌, ◌<◌, ◌≤◌, List, ◌++◌, length, take, drop, refl, sym, ap, ◌∙◌, append_assoc, arith, length-drop}
 use Rattle.std.specs.Prelude.{ℤ, pos}
 use Rattle.std.specs.Int.{cast_signed, cast_unsigned, w32}
 use Rattle.std.specs.Int.RustNames.{FitsSigned}
@@ -32,7 +32,7 @@ op_begins op bytes long each is read not_wide =
 pub IsTailSlot-is : (i : Insn) → IsTailSlot i → insn 0 0 0 (pos 0) i.imm ≡ i
 IsTailSlot-is i t =
     ap (λ (x : ℕ). insn x 0 0 (pos 0) i.imm) (sym t.0) ∙ ap (λ (x : ℕ). insn i.opc x 0 (pos 0) i.imm) (sym t.1)
-        ∙ ap (λ (x : ℕ). insn i.opc i.dst x (pos 0) i.imm) (sym t.2) ∙ ap (λ (x : ℤ). insn i.opc i.dst i.src x i.imm) (sym t.3)
+    ∙ ap (λ (x : ℕ). insn i.opc i.dst x (pos 0) i.imm) (sym t.2) ∙ ap (λ (x : ℤ). insn i.opc i.dst i.src x i.imm) (sym t.3)
 
 pub wide_begins : (bytes : List ℕ) (dst : ℕ) (first second : Insn) → 16 ≤ length bytes → AreBytes bytes → dst < 11
     → FitsSigned w32 first.imm → FitsSigned w32 second.imm → first ≡ fields bytes → second ≡ fields (drop 8 bytes)
@@ -47,16 +47,16 @@ wide_begins bytes dst first second long each lt fits fits' f s wide t =
     let high_half : (high * 2 ^ 32 + low) / 2 ^ 32 ≡ high = omega arith in
     let value = high * 2 ^ 32 + low in
     let a : slot_bytes (slot_of (Wide dst value)) ≡ take 8 bytes =
-        ap slot_bytes (ap (λ (x : ℕ). insn 0x18 dst 0 (pos 0) (cast_signed w32 x)) low_half ∙ wide ∙ f)
-            ∙ slot_bytes-fields bytes (omega arith) each in
+    ap slot_bytes (ap (λ (x : ℕ). insn 0x18 dst 0 (pos 0) (cast_signed w32 x)) low_half ∙ wide ∙ f)
+    ∙ slot_bytes-fields bytes (omega arith) each in
     let b : slot_bytes (tail_of value) ≡ take 8 (drop 8 bytes) =
-        ap slot_bytes (ap (λ (x : ℕ). insn 0 0 0 (pos 0) (cast_signed w32 x)) high_half
-            ∙ ap (λ (x : ℤ). insn 0 0 0 (pos 0) x) (to_z-of_z w32 second.imm fits') ∙ IsTailSlot-is second t ∙ s)
-            ∙ slot_bytes-fields (drop 8 bytes) (omega (arith, length-drop 8 bytes)) (AreBytes-drop 8 bytes each) in
+    ap slot_bytes (ap (λ (x : ℕ). insn 0 0 0 (pos 0) (cast_signed w32 x)) high_half
+    ∙ ap (λ (x : ℤ). insn 0 0 0 (pos 0) x) (to_z-of_z w32 second.imm fits') ∙ IsTailSlot-is second t ∙ s)
+    ∙ slot_bytes-fields (drop 8 bytes) (omega (arith, length-drop 8 bytes)) (AreBytes-drop 8 bytes each) in
     let after = drop 8 (drop 8 bytes) in
     let whole : bytes ≡ encoding_of (Wide dst value) ++ after =
-        sym (take-append-drop 8 bytes) ∙ ap (λ (x : List ℕ). take 8 bytes ++ x) (sym (take-append-drop 8 (drop 8 bytes)))
-            ∙ sym (append_assoc (take 8 bytes) (take 8 (drop 8 bytes)) after)
-            ∙ ap (λ (x : List ℕ). (x ++ take 8 (drop 8 bytes)) ++ after) (sym a)
-            ∙ ap (λ (x : List ℕ). (slot_bytes (slot_of (Wide dst value)) ++ x) ++ after) (sym b) in
+    sym (take-append-drop 8 bytes) ∙ ap (λ (x : List ℕ). take 8 bytes ++ x) (sym (take-append-drop 8 (drop 8 bytes)))
+    ∙ sym (append_assoc (take 8 bytes) (take 8 (drop 8 bytes)) after)
+    ∙ ap (λ (x : List ℕ). (x ++ take 8 (drop 8 bytes)) ++ after) (sym a)
+    ∙ ap (λ (x : List ℕ). (slot_bytes (slot_of (Wide dst value)) ++ x) ++ after) (sym b) in
     ((tt, lt, omega arith), (after, whole))

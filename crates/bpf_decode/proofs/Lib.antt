@@ -1,4 +1,5 @@
 pub mod WordRows
+pub mod EncodingRows
 pub mod RowLemmas
 pub mod SlotLemmas
 pub mod DecoderLemmas

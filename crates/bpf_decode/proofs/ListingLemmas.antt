@@ -1,5 +1,5 @@
 -- Sixteen hexadecimal digits.
-use Rattle.std.proofs.Common.{◌≡◌, ℕ, ◌-◌, ◌^◌, false, List, [], ◌++◌, length, replicate, refl, ap, ◌∙◌, arith}
+use Rattle.std.proofs.Common.{◌≡◌, ℕ, ◌-◌, ◌^◌, false, List, [], ◌++◌, length, replicate, ap, ◌∙◌, arith}
 use Rattle.std.specs.Fmt.{digits, format_spec, padded_integral, char_count}
 use Rattle.std.proofs.lemmas.List.{append-nil}
 use Rattle.bpf_decode.specs.Listing.{hex_text}

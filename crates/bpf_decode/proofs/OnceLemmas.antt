@@ -1,14 +1,13 @@
 -- Bytes encode one program, or have one first fault, and not both.
-use Rattle.std.proofs.Common.{◌≡◌, ◌≢◌, ℕ, ◌+◌, ◌*◌, ◌/◌, ◌%◌, ◌<◌, ◌≤◌, List, [], ◌∷◌, ◌++◌, length, drop, true, false, refl, sym, ap, subst, ◌∙◌, append_assoc, arith, length-append, ◌⊎◌, inl, inr}
+use Rattle.std.proofs.Common.{◌≡◌, ℕ, ◌+◌, ◌*◌, ◌<◌, List, [], ◌∷◌, ◌++◌, length, drop, refl, sym, ap, subst, ◌∙◌, append_assoc, arith, length-append, ◌⊎◌, inl, inr}
 use Rattle.std.specs.Prelude.{Result, Ok, Err, IfOk, IfErr}
-use Rattle.std.specs.List.{AllByRecursion}
 use Rattle.std.proofs.lemmas.List.{append-nil, drop_at}
 use Rattle.std.proofs.lemmas.Grind.{flat_map-append}
 use Rattle.bpf_decode.specs.declared.insn.Insn.{Insn}
 use Rattle.bpf_decode.specs.declared.op.Op.{Op}
 use Rattle.bpf_decode.specs.declared.op.Op.TheVariants.{Wide, Tail, Call}
 use Rattle.bpf_decode.specs.Slots.{fields}
-use Rattle.bpf_decode.specs.Encoding.{slot_of, HasRow, HasRegisters, IsInstruction, IsTailSlot, IsWideSlot, FitsSlot, AreWhole, IsProgram, Encodes, AreSlots, RowFault, opcode, field, register, StartFault, row, cut, tail, FirstFault, too_long, no_slots, behind, encoding, encoding_of}
+use Rattle.bpf_decode.specs.Encoding.{slot_of, HasRow, HasRegisters, IsInstruction, IsTailSlot, IsWideSlot, AreWhole, Encodes, RowFault, opcode, field, register, StartFault, row, cut, tail, FirstFault, too_long, no_slots, behind, encoding, encoding_of}
 use Rattle.bpf_decode.specs.declared.fault.DecodeError.{DecodeError}
 use Rattle.bpf_decode.specs.declared.fault.DecodeError.TheVariants.{Refused, Memory}
 use Rattle.bpf_decode.specs.Faults.{code_of}
@@ -61,7 +60,7 @@ compare_first op f g x y is w (inr (op', others, is', w', g-is)) e goes_on =
     let one : op ≡ op' = same_first op op' (encoding f ++ x) (encoding others ++ y) is is' both in
     let rest : encoding f ++ x ≡ encoding others ++ y = same_rest op (encoding f ++ x) (encoding others ++ y) (both ∙ ap (λ (o : Op). encoding_of o ++ (encoding others ++ y)) (sym one)) in
     subst (λ (z : List Op). Compared (parts_of op ++ f) z x y) (ap (λ (o : Op). parts_of o ++ others) one ∙ sym g-is)
-        (Compared-first op f others x y (goes_on others w' rest))
+    (Compared-first op f others x y (goes_on others w' rest))
 
 compare : (f g : List Op) (x y : List ℕ) → AreWhole f → AreWhole g → encoding f ++ x ≡ encoding g ++ y → Compared f g x y
 compare [] g x y w v e = inl (g, v, refl, e)
@@ -84,6 +83,7 @@ same_registers a b p q e h =
     registers_told (Wide dst value) h = h
     registers_told (Call helper) h = h
     registers_told o h = h
+
     told_registers : (o : Op) → HasRegisters (told o) → HasRegisters o
     told_registers (Wide dst value) h = h
     told_registers (Call helper) h = h
@@ -158,9 +158,9 @@ none_left h w e =
     elim (split h w) [
       | inl none ↦ none
       | inr (op, others, is, w', h-is) ↦
-        let first : length (encoding h) ≡ length (encoding_of op) + length (encoding others) = ap (λ (z : List Op). length (encoding z)) h-is ∙ ap length (encoding-first op others is) ∙ length-append (encoding_of op) (encoding others) in
-        let some : 0 < length (encoding_of op) = rw (length-encoding_of op is) (parts_some op) in
-        absurd (omega arith)
+          let first : length (encoding h) ≡ length (encoding_of op) + length (encoding others) = ap (λ (z : List Op). length (encoding z)) h-is ∙ ap length (encoding-first op others is) ∙ length-append (encoding_of op) (encoding others) in
+          let some : 0 < length (encoding_of op) = rw (length-encoding_of op is) (parts_some op) in
+          absurd (omega arith)
     ]
   where
     parts_some : (op : Op) → 0 < 8 * length (parts_of op)
@@ -174,7 +174,7 @@ one_by_fronts f g (inr (h, w, e, r)) = e ∙ ap (λ (z : List Op). g ++ z) (none
 pub one_program : (bytes : List ℕ) (f g : List Op) → Encodes bytes f → Encodes bytes g → f ≡ g
 one_program bytes f g p q =
     one_by_fronts f g (compare f g [] [] p.program.whole q.program.whole
-        (append-nil (encoding f) ∙ sym p.bytes_are ∙ q.bytes_are ∙ sym (append-nil (encoding g))))
+    (append-nil (encoding f) ∙ sym p.bytes_are ∙ q.bytes_are ∙ sym (append-nil (encoding g))))
 
 -- ---- a program or a fault
 
@@ -184,8 +184,8 @@ not_at_whole h x rest code more w some e f =
     elim (split h w) [
       | inl none ↦ absurd (omega (arith, ap length none))
       | inr (op, others, is, w', h-is) ↦
-        starts_well op rest (encoding others ++ x) code more is
-            (e ∙ ap (λ (z : List Op). encoding z ++ x) h-is ∙ ap (λ (z : List ℕ). z ++ x) (encoding-first op others is) ∙ append_assoc (encoding_of op) (encoding others) x) f
+          starts_well op rest (encoding others ++ x) code more is
+          (e ∙ ap (λ (z : List Op). encoding z ++ x) h-is ∙ ap (λ (z : List ℕ). z ++ x) (encoding-first op others is) ∙ append_assoc (encoding_of op) (encoding others) x) f
     ]
 
 some_or_none : (h : List Op) → (h ≡ []) ⊎ (0 < length h)
@@ -199,8 +199,8 @@ no_fault_by_fronts f front rest code more s (inl (h, w, e, r)) =
 no_fault_by_fronts f front rest code more s (inr (h, w, e, r)) =
     elim (some_or_none h) [
       | inl none ↦
-        let empty : rest ≡ [] = r ∙ ap (λ (z : List Op). encoding z ++ []) none in
-        omega (arith, ap length empty, some_bytes rest code more s)
+          let empty : rest ≡ [] = r ∙ ap (λ (z : List Op). encoding z ++ []) none in
+          omega (arith, ap length empty, some_bytes rest code more s)
       | inr some ↦ not_at_whole h [] rest code more w some r s
     ]
 
@@ -216,17 +216,17 @@ one_fault_by_fronts : (f g : List Op) (x y : List ℕ) (c d m n : ℕ) → Start
 one_fault_by_fronts f g x y c d m n s t (inl (h, w, e, r)) =
     elim (some_or_none h) [
       | inl none ↦
-        let same : x ≡ y = r ∙ ap (λ (z : List Op). encoding z ++ y) none in
-        let one = one_start_fault x c d m n s (subst (λ (z : List ℕ). StartFault z d n) (sym same) t) in
-        (one.0, omega (arith, one.1, ap length (e ∙ ap (λ (z : List Op). f ++ z) none ∙ append-nil f)))
+          let same : x ≡ y = r ∙ ap (λ (z : List Op). encoding z ++ y) none in
+          let one = one_start_fault x c d m n s (subst (λ (z : List ℕ). StartFault z d n) (sym same) t) in
+          (one.0, omega (arith, one.1, ap length (e ∙ ap (λ (z : List Op). f ++ z) none ∙ append-nil f)))
       | inr some ↦ absurd (not_at_whole h y x c m w some r s)
     ]
 one_fault_by_fronts f g x y c d m n s t (inr (h, w, e, r)) =
     elim (some_or_none h) [
       | inl none ↦
-        let same : y ≡ x = r ∙ ap (λ (z : List Op). encoding z ++ x) none in
-        let one = one_start_fault x c d m n s (subst (λ (z : List ℕ). StartFault z d n) same t) in
-        (one.0, omega (arith, one.1, ap length (e ∙ ap (λ (z : List Op). g ++ z) none ∙ append-nil g)))
+          let same : y ≡ x = r ∙ ap (λ (z : List Op). encoding z ++ x) none in
+          let one = one_start_fault x c d m n s (subst (λ (z : List ℕ). StartFault z d n) same t) in
+          (one.0, omega (arith, one.1, ap length (e ∙ ap (λ (z : List Op). g ++ z) none ∙ append-nil g)))
       | inr some ↦ absurd (not_at_whole h x y d n w some r t)
     ]
 

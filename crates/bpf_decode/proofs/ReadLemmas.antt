@@ -1,11 +1,10 @@
 -- An instruction is read again from its fields: no two instructions have the same.
-use Rattle.std.proofs.Common.{◌≡◌, ◌≢◌, ℕ, ◌+◌, ◌*◌, ◌/◌, ◌%◌, ◌^◌, ◌<◌, ◌≤◌, List, [], ◌∷◌, ◌++◌, length, drop, get_or, Bool, true, false, cond, eqb, refl, sym, ap, subst, ◌∙◌, append_assoc, arith, length-append}
-use Rattle.std.specs.Prelude.{ℤ, pos, negsuc}
+use Rattle.std.proofs.Common.{◌≡◌, ℕ, ◌+◌, ◌*◌, ◌/◌, ◌%◌, ◌^◌, ◌<◌, List, ◌++◌, drop, cond, eqb, refl, ap, ◌∙◌, append_assoc, arith}
+use Rattle.std.specs.Prelude.{ℤ, pos}
 use Rattle.std.specs.Int.{cast_signed, cast_unsigned, w16, w32}
 use Rattle.std.specs.Int.RustNames.{FitsSigned}
 use Rattle.std.proofs.lemmas.Int.{of_z-to_z}
 use Rattle.std.proofs.Math.Facts.{sfits_to_z}
-use Rattle.std.proofs.Math.Nat.{mod-eq_of_lt}
 use Rattle.bpf_decode.specs.declared.insn.Insn.{Insn}
 use Rattle.bpf_decode.specs.declared.op.Op.{Op}
 use Rattle.bpf_decode.specs.declared.op.Op.TheVariants as op
@@ -22,8 +21,8 @@ use Rattle.bpf_decode.specs.declared.form.Source.TheVariants as source
 use Rattle.bpf_decode.specs.declared.form.Form.{Form}
 use Rattle.bpf_decode.specs.declared.form.Form.TheVariants.{Arith, Negate, End, Ja, Ja32, Jump, Call, Exit, Load, LoadSigned, Store, Wide}
 use Rattle.bpf_decode.specs.Slots.{insn, fields, slot_bytes}
-use Rattle.bpf_decode.specs.Encoding.{sign_of, slot_of, tail_of, HasRow, HasRegisters, HasNumbers, IsInstruction, encoding_of}
-use Rattle.bpf_decode.specs.Forms.{opcode_of, IsForm, form_of}
+use Rattle.bpf_decode.specs.Encoding.{sign_of, slot_of, tail_of, HasRow, IsInstruction, encoding_of}
+use Rattle.bpf_decode.specs.Forms.{form_of}
 use Rattle.bpf_decode.proofs.RowLemmas.{form_opcode, form_is, form_by_opcode, form_by_opcode_of}
 use Rattle.bpf_decode.proofs.SlotLemmas.{FitsInsn, fields-slot_bytes}
 
@@ -145,7 +144,7 @@ slot_fits op.Tail is = elim is.0 [ ]
 pub fields-encoding_of : (o : Op) (after : List ℕ) → IsInstruction o → fields (encoding_of o ++ after) ≡ slot_of o
 fields-encoding_of (op.Wide dst value) after is =
     ap fields (append_assoc (slot_bytes (slot_of (op.Wide dst value))) (slot_bytes (tail_of value)) after)
-        ∙ fields-slot_bytes (slot_of (op.Wide dst value)) (slot_bytes (tail_of value) ++ after) (slot_fits (op.Wide dst value) is)
+    ∙ fields-slot_bytes (slot_of (op.Wide dst value)) (slot_bytes (tail_of value) ++ after) (slot_fits (op.Wide dst value) is)
 fields-encoding_of op.Tail after is = elim is.0 [ ]
 fields-encoding_of o after is = fields-slot_bytes (slot_of o) after (slot_fits o is)
 
@@ -172,8 +171,8 @@ read_op-encoding_of (op.Wide dst value) after is =
     let high : cast_unsigned w32 (cast_signed w32 (value / 2 ^ 32)) ≡ value / 2 ^ 32 = of_z-to_z w32 (value / 2 ^ 32) (omega (arith, is.2)) in
     let whole : (value / 2 ^ 32) * 2 ^ 32 + value % 2 ^ 32 ≡ value = omega arith in
     ap (λ (x : Op). completed x (fields (drop 8 bytes))) first ∙ ap (λ (t : Insn). completed (told (op.Wide dst value)) t) second
-        ∙ ap (λ (x : ℕ). op.Wide dst (x * 2 ^ 32 + cast_unsigned w32 (cast_signed w32 (value % 2 ^ 32)))) high
-        ∙ ap (λ (x : ℕ). op.Wide dst ((value / 2 ^ 32) * 2 ^ 32 + x)) low ∙ ap (λ (x : ℕ). op.Wide dst x) whole
+    ∙ ap (λ (x : ℕ). op.Wide dst (x * 2 ^ 32 + cast_unsigned w32 (cast_signed w32 (value % 2 ^ 32)))) high
+    ∙ ap (λ (x : ℕ). op.Wide dst ((value / 2 ^ 32) * 2 ^ 32 + x)) low ∙ ap (λ (x : ℕ). op.Wide dst x) whole
 read_op-encoding_of (op.Call helper) after is =
     let bytes = encoding_of (op.Call helper) ++ after in
     let first : read_slot (fields bytes) ≡ told (op.Call helper) = ap read_slot (fields-encoding_of (op.Call helper) after is) ∙ read_slot_of (op.Call helper) tt in

@@ -1,5 +1,5 @@
 -- A slot that no row fits: what each form allows of the fields beside the opcode.
-use Rattle.std.proofs.Common.{◌≡◌, ◌≢◌, ℕ, ◌+◌, ◌*◌, ◌/◌, ◌%◌, ◌^◌, ◌<◌, List, [], ◌∷◌, get_or, Bool, true, false, cond, eqb, Option, Some, None, refl, sym, ap, subst, ◌∙◌, arith, ◌⊎◌, inl, inr}
+use Rattle.std.proofs.Common.{◌≡◌, ◌≢◌, ℕ, ◌*◌, ◌/◌, ◌%◌, ◌^◌, ◌<◌, List, [], ◌∷◌, get_or, Bool, true, false, cond, eqb, refl, sym, ap, subst, ◌∙◌, arith, ◌⊎◌, inl, inr}
 use Rattle.std.specs.Prelude.{ℤ, pos, negsuc}
 use Rattle.std.specs.Int.{cast_signed, cast_unsigned, w16, w32}
 use Rattle.std.specs.Int.RustNames.{FitsSigned}
@@ -19,7 +19,7 @@ use Rattle.bpf_decode.specs.declared.op.Size.TheVariants.{Byte, Half, Word, Doub
 use Rattle.bpf_decode.specs.declared.op.Part.{Part}
 use Rattle.bpf_decode.specs.declared.op.Part.TheVariants.{Low8, Low16, Low32}
 use Rattle.bpf_decode.specs.declared.op.Bytes.{Bytes}
-use Rattle.bpf_decode.specs.declared.op.Bytes.TheVariants.{Two, Four, Eight}
+use Rattle.bpf_decode.specs.declared.op.Bytes.TheVariants.{Two}
 use Rattle.bpf_decode.specs.declared.op.Order.TheVariants.{Little, Big, Swap}
 use Rattle.bpf_decode.specs.declared.form.Source.{Source}
 use Rattle.bpf_decode.specs.declared.form.Source.TheVariants as source
@@ -103,13 +103,13 @@ form_is o = tt
 abbrev code_of_number : ℕ → Code
 code_of_number n =
     get_or (codes.Add ∷ codes.Sub ∷ codes.Mul ∷ codes.Div ∷ codes.Or ∷ codes.And ∷ codes.LeftShift ∷ codes.RightShift
-        ∷ codes.Add ∷ codes.Mod ∷ codes.Xor ∷ codes.Mov ∷ codes.ArithmeticShift ∷ []) n codes.Add
+    ∷ codes.Add ∷ codes.Mod ∷ codes.Xor ∷ codes.Mov ∷ codes.ArithmeticShift ∷ []) n codes.Add
 
 abbrev condition_of_number : ℕ → Condition
 condition_of_number n =
     get_or (conditions.Equal ∷ conditions.Equal ∷ conditions.Above ∷ conditions.AtLeast ∷ conditions.Meets ∷ conditions.NotEqual
-        ∷ conditions.SignedAbove ∷ conditions.SignedAtLeast ∷ conditions.Equal ∷ conditions.Equal ∷ conditions.Below
-        ∷ conditions.AtMost ∷ conditions.SignedBelow ∷ conditions.SignedAtMost ∷ []) n conditions.Equal
+    ∷ conditions.SignedAbove ∷ conditions.SignedAtLeast ∷ conditions.Equal ∷ conditions.Equal ∷ conditions.Below
+    ∷ conditions.AtMost ∷ conditions.SignedBelow ∷ conditions.SignedAtMost ∷ []) n conditions.Equal
 
 abbrev source_of_number : ℕ → Source
 source_of_number n = cond (eqb n 0) source.Immediate source.Register
@@ -118,11 +118,11 @@ source_of_number n = cond (eqb n 0) source.Immediate source.Register
 abbrev alone : List (ℕ × Form)
 alone =
     (0x84, Negate W32) ∷ (0x87, Negate W64) ∷ (0xd4, End Little) ∷ (0xdc, End Big) ∷ (0xd7, End Swap) ∷ (0x05, Ja) ∷ (0x06, Ja32)
-        ∷ (0x85, Call) ∷ (0x95, Exit) ∷ (0x61, Load Word) ∷ (0x69, Load Half) ∷ (0x71, Load Byte) ∷ (0x79, Load Double)
-        ∷ (0x81, LoadSigned Low32) ∷ (0x89, LoadSigned Low16) ∷ (0x91, LoadSigned Low8)
-        ∷ (0x62, Store Word source.Immediate) ∷ (0x6a, Store Half source.Immediate) ∷ (0x72, Store Byte source.Immediate)
-        ∷ (0x7a, Store Double source.Immediate) ∷ (0x63, Store Word source.Register) ∷ (0x6b, Store Half source.Register)
-        ∷ (0x73, Store Byte source.Register) ∷ (0x7b, Store Double source.Register) ∷ (0x18, Wide) ∷ []
+    ∷ (0x85, Call) ∷ (0x95, Exit) ∷ (0x61, Load Word) ∷ (0x69, Load Half) ∷ (0x71, Load Byte) ∷ (0x79, Load Double)
+    ∷ (0x81, LoadSigned Low32) ∷ (0x89, LoadSigned Low16) ∷ (0x91, LoadSigned Low8)
+    ∷ (0x62, Store Word source.Immediate) ∷ (0x6a, Store Half source.Immediate) ∷ (0x72, Store Byte source.Immediate)
+    ∷ (0x7a, Store Double source.Immediate) ∷ (0x63, Store Word source.Register) ∷ (0x6b, Store Half source.Register)
+    ∷ (0x73, Store Byte source.Register) ∷ (0x7b, Store Double source.Register) ∷ (0x18, Wide) ∷ []
 
 abbrev found : List (ℕ × Form) → ℕ → Form → Form
 found [] n other = other
@@ -177,7 +177,7 @@ abbrev pub Allowed : Form → Insn → Type 0
 Allowed (Arith w code source.Immediate) i = (i.src ≡ 0) × ((other : Code) × (number_of other ≡ number_of code) × (sign_of other ≡ i.off))
 Allowed (Arith w code source.Register) i =
     (i.imm ≡ pos 0) × (((other : Code) × (number_of other ≡ number_of code) × (sign_of other ≡ i.off))
-        ⊎ ((part : Part) × (code ≡ codes.Mov) × HasRow (op.Extend w part 0 0) × (pos (part_bits part) ≡ i.off)))
+    ⊎ ((part : Part) × (code ≡ codes.Mov) × HasRow (op.Extend w part 0 0) × (pos (part_bits part) ≡ i.off)))
 Allowed (Negate w) i = (i.src ≡ 0) × (i.off ≡ pos 0) × (i.imm ≡ pos 0)
 Allowed (End order) i = (i.src ≡ 0) × (i.off ≡ pos 0) × ((bytes : Bytes) × (pos (8 * count_of bytes) ≡ i.imm))
 Allowed Ja i = (i.dst ≡ 0) × (i.src ≡ 0) × (i.imm ≡ pos 0)
@@ -236,11 +236,11 @@ pub register_fault : (o : Op) (f : Form) (i : Insn) → HasRow o → (slot_of o)
     → (slot_of o).dst ≡ i.dst → (slot_of o).src ≡ i.src → (slot_of o).off ≡ i.off → (slot_of o).imm ≡ i.imm → (HasRegisters o → ⊥) → RowFault i 305
 register_fault o f i row opc heads dst src off imm bad =
     let fits : slot_of o ≡ i =
-        ap (λ (x : ℕ). insn x (slot_of o).dst (slot_of o).src (slot_of o).off (slot_of o).imm) (opc ∙ heads.1)
-            ∙ ap (λ (x : ℕ). insn i.opc x (slot_of o).src (slot_of o).off (slot_of o).imm) dst
-            ∙ ap (λ (x : ℕ). insn i.opc i.dst x (slot_of o).off (slot_of o).imm) src
-            ∙ ap (λ (x : ℤ). insn i.opc i.dst i.src x (slot_of o).imm) off
-            ∙ ap (λ (x : ℤ). insn i.opc i.dst i.src i.off x) imm in
+    ap (λ (x : ℕ). insn x (slot_of o).dst (slot_of o).src (slot_of o).off (slot_of o).imm) (opc ∙ heads.1)
+    ∙ ap (λ (x : ℕ). insn i.opc x (slot_of o).src (slot_of o).off (slot_of o).imm) dst
+    ∙ ap (λ (x : ℕ). insn i.opc i.dst x (slot_of o).off (slot_of o).imm) src
+    ∙ ap (λ (x : ℤ). insn i.opc i.dst i.src x (slot_of o).imm) off
+    ∙ ap (λ (x : ℤ). insn i.opc i.dst i.src i.off x) imm in
     register o row fits bad
 
 -- a signed field is 0 where its bits are

@@ -1,6 +1,6 @@
 -- Bytes and fields of a slot give each other back.
-use Rattle.std.proofs.Common.{◌≡◌, ℕ, ◌+◌, ◌*◌, ◌/◌, ◌%◌, ◌^◌, ◌<◌, ◌≤◌, List, [], ◌∷◌, ◌++◌, length, get_or, take, drop, zero, suc, refl, sym, ap, ◌∙◌, arith}
-use Rattle.std.specs.Prelude.{ℤ, pos}
+use Rattle.std.proofs.Common.{◌≡◌, ℕ, ◌+◌, ◌*◌, ◌/◌, ◌%◌, ◌^◌, ◌<◌, ◌≤◌, List, [], ◌∷◌, ◌++◌, length, get_or, take, zero, suc, refl, ap, ◌∙◌, arith}
+use Rattle.std.specs.Prelude.{ℤ}
 use Rattle.std.specs.Int.{cast_signed, cast_unsigned, from_le_bytes, to_le_bytes, w16, w32}
 use Rattle.std.specs.Int.RustNames.{FitsSigned}
 use Rattle.std.proofs.lemmas.Int.{to_z-of_z, of_z-to_z}
@@ -44,7 +44,7 @@ slot_bytes-fields (a ∷ b ∷ c ∷ d ∷ e ∷ f ∷ g ∷ h ∷ after) long e
     let off = to_le_bytes w16 (cast_unsigned w16 (cast_signed w16 (from_le_bytes w16 (c ∷ d ∷ [])))) in
     let imm = to_le_bytes w32 (cast_unsigned w32 (cast_signed w32 (from_le_bytes w32 (e ∷ f ∷ g ∷ h ∷ [])))) in
     ap (λ (r : ℕ). a ∷ r ∷ (off ++ imm)) registers ∙ ap (λ (xs : List ℕ). a ∷ b ∷ (xs ++ imm)) (offset_bytes c d (each 2) (each 3))
-        ∙ ap (λ (xs : List ℕ). a ∷ b ∷ c ∷ d ∷ xs) (immediate_bytes e f g h (each 4) (each 5) (each 6) (each 7))
+    ∙ ap (λ (xs : List ℕ). a ∷ b ∷ c ∷ d ∷ xs) (immediate_bytes e f g h (each 4) (each 5) (each 6) (each 7))
 slot_bytes-fields bytes long each = absurd (omega arith)
 
 -- the fields of a slot, each in its bits
@@ -60,10 +60,10 @@ fields-slot_bytes i after fits =
     let dst : (16 * i.src + i.dst) % 16 ≡ i.dst = omega (arith, fits.dst) in
     let src : (16 * i.src + i.dst) / 16 ≡ i.src = omega (arith, fits.dst) in
     let off : cast_signed w16 (from_le_bytes w16 (to_le_bytes w16 (cast_unsigned w16 i.off))) ≡ i.off =
-        rw (from_le_bytes-to_le_bytes_2 (cast_unsigned w16 i.off) (bits16 i.off fits.off)) (to_z-of_z w16 i.off fits.off) in
+    rw (from_le_bytes-to_le_bytes_2 (cast_unsigned w16 i.off) (bits16 i.off fits.off)) (to_z-of_z w16 i.off fits.off) in
     let imm : cast_signed w32 (from_le_bytes w32 (to_le_bytes w32 (cast_unsigned w32 i.imm))) ≡ i.imm =
-        rw (from_le_bytes-to_le_bytes_4 (cast_unsigned w32 i.imm) (bits32 i.imm fits.imm)) (to_z-of_z w32 i.imm fits.imm) in
+    rw (from_le_bytes-to_le_bytes_4 (cast_unsigned w32 i.imm) (bits32 i.imm fits.imm)) (to_z-of_z w32 i.imm fits.imm) in
     ap (λ (x : ℕ). insn i.opc x ((16 * i.src + i.dst) / 16) (cast_signed w16 (from_le_bytes w16 (to_le_bytes w16 (cast_unsigned w16 i.off)))) (cast_signed w32 (from_le_bytes w32 (to_le_bytes w32 (cast_unsigned w32 i.imm))))) dst
-        ∙ ap (λ (x : ℕ). insn i.opc i.dst x (cast_signed w16 (from_le_bytes w16 (to_le_bytes w16 (cast_unsigned w16 i.off)))) (cast_signed w32 (from_le_bytes w32 (to_le_bytes w32 (cast_unsigned w32 i.imm))))) src
-        ∙ ap (λ (x : ℤ). insn i.opc i.dst i.src x (cast_signed w32 (from_le_bytes w32 (to_le_bytes w32 (cast_unsigned w32 i.imm))))) off
-        ∙ ap (λ (x : ℤ). insn i.opc i.dst i.src i.off x) imm
+    ∙ ap (λ (x : ℕ). insn i.opc i.dst x (cast_signed w16 (from_le_bytes w16 (to_le_bytes w16 (cast_unsigned w16 i.off)))) (cast_signed w32 (from_le_bytes w32 (to_le_bytes w32 (cast_unsigned w32 i.imm))))) src
+    ∙ ap (λ (x : ℤ). insn i.opc i.dst i.src x (cast_signed w32 (from_le_bytes w32 (to_le_bytes w32 (cast_unsigned w32 i.imm))))) off
+    ∙ ap (λ (x : ℤ). insn i.opc i.dst i.src i.off x) imm

@@ -1,17 +1,16 @@
 -- Whole instructions, one after the other.
-use Rattle.std.proofs.Common.{◌≡◌, ◌≢◌, ℕ, suc, ◌+◌, ◌*◌, ◌/◌, ◌%◌, ◌<◌, ◌≤◌, Bool, true, false, List, [], ◌∷◌, ◌++◌, length, get_or, take, drop, refl, sym, ap, subst, ◌∙◌, append_assoc, arith, length-append}
-use Rattle.std.specs.Prelude.{◌&&◌, not}
-use Rattle.std.specs.List.{flat_map, AllByRecursion}
+use Rattle.std.proofs.Common.{◌≡◌, ℕ, ◌+◌, ◌*◌, ◌<◌, ◌≤◌, Bool, true, false, List, [], ◌∷◌, ◌++◌, length, drop, refl, sym, ap, subst, ◌∙◌, append_assoc, arith, length-append}
+use Rattle.std.specs.Prelude.{◌&&◌}
+use Rattle.std.specs.List.{AllByRecursion}
 use Rattle.std.proofs.lemmas.List.{append-nil, drop_at, nil_from_length}
-use Rattle.std.proofs.lemmas.List.Concat.{flat_map-cons}
 use Rattle.std.proofs.lemmas.Grind.{flat_map-append}
 use Rattle.bpf_decode.specs.declared.op.Op.{Op}
 use Rattle.bpf_decode.specs.declared.op.Op.TheVariants.{Wide, Tail}
-use Rattle.bpf_decode.specs.Encoding.{is_tail, is_wide, same, tails_fit, IsInstruction, FitsSlot, AreWhole, IsProgram, Encodes, AreSlots, FirstFault, StartFault, behind, encoding, encoding_of}
+use Rattle.bpf_decode.specs.Encoding.{is_tail, is_wide, same, tails_fit, IsInstruction, FitsSlot, AreWhole, Encodes, AreSlots, FirstFault, StartFault, behind, encoding, encoding_of}
 use Rattle.bpf_decode.specs.declared.fault.DecodeError.{DecodeError}
 use Rattle.bpf_decode.specs.declared.fault.DecodeError.TheVariants.{Refused, Memory}
 use Rattle.bpf_decode.specs.Faults.{code_of}
-use Rattle.bpf_decode.specs.Decoding.{parts_of, Begins, Grows, IsStop, Refuses}
+use Rattle.bpf_decode.specs.Decoding.{parts_of, Grows, IsStop, Refuses}
 
 -- ---- the parts of one instruction
 
@@ -72,13 +71,16 @@ goes_on bytes rest old new len read (op, (is, (after, rest-is)), new-is, len-is)
     let total : length rest ≡ len + length after = ap length rest-is ∙ length-append (encoding_of op) after ∙ ap (λ (n : ℕ). n + length after) long in
     let front : encoding new ≡ encoding old ++ encoding_of op = ap encoding new-is ∙ flat_map-append encoding_of old (parts_of op) ∙ ap (λ (x : List ℕ). encoding old ++ x) (encoding-parts_of op is) in
     let grown : length new ≡ length old + length (parts_of op) = ap length new-is ∙ length-append old (parts_of op) in
-    let some : 0 < length (parts_of op) = parts_some op in
-    (record {
+    let some : 0 < length (parts_of op) = parts_some op in (
+      record {
         bytes_are = read.bytes_are ∙ ap (λ (x : List ℕ). encoding old ++ x) rest-is ∙ sym (append_assoc (encoding old) (encoding_of op) after)
             ∙ ap (λ (x : List ℕ). x ++ after) (sym front) ∙ ap (λ (x : List ℕ). encoding new ++ x) (sym after-is);
         whole = subst AreWhole (sym new-is) (AreWhole-append old (parts_of op) read.whole (parts_whole op is));
         count = rw after-is (omega (arith, read.count));
-      }, omega arith, omega arith)
+      },
+      omega arith,
+      omega arith,
+    )
   where
     parts_some : (op : Op) → 0 < length (parts_of op)
     parts_some (Wide dst value) = omega arith

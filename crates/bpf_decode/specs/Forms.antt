@@ -5,7 +5,6 @@ use Rattle.bpf_decode.specs.declared.op.Op.TheVariants as op
 use Rattle.bpf_decode.specs.declared.op.Operand.TheVariants.{From, Immediate}
 use Rattle.bpf_decode.specs.declared.op.Code.TheVariants as codes
 use Rattle.bpf_decode.specs.declared.op.Code.{Code}
-use Rattle.bpf_decode.specs.declared.op.Width.TheVariants.{W32, W64}
 use Rattle.bpf_decode.specs.declared.form.Source.{Source}
 use Rattle.bpf_decode.specs.declared.form.Source.TheVariants as source
 use Rattle.bpf_decode.specs.declared.form.Form.{Form}

@@ -1,5 +1,5 @@
 -- The text of each slot (this project's profile; the mnemonics are the names of RFC 9669 in lower case).
-use Rattle.std.specs.Prelude.{ℕ, suc, ◌-◌, List, [], ◌∷◌, ◌++◌, length, replicate, codes, false, ℤ, pos, negsuc}
+use Rattle.std.specs.Prelude.{ℕ, suc, ◌-◌, List, [], ◌++◌, length, replicate, codes, false, ℤ, pos, negsuc}
 use Rattle.std.specs.Fmt.{decimal, signed_decimal, digits}
 use Rattle.bpf_decode.specs.declared.op.Op.{Op}
 use Rattle.bpf_decode.specs.declared.op.Op.TheVariants.{Arith, Negate, Extend, End, Ja, Ja32, Jump, Call, Exit, Load, LoadSigned, Store, Wide, Tail}

@@ -73,13 +73,25 @@ fn insn_of(op: Op) -> Insn
             dst,
             base,
             offset,
-        } => insn(0x61 + 8 * size_number(size), dst.number(), base.number(), offset, 0),
+        } => insn(
+            0x61 + 8 * size_number(size),
+            dst.number(),
+            base.number(),
+            offset,
+            0,
+        ),
         Op::LoadSigned {
             part,
             dst,
             base,
             offset,
-        } => insn(0x81 + 8 * part_number(part), dst.number(), base.number(), offset, 0),
+        } => insn(
+            0x81 + 8 * part_number(part),
+            dst.number(),
+            base.number(),
+            offset,
+            0,
+        ),
         Op::Store {
             size,
             base,

@@ -3,8 +3,7 @@
 ghost use Rattle.std.specs.Prelude.{◌≡◌};
 ghost use Rattle.bpf_decode.specs.Faults.{code_of, error_code, error_slot};
 
-use std::alloc::AllocError;
-use std::alloc::AllocFailed;
+use std::alloc::{AllocError, AllocFailed};
 
 /// No memory was left.
 pub type NoMemory = AllocError;

@@ -12,5 +12,4 @@ pub fn program_is_well_formed()
         is_tail_at (slice_get ops (slot + 1)) ≡ is_wide_at (slice_get ops slot) }
     ensures slots { (ops : List Op) → IsProgram ops → (slot : ℕ) (op : Op) →
         slice_get ops slot ≡ Some op → FitsSlot op }
-{
-}
+{}

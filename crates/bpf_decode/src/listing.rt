@@ -6,8 +6,7 @@ ghost use Rattle.bpf_decode.specs.Listing.{register_text, operand_text, width_te
 
 use crate::op::{Bytes, Code, Condition, Op, Operand, Order, Part, Register, Size, Width};
 use crate::program::Program;
-use std::fmt;
-use std::io;
+use std::{fmt, io};
 
 impl fmt::Display for Register {
     ghost output = { λ r. Some (register_text r) };

@@ -22,13 +22,7 @@ fn lists(rt: &impl Abort, alloc: Global, text: &str, lines: &[&str]) -> Result<(
 }
 
 /// The bytes are no program, by this number at this slot.
-fn refuses(
-    rt: &impl Abort,
-    alloc: Global,
-    text: &str,
-    code: u16,
-    slot: usize,
-) -> Result<(), Fail> {
+fn refuses(rt: &impl Abort, alloc: Global, text: &str, code: u16, slot: usize) -> Result<(), Fail> {
     let bytes = hex::decode(alloc, text)?;
     let error = decode(alloc, &bytes).err().ok_or("no program")?;
     assert_eq!(rt; error.code(), code, "{text}");

@@ -1,7 +1,5 @@
-use Rattle.std.proofs.Common.{◌∙◌, arith, rules}
-use Rattle.bpf_decode.specs.declared.insn.Insn.{Insn}
-use Rattle.bpf_decode.specs.Encoding.{row, RowFault}
-use Rattle.bpf_decode.specs.Faults.{code_of}
+use Rattle.std.proofs.Common.{◌∙◌, arith}
+use Rattle.bpf_decode.specs.Encoding.{row}
 use Rattle.bpf_decode.proofs.DecoderLemmas.{op_begins}
 use Rattle.bpf_decode.proofs.decoder.first_op.Goals as goal
 
@@ -11,4 +9,4 @@ returns-in-Err c = (0, omega arith, row c.requires.long (rw c.from_bytes-insn.en
 pub returns-in_default : goal.returns-in_default
 returns-in_default c =
     op_begins c.in-Ok.op c.args.rest.now c.requires.long (λ i. omega (arith, c.type_inv.rest i)) c.in-Ok.ensures.0
-        (c.in-Ok.ensures.1 ∙ c.from_bytes-insn.ensures) c.in_default.not-Wide
+    (c.in-Ok.ensures.1 ∙ c.from_bytes-insn.ensures) c.in_default.not-Wide

@@ -27,9 +27,12 @@ returns-then-tail-ne0 c =
       | then-tail-ne0-via-else-tail-ne0+then-tail-ne0-2 w ↦ w.if-tail-ne0-2.true t.1
       | then-tail-ne0-via-else-tail-ne0+else-tail-ne0-2+then-tail-ne0-3 w ↦ w.if-tail-ne0-3.true t.2
       | then-tail-ne0-via-else-tail-ne0+else-tail-ne0-2+else-tail-ne0-3+then-tail-ne0-4 w ↦ w.if-tail-ne0-4.true (ap (cast_unsigned w16) t.3)
-    ] in
-    (1, refl, tail long (c.args.dst, cast_unsigned w32 c.args.first.imm, c.requires.wide.0, c.requires.wide.1 ∙ c.requires.first)
-        (subst (λ (i : Insn). IsTailSlot i → ⊥) is here))
+    ] in (
+      1,
+      refl,
+      tail long (c.args.dst, cast_unsigned w32 c.args.first.imm, c.requires.wide.0, c.requires.wide.1 ∙ c.requires.first)
+          (subst (λ (i : Insn). IsTailSlot i → ⊥) is here),
+    )
 
 pub returns : goal.returns
 returns c =
@@ -40,8 +43,8 @@ returns c =
     let off_fits : FitsSigned w16 c.from_bytes-tail.result.off = search rules in
     let zero_offset : c.from_bytes-tail.result.off ≡ pos 0 = sym (zero16 c.from_bytes-tail.result.off off_fits c.if-tail-ne0-4.false) in
     let made = wide_begins c.args.rest.now c.args.dst c.args.first c.from_bytes-tail.result long (λ i. omega (arith, c.type_inv.rest i)) c.requires.wide.0
-        fits fits' c.requires.first is c.requires.wide.1 (c.if-tail-ne0.false, c.if-tail-ne0-2.false, c.if-tail-ne0-3.false, zero_offset) in
+    fits fits' c.requires.first is c.requires.wide.1 (c.if-tail-ne0.false, c.if-tail-ne0-2.false, c.if-tail-ne0-3.false, zero_offset) in
     let high : c.cast_unsigned-high.result ≡ cast_unsigned w32 c.from_bytes-tail.result.imm = c.cast_unsigned-high.ensures ∙ ap (cast_unsigned w32) (to_z-of_z w32 c.from_bytes-tail.result.imm fits') in
     let low : c.cast_unsigned-low.result ≡ cast_unsigned w32 c.args.first.imm = c.cast_unsigned-low.ensures ∙ ap (cast_unsigned w32) (to_z-of_z w32 c.args.first.imm fits) in
     subst (λ (x : ℕ). Begins c.args.rest.now (Wide c.args.dst (x * 2 ^ 32 + c.cast_unsigned-low.result))) (sym high)
-        (subst (λ (x : ℕ). Begins c.args.rest.now (Wide c.args.dst (cast_unsigned w32 c.from_bytes-tail.result.imm * 2 ^ 32 + x))) (sym low) made)
+    (subst (λ (x : ℕ). Begins c.args.rest.now (Wide c.args.dst (cast_unsigned w32 c.from_bytes-tail.result.imm * 2 ^ 32 + x))) (sym low) made)

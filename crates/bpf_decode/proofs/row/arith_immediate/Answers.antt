@@ -25,6 +25,6 @@ returns-in_err-dst c =
     let p = err_from_is_err_and c.from_residual.result c.from_residual.ensures.1 in
     let fits : FitsSigned w16 c.args.insn.off = search rules in
     rw (p.1, p.2, c.in_err-dst.ensures.0)
-        (register_fault (op.Arith c.args.width c.in-Some.code c.args.insn.dst (Immediate c.args.insn.imm)) (form.Arith c.args.width c.args.code source.Immediate)
-            c.args.insn tt (omega (arith, c.in-Some.ensures.0)) c.requires refl (sym c.if-insn-ne0.false)
-            (rw (to_z-of_z w16 c.args.insn.off fits) at c.in-Some.ensures.1) refl (λ h. omega (arith, c.in_err-dst.ensures.1)))
+    (register_fault (op.Arith c.args.width c.in-Some.code c.args.insn.dst (Immediate c.args.insn.imm)) (form.Arith c.args.width c.args.code source.Immediate)
+    c.args.insn tt (omega (arith, c.in-Some.ensures.0)) c.requires refl (sym c.if-insn-ne0.false)
+    (rw (to_z-of_z w16 c.args.insn.off fits) at c.in-Some.ensures.1) refl (λ h. omega (arith, c.in_err-dst.ensures.1)))

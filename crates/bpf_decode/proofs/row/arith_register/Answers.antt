@@ -1,4 +1,4 @@
-use Rattle.std.proofs.Common.{refl, sym, ap, ◌∙◌, arith, rules, inl, inr}
+use Rattle.std.proofs.Common.{refl, ap, ◌∙◌, arith, rules, inl, inr}
 use Rattle.std.specs.Int.{cast_unsigned, w16, w32}
 use Rattle.std.specs.Int.RustNames.{FitsSigned}
 use Rattle.std.proofs.lemmas.Int.{to_z-of_z}
@@ -17,7 +17,7 @@ use Rattle.bpf_decode.proofs.row.arith_register.Goals as goal
 pub returns-then-insn-ne0 : goal.returns-then-insn-ne0
 returns-then-insn-ne0 c =
     field_fault (form.Arith c.args.width c.args.code source.Register) c.args.insn c.requires
-        (λ a. c.if-insn-ne0.true (ap (cast_unsigned w32) a.0))
+    (λ a. c.if-insn-ne0.true (ap (cast_unsigned w32) a.0))
 
 pub returns-in_default : goal.returns-in_default
 returns-in_default c =
@@ -37,6 +37,6 @@ returns-in_err-dst c =
     let fits16 : FitsSigned w16 c.args.insn.off = search rules in
     let fits32 : FitsSigned w32 c.args.insn.imm = search rules in
     rw (p.1, p.2, c.in_err-dst.ensures.0)
-        (register_fault (op.Arith c.args.width c.in-Some.code c.args.insn.dst (From c.args.insn.src)) (form.Arith c.args.width c.args.code source.Register)
-            c.args.insn tt (omega (arith, c.in-Some.ensures.0)) c.requires refl refl
-            (rw (to_z-of_z w16 c.args.insn.off fits16) at c.in-Some.ensures.1) (zero32 c.args.insn.imm fits32 c.if-insn-ne0.false) c.in_err-dst.ensures.1)
+    (register_fault (op.Arith c.args.width c.in-Some.code c.args.insn.dst (From c.args.insn.src)) (form.Arith c.args.width c.args.code source.Register)
+    c.args.insn tt (omega (arith, c.in-Some.ensures.0)) c.requires refl refl
+    (rw (to_z-of_z w16 c.args.insn.off fits16) at c.in-Some.ensures.1) (zero32 c.args.insn.imm fits32 c.if-insn-ne0.false) c.in_err-dst.ensures.1)

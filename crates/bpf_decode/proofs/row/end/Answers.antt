@@ -27,4 +27,4 @@ returns-in_err-dst c =
     let fits16 : FitsSigned w16 c.args.insn.off = search rules in
     let fits32 : FitsSigned w32 c.args.insn.imm = search rules in
     rw (p.1, p.2, c.in_err-dst.ensures.0)
-        (register_fault (op.End c.args.order c.in-Some.bytes c.args.insn.dst) (form.End c.args.order) c.args.insn tt refl c.requires refl (sym c.if-insn-ne0.false) (zero16 c.args.insn.off fits16 c.if-insn-ne0-2.false) (rw (to_z-of_z w32 c.args.insn.imm fits32) at c.in-Some.ensures) (λ h. omega (arith, c.in_err-dst.ensures.1)))
+    (register_fault (op.End c.args.order c.in-Some.bytes c.args.insn.dst) (form.End c.args.order) c.args.insn tt refl c.requires refl (sym c.if-insn-ne0.false) (zero16 c.args.insn.off fits16 c.if-insn-ne0-2.false) (rw (to_z-of_z w32 c.args.insn.imm fits32) at c.in-Some.ensures) (λ h. omega (arith, c.in_err-dst.ensures.1)))

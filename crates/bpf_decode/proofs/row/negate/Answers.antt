@@ -22,4 +22,4 @@ returns-in_err-dst c =
     let fits16 : FitsSigned w16 c.args.insn.off = search rules in
     let fits32 : FitsSigned w32 c.args.insn.imm = search rules in
     rw (p.1, p.2, c.in_err-dst.ensures.0)
-        (register_fault (op.Negate c.args.width c.args.insn.dst) (form.Negate c.args.width) c.args.insn tt refl c.requires refl (sym c.if-insn-ne0.false) (zero16 c.args.insn.off fits16 c.if-insn-ne0-2.false) (zero32 c.args.insn.imm fits32 c.if-insn-ne0-3.false) (λ h. omega (arith, c.in_err-dst.ensures.1)))
+    (register_fault (op.Negate c.args.width c.args.insn.dst) (form.Negate c.args.width) c.args.insn tt refl c.requires refl (sym c.if-insn-ne0.false) (zero16 c.args.insn.off fits16 c.if-insn-ne0-2.false) (zero32 c.args.insn.imm fits32 c.if-insn-ne0-3.false) (λ h. omega (arith, c.in_err-dst.ensures.1)))
