@@ -2,7 +2,7 @@
 ghost use Rattle.std.specs.Prelude.{◌≡◌, ◌≤◌, false, IfOk, IfSome, map, codes, option_map};
 ghost use Rattle.clap.specs.Words.{app_of, subcommand_rows_of};
 ghost use Rattle.clap.specs.declared.builder.Command.TheViews.{out-Command as fields_of};
-ghost use Rattle.acdm.specs.CommandLine.{program as the_program, run_app, value_in, Names, AsksFor};
+ghost use Rattle.acdm.specs.CommandLine.{program as the_program, run_app, verify_app, value_in, Names, AsksFor};
 
 use clap::error::ErrorKind;
 use clap::{Arg, ArgMatches, Command, Error};
@@ -12,9 +12,11 @@ const MOST_ENTRIES: usize = 1_000_000;
 
 /// What the words of a command line ask for.
 #[derive(Clone, Copy, Debug, PartialEq, Eq)]
-pub enum Line {
+pub enum Line<'a> {
     /// `run`, with room for so many entries in the journal, from 1 to 1,000,000.
     Run { journal: usize },
+    /// `verify`, of the program in this file.
+    Verify { file: &'a str },
 }
 
 fn run_command<'a>(alloc: Global) -> Result<Command<'a>, AllocError>
@@ -31,14 +33,29 @@ fn run_command<'a>(alloc: Global) -> Result<Command<'a>, AllocError>
         .arg(journal)
 }
 
+fn verify_command<'a>(alloc: Global) -> Result<Command<'a>, AllocError>
+    ensures shape { IfOk result (λ c. app_of c ≡ verify_app) }
+    ensures local { IfOk result (λ c. (fields_of c).has_globals ≡ false) }
+{
+    let file = Arg::new(alloc, "file")
+        .value_name("FILE")
+        .required(true)
+        .help("The raw bytes of a BPF program");
+    Command::new(alloc, "verify")
+        .about("Lists a BPF program, or tells its first fault")
+        .arg(file)
+}
+
 fn program<'a>(alloc: Global) -> Result<Command<'a>, AllocError>
     ensures { IfOk result (λ c. app_of c ≡ the_program) }
 {
     let run = run_command(alloc)?;
+    let verify = verify_command(alloc)?;
     Command::new(alloc, "acdm")
         .about("The shared board of an A-CDM airport")
         .subcommand_required(true)
-        .subcommand(run)
+        .subcommand(run)?
+        .subcommand(verify)
 }
 
 // The number of entries that a text names, from 1 to 1,000,000.
@@ -66,11 +83,14 @@ fn value<'a>(matches: &ArgMatches<'a>, name: &str, id: &str) -> Option<&'a str>
 ///
 /// The journal is what `--journal` says, else 100,000. Words that name no such command are refused by `clap`,
 /// and so is a journal outside 1 to 1,000,000. A request for help counts as a refusal.
-pub fn parse<'a>(alloc: Global, words: &'a [&'a str]) -> Result<Line, Error>
+pub fn parse<'a>(alloc: Global, words: &'a [&'a str]) -> Result<Line<'a>, Error>
     ensures { IfOk result (AsksFor (map (λ w. w.now) words.entry.now)) }
 {
     let mut command = program(alloc)?;
     let matches = command.try_get_matches_from_mut(words)?;
+    if let Some(file) = value(&matches, "verify", "file") {
+        return Ok(Line::Verify { file });
+    }
     if let Some(text) = value(&matches, "run", "journal") {
         if let Some(journal) = entries_in(text) {
             return Ok(Line::Run { journal });

@@ -1,6 +1,7 @@
 //! Command lines, and the statuses and lines of the commands.
 use crate::command_line::{Line, parse};
 use crate::serving::run_on;
+use crate::verifying::verify_on;
 use acdm_board::Desk;
 use acdm_sessions::{Counted, run};
 use std::io::{self, Read, Write};
@@ -116,5 +117,72 @@ fn a_full_journal_leaves_the_flight_as_it_was(rt: HostRuntime) -> Result<(), Fai
     let kept = one.core().record_of(7).ok_or("the flight is gone")?;
     let scheduled = expected.core().record_of(7).ok_or("no flight was made")?;
     assert_eq!(rt; kept.bytes().as_slice(), scheduled.bytes().as_slice());
+    Ok(())
+}
+
+fn verdict_of(rt: &HostRuntime, bytes: &[u8]) -> Result<(u8, String), Fail> {
+    let mut text = Vec::new(rt.alloc());
+    let mut errors = Vec::new(rt.alloc());
+    let status = verify_on(rt.alloc(), bytes, &mut text, &mut errors);
+    assert!(rt; errors.is_empty());
+    Ok((
+        status,
+        String::from_utf8(text).map_err(|_| "a verdict is no text")?,
+    ))
+}
+
+#[test]
+fn a_program_is_listed(rt: HostRuntime) -> Result<(), Fail> {
+    let bytes = [0xb7, 0, 0, 0, 0, 0, 0, 0, 0x95, 0, 0, 0, 0, 0, 0, 0];
+    let (status, text) = verdict_of(&rt, bytes.as_slice())?;
+    assert_eq!(rt; status, 0);
+    assert_eq!(rt; text.as_str(), "0: mov64 r0, 0\n1: exit\ndecoded 2\n");
+    Ok(())
+}
+
+#[test]
+fn a_faulty_program_is_refused(rt: HostRuntime) -> Result<(), Fail> {
+    let many = vec![in rt.alloc(); 0u8; 65_536]?;
+    let more = vec![in rt.alloc(); 0u8; 100_000]?;
+    for (bytes, text) in [
+        ([0x95, 0, 1, 0, 0, 0, 0, 0].as_slice(), "refused 304 0\n"),
+        ([0x18, 0, 0, 0, 1, 0, 0, 0].as_slice(), "refused 315 0\n"),
+        ([0u8; 12].as_slice(), "refused 301 0\n"),
+        ([].as_slice(), "refused 301 0\n"),
+        (many.as_slice(), "refused 302 0\n"),
+        (more.as_slice(), "refused 302 0\n"),
+    ] {
+        let (status, written) = verdict_of(&rt, bytes)?;
+        assert_eq!(rt; status, 1);
+        assert_eq!(rt; written.as_str(), text);
+    }
+    Ok(())
+}
+
+#[test]
+fn verify_tells_what_failed(rt: HostRuntime) -> Result<(), Fail> {
+    let alloc = rt.alloc();
+    let mut errors = Vec::new(alloc);
+    let mut text = Vec::new(alloc);
+    assert_eq!(rt; verify_on(alloc, Broken, &mut text, &mut errors), 2);
+    assert_eq!(rt; errors.as_slice(), b"acdm: read failed\n".as_slice());
+    errors.clear();
+    let exit = [0x95, 0, 0, 0, 0, 0, 0, 0];
+    assert_eq!(rt; verify_on(alloc, exit.as_slice(), Broken, &mut errors), 2);
+    assert_eq!(rt; errors.as_slice(), b"acdm: write failed\n".as_slice());
+    Ok(())
+}
+
+#[test]
+fn a_file_to_verify_is_taken_as_it_stands(rt: HostRuntime) -> Result<(), Fail> {
+    let words = ["acdm", "verify", "rules/tobt.bin"];
+    let line = parse(rt.alloc(), words.as_slice()).map_err(|_| "a command line is refused")?;
+    assert_eq!(rt;
+        line,
+        Line::Verify {
+            file: "rules/tobt.bin"
+        }
+    );
+    assert!(rt; parse(rt.alloc(), ["acdm", "verify"].as_slice()).is_err());
     Ok(())
 }

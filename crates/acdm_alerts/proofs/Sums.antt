@@ -1,5 +1,5 @@
 -- The bits of an alert word: what is kept and what is computed do not touch, and bits 0 and 6 stay clear.
-use Rattle.std.proofs.Common.{◌≡◌, ℕ, ◌+◌, ◌*◌, ◌/◌, ◌%◌, ◌<◌, ◌≤◌, ◌^◌, Bool, true, false, ◌==◌, ◌&&◌, refl, sym, ap, ap₂, ◌∙◌, arith, eq-eqb}
+use Rattle.std.proofs.Common.{◌≡◌, ℕ, ◌+◌, ◌*◌, ◌/◌, ◌%◌, ◌<◌, ◌≤◌, ◌^◌, Bool, true, false, ◌==◌, ◌&&◌, ap₂, arith}
 use Rattle.std.specs.Int.{bit_at}
 use Rattle.acdm_record.specs.Fields.{Fields}
 use Rattle.acdm_alerts.specs.Conditions.{bit_if, plan_conditions, time_conditions, kept_bits}

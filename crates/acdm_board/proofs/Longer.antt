@@ -1,11 +1,11 @@
 -- A journal with one more entry.
-use Rattle.std.proofs.Common.{◌≡◌, ◌≢◌, ℕ, ◌+◌, ◌<◌, ◌≤◌, List, [], ◌∷◌, ◌++◌, length, reverse, refl, sym, ap, subst, ◌∙◌, arith}
+use Rattle.std.proofs.Common.{◌≡◌, ◌≢◌, ℕ, ◌+◌, List, [], ◌∷◌, ◌++◌, length, reverse, refl, sym, ap, subst, ◌∙◌, arith}
 use Rattle.std.proofs.lemmas.List.{reverse-append, length-reverse, length-append}
 use Rattle.acdm_milestones.specs.declared.role.Role.{Role}
 use Rattle.acdm_step.specs.declared.command.Command.{Command}
 use Rattle.acdm_step.specs.declared.entry.Entry.{Entry}
 use Rattle.acdm_step.specs.declared.entry.Outcome.{Outcome}
-use Rattle.acdm_step.specs.History.{History, Board, IsLegal, replay, after, outcome_of}
+use Rattle.acdm_step.specs.History.{Board, IsLegal, replay, after, outcome_of}
 use Rattle.acdm_board.specs.Desk.{Keeps}
 
 module _ (xs ys : List Entry) (n session moment : ℕ) (role : Role) (command : Command) (outcome : Outcome)

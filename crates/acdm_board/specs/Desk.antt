@@ -1,7 +1,7 @@
 -- What callers see of a desk, and what its fields keep.
 use Rattle.std.specs.Prelude.{ℕ, ◌≡◌, ◌≤◌, List, length, reverse}
 use Rattle.acdm_step.specs.declared.entry.Entry.{Entry}
-use Rattle.acdm_step.specs.History.{History, Board, IsLegal, replay}
+use Rattle.acdm_step.specs.History.{Board, IsLegal, replay}
 
 -- the entries, the newest first, and how many there may be
 pub record DeskView : Type 0 where

@@ -1,6 +1,6 @@
 -- The tables of the milestones (this project's profile over the sixteen milestones of the A-CDM manual): who
 -- reports each, what its time sets, what it needs, and what bars it.
-use Rattle.std.specs.Prelude.{ℕ, ◌+◌, ◌^◌, Bool, true, false, ◌||◌, ◌&&◌, ◌==◌, not, nat_le, if◌then◌else◌, List, [], ◌∷◌, bit_or, Option, Result, Ok, Err, find}
+use Rattle.std.specs.Prelude.{ℕ, ◌^◌, Bool, true, ◌||◌, ◌&&◌, ◌==◌, not, nat_le, if◌then◌else◌, List, [], ◌∷◌, bit_or, Option, Result, Ok, Err, find}
 use Rattle.std.specs.List.{list_all}
 use Rattle.std.specs.Int.{bit_at}
 use Rattle.acdm_record.specs.declared.field.Field.{Field}

@@ -1,5 +1,5 @@
 -- What every record keeps, is kept by a change of one name.
-use Rattle.std.proofs.Common.{◌≡◌, ◌≢◌, ℕ, ◌+◌, ◌-◌, ◌<◌, ◌≤◌, ◌^◌, Bool, true, false, ◌==◌, not, List, [], length, get_or, set, take, drop, replicate, refl, sym, ap, ◌∙◌, subst, arith, eqb-true}
+use Rattle.std.proofs.Common.{◌≡◌, ◌≢◌, ℕ, ◌+◌, ◌-◌, ◌<◌, ◌≤◌, true, false, ◌==◌, not, List, [], length, set, take, drop, replicate, refl, sym, ap, ◌∙◌, subst, arith, eqb-true}
 use Rattle.std.proofs.lemmas.List.{get_or-set_same, get_or-set_other, length-map, length-take}
 use Rattle.std.proofs.lemmas.Bool.{eqb-false}
 use Rattle.std.specs.List.{before_first, prefix_len}
@@ -7,8 +7,8 @@ use Rattle.acdm_record.specs.declared.field.Field.{Field}
 use Rattle.acdm_record.specs.declared.field.Field.TheVariants.{Flight}
 use Rattle.acdm_record.specs.declared.field.TextField.{TextField}
 use Rattle.acdm_record.specs.declared.field.TextField.TheVariants.{Callsign}
-use Rattle.acdm_record.specs.Place.{offset_of, width_of, index_of, fields, text_offset_of, text_width_of, text_index_of, text_fields}
-use Rattle.acdm_record.specs.Fields.{Fields, fields_of, number_of, text_of, set_number, set_text, part, number_at, text_at, fields_at, padded, is_text, is_allowed, AreAllowed, AreTexts, IsRecord, ArePadded}
+use Rattle.acdm_record.specs.Place.{index_of, fields, text_offset_of, text_width_of, text_index_of, text_fields}
+use Rattle.acdm_record.specs.Fields.{fields_of, number_of, text_of, set_number, set_text, part, number_at, text_at, fields_at, is_text, is_allowed, AreAllowed, AreTexts, IsRecord, ArePadded}
 use Rattle.acdm_record.proofs.Places.{same_field, same_text_field, index_bound, text_index_bound, text_of-fields_of}
 
 module _ (n : Field → ℕ) (s : TextField → List ℕ) where

@@ -1,5 +1,5 @@
 -- What a record is: a number for each number field and a text for each text field; and its bytes.
-use Rattle.std.specs.Prelude.{ℕ, ◌+◌, ◌-◌, ◌<◌, ◌≤◌, ◌≡◌, ◌^◌, Bool, true, ◌==◌, ◌&&◌, nat_le, nat_lt, List, [], ◌∷◌, ◌++◌, map, length, take, drop, slice_index, slice_index_or, slice_set, replicate}
+use Rattle.std.specs.Prelude.{ℕ, ◌-◌, ◌≡◌, Bool, true, ◌==◌, ◌&&◌, nat_le, nat_lt, List, [], ◌++◌, map, length, take, drop, slice_index, slice_index_or, slice_set, replicate}
 use Rattle.std.specs.List.{flat_map, before_first, list_all}
 use Rattle.std.specs.Int.{bit_at}
 use Rattle.byteorder.specs.Endian.{little_number, little_bytes}

@@ -1,14 +1,13 @@
 -- A record after an accepted command is the record that the longer history tells.
-use Rattle.std.proofs.Common.{◌≡◌, ℕ, ◌+◌, ◌<◌, ◌^◌, Bool, true, false, cond, ◌&&◌, ◌||◌, ◌==◌, List, [], ◌∷◌, ◌++◌, bit_or, max, Option, Some, None, refl, sym, ap, ◌∙◌, arith, eqb-true, eq-eqb, ne_eqb}
+use Rattle.std.proofs.Common.{◌≡◌, ℕ, ◌<◌, ◌^◌, Bool, true, false, cond, ◌&&◌, ◌||◌, ◌==◌, List, [], ◌∷◌, ◌++◌, bit_or, max, Option, Some, None, refl, sym, ap, ◌∙◌, arith, eqb-true, eq-eqb}
 use Rattle.std.proofs.lemmas.Bool.{eqb-false}
 use Rattle.std.proofs.lemmas.Nat.Bits.{bit_at_or, bit_at-pow_same, bit_at-pow_other, bit_at-zero, bit_at-lt}
-use Rattle.std.specs.List.{list_any}
 use Rattle.std.specs.Int.{bit_at}
 use Rattle.acdm_record.specs.declared.field.Field.{Field}
 use Rattle.acdm_record.specs.declared.field.Field.TheVariants.{Flight, Layout, Reached, Alerts, Tobt, Tsat}
 use Rattle.acdm_record.specs.declared.field.TextField.{TextField}
 use Rattle.acdm_record.specs.declared.field.TextField.TheVariants.{Callsign}
-use Rattle.acdm_record.specs.Fields.{Fields, set_number, set_text}
+use Rattle.acdm_record.specs.Fields.{set_number, set_text}
 use Rattle.acdm_record.specs.Assign.{Assignment, number_is, text_is, with_all}
 use Rattle.acdm_milestones.specs.declared.milestone.Milestone.{Milestone}
 use Rattle.acdm_milestones.specs.declared.milestone.Milestone.TheVariants.{FlightPlanActivated, TobtUpdate}

@@ -1,5 +1,5 @@
 -- A step on the replay of a legal history is the replay of the longer history.
-use Rattle.std.proofs.Common.{◌≡◌, ◌≢◌, ℕ, ◌+◌, ◌<◌, ◌≤◌, Bool, true, false, cond, not, ◌&&◌, ◌||◌, ◌==◌, nat_lt, List, [], ◌∷◌, ◌++◌, map, length, get_or, set, Option, Some, None, refl, sym, ap, subst, ◌∙◌, arith, eqb-true, eq-eqb, ne_eqb}
+use Rattle.std.proofs.Common.{◌≡◌, ◌≢◌, ℕ, ◌+◌, Bool, true, false, cond, not, ◌&&◌, ◌==◌, nat_lt, List, [], ◌∷◌, ◌++◌, map, length, get_or, set, Some, None, refl, sym, ap, subst, ◌∙◌, arith, eqb-true, ne_eqb}
 use Rattle.std.proofs.lemmas.List.{length-map, map_push, get_or_past}
 use Rattle.std.specs.List.{position_or_len}
 use Rattle.acdm_record.specs.Fields.{Fields, new_record}
@@ -10,10 +10,10 @@ use Rattle.acdm_milestones.specs.Tables.{number, owns}
 use Rattle.acdm_step.specs.declared.command.Command.{Command}
 use Rattle.acdm_step.specs.declared.command.Command.TheVariants.{Schedule, Report}
 use Rattle.acdm_step.specs.declared.entry.Outcome.{Outcome}
-use Rattle.acdm_step.specs.declared.entry.Outcome.TheVariants.{Done, Refused}
+use Rattle.acdm_step.specs.declared.entry.Outcome.TheVariants.{Refused}
 use Rattle.acdm_step.specs.declared.entry.Entry.{Entry}
-use Rattle.acdm_step.specs.History.{History, flight_of, is_of, is_done, creates, created, record_of, with_flight, flights, exists, outcome_for, outcome_of, IsLegal, replay, after, would_create}
-use Rattle.acdm_step.specs.Board.{changed, has_number, place_of, is_there, record_on, put, board_outcome, board_after}
+use Rattle.acdm_step.specs.History.{History, flight_of, is_of, is_done, creates, created, record_of, with_flight, flights, exists, outcome_for, outcome_of, IsLegal, after, would_create}
+use Rattle.acdm_step.specs.Board.{changed, place_of, is_there, record_on, put, board_outcome, board_after}
 use Rattle.acdm_step.proofs.Records.{record_same, record_changed}
 use Rattle.acdm_step.proofs.Flights.{is_it, has, and_false, found, inside, outside, absent, updated, flights_distinct, grows, has-with_flight}
 

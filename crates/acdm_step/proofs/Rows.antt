@@ -1,8 +1,6 @@
 -- Worked examples, computed by the definitions alone.
-use Rattle.std.proofs.Common.{◌≡◌, ℕ, List, [], ◌∷◌, map, reverse, codes, Option, Some, None, refl}
-use Rattle.acdm_record.specs.declared.field.Field.TheVariants.{Aibt, Aldt, Reached}
-use Rattle.acdm_record.specs.Fields.{bytes_of, number_of}
-use Rattle.acdm_milestones.specs.declared.role.Role.{Role}
+use Rattle.std.proofs.Common.{◌≡◌, ℕ, List, [], ◌∷◌, map, reverse, codes, Some, None, refl}
+use Rattle.acdm_record.specs.Fields.{bytes_of}
 use Rattle.acdm_milestones.specs.declared.role.Role.TheVariants.{NetworkManager, AirTrafficControl, AirportOperator}
 use Rattle.acdm_milestones.specs.declared.milestone.Milestone.TheVariants.{FlightPlanActivated, Landed, InBlock}
 use Rattle.acdm_step.specs.declared.command.Plan.{Plan}

@@ -1,5 +1,5 @@
 -- What a command says, and the ranges that its type keeps (this project's profile).
-use Rattle.std.specs.Prelude.{ℕ, ◌≤◌, ◌≡◌, Bool, true, false, ◌==◌, ◌||◌, not, Option, is_some}
+use Rattle.std.specs.Prelude.{ℕ, ◌≤◌, ◌≡◌, Bool, true, ◌==◌, not, Option, is_some}
 use Rattle.acdm_milestones.specs.declared.milestone.Milestone.{Milestone}
 use Rattle.acdm_milestones.specs.declared.milestone.Milestone.TheVariants.{FlightPlanActivated, TwoHoursBeforeEobt, TobtUpdate}
 use Rattle.acdm_step.specs.declared.command.Plan.{Plan}

@@ -1,4 +1,4 @@
-use Rattle.std.proofs.Common.{◌≡◌, ◌+◌, ◌<◌, Fits, w32, subst, sym, ap₂, arith}
+use Rattle.std.proofs.Common.{◌+◌, ◌<◌, arith}
 use Rattle.acdm_alerts.proofs.Sums.{word_fits, word_allowed}
 use Rattle.acdm_alerts.proofs.conditions.builtin.Goals as goal
 

@@ -1,4 +1,4 @@
-use Rattle.std.proofs.Common.{◌≡◌, ◌==◌, ℕ, eq-eqb, ne_eqb}
+use Rattle.std.proofs.Common.{eq-eqb, ne_eqb}
 use Rattle.acdm_alerts.proofs.NameTexts.{written-start, written-set, written-clear}
 use Rattle.acdm_alerts.proofs.names.write_names.Goals as goal
 use Rattle.acdm_alerts.proofs.names.write_names.Goals.{then-word-bit-eq1+in_ok-write_piece, else-word-bit-eq1}

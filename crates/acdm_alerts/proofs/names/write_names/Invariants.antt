@@ -1,4 +1,3 @@
-use Rattle.std.proofs.Common.{◌≡◌}
 use Rattle.acdm_alerts.proofs.NameTexts.{Written}
 use Rattle.acdm_alerts.proofs.names.write_names.Given as goal
 

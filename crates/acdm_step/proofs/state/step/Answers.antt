@@ -1,4 +1,4 @@
-use Rattle.std.proofs.Common.{◌≡◌, ℕ, ◌<◌, ◌≤◌, ◌++◌, [], ◌∷◌, true, false, not, is_ok, refl, ap, sym, ◌∙◌}
+use Rattle.std.proofs.Common.{◌≡◌, true, not, is_ok, refl, ap, sym, ◌∙◌}
 use Rattle.acdm_step.proofs.Steps.{outcome_is_there, refused_there, accepted_there, outcome_is_absent, refused_absent, accepted_absent, creating, on_err}
 use Rattle.acdm_step.proofs.state.step.Goals as goal
 

@@ -1,4 +1,4 @@
-use Rattle.std.proofs.Common.{◌≡◌, ap, sym, ◌∙◌, arith}
+use Rattle.std.proofs.Common.{ap, sym, ◌∙◌}
 use Rattle.acdm_record.specs.Fields.{bytes_of}
 use Rattle.acdm_record.proofs.Whole.{bytes_of-fields_at}
 use Rattle.acdm_record.proofs.record.Record.bytes.Goals as goal

@@ -1,5 +1,4 @@
-use Rattle.std.proofs.Common.{◌≡◌, ℕ, ◌+◌, ◌-◌, ◌<◌, ◌^◌, arith, ap, sym, ◌∙◌}
-use Rattle.acdm_record.specs.Place.{offset_of, width_of}
+use Rattle.std.proofs.Common.{◌≡◌, ◌+◌, ◌-◌, arith, ap, sym, ◌∙◌}
 use Rattle.acdm_record.specs.Fields.{number_of, number_at, text_at, is_allowed}
 use Rattle.byteorder.specs.Numbers.{little_from-lt}
 use Rattle.acdm_record.proofs.Places.{number_of-fields_of}

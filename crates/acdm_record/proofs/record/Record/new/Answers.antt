@@ -1,4 +1,3 @@
-use Rattle.std.proofs.Common.{refl}
 use Rattle.acdm_record.proofs.Kept.{empty_record}
 use Rattle.acdm_record.proofs.record.Record.new.Goals as goal
 

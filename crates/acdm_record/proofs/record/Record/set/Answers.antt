@@ -1,9 +1,5 @@
-use Rattle.std.proofs.Common.{◌≡◌, ◌≤◌, ℕ, ◌+◌, ◌-◌, List, length, drop, ◌++◌, append-nil, arith, ap, sym, subst, ◌∙◌}
-use Rattle.std.proofs.lemmas.List.{drop_all}
-use borrow.Rule.Slice.PartMut.{put_mid}
-use Rattle.byteorder.specs.Endian.{little_bytes}
-use Rattle.acdm_record.specs.Place.{offset_of, width_of}
-use Rattle.acdm_record.specs.Fields.{set_number, fields_at, ArePadded, IsRecord}
+use Rattle.std.proofs.Common.{arith, ap, sym, subst, ◌∙◌}
+use Rattle.acdm_record.specs.Fields.{set_number, fields_at, IsRecord}
 use Rattle.acdm_record.proofs.Places.{fields_at-put, padded-put, written}
 use Rattle.acdm_record.proofs.Kept.{kept-number}
 use Rattle.acdm_record.proofs.record.Record.set.Goals as goal

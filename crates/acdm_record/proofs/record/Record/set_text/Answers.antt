@@ -1,6 +1,5 @@
-use Rattle.std.proofs.Common.{◌≡◌, ◌≤◌, ℕ, ◌+◌, ◌-◌, length, arith, ap, sym, subst, ◌∙◌}
-use Rattle.acdm_record.specs.Place.{text_offset_of, text_width_of}
-use Rattle.acdm_record.specs.Fields.{set_text, fields_at, ArePadded, IsRecord, is_text}
+use Rattle.std.proofs.Common.{arith, ap, sym, subst, ◌∙◌}
+use Rattle.acdm_record.specs.Fields.{set_text, fields_at, IsRecord}
 use Rattle.acdm_record.proofs.Places.{fields_at-put_text, padded-put_text, written_text}
 use Rattle.acdm_record.proofs.Kept.{kept-text}
 use Rattle.acdm_record.proofs.record.Record.set_text.Goals as goal

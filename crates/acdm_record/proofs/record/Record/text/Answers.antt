@@ -1,4 +1,4 @@
-use Rattle.std.proofs.Common.{◌≡◌, ◌≤◌, length, ap, sym, subst, ◌∙◌}
+use Rattle.std.proofs.Common.{◌≤◌, length, ap, sym, subst, ◌∙◌}
 use Rattle.acdm_record.specs.Place.{text_width_of}
 use Rattle.acdm_record.specs.Fields.{text_of, is_text}
 use Rattle.acdm_record.proofs.Kept.{text_read, text_short}

@@ -1,7 +1,6 @@
-use Rattle.std.proofs.Common.{◌≡◌, ℕ, true, false, cond, length, Some, None, ap, sym, ◌∙◌}
-use Rattle.acdm_record.specs.Fields.{Fields}
+use Rattle.std.proofs.Common.{◌≡◌, true, cond, length, Some, None, ap, sym, ◌∙◌}
 use Rattle.acdm_milestones.specs.Tables.{has_reached}
-use Rattle.acdm_step.specs.History.{History, Board, record_of, exists, replay}
+use Rattle.acdm_step.specs.History.{Board, record_of, exists}
 use Rattle.acdm_step.proofs.Records.{reached-told}
 use Rattle.acdm_step.proofs.Replay.{records_of, exists_by_place, record_by_place}
 use Rattle.acdm_step.proofs.Steps.{is_lt, no_lt}

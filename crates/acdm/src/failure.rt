@@ -1,0 +1,38 @@
+//! What keeps a command from its work.
+use acdm_sessions::RunError;
+use std::io::Write;
+
+/// Why a command could not do its work.
+#[derive(Clone, Copy, Debug, PartialEq, Eq)]
+pub enum Failure {
+    /// Its input can't be read.
+    Read,
+    /// Its output can't be written.
+    Write,
+    /// Memory was refused.
+    Memory,
+}
+
+impl Failure {
+    /// Says what failed, as one line, and answers the status 2. Where the line can't be written either, the status
+    /// alone says it.
+    pub fn complain<E: Write + Drop>(self, mut errors: E) -> u8 {
+        let text = match self {
+            Failure::Read => "acdm: read failed\n",
+            Failure::Write => "acdm: write failed\n",
+            Failure::Memory => "acdm: no memory\n",
+        };
+        let _ = errors.write_all(text.as_bytes());
+        2
+    }
+}
+
+impl From<RunError> for Failure {
+    fn from(error: RunError) -> Failure {
+        match error {
+            RunError::Read => Failure::Read,
+            RunError::Write => Failure::Write,
+            RunError::Memory => Failure::Memory,
+        }
+    }
+}
