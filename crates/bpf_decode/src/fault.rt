@@ -4,24 +4,31 @@ ghost use Rattle.std.specs.Prelude.{◌≡◌};
 ghost use Rattle.bpf_decode.specs.Faults.{code_of, error_code, error_slot};
 
 use std::alloc::{AllocError, AllocFailed};
+use thiserror::Error;
 
 /// No memory was left.
 pub type NoMemory = AllocError;
 
 /// What is wrong with the bytes of a program.
-#[derive(Clone, Copy, PartialEq, Eq, Debug)]
+#[derive(Clone, Copy, PartialEq, Eq, Debug, Error)]
 pub enum Fault {
     /// Their number is 0 or no multiple of 8.
+    #[error("no whole slots of 8 bytes")]
     Length,
     /// They are more than 32,768, which is 4,096 slots.
+    #[error("more than 4096 slots")]
     TooLong,
     /// No instruction has the opcode.
+    #[error("unknown opcode")]
     Opcode,
     /// A field has a value that the opcode does not allow.
+    #[error("field value that the opcode does not allow")]
     Field,
     /// A register is over 10.
+    #[error("register over 10")]
     Register,
     /// A wide load has no second slot.
+    #[error("wide load without its second slot")]
     CutWide,
 }
 
@@ -42,11 +49,13 @@ impl Fault {
 }
 
 /// Why there is no program.
-#[derive(Clone, Copy, PartialEq, Eq, Debug)]
+#[derive(Clone, Copy, PartialEq, Eq, Debug, Error)]
 pub enum DecodeError {
     /// The bytes encode none: their first fault, and its slot.
+    #[error("slot {slot}: {fault}")]
     Refused { fault: Fault, slot: usize },
     /// No memory was left.
+    #[error("no memory")]
     Memory,
 }
 
