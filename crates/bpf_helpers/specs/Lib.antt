@@ -1,0 +1,4 @@
+pub mod Faults
+pub mod Helpers
+pub mod Oracles
+pub mod Promise

@@ -1,0 +1,13 @@
+//! Helpers that answer the calls of programs, and what they promise of their answers.
+#![tactic(auto)]
+
+pub mod bank;
+pub mod helper;
+pub mod live;
+pub mod logged;
+pub mod oracle;
+pub mod range;
+pub mod signature;
+pub mod sigs;
+#[cfg(test)]
+mod tests;
