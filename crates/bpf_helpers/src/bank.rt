@@ -10,7 +10,7 @@ use std::alloc::{AllocError, Global};
 /// The most helpers that a bank holds.
 pub const MAX_HELPERS: usize = 32;
 
-/// Why a bank refuses a helper.
+/// Why a bank refuses a helper (this project's profile).
 #[derive(Clone, Copy, PartialEq, Eq, Debug)]
 pub enum BankFault {
     /// The bank has a helper of that number.
@@ -48,9 +48,9 @@ pub struct Bank {
 }
 
 impl Bank {
-    ghost use Rattle.std.specs.Prelude.{◌≡◌, ◌<◌, ◌≤◌, [], ◌∷◌, ◌++◌, length, Some, None, MatchOption, IsTrue, IsSome, IfOk, IfErr, OnErr, OnOk, IsErrAnd, IsOk};
-    ghost use Rattle.bpf_helpers.specs.Promise.{is_question, is_answer, signature_of};
-    ghost use Rattle.bpf_helpers.specs.Helpers.{entries_of, entry_of};
+    ghost use Rattle.std.specs.Prelude.{◌≡◌, [], ◌∷◌, ◌++◌, Some, None, MatchOption, IsTrue, IsOk, IsErrAnd, IfOk, IfErr, OnOk, OnErr};
+    ghost use Rattle.bpf_helpers.specs.Helpers.{HasRoom, IsFree, IsFull, IsTaken, entries_of, entry_of};
+    ghost use Rattle.bpf_helpers.specs.Promise.{is_answer, is_question, signature_of};
 
     /// A bank without helpers that has room for 32. `Err` only where there is no memory.
     pub fn new(alloc: Global) -> Result<Bank, AllocError>
@@ -76,9 +76,9 @@ impl Bank {
 
     /// Adds a helper, for which no memory is taken. A number that is taken is refused before a full bank is.
     pub fn add(&mut self, helper: Helper) -> Result<(), NotAdded>
-        ensures taken { IsSome (signature_of (entries_of self.old) (entry_of helper).0) → IsErrAnd result (λ e. e.fault ≡ BankFault.NumberTaken) }
-        ensures full { signature_of (entries_of self.old) (entry_of helper).0 ≡ None → 32 ≤ length (entries_of self.old) → IsErrAnd result (λ e. e.fault ≡ BankFault.Full) }
-        ensures fits { signature_of (entries_of self.old) (entry_of helper).0 ≡ None → length (entries_of self.old) < 32 → IsOk result }
+        ensures taken { IsTaken self.old helper → IsErrAnd result (λ e. e.fault ≡ BankFault.NumberTaken) }
+        ensures full { IsFree self.old helper → IsFull self.old → IsErrAnd result (λ e. e.fault ≡ BankFault.Full) }
+        ensures fits { IsFree self.old helper → HasRoom self.old → IsOk result }
 
         ensures added { OnOk result (entries_of self.new ≡ entries_of self.old ++ entry_of helper ∷ []) }
         ensures unchanged { OnErr result (self.new ≡ self.old) }

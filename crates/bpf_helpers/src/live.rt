@@ -53,10 +53,10 @@ impl<'a> Live<'a> {
         let Live {
             bank: _,
             room: _,
-            answers,
+            answers: given,
             refusals: _,
         } = self;
-        answers
+        given
     }
 }
 
