@@ -1,6 +1,6 @@
 -- Worked examples over the definitions alone.
-use Rattle.std.proofs.Common.{◌≡◌, true, false, [], ◌∷◌, Some, None, refl}
-use Rattle.bpf_helpers.specs.Promise.{Promise, is_answer, is_promised, is_question, is_well_formed, signature_of}
+use Rattle.std.proofs.Common.{◌≡◌, true, false, [], ◌∷◌, refl}
+use Rattle.bpf_helpers.specs.Promise.{is_answer, is_promised, is_question, is_well_formed}
 use Rattle.bpf_helpers.specs.Known.{sum, taxi, turn_round}
 
 -- ---- which signatures there are

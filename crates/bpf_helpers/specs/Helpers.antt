@@ -1,5 +1,5 @@
 -- Helpers, and what contracts see of them and of a bank: numbers and promises.
-use Rattle.std.specs.Prelude.{ℕ, ◌≤◌, ◌<◌, List, [], ◌∷◌, length, map, IsTrue, IsSome, IsNone}
+use Rattle.std.specs.Prelude.{ℕ, ◌≤◌, ◌<◌, List, length, map, IsSome, IsNone}
 use Rattle.bpf_helpers.specs.declared.helper.Helper.{Helper}
 use Rattle.bpf_helpers.specs.declared.bank.Bank.{Bank}
 use Rattle.bpf_helpers.specs.Promise.{Promise, signature_of}

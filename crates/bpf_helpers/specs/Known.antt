@@ -1,5 +1,5 @@
 -- The three helpers that programs of this project may call (profile): their signatures, and what their code answers.
-use Rattle.std.specs.Prelude.{ℕ, ◌+◌, [], ◌∷◌, ◌==◌, nat_lt, if◌then◌else◌}
+use Rattle.std.specs.Prelude.{ℕ, [], ◌∷◌, ◌==◌, nat_lt, if◌then◌else◌}
 use Rattle.bpf_helpers.specs.Promise.{Promise}
 
 -- Helper 1: the least turn-round time, in minutes, of an aircraft type, whose four bytes are a little-endian number.

@@ -1,6 +1,6 @@
 -- What a signature promises of a helper's answers. RFC 9669, section 4.3.1, has helper functions that a program calls by their number;
 -- signatures, ranges and tables are this project's profile.
-use Rattle.std.specs.Prelude.{ℕ, ◌+◌, ◌^◌, List, [], ◌∷◌, length, drop, filter, Bool, true, false, ◌&&◌, ◌==◌, nat_lt, nat_le, Option, Some, None, if◌then◌else◌}
+use Rattle.std.specs.Prelude.{ℕ, ◌^◌, List, [], ◌∷◌, length, drop, filter, Bool, true, false, ◌&&◌, ◌==◌, nat_lt, nat_le, Option, Some, None, if◌then◌else◌}
 use Rattle.std.specs.List.{list_all}
 use Rattle.bpf_helpers.specs.declared.range.Range.{Range}
 
