@@ -3,9 +3,10 @@
 ghost use Rattle.std.specs.Prelude.{◌≡◌, ◌≤◌, vec_capacity, vec_len};
 ghost use Rattle.bpf_helpers.specs.Faults.{code_of};
 
+use crate::NoMemory;
 use crate::helper::Helper;
 use crate::sigs::Sigs;
-use std::alloc::{AllocError, Global};
+use std::alloc::Global;
 
 /// The most helpers that a bank holds.
 pub const MAX_HELPERS: usize = 32;
@@ -53,7 +54,7 @@ impl Bank {
     ghost use Rattle.bpf_helpers.specs.Promise.{is_answer, is_question, signature_of};
 
     /// A bank without helpers that has room for 32. `Err` only where there is no memory.
-    pub fn new(alloc: Global) -> Result<Bank, AllocError>
+    pub fn new(alloc: Global) -> Result<Bank, NoMemory>
         ensures { IfOk result (λ bank. entries_of bank ≡ []) }
     {
         let helpers = Vec::with_capacity(alloc, MAX_HELPERS)?;
@@ -113,7 +114,7 @@ impl Bank {
 
     /// The numbers and the signatures of the helpers, in the order in which they were added. `Err` only where there is no
     /// memory.
-    pub fn sigs(&self) -> Result<Sigs, AllocError>
+    pub fn sigs(&self) -> Result<Sigs, NoMemory>
         ensures { IfOk result (λ sigs. sigs ≡ entries_of self.now) }
     {
         let mut sigs = Sigs::new(*self.helpers.allocator());

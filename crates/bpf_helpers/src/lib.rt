@@ -9,5 +9,11 @@ pub mod oracle;
 pub mod range;
 pub mod signature;
 pub mod sigs;
+
+use std::alloc::AllocError;
+
+/// There is no memory for what a call would keep.
+pub type NoMemory = AllocError;
+
 #[cfg(test)]
 mod tests;

@@ -2,9 +2,10 @@
 
 ghost use Rattle.std.specs.Prelude.{◌≤◌, vec_capacity, vec_len};
 
+use crate::NoMemory;
 use crate::bank::Bank;
 use crate::oracle::Oracle;
-use std::alloc::{AllocError, Global};
+use std::alloc::Global;
 
 /// Calls the helpers of a bank and keeps their answers, as many as it has room for.
 #[derive(Drop)]
@@ -23,7 +24,7 @@ impl<'a> Live<'a> {
     ghost use Rattle.bpf_helpers.specs.Oracles.{sigs_of_live, log_of_live, refusals_of_live, room_of_live};
 
     /// An oracle over a bank that gives `room` answers at most. `Err` only where there is no memory.
-    pub fn new(alloc: Global, bank: &'a Bank, room: u64) -> Result<Live<'a>, AllocError>
+    pub fn new(alloc: Global, bank: &'a Bank, room: u64) -> Result<Live<'a>, NoMemory>
         ensures sigs { IfOk result (λ live. sigs_of_live live ≡ entries_of bank.now) }
         ensures log { IfOk result (λ live. log_of_live live ≡ []) }
         ensures refusals { IfOk result (λ live. refusals_of_live live ≡ 0) }

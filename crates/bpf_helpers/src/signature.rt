@@ -4,8 +4,8 @@ ghost use Rattle.std.specs.Prelude.{◌≡◌, ◌↔◌, ◌&&◌, ◌==◌, fi
 ghost use Rattle.std.specs.List.{list_all};
 ghost use Rattle.bpf_helpers.specs.Promise.{agrees, are_in, do_keys_rise, is_in, is_key, is_ordered, is_promised, is_well_formed};
 
+use crate::NoMemory;
 use crate::range::Range;
-use std::alloc::AllocError;
 use std::marker::Model;
 
 /// The most arguments that a helper takes.
@@ -188,7 +188,7 @@ impl Signature {
     }
 
     /// A signature that equals this one. `Err` only where there is no memory.
-    pub fn copy(&self) -> Result<Signature, AllocError>
+    pub fn copy(&self) -> Result<Signature, NoMemory>
         ensures { IfOk result (λ s. s ≡ self.now) }
     {
         let args = self.args.clone()?;

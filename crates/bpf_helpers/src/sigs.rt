@@ -3,8 +3,9 @@
 ghost use Rattle.std.specs.Prelude.{◌≡◌, ◌↔◌, [], ◌∷◌, ◌++◌, IsTrue, IfOk, OnOk, MatchOption, Some, None};
 ghost use Rattle.bpf_helpers.specs.Promise.{are_well_formed, is_answer, signature_of};
 
+use crate::NoMemory;
 use crate::signature::Signature;
-use std::alloc::{AllocError, Global};
+use std::alloc::Global;
 use std::marker::Model;
 
 /// The signatures of the helpers that programs may call, each with the number of its helper. Contracts see them as pairs of
@@ -34,7 +35,7 @@ impl Sigs {
         }
     }
 
-    pub(crate) fn push(&mut self, number: u32, signature: Signature) -> Result<(), AllocError>
+    pub(crate) fn push(&mut self, number: u32, signature: Signature) -> Result<(), NoMemory>
         ensures added { OnOk result (self.new ≡ self.old ++ (number, signature) ∷ []) }
     {
         let _ = signature.answer();
@@ -87,7 +88,7 @@ impl Sigs {
     }
 
     /// Signatures that equal these. `Err` only where there is no memory.
-    pub fn copy(&self) -> Result<Sigs, AllocError>
+    pub fn copy(&self) -> Result<Sigs, NoMemory>
         ensures { IfOk result (λ sigs. sigs ≡ self.now) }
     {
         let mut sigs = Sigs::new(*self.entries.allocator());

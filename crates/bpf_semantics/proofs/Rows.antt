@@ -1,15 +1,15 @@
 -- Worked runs, computed from the definitions alone.
-use Rattle.std.proofs.Common.{◌≡◌, ℕ, ◌^◌, ◌-◌, List, [], ◌∷◌, ◌++◌, Some, None, refl}
+use Rattle.std.proofs.Common.{◌≡◌, ℕ, List, [], ◌∷◌, ◌++◌, None, refl}
 use Rattle.std.specs.Prelude.{replicate, pos, negsuc}
 use Rattle.bpf_decode.specs.declared.op.Op.{Op}
-use Rattle.bpf_decode.specs.declared.op.Op.TheVariants.{Arith, Negate, Extend, End, Ja, Ja32, Jump, Call, Exit, Load, LoadSigned, Store, Wide, Tail}
+use Rattle.bpf_decode.specs.declared.op.Op.TheVariants.{Arith, Ja, Jump, Call, Exit, Load, Store, Wide, Tail}
 use Rattle.bpf_decode.specs.declared.op.Operand.TheVariants.{From, Immediate}
 use Rattle.bpf_decode.specs.declared.op.Code.TheVariants.{Add, And, Div, SignedDiv, Mod, Mov}
 use Rattle.bpf_decode.specs.declared.op.Width.TheVariants.{W32, W64}
 use Rattle.bpf_decode.specs.declared.op.Size.TheVariants.{Byte, Half, Word, Double}
 use Rattle.bpf_decode.specs.declared.op.Condition.TheVariants.{Equal, NotEqual, Above}
 use Rattle.bpf_helpers.specs.Promise.{Promise}
-use Rattle.bpf_semantics.specs.Machine.{Machine, Action, Goes, Asks, Ends, Stuck, action, start}
+use Rattle.bpf_semantics.specs.Machine.{start}
 use Rattle.bpf_semantics.specs.Runs.{after, RunEnds, RunTraps, RunAsks}
 
 -- ---- records and signatures
@@ -29,11 +29,14 @@ planned =
 
 -- the taxi time from a stand, as helper 2
 sigs : List (ℕ × Promise)
-sigs = (2, record {
+sigs = (
+  2,
+  record {
     args = record { lo = 0; hi = 999 } ∷ [];
     answer = record { lo = 1; hi = 60 };
     table = (12, 10) ∷ (120, 15) ∷ (900, 20) ∷ [];
-  }) ∷ []
+  },
+) ∷ []
 
 -- ---- the shortest programs
 
