@@ -1,8 +1,8 @@
 //! The signature of a helper: what it takes, and what it may answer.
 
-ghost use Rattle.std.specs.Prelude.{◌≡◌, ◌↔◌, ◌&&◌, ◌==◌, filter, IsTrue, IsSome, IfSome, IfOk};
+ghost use Rattle.std.specs.Prelude.{◌≡◌, ◌↔◌, ◌&&◌, ◌==◌, drop, filter, IsTrue, IsSome, IfSome, IfOk};
 ghost use Rattle.std.specs.List.{list_all};
-ghost use Rattle.bpf_helpers.specs.Promise.{agrees, are_in, do_keys_rise, is_in, is_key, is_ordered, is_promised, is_well_formed};
+ghost use Rattle.bpf_helpers.specs.Promise.{agrees, are_in, do_keys_rise, is_call, is_in, is_key, is_ordered, is_promised, is_well_formed};
 
 use crate::NoMemory;
 use crate::range::Range;
@@ -74,6 +74,13 @@ fn are_in(ranges: &[Range], arguments: &[u64]) -> bool
         arguments = more;
     }
     true
+}
+
+/// Whether all from this place on are 0.
+fn are_zeros(words: &[u64], from: usize) -> bool
+    ensures { result ≡ list_all (λ word. word == 0) (drop from words.now) }
+{
+    words.iter().skip(from).all(|word| *word == 0)
 }
 
 /// Whether each entry of this key has this answer.
@@ -167,6 +174,13 @@ impl Signature {
         ensures well_formed { IsTrue (is_well_formed self.now) }
     {
         self.answer
+    }
+
+    /// Whether the helper may be called on these arguments: each lies in its range, and those beyond the signature are 0.
+    pub fn takes(&self, arguments: &[u64]) -> bool
+        ensures { result ≡ is_call self.now arguments.now }
+    {
+        are_in(&self.args, arguments) && are_zeros(arguments, self.args.len())
     }
 
     /// Whether the helper may give this answer to these arguments, of which those beyond the signature are not read.
