@@ -1,6 +1,6 @@
 //! The signature of a helper: what it takes, and what it may answer.
 
-ghost use Rattle.std.specs.Prelude.{◌≡◌, ◌↔◌, ◌&&◌, ◌==◌, drop, filter, IsTrue, IsSome, IfSome, IfOk};
+ghost use Rattle.std.specs.Prelude.{◌≡◌, ◌≤◌, ◌↔◌, ◌&&◌, ◌==◌, drop, filter, length, IsTrue, IsSome, IfSome, IfOk};
 ghost use Rattle.std.specs.List.{list_all};
 ghost use Rattle.bpf_helpers.specs.Promise.{agrees, are_in, do_keys_rise, is_call, is_in, is_key, is_ordered, is_promised, is_well_formed};
 
@@ -163,6 +163,7 @@ impl Signature {
     /// A range for each argument, from the first on.
     pub fn args(&self) -> &[Range]
         ensures value { result.now ≡ self.now.args }
+        ensures few { length result.now ≤ 5 }
         ensures well_formed { IsTrue (is_well_formed self.now) }
     {
         &self.args
