@@ -9,3 +9,6 @@ mod words;
 
 pub use run::{Ended, Trap};
 pub use tested::run_tested;
+
+#[cfg(test)]
+mod tests;
