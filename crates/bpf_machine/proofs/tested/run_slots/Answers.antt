@@ -1,7 +1,5 @@
-use Rattle.std.proofs.Common.{◌≡◌, ◌<◌, ◌+◌, ◌∙◌, refl, sym, arith, rules}
-use Rattle.bpf_semantics.specs.Machine.{start}
-use Rattle.bpf_machine.specs.Steps.{StepTells}
-use Rattle.bpf_machine.proofs.Running.{Running, begins, went}
+use Rattle.std.proofs.Common.{◌∙◌, refl, arith}
+use Rattle.bpf_machine.proofs.Running.{begins, went}
 use Rattle.bpf_machine.proofs.tested.run_slots.Goals as goal
 
 pub loop-r0-init : goal.loop-r0-init

@@ -1,5 +1,4 @@
-use Rattle.std.proofs.Common.{rules, ◌≡◌, refl}
-use Rattle.bpf_semantics.specs.Machine.{act_on, action}
+use Rattle.std.proofs.Common.{rules, refl}
 use Rattle.bpf_machine.proofs.Told.{action_at, no_refusal, tells}
 use Rattle.bpf_machine.proofs.state.State.advance.Goals as goal
 
