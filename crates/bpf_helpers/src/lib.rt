@@ -18,7 +18,6 @@ pub use oracle::Oracle;
 pub use range::Range;
 pub use signature::{MAX_ARGUMENTS, Signature};
 pub use sigs::Sigs;
-
 use std::alloc::AllocError;
 
 /// There is no memory for what a call would keep.
