@@ -1,0 +1,14 @@
+//! Running programs.
+#![tactic(auto)]
+
+mod memory;
+mod run;
+mod state;
+mod tested;
+mod words;
+
+pub use run::{Ended, Trap};
+pub use tested::run_tested;
+
+#[cfg(test)]
+mod tests;

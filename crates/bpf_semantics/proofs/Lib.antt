@@ -1,0 +1,4 @@
+pub mod Decided
+pub mod Forward
+pub mod Laws
+pub mod Rows
