@@ -11,4 +11,8 @@ pub use run::{Ended, Trap};
 pub use tested::run_tested;
 
 #[cfg(test)]
+mod cross_check;
+#[cfg(test)]
 mod tests;
+#[cfg(test)]
+mod vectors;
