@@ -1,23 +1,26 @@
 -- A record after an accepted command is the record that the longer history tells.
-use Rattle.std.proofs.Common.{◌≡◌, ℕ, ◌<◌, ◌^◌, Bool, true, false, cond, ◌&&◌, ◌||◌, ◌==◌, List, [], ◌∷◌, ◌++◌, bit_or, max, Option, Some, None, refl, sym, ap, ◌∙◌, arith, eqb-true, eq-eqb}
+use Rattle.std.proofs.Common.{◌≡◌, ℕ, ◌+◌, ◌<◌, ◌^◌, Bool, true, false, cond, ◌&&◌, ◌||◌, ◌==◌, List, [], ◌∷◌, ◌++◌, bit_or, max, Option, Some, None, option_map, is_some, zero-add, ◌⊎◌, inl, inr, refl, sym, ap, ◌∙◌, arith, eqb-true, eq-eqb}
 use Rattle.std.proofs.lemmas.Bool.{eqb-false}
 use Rattle.std.proofs.lemmas.Nat.Bits.{bit_at_or, bit_at-pow_same, bit_at-pow_other, bit_at-zero, bit_at-lt}
 use Rattle.std.specs.Int.{bit_at}
+use Rattle.std.specs.List.{list_any}
 use Rattle.acdm_record.specs.declared.field.Field.{Field}
 use Rattle.acdm_record.specs.declared.field.Field.TheVariants.{Flight, Layout, Reached, Alerts, Tobt, Tsat}
 use Rattle.acdm_record.specs.declared.field.TextField.{TextField}
 use Rattle.acdm_record.specs.declared.field.TextField.TheVariants.{Callsign}
 use Rattle.acdm_record.specs.Fields.{set_number, set_text}
 use Rattle.acdm_record.specs.Assign.{Assignment, number_is, text_is, with_all}
+use Rattle.acdm_alerts.specs.Conditions.{conditions, kept_bits}
+use Rattle.acdm_alerts.specs.Laws.{kept_bits-conditions}
 use Rattle.acdm_milestones.specs.declared.milestone.Milestone.{Milestone}
 use Rattle.acdm_milestones.specs.declared.milestone.Milestone.TheVariants.{FlightPlanActivated, TobtUpdate}
 use Rattle.acdm_milestones.specs.Tables.{times_of, marked, has_reached}
 use Rattle.acdm_step.specs.declared.command.Plan.{Plan}
 use Rattle.acdm_step.specs.declared.command.Command.{Command}
-use Rattle.acdm_step.specs.declared.command.Command.TheVariants.{Schedule, Report}
+use Rattle.acdm_step.specs.declared.command.Command.TheVariants.{Schedule, Report, Tick}
 use Rattle.acdm_step.specs.declared.entry.Entry.{Entry}
-use Rattle.acdm_step.specs.History.{History, Told, onto, with_command, told, planned, assigned_by, bit_of, flight_of, is_of, is_done, record_from, record_of, has_come_to}
-use Rattle.acdm_step.specs.Board.{changed}
+use Rattle.acdm_step.specs.History.{History, Told, onto, with_command, with_tick, tell, told, planned, assigned_by, bit_of, flight_of, changes_flight, creates, is_of, ticks, is_done, record_with, alerts_at, record_from, record_of, has_come_to, created, with_flight, flights, exists}
+use Rattle.acdm_step.specs.Board.{changed, touched}
 
 pub and_left : (a b : Bool) → (a && b) ≡ true → a ≡ true
 and_left true b h = refl
@@ -42,24 +45,33 @@ are_plain [] = true
 are_plain (number_is g v ∷ more) = is_plain g && are_plain more
 are_plain (text_is t v ∷ more) = are_plain more
 
-set_one : (f : ℕ) (t : Told) (g : Field) (v : ℕ) → is_plain g ≡ true → set_number (record_from f t) g v ≡ record_from f (record t { assigned = number_is g v ∷ t.assigned })
-set_one f t Flight v h = absurd (cc)
-set_one f t Layout v h = absurd (cc)
-set_one f t Reached v h = absurd (cc)
-set_one f t Alerts v h = absurd (cc)
-set_one f t _ v h = refl
+set_one : (f : ℕ) (ps : List Assignment) (rs al : ℕ) (g : Field) (v : ℕ) → is_plain g ≡ true → set_number (record_with f ps rs al) g v ≡ record_with f (number_is g v ∷ ps) rs al
+set_one f ps rs al Flight v h = absurd (cc)
+set_one f ps rs al Layout v h = absurd (cc)
+set_one f ps rs al Reached v h = absurd (cc)
+set_one f ps rs al Alerts v h = absurd (cc)
+set_one f ps rs al _ v h = refl
 
-set_one_text : (f : ℕ) (t : Told) (u : TextField) (v : List ℕ) → set_text (record_from f t) u v ≡ record_from f (record t { assigned = text_is u v ∷ t.assigned })
-set_one_text f t Callsign v = refl
-set_one_text f t _ v = refl
+set_one_text : (f : ℕ) (ps : List Assignment) (rs al : ℕ) (u : TextField) (v : List ℕ) → set_text (record_with f ps rs al) u v ≡ record_with f (text_is u v ∷ ps) rs al
+set_one_text f ps rs al Callsign v = refl
+set_one_text f ps rs al _ v = refl
 
-with_all-record_from : (f : ℕ) (qs : List Assignment) (t : Told) → are_plain qs ≡ true → with_all (record_from f t) qs ≡ record_from f (record t { assigned = onto qs t.assigned })
-with_all-record_from f [] t h = refl
-with_all-record_from f (number_is g v ∷ qs) t h =
-    ap (λ r. with_all r qs) (set_one f t g v (and_left (is_plain g) (are_plain qs) h))
-    ∙ with_all-record_from f qs (record t { assigned = number_is g v ∷ t.assigned }) (and_right (is_plain g) (are_plain qs) h)
-with_all-record_from f (text_is u v ∷ qs) t h =
-    ap (λ r. with_all r qs) (set_one_text f t u v) ∙ with_all-record_from f qs (record t { assigned = text_is u v ∷ t.assigned }) h
+with_all-record_with : (f : ℕ) (qs ps : List Assignment) (rs al : ℕ) → are_plain qs ≡ true → with_all (record_with f ps rs al) qs ≡ record_with f (onto qs ps) rs al
+with_all-record_with f [] ps rs al h = refl
+with_all-record_with f (number_is g v ∷ qs) ps rs al h =
+    ap (λ r. with_all r qs) (set_one f ps rs al g v (and_left (is_plain g) (are_plain qs) h)) ∙ with_all-record_with f qs (number_is g v ∷ ps) rs al (and_right (is_plain g) (are_plain qs) h)
+with_all-record_with f (text_is u v ∷ qs) ps rs al h =
+    ap (λ r. with_all r qs) (set_one_text f ps rs al u v) ∙ with_all-record_with f qs (text_is u v ∷ ps) rs al h
+
+-- ---- alerts
+
+-- a touch computes the alerts of the fields; what is kept of them is clear so far
+touched-record_with : (f : ℕ) (ps : List Assignment) (rs al now : ℕ) → kept_bits al ≡ 0 → touched now (record_with f ps rs al) ≡ record_with f ps rs (conditions (record_with f ps rs 0) now)
+touched-record_with f ps rs al now k = ap (record_with f ps rs) (ap (λ n. n + conditions (record_with f ps rs 0) now) k ∙ zero-add (conditions (record_with f ps rs 0) now))
+
+kept_none : (f : ℕ) (ps : List Assignment) (rs : ℕ) (touch : Option ℕ) → kept_bits (alerts_at f ps rs touch) ≡ 0
+kept_none f ps rs None = refl
+kept_none f ps rs (Some now) = kept_bits-conditions (record_with f ps rs 0) now
 
 -- ---- what a command assigns
 
@@ -80,21 +92,97 @@ plain_plan (Some p) = refl
 
 plain_command : (c : Command) → are_plain (assigned_by c) ≡ true
 plain_command (Schedule s) = refl
+plain_command Tick = refl
 plain_command (Report r) = plain-append (times_of r.milestone r.time) (planned r.plan) (plain_times r.milestone r.time) (plain_plan r.plan)
 
-changed-record_from : (f : ℕ) (t : Told) (c : Command) → changed (record_from f t) c ≡ record_from f (with_command c t)
-changed-record_from f t c = ap (λ r. marked r (bit_of c)) (with_all-record_from f (assigned_by c) t (plain_command c))
+changed-record_from : (f : ℕ) (t : Told) (now : ℕ) (c : Command) → changed (record_from f t) now c ≡ record_from f (with_command c now t)
+changed-record_from f t now c =
+    ap (λ r. touched now (marked r (bit_of c))) (with_all-record_with f (assigned_by c) t.assigned t.reached (alerts_at f t.assigned t.reached t.touch) (plain_command c))
+    ∙ touched-record_with f (onto (assigned_by c) t.assigned) (bit_or t.reached (2 ^ bit_of c)) (alerts_at f t.assigned t.reached t.touch) now (kept_none f t.assigned t.reached t.touch)
 
--- an entry that is refused, or of another flight, leaves a record as it is
-pub record_same : (e : Entry) (J : History) (g : ℕ) → is_of g e ≡ false → record_of (e ∷ J) g ≡ record_of J g
-record_same e J g h = ap (λ b. record_from g (cond b (with_command e.command (told J g)) (told J g))) h
+-- an entry that is no tick, and is refused or of another flight, leaves a record as it is
+pub record_same : (e : Entry) (J : History) (g : ℕ) → is_of g e ≡ false → ticks e ≡ false → record_of (e ∷ J) g ≡ record_of J g
+record_same e J g h k =
+    ap (λ b. record_from g (cond b (with_command e.command e.moment (told J g)) (cond (ticks e) (with_tick e.moment (told J g)) (told J g)))) h
+    ∙ ap (λ b. record_from g (cond b (with_tick e.moment (told J g)) (told J g))) k
 
 -- an accepted entry changes the record of its flight
-pub record_changed : (e : Entry) (J : History) → is_done e.outcome ≡ true → record_of (e ∷ J) (flight_of e.command) ≡ changed (record_of J (flight_of e.command)) e.command
-record_changed e J h =
+pub record_changed : (e : Entry) (J : History) → is_done e.outcome ≡ true → changes_flight e.command ≡ true → record_of (e ∷ J) (flight_of e.command) ≡ changed (record_of J (flight_of e.command)) e.moment e.command
+record_changed e J h k =
     let f : ℕ = flight_of e.command in
-    let both : is_of f e ≡ true = ap (λ b. b && (flight_of e.command == f)) h ∙ eq-eqb f f refl in
-    ap (λ b. record_from f (cond b (with_command e.command (told J f)) (told J f))) both ∙ sym (changed-record_from f (told J f) e.command)
+    let both : is_of f e ≡ true = ap (λ b. b && (changes_flight e.command && flight_of e.command == f)) h ∙ ap (λ b. b && flight_of e.command == f) k ∙ eq-eqb f f refl in
+    ap (λ b. record_from f (cond b (with_command e.command e.moment (told J f)) (cond (ticks e) (with_tick e.moment (told J f)) (told J f)))) both ∙ sym (changed-record_from f (told J f) e.moment e.command)
+
+-- a flight that was touched is touched by a tick
+with_tick-record : (f m : ℕ) (t : Told) → is_some t.touch ≡ true → record_from f (with_tick m t) ≡ touched m (record_from f t)
+with_tick-record f m t h = go t.assigned t.reached t.touch h
+  where
+    go : (ps : List Assignment) (rs : ℕ) (touch : Option ℕ) → is_some touch ≡ true → record_with f ps rs (alerts_at f ps rs (option_map (λ n. m) touch)) ≡ touched m (record_with f ps rs (alerts_at f ps rs touch))
+    go ps rs None h = absurd (cc)
+    go ps rs (Some n) h = sym (touched-record_with f ps rs (alerts_at f ps rs (Some n)) m (kept_none f ps rs (Some n)))
+
+pub record_ticked : (e : Entry) (J : History) (g : ℕ) → is_of g e ≡ false → ticks e ≡ true → is_some (told J g).touch ≡ true → record_of (e ∷ J) g ≡ touched e.moment (record_of J g)
+record_ticked e J g h k t =
+    ap (λ b. record_from g (cond b (with_command e.command e.moment (told J g)) (cond (ticks e) (with_tick e.moment (told J g)) (told J g)))) h
+    ∙ ap (λ b. record_from g (cond b (with_tick e.moment (told J g)) (told J g))) k
+    ∙ with_tick-record g e.moment (told J g) t
+
+-- what was touched stays so
+touch_kept : (e : Entry) (f : ℕ) (t : Told) → is_some t.touch ≡ true → is_some (tell e f t).touch ≡ true
+touch_kept e f t h =
+    elim (is_of f e) as (λ b. is_some (cond b (with_command e.command e.moment t) (cond (ticks e) (with_tick e.moment t) t)).touch ≡ true) [
+      | true ↦ refl
+      | false ↦ elim (ticks e) as (λ b. is_some (cond b (with_tick e.moment t) t).touch ≡ true) [
+        | true ↦ some_map t.touch h
+        | false ↦ h
+      ]
+    ]
+  where
+    some_map : (o : Option ℕ) → is_some o ≡ true → is_some (option_map (λ n. e.moment) o) ≡ true
+    some_map None h = h
+    some_map (Some n) h = refl
+
+-- a flight that is there was touched
+creates_changes : (c : Command) → creates c ≡ true → changes_flight c ≡ true
+creates_changes (Schedule s) h = refl
+creates_changes (Report r) h = refl
+creates_changes Tick h = h
+
+has_push : (f : ℕ) (fs : List ℕ) (o : Option ℕ) → list_any (λ g. g == f) (with_flight fs o) ≡ true → (list_any (λ g. g == f) fs ≡ true) ⊎ (o ≡ Some f)
+has_push f fs None h = inl h
+has_push f fs (Some x) h =
+    elim (list_any (λ g. g == x) fs) as (λ b. list_any (λ g. g == f) (cond b fs (fs ++ x ∷ [])) ≡ true → (list_any (λ g. g == f) fs ≡ true) ⊎ (Some x ≡ Some f)) [
+      | true ↦ λ e. inl e
+      | false ↦ λ e. at_end fs e
+    ] h
+  where
+    at_end : (gs : List ℕ) → list_any (λ g. g == f) (gs ++ x ∷ []) ≡ true → (list_any (λ g. g == f) gs ≡ true) ⊎ (Some x ≡ Some f)
+    at_end [] e = elim (x == f) as (λ b. (x == f) ≡ b → (b || false) ≡ true → (false ≡ true) ⊎ (Some x ≡ Some f)) [ true ↦ λ t q. inr (ap Some (eqb-true x f t)) | false ↦ λ t q. absurd (cc) ] refl e
+    at_end (g ∷ gs) e =
+        elim (g == f) as (λ b. (b || list_any (λ g. g == f) (gs ++ x ∷ [])) ≡ true → ((b || list_any (λ g. g == f) gs) ≡ true) ⊎ (Some x ≡ Some f)) [
+          | true ↦ λ q. inl refl
+          | false ↦ λ q. at_end gs q
+        ] e
+
+pub touched-there : (J : History) (f : ℕ) → exists J f ≡ true → is_some (told J f).touch ≡ true
+touched-there [] f h = h
+touched-there (e ∷ J) f h =
+    elim (has_push f (flights J) (created e) h) [
+      | inl there ↦ touch_kept e f (told J f) (touched-there J f there)
+      | inr made ↦ new made
+    ]
+  where
+    new : created e ≡ Some f → is_some (tell e f (told J f)).touch ≡ true
+    new made =
+        elim (is_done e.outcome && creates e.command) as (λ b. (is_done e.outcome && creates e.command) ≡ b → cond b (Some (flight_of e.command)) None ≡ Some f → is_some (tell e f (told J f)).touch ≡ true) [
+          | true ↦ λ d s.
+              let done : is_done e.outcome ≡ true = and_left (is_done e.outcome) (creates e.command) d in
+              let makes : changes_flight e.command ≡ true = creates_changes e.command (and_right (is_done e.outcome) (creates e.command) d) in
+              let same : flight_of e.command ≡ f = cc in
+              let of : is_of f e ≡ true = ap (λ b. b && (changes_flight e.command && flight_of e.command == f)) done ∙ ap (λ b. b && flight_of e.command == f) makes ∙ eq-eqb (flight_of e.command) f same in
+              ap (λ b. is_some (cond b (with_command e.command e.moment (told J f)) (cond (ticks e) (with_tick e.moment (told J f)) (told J f))).touch) of
+          | false ↦ λ d s. absurd (cc)
+        ] refl made
 
 -- ---- what the reached word means
 
@@ -122,7 +210,7 @@ or_comm false false = refl
 pub reached-told : (J : History) (f m : ℕ) → has_reached (record_of J f) m ≡ has_come_to J f m
 reached-told [] f m = ap (λ n. n == 1) (bit_at-zero m)
 reached-told (e ∷ J) f m =
-    elim (is_of f e) as (λ b. has_reached (record_from f (cond b (with_command e.command (told J f)) (told J f))) m ≡ ((b && (bit_of e.command == m)) || has_come_to J f m)) [
+    elim (is_of f e) as (λ b. (bit_at (cond b (with_command e.command e.moment (told J f)) (cond (ticks e) (with_tick e.moment (told J f)) (told J f))).reached m == 1) ≡ ((b && (bit_of e.command == m)) || has_come_to J f m)) [
       | true ↦ or_bit (told J f).reached (bit_of e.command) m ∙ or_comm (has_reached (record_of J f) m) (bit_of e.command == m) ∙ ap (λ b. (bit_of e.command == m) || b) (reached-told J f m)
-      | false ↦ reached-told J f m
+      | false ↦ elim (ticks e) as (λ b. (bit_at (cond b (with_tick e.moment (told J f)) (told J f)).reached m == 1) ≡ has_come_to J f m) [ true ↦ reached-told J f m | false ↦ reached-told J f m ]
     ]

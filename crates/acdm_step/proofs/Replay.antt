@@ -1,5 +1,5 @@
 -- A step on the replay of a legal history is the replay of the longer history.
-use Rattle.std.proofs.Common.{◌≡◌, ◌≢◌, ℕ, ◌+◌, Bool, true, false, cond, not, ◌&&◌, ◌==◌, nat_lt, List, [], ◌∷◌, ◌++◌, map, length, get_or, set, Some, None, refl, sym, ap, subst, ◌∙◌, arith, eqb-true, ne_eqb}
+use Rattle.std.proofs.Common.{◌≡◌, ◌≢◌, ℕ, eq-eqb, ◌+◌, Bool, true, false, cond, not, ◌&&◌, ◌||◌, ◌==◌, nat_lt, List, [], ◌∷◌, ◌++◌, map, length, get_or, set, Some, None, refl, sym, ap, subst, ◌∙◌, arith, eqb-true, ne_eqb}
 use Rattle.std.proofs.lemmas.List.{length-map, map_push, get_or_past}
 use Rattle.std.specs.List.{position_or_len}
 use Rattle.acdm_record.specs.Fields.{Fields, new_record}
@@ -8,13 +8,13 @@ use Rattle.acdm_milestones.specs.declared.role.Action.TheVariants as actions
 use Rattle.acdm_milestones.specs.declared.refusal.Refusal.TheVariants.{NotOwner, UnknownFlight}
 use Rattle.acdm_milestones.specs.Tables.{number, owns}
 use Rattle.acdm_step.specs.declared.command.Command.{Command}
-use Rattle.acdm_step.specs.declared.command.Command.TheVariants.{Schedule, Report}
+use Rattle.acdm_step.specs.declared.command.Command.TheVariants.{Schedule, Report, Tick}
 use Rattle.acdm_step.specs.declared.entry.Outcome.{Outcome}
 use Rattle.acdm_step.specs.declared.entry.Outcome.TheVariants.{Refused}
 use Rattle.acdm_step.specs.declared.entry.Entry.{Entry}
-use Rattle.acdm_step.specs.History.{History, flight_of, is_of, is_done, creates, created, record_of, with_flight, flights, exists, outcome_for, outcome_of, IsLegal, after, would_create}
-use Rattle.acdm_step.specs.Board.{changed, place_of, is_there, record_on, put, board_outcome, board_after}
-use Rattle.acdm_step.proofs.Records.{record_same, record_changed}
+use Rattle.acdm_step.specs.History.{History, Told, nothing_told, with_command, with_tick, flight_of, changes_flight, is_tick, is_of, ticks, is_done, creates, created, told, record_from, record_of, with_flight, flights, exists, outcome_for, outcome_of, IsLegal, replay, after, would_create}
+use Rattle.acdm_step.specs.Board.{changed, touched, has_number, place_of, is_there, record_on, put, board_outcome, board_changed, board_after}
+use Rattle.acdm_step.proofs.Records.{record_same, record_changed, record_ticked, touched-there}
 use Rattle.acdm_step.proofs.Flights.{is_it, has, and_false, found, inside, outside, absent, updated, flights_distinct, grows, has-with_flight}
 
 -- ---- creation
@@ -26,9 +26,10 @@ first_owned false true rest h = refl
 first_owned false false rest h = h
 
 -- a command that is accepted where its flight is not there creates it
-admitted_creates : (c : Command) (count : ℕ) (r : Fields) (role : Role) → is_done (outcome_for false count r role c) ≡ true → creates c ≡ true
-admitted_creates (Schedule s) count r role h = refl
-admitted_creates (Report p) count r role h = first_owned (owns role (actions.Report p.milestone)) (number p.milestone == 1) _ h
+admitted_creates : (c : Command) (count : ℕ) (r : Fields) (role : Role) → changes_flight c ≡ true → is_done (outcome_for false count r role c) ≡ true → creates c ≡ true
+admitted_creates (Schedule s) count r role k h = refl
+admitted_creates Tick count r role k h = absurd (cc)
+admitted_creates (Report p) count r role k h = first_owned (owns role (actions.Report p.milestone)) (number p.milestone == 1) _ h
 
 -- what an accepted entry creates
 creates_or_not : (fs : List ℕ) (b : Bool) (f : ℕ) → has f fs ≡ true → with_flight fs (cond b (Some f) None) ≡ fs
@@ -37,32 +38,63 @@ creates_or_not fs false f h = refl
 
 -- ---- a flight that is not there has nothing set
 
+tick_or_change : (c : Command) → is_tick c ≡ false → changes_flight c ≡ true
+tick_or_change (Schedule s) h = refl
+tick_or_change (Report r) h = refl
+tick_or_change Tick h = absurd (cc)
+
+tick_no_change : (c : Command) → is_tick c ≡ true → changes_flight c ≡ false
+tick_no_change (Schedule s) h = absurd (cc)
+tick_no_change (Report r) h = absurd (cc)
+tick_no_change Tick h = refl
+
+pub change_no_tick : (c : Command) → changes_flight c ≡ true → is_tick c ≡ false
+change_no_tick (Schedule s) h = refl
+change_no_tick (Report r) h = refl
+change_no_tick Tick h = absurd (cc)
+
+no_and : (a b : Bool) → a ≡ false → (a && b) ≡ false
+no_and true b h = absurd (cc)
+no_and false b h = refl
+
+-- three tests that can't hold together
+not_all : (a b c : Bool) → (a ≡ true → b ≡ true → c ≡ true → ⊥) → (a && (b && c)) ≡ false
+not_all true true true h = absurd (h refl refl refl)
+not_all true true false h = refl
+not_all true false c h = refl
+not_all false b c h = refl
+
 module _ (f : ℕ) (e : Entry) (J : History) (legal : e.outcome ≡ outcome_of J e.role e.moment e.command) (gone : has f (with_flight (flights J) (created e)) ≡ false) where
   -- an accepted entry of a flight that is not there would have created it
-  not_named : is_done e.outcome ≡ true → (flight_of e.command == f) ≡ true → ⊥
-  not_named d n =
+  not_named : is_done e.outcome ≡ true → changes_flight e.command ≡ true → (flight_of e.command == f) ≡ true → ⊥
+  not_named d k n =
       let same : flight_of e.command ≡ f = eqb-true (flight_of e.command) f n in
       let before : has f (flights J) ≡ false = grows f (flights J) (created e) gone in
       let there : exists J (flight_of e.command) ≡ false = subst (λ g. has g (flights J) ≡ false) (sym same) before in
       let done : is_done (outcome_of J e.role e.moment e.command) ≡ true = sym (ap is_done legal) ∙ d in
       let done' : is_done (outcome_for false (length (flights J)) (record_of J (flight_of e.command)) e.role e.command) ≡ true =
       sym (ap (λ b. is_done (outcome_for b (length (flights J)) (record_of J (flight_of e.command)) e.role e.command)) there) ∙ done in
-      let makes = admitted_creates e.command (length (flights J)) (record_of J (flight_of e.command)) e.role done' in
+      let makes = admitted_creates e.command (length (flights J)) (record_of J (flight_of e.command)) e.role k done' in
       let made : created e ≡ Some f = ap (λ b. cond (b && creates e.command) (Some (flight_of e.command)) None) d ∙ ap (λ b. cond b (Some (flight_of e.command)) None) makes ∙ ap Some same in
       let yes : has f (with_flight (flights J) (created e)) ≡ true = ap (λ o. has f (with_flight (flights J) o)) made ∙ has-with_flight f (flights J) in
       cc
 
   unset : is_of f e ≡ false
-  unset =
-      elim (is_done e.outcome) as (λ b. is_done e.outcome ≡ b → (b && (flight_of e.command == f)) ≡ false) [
-        | true ↦ λ d. elim (flight_of e.command == f) as (λ b. (flight_of e.command == f) ≡ b → b ≡ false) [ true ↦ λ n. absurd (not_named d n) | false ↦ λ n. refl ] refl
-        | false ↦ λ d. refl
-      ] refl
+  unset = not_all (is_done e.outcome) (changes_flight e.command) (flight_of e.command == f) not_named
+
+nothing-told : (f : ℕ) (J : History) → IsLegal J → exists J f ≡ false → told J f ≡ nothing_told
+nothing-told f [] l h = refl
+nothing-told f (e ∷ J) l h =
+    let before = nothing-told f J l.0 (grows f (flights J) (created e) h) in
+    ap (λ b. cond b (with_command e.command e.moment (told J f)) (cond (ticks e) (with_tick e.moment (told J f)) (told J f))) (unset f e J l.2 h)
+    ∙ ap (λ t. cond (ticks e) (with_tick e.moment t) t) before ∙ either (ticks e)
+  where
+    either : (b : Bool) → cond b (with_tick e.moment nothing_told) nothing_told ≡ nothing_told
+    either true = refl
+    either false = refl
 
 nothing_set : (f : ℕ) (J : History) → IsLegal J → exists J f ≡ false → record_of J f ≡ new_record f
-nothing_set f [] l h = refl
-nothing_set f (e ∷ J) l h =
-    record_same e J f (unset f e J l.2 h) ∙ nothing_set f J l.0 (grows f (flights J) (created e) h)
+nothing_set f J l h = ap (record_from f) (nothing-told f J l h)
 
 -- ---- the records of a history
 
@@ -99,7 +131,7 @@ module _ (e : Entry) (J : History) (legal : IsLegal J) (right : e.outcome ≡ ou
   same_map : (gs : List ℕ) → is_done e.outcome ≡ false → map (record_of (e ∷ J)) gs ≡ map (record_of J) gs
   same_map [] d = refl
   same_map (g ∷ gs) d =
-      let here = record_same e J g (ap (λ b. b && (flight_of e.command == g)) d) in
+      let here = record_same e J g (no_and (is_done e.outcome) (changes_flight e.command && flight_of e.command == g) d) (no_and (is_done e.outcome) (is_tick e.command) d) in
       let rest = same_map gs d in
       λ t. here t ∷ rest t
 
@@ -109,61 +141,98 @@ module _ (e : Entry) (J : History) (legal : IsLegal J) (right : e.outcome ≡ ou
       let fs : flights (e ∷ J) ≡ flights J = ap (with_flight (flights J)) none in
       ap (map (record_of (e ∷ J))) fs ∙ same_map (flights J) d
 
-  others : (g : ℕ) → g ≢ flight_of e.command → record_of (e ∷ J) g ≡ record_of J g
-  others g ne =
-      record_same e J g (and_false (is_done e.outcome) (flight_of e.command == g) (ne_eqb (flight_of e.command) g (λ x. ne (sym x))))
+  -- a tick touches each flight
+  ticked_map : (gs : List ℕ) → ((g : ℕ) → has g gs ≡ true → exists J g ≡ true) → is_done e.outcome ≡ true → is_tick e.command ≡ true → map (record_of (e ∷ J)) gs ≡ map (touched e.moment) (map (record_of J) gs)
+  ticked_map [] all d k = refl
+  ticked_map (g ∷ gs) all d k =
+      let tick : ticks e ≡ true = ap (λ b. b && is_tick e.command) d ∙ k in
+      let other : is_of g e ≡ false = ap (λ b. is_done e.outcome && (b && flight_of e.command == g)) (tick_no_change e.command k) ∙ and_false (is_done e.outcome) false refl in
+      let first : has g (g ∷ gs) ≡ true = ap (λ b. b || has g gs) (eq-eqb g g refl) in
+      let here = record_ticked e J g other tick (touched-there J g (all g first)) in
+      let more = λ (h : ℕ) (e : has h gs ≡ true). all h (later (is_it h g) (has h gs) e) in
+      let rest = ticked_map gs more d k in
+      λ t. here t ∷ rest t
+    where
+      later : (a b : Bool) → b ≡ true → (a || b) ≡ true
+      later true b h = refl
+      later false b h = h
 
-  kept : is_done e.outcome ≡ true → exists J (flight_of e.command) ≡ true → flights (e ∷ J) ≡ flights J
-  kept d t =
-      ap (λ b. with_flight (flights J) (cond (b && creates e.command) (Some (flight_of e.command)) None)) d
-      ∙ creates_or_not (flights J) (creates e.command) (flight_of e.command) t
+  creates_none : (c : Command) → is_tick c ≡ true → creates c ≡ false
+  creates_none (Schedule s) h = absurd (cc)
+  creates_none (Report r) h = absurd (cc)
+  creates_none Tick h = refl
 
-  added : is_done e.outcome ≡ true → exists J (flight_of e.command) ≡ false → flights (e ∷ J) ≡ flights J ++ flight_of e.command ∷ []
-  added d t =
-      let done : is_done (outcome_for false (length (flights J)) (record_of J (flight_of e.command)) e.role e.command) ≡ true =
-      sym (ap (λ b. is_done (outcome_for b (length (flights J)) (record_of J (flight_of e.command)) e.role e.command)) t) ∙ sym (ap is_done right) ∙ d in
-      ap (λ b. with_flight (flights J) (cond (b && creates e.command) (Some (flight_of e.command)) None)) d
-      ∙ ap (λ b. with_flight (flights J) (cond b (Some (flight_of e.command)) None)) (admitted_creates e.command (length (flights J)) (record_of J (flight_of e.command)) e.role done)
-      ∙ ap (λ b. cond b (flights J) (flights J ++ flight_of e.command ∷ [])) t
+  tick-replay : is_done e.outcome ≡ true → is_tick e.command ≡ true → map (touched e.moment) (records_of J) ≡ records_of (e ∷ J)
+  tick-replay d k =
+      let none : created e ≡ None = ap (λ b. cond (b && creates e.command) (Some (flight_of e.command)) None) d ∙ ap (λ b. cond b (Some (flight_of e.command)) None) (creates_none e.command k) in
+      let fs : flights (e ∷ J) ≡ flights J = ap (with_flight (flights J)) none in
+      sym (ap (map (record_of (e ∷ J))) fs ∙ ticked_map (flights J) (λ g h. h) d k)
 
-  accepted-replay : is_done e.outcome ≡ true → put (records_of J) (flight_of e.command) (changed (record_on (records_of J) (flight_of e.command)) e.command) ≡ records_of (e ∷ J)
-  accepted-replay d =
-      let f : ℕ = flight_of e.command in
-      let now : changed (record_on (records_of J) f) e.command ≡ record_of (e ∷ J) f = ap (λ r. changed r e.command) (record_on-replay J f legal) ∙ sym (record_changed e J d) in
-      ap (put (records_of J) f) now ∙
-      (elim (exists J f) as (λ b. exists J f ≡ b → put (records_of J) f (record_of (e ∷ J) f) ≡ records_of (e ∷ J)) [
-        | true ↦ λ t.
-            let there : is_there (records_of J) f ≡ true = there-replay J f ∙ t in
-            let fs : flights (e ∷ J) ≡ flights J = kept d t in
-            ap (λ b. cond b (set (records_of J) (place_of (records_of J) f) (record_of (e ∷ J) f)) (records_of J ++ record_of (e ∷ J) f ∷ [])) there
-            ∙ ap (λ n. set (records_of J) n (record_of (e ∷ J) f)) (place-replay J f (flights J))
-            ∙ sym (updated f (record_of J) (record_of (e ∷ J)) others (flights J) (flights_distinct J) t)
-            ∙ ap (map (record_of (e ∷ J))) (sym fs)
-        | false ↦ λ t.
-            let there : is_there (records_of J) f ≡ false = there-replay J f ∙ t in
-            let fs : flights (e ∷ J) ≡ flights J ++ f ∷ [] = added d t in
-            ap (λ b. cond b (set (records_of J) (place_of (records_of J) f) (record_of (e ∷ J) f)) (records_of J ++ record_of (e ∷ J) f ∷ [])) there
-            ∙ ap (λ b. b ++ record_of (e ∷ J) f ∷ []) (sym (absent f (record_of J) (record_of (e ∷ J)) others (flights J) t))
-            ∙ sym (map_push (record_of (e ∷ J)) (flights J) f)
-            ∙ ap (map (record_of (e ∷ J))) (sym fs)
-      ] refl)
+  module _ (k : changes_flight e.command ≡ true) where
+    others : (g : ℕ) → g ≢ flight_of e.command → record_of (e ∷ J) g ≡ record_of J g
+    others g ne =
+        record_same e J g
+        (and_false (is_done e.outcome) (changes_flight e.command && flight_of e.command == g) (and_false (changes_flight e.command) (flight_of e.command == g) (ne_eqb (flight_of e.command) g (λ x. ne (sym x)))))
+        (and_false (is_done e.outcome) (is_tick e.command) (change_no_tick e.command k))
 
-pub step-replay : (J : History) (session : ℕ) (role : Role) (m : ℕ) (c : Command) → IsLegal J → board_after (records_of J) role c ≡ records_of (after J session role m c)
+    kept : is_done e.outcome ≡ true → exists J (flight_of e.command) ≡ true → flights (e ∷ J) ≡ flights J
+    kept d t =
+        ap (λ b. with_flight (flights J) (cond (b && creates e.command) (Some (flight_of e.command)) None)) d
+        ∙ creates_or_not (flights J) (creates e.command) (flight_of e.command) t
+
+    added : is_done e.outcome ≡ true → exists J (flight_of e.command) ≡ false → flights (e ∷ J) ≡ flights J ++ flight_of e.command ∷ []
+    added d t =
+        let done : is_done (outcome_for false (length (flights J)) (record_of J (flight_of e.command)) e.role e.command) ≡ true =
+        sym (ap (λ b. is_done (outcome_for b (length (flights J)) (record_of J (flight_of e.command)) e.role e.command)) t) ∙ sym (ap is_done right) ∙ d in
+        ap (λ b. with_flight (flights J) (cond (b && creates e.command) (Some (flight_of e.command)) None)) d
+        ∙ ap (λ b. with_flight (flights J) (cond b (Some (flight_of e.command)) None)) (admitted_creates e.command (length (flights J)) (record_of J (flight_of e.command)) e.role k done)
+        ∙ ap (λ b. cond b (flights J) (flights J ++ flight_of e.command ∷ [])) t
+
+    accepted-replay : is_done e.outcome ≡ true → put (records_of J) (flight_of e.command) (changed (record_on (records_of J) (flight_of e.command)) e.moment e.command) ≡ records_of (e ∷ J)
+    accepted-replay d =
+        let f : ℕ = flight_of e.command in
+        let now : changed (record_on (records_of J) f) e.moment e.command ≡ record_of (e ∷ J) f = ap (λ r. changed r e.moment e.command) (record_on-replay J f legal) ∙ sym (record_changed e J d k) in
+        ap (put (records_of J) f) now ∙
+        (elim (exists J f) as (λ b. exists J f ≡ b → put (records_of J) f (record_of (e ∷ J) f) ≡ records_of (e ∷ J)) [
+          | true ↦ λ t.
+              let there : is_there (records_of J) f ≡ true = there-replay J f ∙ t in
+              let fs : flights (e ∷ J) ≡ flights J = kept d t in
+              ap (λ b. cond b (set (records_of J) (place_of (records_of J) f) (record_of (e ∷ J) f)) (records_of J ++ record_of (e ∷ J) f ∷ [])) there
+              ∙ ap (λ n. set (records_of J) n (record_of (e ∷ J) f)) (place-replay J f (flights J))
+              ∙ sym (updated f (record_of J) (record_of (e ∷ J)) others (flights J) (flights_distinct J) t)
+              ∙ ap (map (record_of (e ∷ J))) (sym fs)
+          | false ↦ λ t.
+              let there : is_there (records_of J) f ≡ false = there-replay J f ∙ t in
+              let fs : flights (e ∷ J) ≡ flights J ++ f ∷ [] = added d t in
+              ap (λ b. cond b (set (records_of J) (place_of (records_of J) f) (record_of (e ∷ J) f)) (records_of J ++ record_of (e ∷ J) f ∷ [])) there
+              ∙ ap (λ b. b ++ record_of (e ∷ J) f ∷ []) (sym (absent f (record_of J) (record_of (e ∷ J)) others (flights J) t))
+              ∙ sym (map_push (record_of (e ∷ J)) (flights J) f)
+              ∙ ap (map (record_of (e ∷ J))) (sym fs)
+        ] refl)
+
+  changed-replay : is_done e.outcome ≡ true → board_changed (records_of J) e.moment e.command ≡ records_of (e ∷ J)
+  changed-replay d =
+      elim (is_tick e.command) as (λ b. is_tick e.command ≡ b → cond b (map (touched e.moment) (records_of J)) (put (records_of J) (flight_of e.command) (changed (record_on (records_of J) (flight_of e.command)) e.moment e.command)) ≡ records_of (e ∷ J)) [
+        | true ↦ λ k. tick-replay d k
+        | false ↦ λ k. accepted-replay (tick_or_change e.command k) d
+      ] refl
+
+pub step-replay : (J : History) (session : ℕ) (role : Role) (m : ℕ) (c : Command) → IsLegal J → board_after (records_of J) role m c ≡ records_of (after J session role m c)
 unfolding board_after
 step-replay J session role m c l =
     let e : Entry = record { number = length J; session = session; role = role; moment = m; command = c; outcome = outcome_of J role m c } in
-    ap (λ o. cond (is_done o) (put (records_of J) (flight_of c) (changed (record_on (records_of J) (flight_of c)) c)) (records_of J)) (outcome-replay J role m c l)
-    ∙ (elim (is_done (outcome_of J role m c)) as (λ b. is_done (outcome_of J role m c) ≡ b → cond b (put (records_of J) (flight_of c) (changed (record_on (records_of J) (flight_of c)) c)) (records_of J) ≡ records_of (e ∷ J)) [
-      | true ↦ λ d. accepted-replay e J l refl d
+    ap (λ o. cond (is_done o) (board_changed (records_of J) m c) (records_of J)) (outcome-replay J role m c l)
+    ∙ (elim (is_done (outcome_of J role m c)) as (λ b. is_done (outcome_of J role m c) ≡ b → cond b (board_changed (records_of J) m c) (records_of J) ≡ records_of (e ∷ J)) [
+      | true ↦ λ d. changed-replay e J l refl d
       | false ↦ λ d. sym (refused-replay e J l refl d)
     ] refl)
 
 -- what creates a flight on the board creates it after the history
-pub creating-replay : (J : History) (role : Role) (m : ℕ) (c : Command) (b : List Fields) → IsLegal J → b ≡ records_of J → (is_done (board_outcome b role c) && not (is_there b (flight_of c))) ≡ would_create J role m c
+pub creating-replay : (J : History) (role : Role) (m : ℕ) (c : Command) (b : List Fields) → IsLegal J → b ≡ records_of J → (is_done (board_outcome b role c) && (changes_flight c && not (is_there b (flight_of c)))) ≡ would_create J role m c
 creating-replay J role m c b l e =
-    ap (λ rs. is_done (board_outcome rs role c) && not (is_there rs (flight_of c))) e
-    ∙ ap (λ o. is_done o && not (is_there (records_of J) (flight_of c))) (outcome-replay J role m c l)
-    ∙ ap (λ t. is_done (outcome_of J role m c) && not t) (there-replay J (flight_of c))
+    ap (λ rs. is_done (board_outcome rs role c) && (changes_flight c && not (is_there rs (flight_of c)))) e
+    ∙ ap (λ o. is_done o && (changes_flight c && not (is_there (records_of J) (flight_of c)))) (outcome-replay J role m c l)
+    ∙ ap (λ t. is_done (outcome_of J role m c) && (changes_flight c && not t)) (there-replay J (flight_of c))
 
 -- the record at a flight's place
 module _ (J : History) (f place : ℕ) (rs : List Fields) (is : rs ≡ records_of J) (at : place ≡ place_of rs f) where

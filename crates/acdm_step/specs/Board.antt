@@ -1,18 +1,27 @@
 -- One step on the records themselves, in order of creation.
-use Rattle.std.specs.Prelude.{ℕ, Bool, ◌==◌, nat_lt, if◌then◌else◌, List, [], ◌∷◌, ◌++◌, length, slice_index_or, slice_set}
+use Rattle.std.specs.Prelude.{ℕ, Bool, map, ◌==◌, nat_lt, if◌then◌else◌, List, [], ◌∷◌, ◌++◌, length, slice_index_or, slice_set}
 use Rattle.std.specs.List.{position_or_len}
-use Rattle.acdm_record.specs.declared.field.Field.TheVariants.{Flight}
-use Rattle.acdm_record.specs.Fields.{Fields, number_of, new_record}
+use Rattle.acdm_record.specs.declared.field.Field.TheVariants.{Flight, Alerts}
+use Rattle.acdm_record.specs.Fields.{Fields, number_of, set_number, new_record}
 use Rattle.acdm_record.specs.Assign.{with_all}
+use Rattle.acdm_alerts.specs.Conditions.{alert_word}
 use Rattle.acdm_milestones.specs.declared.role.Role.{Role}
 use Rattle.acdm_milestones.specs.Tables.{marked}
 use Rattle.acdm_step.specs.declared.command.Command.{Command}
 use Rattle.acdm_step.specs.declared.entry.Outcome.{Outcome}
-use Rattle.acdm_step.specs.History.{assigned_by, bit_of, flight_of, is_done, outcome_for}
+use Rattle.acdm_step.specs.History.{assigned_by, bit_of, flight_of, is_tick, is_done, outcome_for}
 
--- a record after an accepted command
-abbrev pub changed : Fields → Command → Fields
-changed r c = marked (with_all r (assigned_by c)) (bit_of c)
+-- a record with its alerts anew
+abbrev pub touched : ℕ → Fields → Fields
+touched now r = set_number r Alerts (alert_word r now)
+
+-- a record with what a command of its flight assigns
+abbrev pub assigned_to : Fields → Command → Fields
+assigned_to r c = marked (with_all r (assigned_by c)) (bit_of c)
+
+-- the record of a flight after an accepted command of it
+abbrev pub changed : Fields → ℕ → Command → Fields
+changed r now c = touched now (assigned_to r c)
 
 -- the place of a flight's record, or how many there are
 abbrev pub has_number : ℕ → Fields → Bool
@@ -34,5 +43,9 @@ put board f r = if is_there board f then slice_set board (place_of board f) r el
 unfoldable pub board_outcome : List Fields → Role → Command → Outcome
 board_outcome board role c = outcome_for (is_there board (flight_of c)) (length board) (record_on board (flight_of c)) role c
 
-unfoldable pub board_after : List Fields → Role → Command → List Fields
-board_after board role c = if is_done (board_outcome board role c) then put board (flight_of c) (changed (record_on board (flight_of c)) c) else board
+-- the records after an accepted command
+abbrev pub board_changed : List Fields → ℕ → Command → List Fields
+board_changed board now c = if is_tick c then map (touched now) board else put board (flight_of c) (changed (record_on board (flight_of c)) now c)
+
+unfoldable pub board_after : List Fields → Role → ℕ → Command → List Fields
+board_after board role now c = if is_done (board_outcome board role c) then board_changed board now c else board

@@ -1,6 +1,6 @@
 -- What the board is after a history of entries (this project's profile). A history is the list of its entries,
 -- the newest first. Each question is asked of the whole history.
-use Rattle.std.specs.Prelude.{ℕ, ◌^◌, ◌≡◌, Bool, true, false, ◌&&◌, ◌==◌, not, nat_lt, if◌then◌else◌, List, [], ◌∷◌, ◌++◌, map, length, bit_or, Option, Some, None, Result, Ok, Err}
+use Rattle.std.specs.Prelude.{ℕ, ◌^◌, ◌≡◌, Bool, true, false, ◌&&◌, ◌==◌, not, nat_lt, if◌then◌else◌, List, [], ◌∷◌, ◌++◌, map, length, bit_or, Option, Some, None, option_map, Result, Ok, Err}
 use Rattle.std.specs.List.{list_any}
 use Rattle.acdm_record.specs.declared.field.Field.{Field}
 use Rattle.acdm_record.specs.declared.field.Field.TheVariants.{Flight, Reached, Alerts, Mttt, Exot, Stand, Layout, Exit, Sobt}
@@ -14,10 +14,11 @@ use Rattle.acdm_milestones.specs.declared.role.Action.TheVariants as actions
 use Rattle.acdm_milestones.specs.declared.milestone.Milestone.{Milestone}
 use Rattle.acdm_milestones.specs.declared.refusal.Refusal.{Refusal}
 use Rattle.acdm_milestones.specs.declared.refusal.Refusal.TheVariants.{UnknownFlight, NotOwner, AlreadyPlanned, FullBoard}
+use Rattle.acdm_alerts.specs.Conditions.{conditions}
 use Rattle.acdm_milestones.specs.Tables.{number, owns, times_of, has_reached, admission}
 use Rattle.acdm_step.specs.declared.command.Plan.{Plan}
 use Rattle.acdm_step.specs.declared.command.Command.{Command}
-use Rattle.acdm_step.specs.declared.command.Command.TheVariants.{Schedule, Report}
+use Rattle.acdm_step.specs.declared.command.Command.TheVariants.{Schedule, Report, Tick}
 use Rattle.acdm_step.specs.declared.entry.Outcome.{Outcome}
 use Rattle.acdm_step.specs.declared.entry.Outcome.TheVariants.{Done, Refused}
 use Rattle.acdm_step.specs.declared.entry.Entry.{Entry}
@@ -30,10 +31,21 @@ most_flights = 4096
 
 -- ---- what one command says
 
--- the flight of a command
+-- the flight of a command; a tick names none, and 0 is no flight
 abbrev pub flight_of : Command → ℕ
 flight_of (Schedule s) = s.flight
 flight_of (Report r) = r.flight
+flight_of Tick = 0
+
+-- whether it changes the record of one flight
+abbrev pub changes_flight : Command → Bool
+changes_flight (Schedule s) = true
+changes_flight (Report r) = true
+changes_flight Tick = false
+
+abbrev pub is_tick : Command → Bool
+is_tick Tick = true
+is_tick _ = false
 
 abbrev pub planned : Option Plan → List Assignment
 planned None = []
@@ -45,16 +57,19 @@ assigned_by (Schedule s) =
     text_is Callsign s.plan.callsign ∷ text_is ScheduledType s.plan.aircraft ∷ text_is ScheduledRegistration s.plan.registration ∷ text_is ScheduledDestination s.plan.destination
     ∷ number_is Sobt s.sobt ∷ number_is Mttt s.mttt ∷ number_is Exit s.exit ∷ number_is Exot s.exot ∷ number_is Stand s.stand ∷ []
 assigned_by (Report r) = times_of r.milestone r.time ++ planned r.plan
+assigned_by Tick = []
 
 -- the bit that it sets in the reached word: 0 for a schedule, m for milestone m
 abbrev pub bit_of : Command → ℕ
 bit_of (Schedule s) = 0
 bit_of (Report r) = number r.milestone
+bit_of Tick = 0
 
 -- whether it creates its flight where that is not there: a schedule and milestone 1 do
 abbrev pub creates : Command → Bool
 creates (Schedule s) = true
 creates (Report r) = number r.milestone == 1
+creates Tick = false
 
 -- ---- what one entry says
 
@@ -62,9 +77,13 @@ abbrev pub is_done : Outcome → Bool
 is_done Done = true
 is_done (Refused x) = false
 
--- an accepted entry of a flight
+-- an accepted entry that changes a flight
 abbrev pub is_of : ℕ → Entry → Bool
-is_of f e = is_done e.outcome && flight_of e.command == f
+is_of f e = is_done e.outcome && (changes_flight e.command && flight_of e.command == f)
+
+-- an accepted tick
+abbrev pub ticks : Entry → Bool
+ticks e = is_done e.outcome && is_tick e.command
 
 -- the flight that an entry creates where it is not there yet
 abbrev pub created : Entry → Option ℕ
@@ -72,25 +91,35 @@ created e = if is_done e.outcome && creates e.command then Some (flight_of e.com
 
 -- ---- what the whole history says of a flight
 
--- all that was assigned, the last first, and the bits that were reached
+-- all that was assigned, the last first, the bits that were reached, and the moment of its last touch: an accepted
+-- schedule or report of it, or an accepted tick after its creation
 pub record Told : Type 0 where
   pub assigned : List Assignment
   pub reached : ℕ
+  pub touch : Option ℕ
 
 -- new assignments before earlier ones, the last of them first
 abbrev pub onto : List Assignment → List Assignment → List Assignment
 onto [] earlier = earlier
 onto (a ∷ more) earlier = onto more (a ∷ earlier)
 
--- what an accepted command adds; a refused entry, or one of another flight, adds nothing
-abbrev pub with_command : Command → Told → Told
-with_command c t = record { assigned = onto (assigned_by c) t.assigned; reached = bit_or t.reached (2 ^ bit_of c) }
+-- what an accepted command of the flight adds at its moment
+abbrev pub with_command : Command → ℕ → Told → Told
+with_command c now t = record { assigned = onto (assigned_by c) t.assigned; reached = bit_or t.reached (2 ^ bit_of c); touch = Some now }
 
+-- a tick touches a flight that was touched before, by its creation
+abbrev pub with_tick : ℕ → Told → Told
+with_tick now t = record t { touch = option_map (λ m. now) t.touch }
+
+-- what one entry adds; a refused entry, or one of another flight, adds nothing
 abbrev pub tell : Entry → ℕ → Told → Told
-tell e f t = if is_of f e then with_command e.command t else t
+tell e f t = if is_of f e then with_command e.command e.moment t else (if ticks e then with_tick e.moment t else t)
+
+abbrev pub nothing_told : Told
+nothing_told = record { assigned = []; reached = 0; touch = None }
 
 abbrev pub told : History → ℕ → Told
-told [] f = record { assigned = []; reached = 0 }
+told [] f = nothing_told
 told (e ∷ J) f = tell e f (told J f)
 
 -- the value that was assigned last, else 0 or the empty text
@@ -104,16 +133,24 @@ last_text [] t = []
 last_text (number_is g v ∷ more) t = last_text more t
 last_text (text_is u v ∷ more) t = if text_index_of u == text_index_of t then v else last_text more t
 
--- a number of the record of flight f
-abbrev pub number_in : ℕ → Told → Field → ℕ
-number_in f t Flight = f
-number_in f t Layout = 1
-number_in f t Reached = t.reached
-number_in f t Alerts = 0
-number_in f t name = last_number t.assigned name
+-- the record of flight f with these assignments, reached bits and alert word
+abbrev pub number_with : ℕ → List Assignment → ℕ → ℕ → Field → ℕ
+number_with f assigned reached alerts Flight = f
+number_with f assigned reached alerts Layout = 1
+number_with f assigned reached alerts Reached = reached
+number_with f assigned reached alerts Alerts = alerts
+number_with f assigned reached alerts name = last_number assigned name
+
+abbrev pub record_with : ℕ → List Assignment → ℕ → ℕ → Fields
+record_with f assigned reached alerts = fields_of (number_with f assigned reached alerts) (last_text assigned)
+
+-- its alerts: the conditions at the moment of its last touch
+abbrev pub alerts_at : ℕ → List Assignment → ℕ → Option ℕ → ℕ
+alerts_at f assigned reached None = 0
+alerts_at f assigned reached (Some now) = conditions (record_with f assigned reached 0) now
 
 abbrev pub record_from : ℕ → Told → Fields
-record_from f t = fields_of (number_in f t) (last_text t.assigned)
+record_from f t = record_with f t.assigned t.reached (alerts_at f t.assigned t.reached t.touch)
 
 -- the record of a flight
 abbrev pub record_of : History → ℕ → Fields
@@ -158,9 +195,13 @@ report_outcome there count r role m time =
     else (if not there && not (nat_lt count most_flights) then Refused FullBoard
     else outcome_from (admission r role m time)))
 
+abbrev pub tick_outcome : Role → Outcome
+tick_outcome role = if owns role actions.Tick then Done else Refused NotOwner
+
 abbrev pub outcome_for : Bool → ℕ → Fields → Role → Command → Outcome
 outcome_for there count r role (Schedule s) = schedule_outcome there count r role
 outcome_for there count r role (Report p) = report_outcome there count r role p.milestone p.time
+outcome_for there count r role Tick = tick_outcome role
 
 -- what comes of a command after a history
 abbrev pub outcome_of : History → Role → ℕ → Command → Outcome
@@ -185,4 +226,4 @@ after J session role moment command = record { number = length J; session = sess
 
 -- whether a command would create a flight
 abbrev pub would_create : History → Role → ℕ → Command → Bool
-would_create J role moment c = is_done (outcome_of J role moment c) && not (exists J (flight_of c))
+would_create J role moment c = is_done (outcome_of J role moment c) && (changes_flight c && not (exists J (flight_of c)))

@@ -1,11 +1,12 @@
 //! What a command does to the record of its flight.
-ghost use Rattle.std.specs.Prelude.{◌≡◌, ◌==◌};
+ghost use Rattle.std.specs.Prelude.{◌≡◌, IsTrue};
 ghost use Rattle.acdm_record.specs.Assign.{with_all};
-ghost use Rattle.acdm_step.specs.History.{schedule_outcome, report_outcome, outcome_for, flight_of, planned};
-ghost use Rattle.acdm_step.specs.Board.{changed as after_command};
+ghost use Rattle.acdm_step.specs.History.{schedule_outcome, report_outcome, tick_outcome, outcome_for, flight_of, changes_flight, planned};
+ghost use Rattle.acdm_step.specs.Board.{assigned_to, changed as after_command, touched};
 
 use crate::command::{Command, Plan, Report, Schedule};
 use crate::entry::Outcome;
+use acdm_alerts::builtin;
 use acdm_milestones::{
     Action, Milestone, Refusal, Role, admit, has_reached, mark_reached, owns, set_time,
 };
@@ -14,8 +15,15 @@ use acdm_record::{Field, Record, TextField};
 /// How many flights a board has at most.
 pub const MOST_FLIGHTS: usize = 4096;
 
+/// Computes the alerts of a record anew.
+pub(crate) fn touch(record: &mut Record, now: u32)
+    ensures { record.new ≡ touched now record.old }
+{
+    builtin(record, now).store(record);
+}
+
 fn set_scheduled(record: &mut Record, schedule: &Schedule)
-    ensures { record.new ≡ after_command record.old (Command.Schedule schedule.now) }
+    ensures { record.new ≡ assigned_to record.old (Command.Schedule schedule.now) }
 {
     record.set_text(TextField::Callsign, schedule.plan.callsign.as_bytes());
     record.set_text(TextField::ScheduledType, schedule.plan.aircraft.as_bytes());
@@ -47,21 +55,32 @@ fn set_planned(record: &mut Record, plan: &Option<Plan>)
 }
 
 fn set_reported(record: &mut Record, report: &Report)
-    ensures { record.new ≡ after_command record.old (Command.Report report.now) }
+    ensures { record.new ≡ assigned_to record.old (Command.Report report.now) }
 {
     set_time(record, report.milestone, report.time);
     set_planned(record, &report.plan);
     mark_reached(record, report.milestone.number());
 }
 
-/// Sets what an accepted command assigns to the record of its flight.
-pub(crate) fn change(record: &mut Record, command: &Command)
-    ensures { record.new ≡ after_command record.old command.now }
+// Sets what an accepted command assigns to the record of its flight.
+fn assign(record: &mut Record, command: &Command)
+    requires { IsTrue (changes_flight command.now) }
+    ensures { record.new ≡ assigned_to record.old command.now }
 {
     match command {
         Command::Schedule(schedule) => set_scheduled(record, schedule),
         Command::Report(report) => set_reported(record, report),
+        Command::Tick => unreachable!(),
     }
+}
+
+/// What an accepted command does to the record of its flight, at a moment.
+pub(crate) fn change(record: &mut Record, now: u32, command: &Command)
+    requires { IsTrue (changes_flight command.now) }
+    ensures { record.new ≡ after_command record.old now command.now }
+{
+    assign(record, command);
+    touch(record, now);
 }
 
 fn outcome_of_schedule(record: &Record, is_there: bool, count: usize, role: Role) -> Outcome
@@ -104,6 +123,17 @@ fn outcome_of_report(
     }
 }
 
+/// What comes of a tick.
+pub(crate) fn outcome_of_tick(role: Role) -> Outcome
+    ensures { result ≡ tick_outcome role }
+{
+    if owns(role, Action::Tick) {
+        Outcome::Done
+    } else {
+        Outcome::Refused(Refusal::NotOwner)
+    }
+}
+
 /// What comes of a command, by the record of its flight.
 pub(crate) fn outcome(
     record: &Record,
@@ -119,15 +149,17 @@ pub(crate) fn outcome(
         Command::Report(report) => {
             outcome_of_report(record, is_there, count, role, report.milestone, report.time)
         }
+        Command::Tick => outcome_of_tick(role),
     }
 }
 
-/// The flight of a command.
+/// The flight of a command, 0 for a tick.
 pub(crate) fn flight_of_command(command: &Command) -> u64
     ensures { result ≡ flight_of command.now }
 {
     match command {
         Command::Schedule(schedule) => schedule.flight,
         Command::Report(report) => report.flight,
+        Command::Tick => 0,
     }
 }

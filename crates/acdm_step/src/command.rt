@@ -115,4 +115,6 @@ pub enum Command {
     Schedule(Schedule),
     /// To report a milestone.
     Report(Report),
+    /// To compute the alerts of all flights anew.
+    Tick,
 }

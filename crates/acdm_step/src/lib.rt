@@ -9,3 +9,6 @@ mod state;
 pub use command::{Command, Plan, Report, Schedule};
 pub use entry::{Entry, Outcome};
 pub use state::Core;
+
+#[cfg(test)]
+mod tests;

@@ -1,11 +1,11 @@
 //! The core: the records of the flights in order of creation.
-ghost use Rattle.std.specs.Prelude.{◌≡◌, ◌==◌, ◌&&◌, ◌≤◌, ℕ, [], not, IsTrue, IfOk, OnErr, OnOk, IfSome, if◌then◌else◌, Option, Some, None};
+ghost use Rattle.std.specs.Prelude.{◌≡◌, ◌==◌, ◌&&◌, ◌≤◌, ℕ, [], not, IsTrue, IfOk, OnErr, OnOk, IfSome, map, if◌then◌else◌, Option, Some, None};
 ghost use Rattle.std.specs.Option.{option_copied};
 ghost use Rattle.acdm_milestones.specs.Tables.{has_reached};
-ghost use Rattle.acdm_step.specs.History.{History, IsLegal, replay, after, outcome_of, would_create, exists, record_of as record_in, has_come_to, is_done, flight_of};
-ghost use Rattle.acdm_step.specs.Board.{place_of, is_there, board_outcome, board_after};
+ghost use Rattle.acdm_step.specs.History.{History, IsLegal, replay, after, outcome_of, would_create, exists, record_of as record_in, has_come_to, is_done, flight_of, changes_flight, tick_outcome};
+ghost use Rattle.acdm_step.specs.Board.{touched, place_of, is_there, board_outcome, board_after};
 
-use crate::change::{change, flight_of_command, outcome};
+use crate::change::{change, flight_of_command, outcome, outcome_of_tick, touch};
 use crate::command::Command;
 use crate::entry::Outcome;
 use acdm_milestones::Role;
@@ -25,12 +25,41 @@ fn place_in(records: &[Record], flight: u64) -> usize
     records.len()
 }
 
-// A step on the records. Room for a new flight is made before anything changes.
-fn step(records: &mut Vec<Record>, role: Role, command: &Command) -> Result<Outcome, AllocError>
+// Touches each record.
+fn touch_all(records: &mut [Record], now: u32)
+    ensures { records.new ≡ map (touched now) records.old }
+{
+    for record in records.iter_mut() {
+        touch(record, now);
+    }
+}
+
+// A tick on the records.
+fn tick(records: &mut [Record], role: Role, now: u32) -> Outcome
+    ensures outcome { result ≡ tick_outcome role }
+    ensures records { records.new ≡ (if is_done (tick_outcome role) then map (touched now) records.old else records.old) }
+{
+    let result = outcome_of_tick(role);
+    if !result.is_done() {
+        return result;
+    }
+    touch_all(records, now);
+    result
+}
+
+// A step on the record of one flight. Room for a new one is made before anything changes.
+fn step_flight(
+    records: &mut Vec<Record>,
+    role: Role,
+    now: u32,
+    command: &Command,
+) -> Result<Outcome, AllocError>
+    requires { IsTrue (changes_flight command.now) }
     ensures outcome { IfOk result (λ outcome. outcome ≡ board_outcome records.old.items role command.now) }
-    ensures records { OnOk result (records.new.items ≡ board_after records.old.items role command.now) }
+    ensures records { OnOk result (records.new.items ≡ board_after records.old.items role now command.now) }
     ensures err { OnErr result (records.new.items ≡ records.old.items) }
-    ensures creating { OnErr result (IsTrue (is_done (board_outcome records.old.items role command.now) && not (is_there records.old.items (flight_of command.now)))) }
+    ensures creating { OnErr result (IsTrue (is_done (board_outcome records.old.items role command.now)
+        && (changes_flight command.now && not (is_there records.old.items (flight_of command.now))))) }
 {
     let flight = flight_of_command(command);
     let place = place_in(records.as_slice(), flight);
@@ -41,7 +70,7 @@ fn step(records: &mut Vec<Record>, role: Role, command: &Command) -> Result<Outc
         if !result.is_done() {
             return Ok(result);
         }
-        change(record, command);
+        change(record, now, command);
         return Ok(result);
     }
     let mut record = Record::new(flight);
@@ -50,11 +79,31 @@ fn step(records: &mut Vec<Record>, role: Role, command: &Command) -> Result<Outc
         return Ok(result);
     }
     records.reserve(1)?;
-    change(&mut record, command);
+    change(&mut record, now, command);
     if records.push(record).is_err() {
         unreachable!();
     }
     Ok(result)
+}
+
+// A step on the records.
+fn step(
+    records: &mut Vec<Record>,
+    role: Role,
+    now: u32,
+    command: &Command,
+) -> Result<Outcome, AllocError>
+    ensures outcome { IfOk result (λ outcome. outcome ≡ board_outcome records.old.items role command.now) }
+    ensures records { OnOk result (records.new.items ≡ board_after records.old.items role now command.now) }
+    ensures err { OnErr result (records.new.items ≡ records.old.items) }
+    ensures creating { OnErr result (IsTrue (is_done (board_outcome records.old.items role command.now)
+        && (changes_flight command.now && not (is_there records.old.items (flight_of command.now))))) }
+{
+    match command {
+        Command::Tick => Ok(tick(records.as_mut_slice(), role, now)),
+        Command::Schedule(_) => step_flight(records, role, now, command),
+        Command::Report(_) => step_flight(records, role, now, command),
+    }
 }
 
 /// The board of a history: the record of each flight, in order of creation.
@@ -115,7 +164,6 @@ impl Core {
         ensures creating { OnErr result ((J : History) → IsLegal J → self.old ≡ replay J →
             IsTrue (would_create J role moment command.now)) }
     {
-        let _now = moment;
-        step(&mut self.records, role, command)
+        step(&mut self.records, role, moment, command)
     }
 }

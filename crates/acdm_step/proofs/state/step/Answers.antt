@@ -1,59 +1,16 @@
-use Rattle.std.proofs.Common.{◌≡◌, true, not, is_ok, refl, ap, sym, ◌∙◌}
-use Rattle.acdm_step.proofs.Steps.{outcome_is_there, refused_there, accepted_there, outcome_is_absent, refused_absent, accepted_absent, creating, on_err}
+use Rattle.std.proofs.Common.{◌≡◌, cond, map, length, ap, sym, ◌∙◌}
+use Rattle.acdm_step.specs.History.{is_done, tick_outcome}
+use Rattle.acdm_step.specs.Board.{touched, board_outcome, board_after}
+use Rattle.acdm_step.proofs.Steps.{tick_outcome_is, tick_after, whole_slice}
 use Rattle.acdm_step.proofs.state.step.Goals as goal
 
-pub returns-then-not-is_done-clause-outcome : goal.returns-then-not-is_done-clause-outcome
-returns-then-not-is_done-clause-outcome c =
-    outcome_is_there c.args.records.now.items c.as_slice.result.now c.args.role c.args.command.now c.place_in-place.result c.flight_of_command-flight.result c.len-count.result
-    c.place_in-place.ensures c.as_slice.ensures.value c.flight_of_command-flight.ensures (c.len-count.ensures ∙ c.args.records.now.ok.0)
-    c.index_mut-record.result.now c.outcome-result.result c.if-place-count.true c.index_mut-record.ensures.value c.outcome-result.ensures
+pub returns-in-Tick-clause-outcome : goal.returns-in-Tick-clause-outcome
+returns-in-Tick-clause-outcome c =
+    c.tick.ensures.outcome ∙ tick_outcome_is c.args.records.now.items c.args.role ∙ ap (board_outcome c.args.records.now.items c.args.role) (sym c.in-Tick.is)
 
-pub returns-then-not-is_done-clause-records : goal.returns-then-not-is_done-clause-records
-returns-then-not-is_done-clause-records c =
-    refused_there c.args.records.now.items c.as_slice.result.now c.args.role c.args.command.now c.place_in-place.result c.flight_of_command-flight.result c.len-count.result
-    c.place_in-place.ensures c.as_slice.ensures.value c.flight_of_command-flight.ensures (c.len-count.ensures ∙ c.args.records.now.ok.0)
-    c.index_mut-record.result.now c.outcome-result.result c.if-place-count.true c.index_mut-record.ensures.value c.outcome-result.ensures (sym c.is_done.ensures ∙ c.if-not-is_done.true)
-
-pub returns-then-place-count-clause-outcome : goal.returns-then-place-count-clause-outcome
-returns-then-place-count-clause-outcome c =
-    outcome_is_there c.args.records.now.items c.as_slice.result.now c.args.role c.args.command.now c.place_in-place.result c.flight_of_command-flight.result c.len-count.result
-    c.place_in-place.ensures c.as_slice.ensures.value c.flight_of_command-flight.ensures (c.len-count.ensures ∙ c.args.records.now.ok.0)
-    c.index_mut-record.result.now c.outcome-result.result c.if-place-count.true c.index_mut-record.ensures.value c.outcome-result.ensures
-
-pub returns-then-place-count-clause-records : goal.returns-then-place-count-clause-records
-returns-then-place-count-clause-records c =
-    accepted_there c.args.records.now.items c.as_slice.result.now c.args.role c.args.command.now c.place_in-place.result c.flight_of_command-flight.result c.len-count.result
-    c.place_in-place.ensures c.as_slice.ensures.value c.flight_of_command-flight.ensures (c.len-count.ensures ∙ c.args.records.now.ok.0)
-    c.index_mut-record.result.now c.change.new.record c.outcome-result.result c.if-place-count.true c.index_mut-record.ensures.value c.outcome-result.ensures (sym c.is_done.ensures ∙ c.if-not-is_done.false) c.change.ensures
-
-pub returns-then-not-is_done-2-clause-outcome : goal.returns-then-not-is_done-2-clause-outcome
-returns-then-not-is_done-2-clause-outcome c =
-    outcome_is_absent c.args.records.now.items c.as_slice.result.now c.args.role c.args.command.now c.place_in-place.result c.flight_of_command-flight.result c.len-count.result
-    c.place_in-place.ensures c.as_slice.ensures.value c.flight_of_command-flight.ensures (c.len-count.ensures ∙ c.args.records.now.ok.0)
-    c.new-record.result c.outcome-result-2.result c.if-place-count.false c.new-record.ensures c.outcome-result-2.ensures
-
-pub returns-then-not-is_done-2-clause-records : goal.returns-then-not-is_done-2-clause-records
-returns-then-not-is_done-2-clause-records c =
-    refused_absent c.args.records.now.items c.as_slice.result.now c.args.role c.args.command.now c.place_in-place.result c.flight_of_command-flight.result c.len-count.result
-    c.place_in-place.ensures c.as_slice.ensures.value c.flight_of_command-flight.ensures (c.len-count.ensures ∙ c.args.records.now.ok.0)
-    c.new-record.result c.outcome-result-2.result c.if-place-count.false c.new-record.ensures c.outcome-result-2.ensures (sym c.is_done-2.ensures ∙ c.if-not-is_done-2.true)
-
-pub returns-in_err-reserve-clause-creating : goal.returns-in_err-reserve-clause-creating
-returns-in_err-reserve-clause-creating c =
-    on_err c.from_residual.result
-    (creating c.args.records.now.items c.as_slice.result.now c.args.role c.args.command.now c.place_in-place.result c.flight_of_command-flight.result c.len-count.result
-    c.place_in-place.ensures c.as_slice.ensures.value c.flight_of_command-flight.ensures (c.len-count.ensures ∙ c.args.records.now.ok.0)
-    c.new-record.result c.outcome-result-2.result c.if-place-count.false c.new-record.ensures c.outcome-result-2.ensures (sym c.is_done-2.ensures ∙ c.if-not-is_done-2.false))
-
-pub returns-clause-outcome : goal.returns-clause-outcome
-returns-clause-outcome c =
-    outcome_is_absent c.args.records.now.items c.as_slice.result.now c.args.role c.args.command.now c.place_in-place.result c.flight_of_command-flight.result c.len-count.result
-    c.place_in-place.ensures c.as_slice.ensures.value c.flight_of_command-flight.ensures (c.len-count.ensures ∙ c.args.records.now.ok.0)
-    c.new-record.result c.outcome-result-2.result c.if-place-count.false c.new-record.ensures c.outcome-result-2.ensures
-
-pub returns-clause-records : goal.returns-clause-records
-returns-clause-records c =
-    let okay : is_ok c.push.result ≡ true = c.is_err.ensures.negation ∙ ap not c.if-is_err.false in
-    accepted_absent c.args.records.now.items c.as_slice.result.now c.args.role c.args.command.now c.place_in-place.result c.flight_of_command-flight.result c.len-count.result
-    c.place_in-place.ensures c.as_slice.ensures.value c.flight_of_command-flight.ensures (c.len-count.ensures ∙ c.args.records.now.ok.0)
-    c.new-record.result c.change-2.new.record c.push.new.self.items c.outcome-result-2.result c.if-place-count.false c.new-record.ensures c.outcome-result-2.ensures (sym c.is_done-2.ensures ∙ c.if-not-is_done-2.false) c.change-2.ensures (rw (c.push.ensures.items, okay, c.reserve.ensures.items) refl)
+pub returns-in-Tick-clause-records : goal.returns-in-Tick-clause-records
+returns-in-Tick-clause-records c =
+    whole_slice c.args.records.now.items c.tick.new.records c.args.records.now.len (c.args.records.now.ok.0 ∙ sym (c.tick.auto.records ∙ ap length c.as_mut_slice.ensures.value))
+    ∙ c.tick.ensures.records
+    ∙ ap (λ b. cond (is_done (tick_outcome c.args.role)) (map (touched c.args.now) b) b) c.as_mut_slice.ensures.value
+    ∙ tick_after c.args.records.now.items c.args.role c.args.now ∙ ap (board_after c.args.records.now.items c.args.role c.args.now) (sym c.in-Tick.is)

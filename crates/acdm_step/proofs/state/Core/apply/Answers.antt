@@ -13,7 +13,7 @@ returns-clause-outcome c =
 pub returns-clause-board : goal.returns-clause-board
 returns-clause-board c =
     on_ok_weaker c.step.result (λ e J session l eq.
-    ap (λ rs. record { records = rs }) (e ∙ ap (λ (b : Board). board_after b.records c.args.role c.args.command.now) (c.self.view_is ∙ eq) ∙ step-replay J session c.args.role c.args.moment c.args.command.now l)) c.step.ensures.records
+    ap (λ rs. record { records = rs }) (e ∙ ap (λ (b : Board). board_after b.records c.args.role c.args.moment c.args.command.now) (c.self.view_is ∙ eq) ∙ step-replay J session c.args.role c.args.moment c.args.command.now l)) c.step.ensures.records
 
 pub returns-clause-creating : goal.returns-clause-creating
 returns-clause-creating c =
