@@ -12,8 +12,8 @@ use Rattle.acdm_step.specs.declared.command.Command.TheVariants.{Schedule, Repor
 use Rattle.acdm_step.specs.declared.entry.Outcome.{Outcome}
 use Rattle.acdm_step.specs.declared.entry.Outcome.TheVariants.{Refused}
 use Rattle.acdm_step.specs.declared.entry.Entry.{Entry}
-use Rattle.acdm_step.specs.History.{History, Told, nothing_told, with_command, with_tick, flight_of, changes_flight, is_tick, is_of, ticks, is_done, creates, created, told, record_from, record_of, with_flight, flights, exists, outcome_for, outcome_of, IsLegal, replay, after, would_create}
-use Rattle.acdm_step.specs.Board.{changed, touched, has_number, place_of, is_there, record_on, put, board_outcome, board_changed, board_after}
+use Rattle.acdm_step.specs.History.{History, nothing_told, with_command, with_tick, flight_of, changes_flight, is_tick, is_of, ticks, is_done, creates, created, told, record_from, record_of, with_flight, flights, exists, outcome_for, outcome_of, IsLegal, after, would_create}
+use Rattle.acdm_step.specs.Board.{changed, touched, place_of, is_there, record_on, put, board_outcome, board_changed, board_after}
 use Rattle.acdm_step.proofs.Records.{record_same, record_changed, record_ticked, touched-there}
 use Rattle.acdm_step.proofs.Flights.{is_it, has, and_false, found, inside, outside, absent, updated, flights_distinct, grows, has-with_flight}
 

@@ -1,4 +1,4 @@
-use Rattle.std.proofs.Common.{◌≡◌, cond, map, length, ap, sym, ◌∙◌}
+use Rattle.std.proofs.Common.{cond, map, length, ap, sym, ◌∙◌}
 use Rattle.acdm_step.specs.History.{is_done, tick_outcome}
 use Rattle.acdm_step.specs.Board.{touched, board_outcome, board_after}
 use Rattle.acdm_step.proofs.Steps.{tick_outcome_is, tick_after, whole_slice}

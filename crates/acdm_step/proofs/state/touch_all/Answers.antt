@@ -1,4 +1,4 @@
-use Rattle.std.proofs.Common.{◌≡◌, ◌++◌, map, take, drop, set, length, ap, sym, ◌∙◌}
+use Rattle.std.proofs.Common.{set, ap, sym, ◌∙◌}
 use Rattle.std.proofs.lemmas.List.Edits.{map_over_more}
 use Rattle.acdm_step.specs.Board.{touched}
 use Rattle.acdm_step.proofs.state.touch_all.Goals as goal
