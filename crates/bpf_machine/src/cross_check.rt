@@ -1,6 +1,6 @@
 //! Arithmetic of the machine against results that were computed outside it, by vectors/vectors.py.
-use crate::run_tested;
 use crate::vectors::{VECTORS, Vector};
+use crate::{Ended, run_tested};
 use acdm_milestones::Milestone;
 use bpf_decode::decode;
 use bpf_helpers::{Bank, Logged};
@@ -55,5 +55,34 @@ fn arithmetic_agrees_with_outside_results(rt: HostRuntime) -> Result<(), Fail> {
         );
         assert_eq!(rt; ended.steps, 4);
     }
+    Ok(())
+}
+
+#[test]
+fn the_longest_program_ends(rt: HostRuntime) -> Result<(), Fail> {
+    let alloc = rt.alloc();
+    let sigs = Bank::new(alloc)?.sigs()?;
+    let mut bytes = Vec::new(alloc);
+    for _ in 0..4_095 {
+        bytes.extend_from_slice(&[0xb7, 0, 0, 0, 0, 0, 0, 0])?;
+    }
+    bytes.extend_from_slice(&[0x95, 0, 0, 0, 0, 0, 0, 0])?;
+    let program = decode(alloc, bytes.as_slice())?;
+    let mut oracle = Logged::new(&sigs, &[]);
+    let ended = run_tested(
+        &program,
+        &sigs,
+        &[0; 128],
+        1,
+        Milestone::Landed,
+        &mut oracle,
+    )?;
+    assert_eq!(rt;
+        ended,
+        Ended {
+            r0: 0,
+            steps: 4_096
+        }
+    );
     Ok(())
 }
