@@ -1,14 +1,16 @@
 //! The names of alerts, as they are written.
-ghost use Rattle.std.specs.Prelude.{◌≡◌, ◌++◌, ◌∷◌, [], if◌then◌else◌, OnOk};
+ghost use Rattle.std.specs.Prelude.{◌≡◌, ◌+◌, ◌≤◌, ◌++◌, ◌∷◌, [], length, if◌then◌else◌, OnOk};
 ghost use Rattle.std.specs.Io.KnownBytes.{Appends};
 ghost use Rattle.acdm_alerts.specs.Names.{name_of as name_in_table, names_text};
 
 use crate::alert_set::AlertSet;
+use arrayvec::ArrayVec;
 use std::io::{self, Write};
 
 // The name of a bit. Bit 6 has none, and no set has it.
 fn name_of(bit: u32) -> &'static str
-    ensures { result.now ≡ name_in_table bit }
+    ensures name { result.now ≡ name_in_table bit }
+    ensures short { length result.now ≤ 6 }
 {
     match bit {
         1 => "CDM01",
@@ -45,28 +47,39 @@ fn name_of(bit: u32) -> &'static str
     }
 }
 
-// Writes the name of a bit that is set, and a comma before it unless it is the first.
-fn write_piece<W: Write>(writer: &mut W, is_first: bool, bit: u32) -> io::Result<()>
-    ensures { OnOk result (Appends (W.contents writer.old) (W.contents writer.new) ((if is_first then [] else 44 ∷ []) ++ name_in_table bit)) }
+// Adds the name of a bit that is set, and a comma before it unless it is the first.
+fn push_name(names: &mut ArrayVec<u8, 224>, is_first: bool, bit: u32)
+    requires { length names.old.items ≤ 217 }
+    ensures text { names.new.items ≡ names.old.items ++ ((if is_first then [] else 44 ∷ []) ++ name_in_table bit) }
+    ensures short { length names.new.items ≤ length names.old.items + 7 }
 {
     if !is_first {
-        writer.write_all(b",")?;
+        names.push(b',');
     }
-    writer.write_all(name_of(bit).as_bytes())
+    if names.try_extend_from_slice(name_of(bit).as_bytes()).is_err() {
+        unreachable!();
+    }
 }
 
-/// Writes the names of the alerts, by rising bit, with commas between: `CDM08,CDM07a`. It writes nothing for the empty
-/// set.
-pub fn write_names<W: Write>(alerts: AlertSet, writer: &mut W) -> io::Result<()>
-    ensures { OnOk result (Appends (W.contents writer.old) (W.contents writer.new) (names_text alerts)) }
+/// The names of the alerts, by rising bit, with commas between: `CDM08,CDM07a`; no byte for the empty set.
+pub fn names_of(alerts: AlertSet) -> ArrayVec<u8, 224>
+    ensures { result.items ≡ names_text alerts }
 {
     let word = alerts.word();
+    let mut names = ArrayVec::new();
     let mut is_first = true;
     for bit in 1..32u32 {
         if (word >> bit) % 2 == 1 {
-            write_piece(writer, is_first, bit)?;
+            push_name(&mut names, is_first, bit);
             is_first = false;
         }
     }
-    Ok(())
+    names
+}
+
+/// Writes the names of the alerts as `names_of` gives them. It writes nothing for the empty set.
+pub fn write_names<W: Write>(alerts: AlertSet, writer: &mut W) -> io::Result<()>
+    ensures { OnOk result (Appends (W.contents writer.old) (W.contents writer.new) (names_text alerts)) }
+{
+    writer.write_all(names_of(alerts).as_slice())
 }

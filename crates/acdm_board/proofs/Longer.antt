@@ -4,18 +4,18 @@ use Rattle.std.proofs.lemmas.List.{reverse-append, length-reverse, length-append
 use Rattle.acdm_milestones.specs.declared.role.Role.{Role}
 use Rattle.acdm_step.specs.declared.command.Command.{Command}
 use Rattle.acdm_step.specs.declared.entry.Entry.{Entry}
-use Rattle.acdm_step.specs.declared.entry.Outcome.{Outcome}
-use Rattle.acdm_step.specs.History.{Board, IsLegal, replay, after, outcome_of}
+use Rattle.acdm_step.specs.declared.entry.Verdict.{Verdict}
+use Rattle.acdm_step.specs.History.{Board, IsLegal, replay, after, verdict_of}
 use Rattle.acdm_board.specs.Desk.{Keeps}
 
-module _ (xs ys : List Entry) (n session moment : ℕ) (role : Role) (command : Command) (outcome : Outcome)
-    (number : n ≡ length xs) (right : outcome ≡ outcome_of (reverse xs) role moment command)
-    (pushed : ys ≡ xs ++ record { number = n; session = session; role = role; moment = moment; command = command; outcome = outcome } ∷ []) where
+module _ (xs ys : List Entry) (n session moment : ℕ) (role : Role) (command : Command) (verdict : Verdict)
+    (number : n ≡ length xs) (right : verdict ≡ verdict_of (reverse xs) role moment command)
+    (pushed : ys ≡ xs ++ record { number = n; session = session; role = role; moment = moment; command = command; verdict = verdict } ∷ []) where
   pub history-pushed : reverse ys ≡ after (reverse xs) session role moment command
   history-pushed =
       let place : n ≡ length (reverse xs) = number ∙ sym (length-reverse xs) in
-      ap reverse pushed ∙ reverse-append xs (record { number = n; session = session; role = role; moment = moment; command = command; outcome = outcome } ∷ [])
-      ∙ (λ i. record { number = place i; session = session; role = role; moment = moment; command = command; outcome = right i } ∷ reverse xs)
+      ap reverse pushed ∙ reverse-append xs (record { number = n; session = session; role = role; moment = moment; command = command; verdict = verdict } ∷ [])
+      ∙ (λ i. record { number = place i; session = session; role = role; moment = moment; command = command; verdict = right i } ∷ reverse xs)
 
   pub keeps-pushed : (old new : Board) (capacity : ℕ) → Keeps old xs capacity → n ≢ capacity → new ≡ replay (after (reverse xs) session role moment command) → Keeps new ys capacity
   keeps-pushed old new capacity k room e =

@@ -27,7 +27,7 @@ impl From<AllocError> for DeskError {
 }
 
 /// What is replied: the number of the command's entry, and what came of the command.
-#[derive(Clone, Copy, Debug, PartialEq, Eq)]
+#[derive(Drop)]
 pub struct Reply {
     pub number: u64,
     pub outcome: Outcome,
@@ -103,7 +103,7 @@ impl Desk {
             role,
             moment,
             command,
-            outcome,
+            verdict: outcome.verdict(),
         };
         if self.journal.push(entry).is_err() {
             unreachable!();

@@ -7,34 +7,34 @@ use Rattle.acdm_milestones.specs.declared.role.Role.TheVariants.{AirTrafficContr
 use Rattle.acdm_milestones.specs.declared.milestone.Milestone.TheVariants.{Landed}
 use Rattle.acdm_step.specs.declared.command.Command.TheVariants.{Schedule, Report}
 use Rattle.acdm_sessions.specs.declared.fault.Fault.TheVariants.{Prefix, NoJson, Kind, Range}
-use Rattle.acdm_sessions.specs.Meant.{meant, head_of, natural_of, number_field, text_field, time_field, plan_field, schedule_field, report_field, command_named, command_of, json_of}
+use Rattle.acdm_sessions.specs.Meant.{meant, head_of, natural_of, number_field, text_field, time_field, time_or_null, plan_field, schedule_field, report_field, show_field, command_named, command_of, json_of}
 
 landed_line : meant (codes "3 29000700 ATC {\"cmd\":\"report\",\"flight\":7,\"milestone\":6,\"time\":\"2025-02-20T09:00:00Z\"}")
     ≡ Ok record { session = 3; moment = 29000700; role = AirTrafficControl; command = Report record { flight = 7; milestone = Landed; time = 29000700; plan = None } }
-unfolding meant head_of natural_of number_field text_field time_field plan_field schedule_field report_field command_named command_of json_of is_utf8 chars serde_json_on_literals jiff_on_literals
+unfolding meant head_of natural_of number_field text_field time_field plan_field schedule_field time_or_null report_field show_field command_named command_of json_of is_utf8 chars serde_json_on_literals jiff_on_literals
 landed_line = refl
 
 bad_prefix : meant (codes "65 29000580 APT {\"cmd\":\"alerts\"}") ≡ Err Prefix
-unfolding meant head_of natural_of number_field text_field time_field plan_field schedule_field report_field command_named command_of json_of is_utf8 chars serde_json_on_literals jiff_on_literals
+unfolding meant head_of natural_of number_field text_field time_field plan_field schedule_field time_or_null report_field show_field command_named command_of json_of is_utf8 chars serde_json_on_literals jiff_on_literals
 bad_prefix = refl
 
 no_json : meant (codes "1 29000580 APT {\"cmd\":\"tick\"") ≡ Err NoJson
-unfolding meant head_of natural_of number_field text_field time_field plan_field schedule_field report_field command_named command_of json_of is_utf8 chars serde_json_on_literals jiff_on_literals
+unfolding meant head_of natural_of number_field text_field time_field plan_field schedule_field time_or_null report_field show_field command_named command_of json_of is_utf8 chars serde_json_on_literals jiff_on_literals
 no_json = refl
 
 schedule_line : meant (codes "1 29000580 APT {\"cmd\":\"schedule\",\"flight\":7,\"callsign\":\"DLH7\",\"type\":\"A320\",\"reg\":\"DAIBC\",\"dest\":\"EDDM\",\"sobt\":\"2025-02-20T10:00:00Z\",\"mttt\":40,\"exit\":5,\"exot\":10,\"stand\":12}")
     ≡ Ok record { session = 1; moment = 29000580; role = AirportOperator; command = Schedule record { flight = 7; plan = record { callsign = codes "DLH7"; aircraft = codes "A320"; registration = codes "DAIBC"; destination = codes "EDDM" }; sobt = 29000760; mttt = 40; exit = 5; exot = 10; stand = 12 } }
-unfolding meant head_of natural_of number_field text_field time_field plan_field schedule_field report_field command_named command_of json_of is_utf8 chars serde_json_on_literals jiff_on_literals
+unfolding meant head_of natural_of number_field text_field time_field plan_field schedule_field time_or_null report_field show_field command_named command_of json_of is_utf8 chars serde_json_on_literals jiff_on_literals
 schedule_line = refl
 
 wrong_kind : meant (codes "1 29000580 ATC {\"cmd\":\"report\",\"flight\":\"7\",\"milestone\":6}") ≡ Err Kind
-unfolding meant head_of natural_of number_field text_field time_field plan_field schedule_field report_field command_named command_of json_of is_utf8 chars serde_json_on_literals jiff_on_literals
+unfolding meant head_of natural_of number_field text_field time_field plan_field schedule_field time_or_null report_field show_field command_named command_of json_of is_utf8 chars serde_json_on_literals jiff_on_literals
 wrong_kind = refl
 
 negative_flight : meant (codes "1 29000580 ATC {\"cmd\":\"report\",\"flight\":-7,\"milestone\":6}") ≡ Err Kind
-unfolding meant head_of natural_of number_field text_field time_field plan_field schedule_field report_field command_named command_of json_of is_utf8 chars serde_json_on_literals jiff_on_literals
+unfolding meant head_of natural_of number_field text_field time_field plan_field schedule_field time_or_null report_field show_field command_named command_of json_of is_utf8 chars serde_json_on_literals jiff_on_literals
 negative_flight = refl
 
 no_such_milestone : meant (codes "1 29000580 ATC {\"cmd\":\"report\",\"flight\":7,\"milestone\":17,\"time\":\"2025-02-20T10:00:00Z\"}") ≡ Err Range
-unfolding meant head_of natural_of number_field text_field time_field plan_field schedule_field report_field command_named command_of json_of is_utf8 chars serde_json_on_literals jiff_on_literals
+unfolding meant head_of natural_of number_field text_field time_field plan_field schedule_field time_or_null report_field show_field command_named command_of json_of is_utf8 chars serde_json_on_literals jiff_on_literals
 no_such_milestone = refl

@@ -1,21 +1,21 @@
 -- What a partner's line means (this project's profile). JSON (RFC 8259) is read as serde_json states it,
 -- and times (RFC 3339 and its kin) as jiff states them.
-use Rattle.std.specs.Prelude.{ℕ, ◌+◌, ◌-◌, ◌*◌, ◌/◌, ◌^◌, ◌≡◌, ℤ, pos, negsuc, Bool, true, false, ◌||◌, ◌&&◌, ◌==◌, nat_le, nat_lt, if◌then◌else◌, List, [], ◌∷◌, length, codes, slice_index, take, drop, position, Option, Some, None, option_and_then, option_map, Result, Ok, Err}
+use Rattle.std.specs.Prelude.{ℕ, ◌+◌, ◌-◌, ◌*◌, ◌/◌, ◌^◌, ◌≡◌, ℤ, pos, negsuc, Bool, true, false, ◌||◌, ◌&&◌, ◌==◌, nat_le, nat_lt, if◌then◌else◌, List, [], ◌∷◌, length, codes, slice_index, take, drop, position, Option, Some, None, is_some, option_and_then, option_map, Result, Ok, Err}
 use Rattle.std.specs.Str.{is_utf8, bytes_eq}
 use Rattle.std.specs.Char.{is_ascii_digit}
 use Rattle.serde_json.specs.Data.{Data}
 use Rattle.serde_json.specs.Read.{read}
-use Rattle.serde_json.specs.Find.{get, as_number, as_u64, as_str}
+use Rattle.serde_json.specs.Find.{get, as_null, as_number, as_u64, as_str}
 use Rattle.jiff_fmt.specs.Temporal.{parse_timestamp}
 use Rattle.acdm_record.specs.Texts.{text_from}
 use Rattle.acdm_milestones.specs.declared.role.Role.{Role}
 use Rattle.acdm_milestones.specs.declared.role.Role.TheVariants.{NetworkManager, AirTrafficControl, AirportOperator, AircraftOperator, GroundHandler}
 use Rattle.acdm_milestones.specs.declared.milestone.Milestone.{Milestone}
-use Rattle.acdm_milestones.specs.declared.milestone.Milestone.TheVariants.{FlightPlanActivated, Landed, InBlock}
+use Rattle.acdm_milestones.specs.declared.milestone.Milestone.TheVariants.{FlightPlanActivated, TwoHoursBeforeEobt, TobtUpdate}
 use Rattle.acdm_milestones.specs.Tables.{milestone_numbered}
 use Rattle.acdm_step.specs.declared.command.Plan.{Plan}
 use Rattle.acdm_step.specs.declared.command.Command.{Command}
-use Rattle.acdm_step.specs.declared.command.Command.TheVariants.{Schedule, Report}
+use Rattle.acdm_step.specs.declared.command.Command.TheVariants.{Schedule, Report, Tick, Show, Alerts}
 use Rattle.acdm_sessions.specs.declared.fault.Fault.{Fault}
 use Rattle.acdm_sessions.specs.declared.fault.Fault.TheVariants.{Prefix, NoJson, UnknownCommand, Kind, Range, TooLong}
 use Rattle.acdm_sessions.specs.declared.request.LineError.{LineError}
@@ -132,15 +132,22 @@ plan_field d = do
   destination ← text_field (codes "dest") 4 d
   Ok (record { callsign = callsign; aircraft = aircraft; registration = registration; destination = destination })
 
--- the milestones that are taken so far
-abbrev pub taken_so_far : Milestone → Result Milestone Fault
-taken_so_far FlightPlanActivated = Ok FlightPlanActivated
-taken_so_far Landed = Ok Landed
-taken_so_far InBlock = Ok InBlock
-taken_so_far _ = Err Range
+-- there is a null under the key, which says that there is no time
+abbrev pub has_null : List ℕ → Data → Bool
+has_null key d = is_some (option_and_then as_null (get key d))
+
+-- a time under a key, or null, which is 0
+unfoldable pub time_or_null : List ℕ → Data → Result ℕ Fault
+time_or_null key d = if has_null key d then Ok 0 else time_field key d
+
+-- the time of a report: milestones 2 and 9 alone may come without
+abbrev pub time_for : Milestone → Data → Result ℕ Fault
+time_for TwoHoursBeforeEobt d = time_or_null (codes "time") d
+time_for TobtUpdate d = time_or_null (codes "time") d
+time_for _ d = time_field (codes "time") d
 
 abbrev pub milestone_of : ℕ → Result Milestone Fault
-milestone_of n = or_fault Range (milestone_numbered n) >>= taken_so_far
+milestone_of n = or_fault Range (milestone_numbered n)
 
 abbrev pub most_flight : ℕ
 most_flight = 2 ^ 64 - 1
@@ -168,15 +175,22 @@ report_field d = do
   flight ← number_field (codes "flight") 1 most_flight d
   number ← number_field (codes "milestone") 0 most_flight d
   milestone ← milestone_of number
-  time ← time_field (codes "time") d
+  time ← time_for milestone d
   plan ← plan_for milestone d
   Ok (Report record { flight = flight; milestone = milestone; time = time; plan = plan })
+
+-- the flight of which the record is asked
+unfoldable pub show_field : Data → Result Command Fault
+show_field d = number_field (codes "flight") 1 most_flight d >>= λ flight. Ok (Show flight)
 
 -- the command of this name
 unfoldable pub command_named : List ℕ → Data → Result Command Fault
 command_named name d =
     if bytes_eq name (codes "schedule") then schedule_field d
-    else (if bytes_eq name (codes "report") then report_field d else Err UnknownCommand)
+    else (if bytes_eq name (codes "report") then report_field d
+    else (if bytes_eq name (codes "tick") then Ok Tick
+    else (if bytes_eq name (codes "show") then show_field d
+    else (if bytes_eq name (codes "alerts") then Ok Alerts else Err UnknownCommand))))
 
 -- the command under `cmd`; a value that has none is no known command
 unfoldable pub command_of : Data → Result Command Fault

@@ -1,9 +1,14 @@
 -- What is written for what is read.
 use Rattle.std.specs.Prelude.{ℕ, ◌≡◌, Bool, true, false, ◌==◌, if◌then◌else◌, List, [], ◌∷◌, ◌++◌, length, codes, ⊤, Option, Some, None, Result, Ok, Err}
 use Rattle.std.specs.Fmt.{decimal}
+use Rattle.std.specs.List.{flat_map}
+use Rattle.hex.specs.Hex.{encode_lower}
+use Rattle.acdm_record.specs.Fields.{bytes_of}
+use Rattle.acdm_alerts.specs.Names.{names_text}
 use Rattle.std.specs.Io.KnownBytes.{Appends}
-use Rattle.acdm_step.specs.declared.entry.Outcome.{Outcome}
-use Rattle.acdm_step.specs.declared.entry.Outcome.TheVariants.{Done, Refused}
+use Rattle.acdm_step.specs.declared.outcome.Alerted.{Alerted}
+use Rattle.acdm_step.specs.declared.outcome.Outcome.{Outcome}
+use Rattle.acdm_step.specs.declared.outcome.Outcome.TheVariants.{Done, Shown, Listed, Refused}
 use Rattle.acdm_milestones.specs.Codes.{refusal_code}
 use Rattle.acdm_step.specs.History.{after, outcome_of}
 use Rattle.acdm_board.specs.Desk.{DeskView}
@@ -38,9 +43,28 @@ abbrev pub desk_after : DeskView → Bool → List ℕ → DeskView
 desk_after d true line = d
 desk_after d false line = desk_meant d (meant line)
 
--- the reply: `ok N`, `no N CODE` or `bad CODE`, and a line feed
+-- a flight with its alerts: `ID:NAME,NAME`
+abbrev pub alerted_text : Alerted → List ℕ
+alerted_text a = decimal a.flight ++ 58 ∷ names_text a.alerts
+
+-- one flight more, after others
+abbrev pub next_text : Alerted → List ℕ
+next_text a = 59 ∷ alerted_text a
+
+-- flights with their alerts, `;` between them, and `-` where there is none
+abbrev pub list_text : List Alerted → List ℕ
+list_text [] = codes "-"
+list_text (a ∷ more) = alerted_text a ++ flat_map next_text more
+
+-- what stands before them in a reply
+abbrev pub list_head : ℕ → List ℕ
+list_head n = codes "alerts " ++ decimal n ++ 32 ∷ []
+
+-- the reply: `ok N`, `rec N HEX`, `alerts N LIST`, `no N CODE` or `bad CODE`, and a line feed
 abbrev pub entry_text : ℕ → Outcome → List ℕ
 entry_text n Done = codes "ok " ++ decimal n ++ 10 ∷ []
+entry_text n (Shown r) = codes "rec " ++ decimal n ++ 32 ∷ encode_lower (bytes_of r) ++ 10 ∷ []
+entry_text n (Listed flights) = list_head n ++ (list_text flights ++ 10 ∷ [])
 entry_text n (Refused x) = codes "no " ++ decimal n ++ 32 ∷ [] ++ decimal (refusal_code x) ++ 10 ∷ []
 
 abbrev pub reply_text : Answer → List ℕ

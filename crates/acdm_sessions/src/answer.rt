@@ -9,7 +9,7 @@ use acdm_board::{Desk, DeskError, Reply};
 use std::alloc::Global;
 
 /// What is answered to a line.
-#[derive(Clone, Copy, Debug, PartialEq, Eq)]
+#[derive(Drop)]
 pub enum Answer {
     /// The line made an entry.
     Entered(Reply),

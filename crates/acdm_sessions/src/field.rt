@@ -1,14 +1,14 @@
 //! The fields of a command.
 ghost use Rattle.std.specs.Prelude.{◌≡◌, ◌≤◌, IfOk, IsTrue};
-ghost use Rattle.acdm_step.specs.Facts.{has_its_plan};
+ghost use Rattle.acdm_step.specs.Facts.{has_its_plan, has_its_time};
 ghost use Rattle.serde_json.specs.View.{view};
-ghost use Rattle.acdm_sessions.specs.Meant.{Gives, number_field, text_field, time_field, plan_field, schedule_field, report_field, command_of, json_of, milestone_of, minute_of, plan_for, GivesView};
+ghost use Rattle.acdm_sessions.specs.Meant.{Gives, GivesView, number_field, text_field, minute_of, time_field, time_or_null, time_for, plan_field, plan_for, milestone_of, schedule_field, report_field, show_field, command_of, json_of};
 
 use crate::fault::Fault;
 use crate::request::LineError;
 use acdm_milestones::Milestone;
 use acdm_record::Text;
-use acdm_step::{Command, Plan, Report, Schedule};
+use acdm_step::{Command, FlightNumber, Plan, Report, Schedule};
 use jiff::Timestamp;
 use serde_json::Value;
 use std::alloc::Global;
@@ -90,9 +90,28 @@ fn milestone_at(number: u64) -> Result<Milestone, LineError>
     let Some(milestone) = Milestone::from_number(number) else {
         return Err(LineError::Fault(Fault::Range));
     };
+    Ok(milestone)
+}
+
+// A time, or 0 for null.
+#[tactic(auto, unfolding(crate::specs::Meant::time_or_null))]
+fn time_or_null_in(value: &Value, key: &str) -> Result<u32, LineError>
+    ensures { Gives result (time_or_null key.now (view value.now)) }
+{
+    if value.get(key).and_then(Value::as_null).is_some() {
+        return Ok(0);
+    }
+    time_in(value, key)
+}
+
+// The time of a report.
+fn time_of(value: &Value, milestone: Milestone) -> Result<u32, LineError>
+    ensures reads { Gives result (time_for milestone (view value.now)) }
+    ensures timed { IfOk result (λ t. IsTrue (has_its_time milestone t)) }
+{
     match milestone {
-        Milestone::FlightPlanActivated | Milestone::Landed | Milestone::InBlock => Ok(milestone),
-        _ => Err(LineError::Fault(Fault::Range)),
+        Milestone::TwoHoursBeforeEobt | Milestone::TobtUpdate => time_or_null_in(value, "time"),
+        _ => time_in(value, "time"),
     }
 }
 
@@ -135,9 +154,17 @@ fn report_in(value: &Value) -> Result<Command, LineError>
     let flight = number_in(value, "flight", 1, u64::MAX)?;
     let number = number_in(value, "milestone", 0, u64::MAX)?;
     let milestone = milestone_at(number)?;
-    let time = time_in(value, "time")?;
+    let time = time_of(value, milestone)?;
     let plan = plan_of(value, milestone)?;
     Ok(Command::Report(Report::new(flight, milestone, time, plan)))
+}
+
+#[tactic(auto, unfolding(crate::specs::Meant::show_field))]
+fn show_in(value: &Value) -> Result<Command, LineError>
+    ensures { Gives result (show_field (view value.now)) }
+{
+    let flight = number_in(value, "flight", 1, u64::MAX)?;
+    Ok(Command::Show(FlightNumber::new(flight)))
 }
 
 #[tactic(auto, unfolding(crate::specs::Meant::command_of, crate::specs::Meant::command_named))]
@@ -151,6 +178,12 @@ pub(crate) fn command_in(value: &Value) -> Result<Command, LineError>
         schedule_in(value)
     } else if name == "report" {
         report_in(value)
+    } else if name == "tick" {
+        Ok(Command::Tick)
+    } else if name == "show" {
+        show_in(value)
+    } else if name == "alerts" {
+        Ok(Command::Alerts)
     } else {
         Err(LineError::Fault(Fault::UnknownCommand))
     }

@@ -9,6 +9,7 @@ mod head;
 mod line;
 mod lines;
 mod reply;
+mod reply_text;
 mod request;
 mod run_error;
 mod stream;
@@ -22,5 +23,7 @@ pub use request::{LineError, Request};
 pub use run_error::RunError;
 pub use stream::run;
 
+#[cfg(test)]
+mod board_tests;
 #[cfg(test)]
 mod tests;

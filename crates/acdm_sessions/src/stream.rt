@@ -33,7 +33,7 @@ fn serve_line<W: Write>(
     ensures kind { IfErr result (λ e. e ≡ RunError.Write) }
 {
     let answer = answer_line(alloc, line, desk);
-    write_reply(writer, answer)
+    write_reply(writer, &answer)
 }
 
 /// Answers each line that is read, at once, until the input ends.

@@ -21,7 +21,7 @@ const LANDED: &str =
     r#"3 29000700 ATC {"cmd":"report","flight":7,"milestone":6,"time":"2025-02-20T09:00:00Z"}
 "#;
 
-fn replies_to(rt: &HostRuntime, parts: &[&str], capacity: usize) -> Result<String, Fail> {
+pub(crate) fn replies_to(rt: &HostRuntime, parts: &[&str], capacity: usize) -> Result<String, Fail> {
     let mut text = Vec::new(rt.alloc());
     for part in parts {
         text.extend_from_slice(part.as_bytes())?;
@@ -98,6 +98,23 @@ fn faulty_lines_make_no_entry(rt: HostRuntime) -> Result<(), Fail> {
             "1 29000580 ATC {\"cmd\":\"report\",\"flight\":7,\"milestone\":6,\"time\":null}\n",
             "bad 103\n",
         ),
+        (
+            "1 29000580 ATC {\"cmd\":\"report\",\"flight\":7,\"milestone\":9}\n",
+            "bad 103\n",
+        ),
+        (
+            "1 29000580 APT {\"cmd\":\"show\",\"flight\":\"7\"}\n",
+            "bad 103\n",
+        ),
+        (
+            "1 29000580 APT {\"cmd\":\"show\",\"flight\":-7}\n",
+            "bad 103\n",
+        ),
+        (
+            "1 29000580 APT {\"cmd\":\"show\",\"flight\":0}\n",
+            "bad 104\n",
+        ),
+        ("1 29000580 APT {\"cmd\":\"unload\"}\n", "bad 102\n"),
         (
             "1 29000580 ATC {\"cmd\":\"report\",\"flight\":7,\"milestone\":6,\"time\":\"10:00\"}\n",
             "bad 104\n",

@@ -17,9 +17,9 @@ use Rattle.acdm_milestones.specs.declared.milestone.Milestone.TheVariants.{Fligh
 use Rattle.acdm_milestones.specs.Tables.{times_of, marked, has_reached}
 use Rattle.acdm_step.specs.declared.command.Plan.{Plan}
 use Rattle.acdm_step.specs.declared.command.Command.{Command}
-use Rattle.acdm_step.specs.declared.command.Command.TheVariants.{Schedule, Report, Tick}
+use Rattle.acdm_step.specs.declared.command.Command.TheVariants.{Schedule, Report}
 use Rattle.acdm_step.specs.declared.entry.Entry.{Entry}
-use Rattle.acdm_step.specs.History.{History, Told, onto, with_command, with_tick, tell, told, planned, assigned_by, bit_of, flight_of, changes_flight, creates, is_of, ticks, is_done, record_with, alerts_at, record_from, record_of, has_come_to, created, with_flight, flights, exists}
+use Rattle.acdm_step.specs.History.{History, Told, onto, with_command, with_tick, tell, told, planned, assigned_by, bit_of, flight_of, changes_flight, creates, is_of, ticks, is_accepted, record_with, alerts_at, record_from, record_of, has_come_to, created, with_flight, flights, exists}
 use Rattle.acdm_step.specs.Board.{changed, touched}
 
 pub and_left : (a b : Bool) → (a && b) ≡ true → a ≡ true
@@ -92,8 +92,8 @@ plain_plan (Some p) = refl
 
 plain_command : (c : Command) → are_plain (assigned_by c) ≡ true
 plain_command (Schedule s) = refl
-plain_command Tick = refl
 plain_command (Report r) = plain-append (times_of r.milestone r.time) (planned r.plan) (plain_times r.milestone r.time) (plain_plan r.plan)
+plain_command _ = refl
 
 changed-record_from : (f : ℕ) (t : Told) (now : ℕ) (c : Command) → changed (record_from f t) now c ≡ record_from f (with_command c now t)
 changed-record_from f t now c =
@@ -107,7 +107,7 @@ record_same e J g h k =
     ∙ ap (λ b. record_from g (cond b (with_tick e.moment (told J g)) (told J g))) k
 
 -- an accepted entry changes the record of its flight
-pub record_changed : (e : Entry) (J : History) → is_done e.outcome ≡ true → changes_flight e.command ≡ true → record_of (e ∷ J) (flight_of e.command) ≡ changed (record_of J (flight_of e.command)) e.moment e.command
+pub record_changed : (e : Entry) (J : History) → is_accepted e.verdict ≡ true → changes_flight e.command ≡ true → record_of (e ∷ J) (flight_of e.command) ≡ changed (record_of J (flight_of e.command)) e.moment e.command
 record_changed e J h k =
     let f : ℕ = flight_of e.command in
     let both : is_of f e ≡ true = ap (λ b. b && (changes_flight e.command && flight_of e.command == f)) h ∙ ap (λ b. b && flight_of e.command == f) k ∙ eq-eqb f f refl in
@@ -146,7 +146,7 @@ touch_kept e f t h =
 creates_changes : (c : Command) → creates c ≡ true → changes_flight c ≡ true
 creates_changes (Schedule s) h = refl
 creates_changes (Report r) h = refl
-creates_changes Tick h = h
+creates_changes _ h = h
 
 has_push : (f : ℕ) (fs : List ℕ) (o : Option ℕ) → list_any (λ g. g == f) (with_flight fs o) ≡ true → (list_any (λ g. g == f) fs ≡ true) ⊎ (o ≡ Some f)
 has_push f fs None h = inl h
@@ -174,10 +174,10 @@ touched-there (e ∷ J) f h =
   where
     new : created e ≡ Some f → is_some (tell e f (told J f)).touch ≡ true
     new made =
-        elim (is_done e.outcome && creates e.command) as (λ b. (is_done e.outcome && creates e.command) ≡ b → cond b (Some (flight_of e.command)) None ≡ Some f → is_some (tell e f (told J f)).touch ≡ true) [
+        elim (is_accepted e.verdict && creates e.command) as (λ b. (is_accepted e.verdict && creates e.command) ≡ b → cond b (Some (flight_of e.command)) None ≡ Some f → is_some (tell e f (told J f)).touch ≡ true) [
           | true ↦ λ d s.
-              let done : is_done e.outcome ≡ true = and_left (is_done e.outcome) (creates e.command) d in
-              let makes : changes_flight e.command ≡ true = creates_changes e.command (and_right (is_done e.outcome) (creates e.command) d) in
+              let done : is_accepted e.verdict ≡ true = and_left (is_accepted e.verdict) (creates e.command) d in
+              let makes : changes_flight e.command ≡ true = creates_changes e.command (and_right (is_accepted e.verdict) (creates e.command) d) in
               let same : flight_of e.command ≡ f = cc in
               let of : is_of f e ≡ true = ap (λ b. b && (changes_flight e.command && flight_of e.command == f)) done ∙ ap (λ b. b && flight_of e.command == f) makes ∙ eq-eqb (flight_of e.command) f same in
               ap (λ b. is_some (cond b (with_command e.command e.moment (told J f)) (cond (ticks e) (with_tick e.moment (told J f)) (told J f))).touch) of

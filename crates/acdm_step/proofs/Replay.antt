@@ -8,28 +8,29 @@ use Rattle.acdm_milestones.specs.declared.role.Action.TheVariants as actions
 use Rattle.acdm_milestones.specs.declared.refusal.Refusal.TheVariants.{NotOwner, UnknownFlight}
 use Rattle.acdm_milestones.specs.Tables.{number, owns}
 use Rattle.acdm_step.specs.declared.command.Command.{Command}
-use Rattle.acdm_step.specs.declared.command.Command.TheVariants.{Schedule, Report, Tick}
-use Rattle.acdm_step.specs.declared.entry.Outcome.{Outcome}
-use Rattle.acdm_step.specs.declared.entry.Outcome.TheVariants.{Refused}
+use Rattle.acdm_step.specs.declared.command.Command.TheVariants.{Schedule, Report, Tick, Show}
+use Rattle.acdm_step.specs.declared.outcome.Outcome.TheVariants as outcomes
+use Rattle.acdm_step.specs.declared.entry.Verdict.{Verdict}
+use Rattle.acdm_step.specs.declared.entry.Verdict.TheVariants.{Refused}
 use Rattle.acdm_step.specs.declared.entry.Entry.{Entry}
-use Rattle.acdm_step.specs.History.{History, nothing_told, with_command, with_tick, flight_of, changes_flight, is_tick, is_of, ticks, is_done, creates, created, told, record_from, record_of, with_flight, flights, exists, outcome_for, outcome_of, IsLegal, after, would_create}
-use Rattle.acdm_step.specs.Board.{changed, touched, place_of, is_there, record_on, put, board_outcome, board_changed, board_after}
+use Rattle.acdm_step.specs.History.{History, nothing_told, with_command, with_tick, flight_of, changes_flight, is_tick, is_of, ticks, is_accepted, creates, created, told, record_from, record_of, with_flight, flights, exists, verdict_for, verdict_of, answer, outcome_with, outcome_of, IsLegal, after, is_alerts, needs_memory}
+use Rattle.acdm_step.specs.Board.{changed, touched, place_of, is_there, record_on, put, board_verdict, board_creates, board_answer, board_outcome, board_changed, board_after}
 use Rattle.acdm_step.proofs.Records.{record_same, record_changed, record_ticked, touched-there}
 use Rattle.acdm_step.proofs.Flights.{is_it, has, and_false, found, inside, outside, absent, updated, flights_distinct, grows, has-with_flight}
 
 -- ---- creation
 
-first_owned : (a b : Bool) (rest : Outcome) → is_done (cond (not a) (Refused NotOwner) (cond (not false && not b) (Refused UnknownFlight) rest)) ≡ true → b ≡ true
+first_owned : (a b : Bool) (rest : Verdict) → is_accepted (cond (not a) (Refused NotOwner) (cond (not false && not b) (Refused UnknownFlight) rest)) ≡ true → b ≡ true
 first_owned true true rest h = refl
 first_owned true false rest h = h
 first_owned false true rest h = refl
 first_owned false false rest h = h
 
 -- a command that is accepted where its flight is not there creates it
-admitted_creates : (c : Command) (count : ℕ) (r : Fields) (role : Role) → changes_flight c ≡ true → is_done (outcome_for false count r role c) ≡ true → creates c ≡ true
+admitted_creates : (c : Command) (count : ℕ) (r : Fields) (role : Role) → changes_flight c ≡ true → is_accepted (verdict_for false count r role c) ≡ true → creates c ≡ true
 admitted_creates (Schedule s) count r role k h = refl
-admitted_creates Tick count r role k h = absurd (cc)
 admitted_creates (Report p) count r role k h = first_owned (owns role (actions.Report p.milestone)) (number p.milestone == 1) _ h
+admitted_creates _ count r role k h = absurd (cc)
 
 -- what an accepted entry creates
 creates_or_not : (fs : List ℕ) (b : Bool) (f : ℕ) → has f fs ≡ true → with_flight fs (cond b (Some f) None) ≡ fs
@@ -38,20 +39,14 @@ creates_or_not fs false f h = refl
 
 -- ---- a flight that is not there has nothing set
 
-tick_or_change : (c : Command) → is_tick c ≡ false → changes_flight c ≡ true
-tick_or_change (Schedule s) h = refl
-tick_or_change (Report r) h = refl
-tick_or_change Tick h = absurd (cc)
-
 tick_no_change : (c : Command) → is_tick c ≡ true → changes_flight c ≡ false
-tick_no_change (Schedule s) h = absurd (cc)
-tick_no_change (Report r) h = absurd (cc)
 tick_no_change Tick h = refl
+tick_no_change _ h = absurd (cc)
 
 pub change_no_tick : (c : Command) → changes_flight c ≡ true → is_tick c ≡ false
 change_no_tick (Schedule s) h = refl
 change_no_tick (Report r) h = refl
-change_no_tick Tick h = absurd (cc)
+change_no_tick _ h = absurd (cc)
 
 no_and : (a b : Bool) → a ≡ false → (a && b) ≡ false
 no_and true b h = absurd (cc)
@@ -64,23 +59,23 @@ not_all true true false h = refl
 not_all true false c h = refl
 not_all false b c h = refl
 
-module _ (f : ℕ) (e : Entry) (J : History) (legal : e.outcome ≡ outcome_of J e.role e.moment e.command) (gone : has f (with_flight (flights J) (created e)) ≡ false) where
+module _ (f : ℕ) (e : Entry) (J : History) (legal : e.verdict ≡ verdict_of J e.role e.moment e.command) (gone : has f (with_flight (flights J) (created e)) ≡ false) where
   -- an accepted entry of a flight that is not there would have created it
-  not_named : is_done e.outcome ≡ true → changes_flight e.command ≡ true → (flight_of e.command == f) ≡ true → ⊥
+  not_named : is_accepted e.verdict ≡ true → changes_flight e.command ≡ true → (flight_of e.command == f) ≡ true → ⊥
   not_named d k n =
       let same : flight_of e.command ≡ f = eqb-true (flight_of e.command) f n in
       let before : has f (flights J) ≡ false = grows f (flights J) (created e) gone in
       let there : exists J (flight_of e.command) ≡ false = subst (λ g. has g (flights J) ≡ false) (sym same) before in
-      let done : is_done (outcome_of J e.role e.moment e.command) ≡ true = sym (ap is_done legal) ∙ d in
-      let done' : is_done (outcome_for false (length (flights J)) (record_of J (flight_of e.command)) e.role e.command) ≡ true =
-      sym (ap (λ b. is_done (outcome_for b (length (flights J)) (record_of J (flight_of e.command)) e.role e.command)) there) ∙ done in
+      let done : is_accepted (verdict_of J e.role e.moment e.command) ≡ true = sym (ap is_accepted legal) ∙ d in
+      let done' : is_accepted (verdict_for false (length (flights J)) (record_of J (flight_of e.command)) e.role e.command) ≡ true =
+      sym (ap (λ b. is_accepted (verdict_for b (length (flights J)) (record_of J (flight_of e.command)) e.role e.command)) there) ∙ done in
       let makes = admitted_creates e.command (length (flights J)) (record_of J (flight_of e.command)) e.role k done' in
       let made : created e ≡ Some f = ap (λ b. cond (b && creates e.command) (Some (flight_of e.command)) None) d ∙ ap (λ b. cond b (Some (flight_of e.command)) None) makes ∙ ap Some same in
       let yes : has f (with_flight (flights J) (created e)) ≡ true = ap (λ o. has f (with_flight (flights J) o)) made ∙ has-with_flight f (flights J) in
       cc
 
   unset : is_of f e ≡ false
-  unset = not_all (is_done e.outcome) (changes_flight e.command) (flight_of e.command == f) not_named
+  unset = not_all (is_accepted e.verdict) (changes_flight e.command) (flight_of e.command == f) not_named
 
 nothing-told : (f : ℕ) (J : History) → IsLegal J → exists J f ≡ false → told J f ≡ nothing_told
 nothing-told f [] l h = refl
@@ -120,33 +115,33 @@ record_on-replay J f l =
           get_or_past (records_of J) (position_or_len (is_it f) (flights J)) (new_record f) (omega arith) ∙ sym (nothing_set f J l e)
     ] refl)
 
-pub outcome-replay : (J : History) (role : Role) (m : ℕ) (c : Command) → IsLegal J → board_outcome (records_of J) role c ≡ outcome_of J role m c
-unfolding board_outcome
-outcome-replay J role m c l =
-    ap (λ b. outcome_for b (length (records_of J)) (record_on (records_of J) (flight_of c)) role c) (there-replay J (flight_of c))
-    ∙ ap (λ n. outcome_for (exists J (flight_of c)) n (record_on (records_of J) (flight_of c)) role c) (length-map (flights J) (record_of J))
-    ∙ ap (λ r. outcome_for (exists J (flight_of c)) (length (flights J)) r role c) (record_on-replay J (flight_of c) l)
+pub verdict-replay : (J : History) (role : Role) (m : ℕ) (c : Command) → IsLegal J → board_verdict (records_of J) role c ≡ verdict_of J role m c
+unfolding board_verdict
+verdict-replay J role m c l =
+    ap (λ b. verdict_for b (length (records_of J)) (record_on (records_of J) (flight_of c)) role c) (there-replay J (flight_of c))
+    ∙ ap (λ n. verdict_for (exists J (flight_of c)) n (record_on (records_of J) (flight_of c)) role c) (length-map (flights J) (record_of J))
+    ∙ ap (λ r. verdict_for (exists J (flight_of c)) (length (flights J)) r role c) (record_on-replay J (flight_of c) l)
 
-module _ (e : Entry) (J : History) (legal : IsLegal J) (right : e.outcome ≡ outcome_of J e.role e.moment e.command) where
-  same_map : (gs : List ℕ) → is_done e.outcome ≡ false → map (record_of (e ∷ J)) gs ≡ map (record_of J) gs
+module _ (e : Entry) (J : History) (legal : IsLegal J) (right : e.verdict ≡ verdict_of J e.role e.moment e.command) where
+  same_map : (gs : List ℕ) → is_accepted e.verdict ≡ false → map (record_of (e ∷ J)) gs ≡ map (record_of J) gs
   same_map [] d = refl
   same_map (g ∷ gs) d =
-      let here = record_same e J g (no_and (is_done e.outcome) (changes_flight e.command && flight_of e.command == g) d) (no_and (is_done e.outcome) (is_tick e.command) d) in
+      let here = record_same e J g (no_and (is_accepted e.verdict) (changes_flight e.command && flight_of e.command == g) d) (no_and (is_accepted e.verdict) (is_tick e.command) d) in
       let rest = same_map gs d in
       λ t. here t ∷ rest t
 
-  refused-replay : is_done e.outcome ≡ false → records_of (e ∷ J) ≡ records_of J
+  refused-replay : is_accepted e.verdict ≡ false → records_of (e ∷ J) ≡ records_of J
   refused-replay d =
       let none : created e ≡ None = ap (λ b. cond (b && creates e.command) (Some (flight_of e.command)) None) d in
       let fs : flights (e ∷ J) ≡ flights J = ap (with_flight (flights J)) none in
       ap (map (record_of (e ∷ J))) fs ∙ same_map (flights J) d
 
   -- a tick touches each flight
-  ticked_map : (gs : List ℕ) → ((g : ℕ) → has g gs ≡ true → exists J g ≡ true) → is_done e.outcome ≡ true → is_tick e.command ≡ true → map (record_of (e ∷ J)) gs ≡ map (touched e.moment) (map (record_of J) gs)
+  ticked_map : (gs : List ℕ) → ((g : ℕ) → has g gs ≡ true → exists J g ≡ true) → is_accepted e.verdict ≡ true → is_tick e.command ≡ true → map (record_of (e ∷ J)) gs ≡ map (touched e.moment) (map (record_of J) gs)
   ticked_map [] all d k = refl
   ticked_map (g ∷ gs) all d k =
       let tick : ticks e ≡ true = ap (λ b. b && is_tick e.command) d ∙ k in
-      let other : is_of g e ≡ false = ap (λ b. is_done e.outcome && (b && flight_of e.command == g)) (tick_no_change e.command k) ∙ and_false (is_done e.outcome) false refl in
+      let other : is_of g e ≡ false = ap (λ b. is_accepted e.verdict && (b && flight_of e.command == g)) (tick_no_change e.command k) ∙ and_false (is_accepted e.verdict) false refl in
       let first : has g (g ∷ gs) ≡ true = ap (λ b. b || has g gs) (eq-eqb g g refl) in
       let here = record_ticked e J g other tick (touched-there J g (all g first)) in
       let more = λ (h : ℕ) (e : has h gs ≡ true). all h (later (is_it h g) (has h gs) e) in
@@ -157,38 +152,54 @@ module _ (e : Entry) (J : History) (legal : IsLegal J) (right : e.outcome ≡ ou
       later true b h = refl
       later false b h = h
 
-  creates_none : (c : Command) → is_tick c ≡ true → creates c ≡ false
+  creates_none : (c : Command) → changes_flight c ≡ false → creates c ≡ false
   creates_none (Schedule s) h = absurd (cc)
   creates_none (Report r) h = absurd (cc)
-  creates_none Tick h = refl
+  creates_none _ h = refl
 
-  tick-replay : is_done e.outcome ≡ true → is_tick e.command ≡ true → map (touched e.moment) (records_of J) ≡ records_of (e ∷ J)
+  -- what changes no flight creates none
+  same_flights : changes_flight e.command ≡ false → flights (e ∷ J) ≡ flights J
+  same_flights k =
+      ap (λ b. with_flight (flights J) (cond (is_accepted e.verdict && b) (Some (flight_of e.command)) None)) (creates_none e.command k)
+      ∙ ap (λ b. with_flight (flights J) (cond b (Some (flight_of e.command)) None)) (and_false (is_accepted e.verdict) false refl)
+
+  tick-replay : is_accepted e.verdict ≡ true → is_tick e.command ≡ true → map (touched e.moment) (records_of J) ≡ records_of (e ∷ J)
   tick-replay d k =
-      let none : created e ≡ None = ap (λ b. cond (b && creates e.command) (Some (flight_of e.command)) None) d ∙ ap (λ b. cond b (Some (flight_of e.command)) None) (creates_none e.command k) in
-      let fs : flights (e ∷ J) ≡ flights J = ap (with_flight (flights J)) none in
-      sym (ap (map (record_of (e ∷ J))) fs ∙ ticked_map (flights J) (λ g h. h) d k)
+      sym (ap (map (record_of (e ∷ J))) (same_flights (tick_no_change e.command k)) ∙ ticked_map (flights J) (λ g h. h) d k)
+
+  -- a question leaves each record
+  asked-replay : changes_flight e.command ≡ false → is_tick e.command ≡ false → records_of J ≡ records_of (e ∷ J)
+  asked-replay k t =
+      let same : (g : ℕ) → record_of (e ∷ J) g ≡ record_of J g = λ g. record_same e J g
+      (and_false (is_accepted e.verdict) (changes_flight e.command && flight_of e.command == g) (no_and (changes_flight e.command) (flight_of e.command == g) k))
+      (and_false (is_accepted e.verdict) (is_tick e.command) t) in
+      sym (ap (map (record_of (e ∷ J))) (same_flights k) ∙ all_same (record_of (e ∷ J)) (record_of J) same (flights J))
+    where
+      all_same : (p q : ℕ → Fields) → ((g : ℕ) → p g ≡ q g) → (gs : List ℕ) → map p gs ≡ map q gs
+      all_same p q same [] = refl
+      all_same p q same (g ∷ gs) = let here = same g in let rest = all_same p q same gs in λ t. here t ∷ rest t
 
   module _ (k : changes_flight e.command ≡ true) where
     others : (g : ℕ) → g ≢ flight_of e.command → record_of (e ∷ J) g ≡ record_of J g
     others g ne =
         record_same e J g
-        (and_false (is_done e.outcome) (changes_flight e.command && flight_of e.command == g) (and_false (changes_flight e.command) (flight_of e.command == g) (ne_eqb (flight_of e.command) g (λ x. ne (sym x)))))
-        (and_false (is_done e.outcome) (is_tick e.command) (change_no_tick e.command k))
+        (and_false (is_accepted e.verdict) (changes_flight e.command && flight_of e.command == g) (and_false (changes_flight e.command) (flight_of e.command == g) (ne_eqb (flight_of e.command) g (λ x. ne (sym x)))))
+        (and_false (is_accepted e.verdict) (is_tick e.command) (change_no_tick e.command k))
 
-    kept : is_done e.outcome ≡ true → exists J (flight_of e.command) ≡ true → flights (e ∷ J) ≡ flights J
+    kept : is_accepted e.verdict ≡ true → exists J (flight_of e.command) ≡ true → flights (e ∷ J) ≡ flights J
     kept d t =
         ap (λ b. with_flight (flights J) (cond (b && creates e.command) (Some (flight_of e.command)) None)) d
         ∙ creates_or_not (flights J) (creates e.command) (flight_of e.command) t
 
-    added : is_done e.outcome ≡ true → exists J (flight_of e.command) ≡ false → flights (e ∷ J) ≡ flights J ++ flight_of e.command ∷ []
+    added : is_accepted e.verdict ≡ true → exists J (flight_of e.command) ≡ false → flights (e ∷ J) ≡ flights J ++ flight_of e.command ∷ []
     added d t =
-        let done : is_done (outcome_for false (length (flights J)) (record_of J (flight_of e.command)) e.role e.command) ≡ true =
-        sym (ap (λ b. is_done (outcome_for b (length (flights J)) (record_of J (flight_of e.command)) e.role e.command)) t) ∙ sym (ap is_done right) ∙ d in
+        let done : is_accepted (verdict_for false (length (flights J)) (record_of J (flight_of e.command)) e.role e.command) ≡ true =
+        sym (ap (λ b. is_accepted (verdict_for b (length (flights J)) (record_of J (flight_of e.command)) e.role e.command)) t) ∙ sym (ap is_accepted right) ∙ d in
         ap (λ b. with_flight (flights J) (cond (b && creates e.command) (Some (flight_of e.command)) None)) d
         ∙ ap (λ b. with_flight (flights J) (cond b (Some (flight_of e.command)) None)) (admitted_creates e.command (length (flights J)) (record_of J (flight_of e.command)) e.role k done)
         ∙ ap (λ b. cond b (flights J) (flights J ++ flight_of e.command ∷ [])) t
 
-    accepted-replay : is_done e.outcome ≡ true → put (records_of J) (flight_of e.command) (changed (record_on (records_of J) (flight_of e.command)) e.moment e.command) ≡ records_of (e ∷ J)
+    accepted-replay : is_accepted e.verdict ≡ true → put (records_of J) (flight_of e.command) (changed (record_on (records_of J) (flight_of e.command)) e.moment e.command) ≡ records_of (e ∷ J)
     accepted-replay d =
         let f : ℕ = flight_of e.command in
         let now : changed (record_on (records_of J) f) e.moment e.command ≡ record_of (e ∷ J) f = ap (λ r. changed r e.moment e.command) (record_on-replay J f legal) ∙ sym (record_changed e J d k) in
@@ -210,29 +221,46 @@ module _ (e : Entry) (J : History) (legal : IsLegal J) (right : e.outcome ≡ ou
               ∙ ap (map (record_of (e ∷ J))) (sym fs)
         ] refl)
 
-  changed-replay : is_done e.outcome ≡ true → board_changed (records_of J) e.moment e.command ≡ records_of (e ∷ J)
+  changed-replay : is_accepted e.verdict ≡ true → board_changed (records_of J) e.moment e.command ≡ records_of (e ∷ J)
   changed-replay d =
-      elim (is_tick e.command) as (λ b. is_tick e.command ≡ b → cond b (map (touched e.moment) (records_of J)) (put (records_of J) (flight_of e.command) (changed (record_on (records_of J) (flight_of e.command)) e.moment e.command)) ≡ records_of (e ∷ J)) [
+      elim (is_tick e.command) as (λ b. is_tick e.command ≡ b → cond b (map (touched e.moment) (records_of J)) (cond (changes_flight e.command) here (records_of J)) ≡ records_of (e ∷ J)) [
         | true ↦ λ k. tick-replay d k
-        | false ↦ λ k. accepted-replay (tick_or_change e.command k) d
+        | false ↦ λ t.
+            elim (changes_flight e.command) as (λ b. changes_flight e.command ≡ b → cond b here (records_of J) ≡ records_of (e ∷ J)) [
+              | true ↦ λ k. accepted-replay k d
+              | false ↦ λ k. asked-replay k t
+            ] refl
       ] refl
+    where
+      here : List Fields
+      here = put (records_of J) (flight_of e.command) (changed (record_on (records_of J) (flight_of e.command)) e.moment e.command)
 
 pub step-replay : (J : History) (session : ℕ) (role : Role) (m : ℕ) (c : Command) → IsLegal J → board_after (records_of J) role m c ≡ records_of (after J session role m c)
 unfolding board_after
 step-replay J session role m c l =
-    let e : Entry = record { number = length J; session = session; role = role; moment = m; command = c; outcome = outcome_of J role m c } in
-    ap (λ o. cond (is_done o) (board_changed (records_of J) m c) (records_of J)) (outcome-replay J role m c l)
-    ∙ (elim (is_done (outcome_of J role m c)) as (λ b. is_done (outcome_of J role m c) ≡ b → cond b (board_changed (records_of J) m c) (records_of J) ≡ records_of (e ∷ J)) [
+    let e : Entry = record { number = length J; session = session; role = role; moment = m; command = c; verdict = verdict_of J role m c } in
+    ap (λ o. cond (is_accepted o) (board_changed (records_of J) m c) (records_of J)) (verdict-replay J role m c l)
+    ∙ (elim (is_accepted (verdict_of J role m c)) as (λ b. is_accepted (verdict_of J role m c) ≡ b → cond b (board_changed (records_of J) m c) (records_of J) ≡ records_of (e ∷ J)) [
       | true ↦ λ d. changed-replay e J l refl d
       | false ↦ λ d. sym (refused-replay e J l refl d)
     ] refl)
 
--- what creates a flight on the board creates it after the history
-pub creating-replay : (J : History) (role : Role) (m : ℕ) (c : Command) (b : List Fields) → IsLegal J → b ≡ records_of J → (is_done (board_outcome b role c) && (changes_flight c && not (is_there b (flight_of c)))) ≡ would_create J role m c
-creating-replay J role m c b l e =
-    ap (λ rs. is_done (board_outcome rs role c) && (changes_flight c && not (is_there rs (flight_of c)))) e
-    ∙ ap (λ o. is_done o && (changes_flight c && not (is_there (records_of J) (flight_of c)))) (outcome-replay J role m c l)
-    ∙ ap (λ t. is_done (outcome_of J role m c) && (changes_flight c && not t)) (there-replay J (flight_of c))
+-- what is answered on the board is answered after the history
+answer-replay : (J : History) (c : Command) → IsLegal J → board_answer (records_of J) c ≡ answer J c
+answer-replay J (Show f) l = ap outcomes.Shown (record_on-replay J f l)
+answer-replay J _ l = refl
+
+pub outcome-replay : (J : History) (role : Role) (m : ℕ) (c : Command) → IsLegal J → board_outcome (records_of J) role c ≡ outcome_of J role m c
+unfolding board_outcome
+outcome-replay J role m c l =
+    ap (λ v. outcome_with (board_answer (records_of J) c) v) (verdict-replay J role m c l) ∙ ap (λ o. outcome_with o (verdict_of J role m c)) (answer-replay J c l)
+
+-- what needs memory on the board needs it after the history
+pub memory-replay : (J : History) (role : Role) (m : ℕ) (c : Command) (b : List Fields) → IsLegal J → b ≡ records_of J → (is_alerts c || board_creates b role c) ≡ needs_memory J role m c
+memory-replay J role m c b l e =
+    ap (λ rs. is_alerts c || board_creates rs role c) e
+    ∙ ap (λ v. is_alerts c || (is_accepted v && (changes_flight c && not (is_there (records_of J) (flight_of c))))) (verdict-replay J role m c l)
+    ∙ ap (λ t. is_alerts c || (is_accepted (verdict_of J role m c) && (changes_flight c && not t))) (there-replay J (flight_of c))
 
 -- the record at a flight's place
 module _ (J : History) (f place : ℕ) (rs : List Fields) (is : rs ≡ records_of J) (at : place ≡ place_of rs f) where

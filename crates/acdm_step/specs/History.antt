@@ -1,13 +1,13 @@
 -- What the board is after a history of entries (this project's profile). A history is the list of its entries,
 -- the newest first. Each question is asked of the whole history.
-use Rattle.std.specs.Prelude.{ℕ, ◌^◌, ◌≡◌, Bool, true, false, ◌&&◌, ◌==◌, not, nat_lt, if◌then◌else◌, List, [], ◌∷◌, ◌++◌, map, length, bit_or, Option, Some, None, option_map, Result, Ok, Err}
-use Rattle.std.specs.List.{list_any}
+use Rattle.std.specs.Prelude.{ℕ, ◌^◌, ◌≡◌, Bool, true, false, ◌&&◌, ◌||◌, ◌==◌, not, nat_lt, if◌then◌else◌, List, [], ◌∷◌, ◌++◌, map, length, bit_or, Option, Some, None, option_map, Result, Ok, Err}
+use Rattle.std.specs.List.{list_any, flat_map}
 use Rattle.acdm_record.specs.declared.field.Field.{Field}
 use Rattle.acdm_record.specs.declared.field.Field.TheVariants.{Flight, Reached, Alerts, Mttt, Exot, Stand, Layout, Exit, Sobt}
 use Rattle.acdm_record.specs.declared.field.TextField.{TextField}
 use Rattle.acdm_record.specs.declared.field.TextField.TheVariants.{Callsign, ScheduledType, PlanType, ScheduledRegistration, PlanRegistration, ScheduledDestination, PlanDestination}
 use Rattle.acdm_record.specs.Place.{index_of, text_index_of}
-use Rattle.acdm_record.specs.Fields.{Fields, fields_of}
+use Rattle.acdm_record.specs.Fields.{Fields, fields_of, number_of}
 use Rattle.acdm_record.specs.Assign.{Assignment, number_is, text_is}
 use Rattle.acdm_milestones.specs.declared.role.Role.{Role}
 use Rattle.acdm_milestones.specs.declared.role.Action.TheVariants as actions
@@ -18,10 +18,14 @@ use Rattle.acdm_alerts.specs.Conditions.{conditions}
 use Rattle.acdm_milestones.specs.Tables.{number, owns, times_of, has_reached, admission}
 use Rattle.acdm_step.specs.declared.command.Plan.{Plan}
 use Rattle.acdm_step.specs.declared.command.Command.{Command}
-use Rattle.acdm_step.specs.declared.command.Command.TheVariants.{Schedule, Report, Tick}
-use Rattle.acdm_step.specs.declared.entry.Outcome.{Outcome}
-use Rattle.acdm_step.specs.declared.entry.Outcome.TheVariants.{Done, Refused}
+use Rattle.acdm_step.specs.declared.command.Command.TheVariants.{Schedule, Report, Tick, Show}
+use Rattle.acdm_step.specs.declared.command.Command.TheVariants as commands
+use Rattle.acdm_step.specs.declared.entry.Verdict.{Verdict}
+use Rattle.acdm_step.specs.declared.entry.Verdict.TheVariants.{Accepted, Refused}
 use Rattle.acdm_step.specs.declared.entry.Entry.{Entry}
+use Rattle.acdm_step.specs.declared.outcome.Alerted.{Alerted}
+use Rattle.acdm_step.specs.declared.outcome.Outcome.{Outcome}
+use Rattle.acdm_step.specs.declared.outcome.Outcome.TheVariants as outcomes
 
 abbrev pub History : Type 0
 History = List Entry
@@ -31,17 +35,19 @@ most_flights = 4096
 
 -- ---- what one command says
 
--- the flight of a command; a tick names none, and 0 is no flight
+-- the flight of a command; where it names none this is 0, which is no flight
 abbrev pub flight_of : Command → ℕ
 flight_of (Schedule s) = s.flight
 flight_of (Report r) = r.flight
+flight_of (Show f) = f
 flight_of Tick = 0
+flight_of commands.Alerts = 0
 
 -- whether it changes the record of one flight
 abbrev pub changes_flight : Command → Bool
 changes_flight (Schedule s) = true
 changes_flight (Report r) = true
-changes_flight Tick = false
+changes_flight _ = false
 
 abbrev pub is_tick : Command → Bool
 is_tick Tick = true
@@ -57,37 +63,37 @@ assigned_by (Schedule s) =
     text_is Callsign s.plan.callsign ∷ text_is ScheduledType s.plan.aircraft ∷ text_is ScheduledRegistration s.plan.registration ∷ text_is ScheduledDestination s.plan.destination
     ∷ number_is Sobt s.sobt ∷ number_is Mttt s.mttt ∷ number_is Exit s.exit ∷ number_is Exot s.exot ∷ number_is Stand s.stand ∷ []
 assigned_by (Report r) = times_of r.milestone r.time ++ planned r.plan
-assigned_by Tick = []
+assigned_by _ = []
 
 -- the bit that it sets in the reached word: 0 for a schedule, m for milestone m
 abbrev pub bit_of : Command → ℕ
 bit_of (Schedule s) = 0
 bit_of (Report r) = number r.milestone
-bit_of Tick = 0
+bit_of _ = 0
 
 -- whether it creates its flight where that is not there: a schedule and milestone 1 do
 abbrev pub creates : Command → Bool
 creates (Schedule s) = true
 creates (Report r) = number r.milestone == 1
-creates Tick = false
+creates _ = false
 
 -- ---- what one entry says
 
-abbrev pub is_done : Outcome → Bool
-is_done Done = true
-is_done (Refused x) = false
+abbrev pub is_accepted : Verdict → Bool
+is_accepted Accepted = true
+is_accepted (Refused x) = false
 
 -- an accepted entry that changes a flight
 abbrev pub is_of : ℕ → Entry → Bool
-is_of f e = is_done e.outcome && (changes_flight e.command && flight_of e.command == f)
+is_of f e = is_accepted e.verdict && (changes_flight e.command && flight_of e.command == f)
 
 -- an accepted tick
 abbrev pub ticks : Entry → Bool
-ticks e = is_done e.outcome && is_tick e.command
+ticks e = is_accepted e.verdict && is_tick e.command
 
 -- the flight that an entry creates where it is not there yet
 abbrev pub created : Entry → Option ℕ
-created e = if is_done e.outcome && creates e.command then Some (flight_of e.command) else None
+created e = if is_accepted e.verdict && creates e.command then Some (flight_of e.command) else None
 
 -- ---- what the whole history says of a flight
 
@@ -174,44 +180,78 @@ flights (e ∷ J) = with_flight (flights J) (created e)
 abbrev pub exists : History → ℕ → Bool
 exists J f = list_any (λ g. g == f) (flights J)
 
--- ---- outcomes, by the first refusal that applies
+-- ---- verdicts, by the first refusal that applies
 
 -- of a schedule or a report of a flight that is there or not, among so many, with this record
-abbrev pub schedule_outcome : Bool → ℕ → Fields → Role → Outcome
-schedule_outcome there count r role =
+abbrev pub schedule_verdict : Bool → ℕ → Fields → Role → Verdict
+schedule_verdict there count r role =
     if not (owns role actions.Schedule) then Refused NotOwner
     else (if has_reached r 0 && has_reached r 1 then Refused AlreadyPlanned
     else (if not there && not (nat_lt count most_flights) then Refused FullBoard
-    else Done))
+    else Accepted))
 
-abbrev pub outcome_from : Result (Unit {0}) Refusal → Outcome
-outcome_from (Ok x) = Done
-outcome_from (Err x) = Refused x
+abbrev pub verdict_from : Result (Unit {0}) Refusal → Verdict
+verdict_from (Ok x) = Accepted
+verdict_from (Err x) = Refused x
 
-abbrev pub report_outcome : Bool → ℕ → Fields → Role → Milestone → ℕ → Outcome
-report_outcome there count r role m time =
+abbrev pub report_verdict : Bool → ℕ → Fields → Role → Milestone → ℕ → Verdict
+report_verdict there count r role m time =
     if not (owns role (actions.Report m)) then Refused NotOwner
     else (if not there && not (number m == 1) then Refused UnknownFlight
     else (if not there && not (nat_lt count most_flights) then Refused FullBoard
-    else outcome_from (admission r role m time)))
+    else verdict_from (admission r role m time)))
 
-abbrev pub tick_outcome : Role → Outcome
-tick_outcome role = if owns role actions.Tick then Done else Refused NotOwner
+abbrev pub tick_verdict : Role → Verdict
+tick_verdict role = if owns role actions.Tick then Accepted else Refused NotOwner
 
-abbrev pub outcome_for : Bool → ℕ → Fields → Role → Command → Outcome
-outcome_for there count r role (Schedule s) = schedule_outcome there count r role
-outcome_for there count r role (Report p) = report_outcome there count r role p.milestone p.time
-outcome_for there count r role Tick = tick_outcome role
+-- anyone may see the record of a flight that is there
+abbrev pub show_verdict : Bool → Verdict
+show_verdict there = if there then Accepted else Refused UnknownFlight
+
+abbrev pub verdict_for : Bool → ℕ → Fields → Role → Command → Verdict
+verdict_for there count r role (Schedule s) = schedule_verdict there count r role
+verdict_for there count r role (Report p) = report_verdict there count r role p.milestone p.time
+verdict_for there count r role Tick = tick_verdict role
+verdict_for there count r role (Show f) = show_verdict there
+verdict_for there count r role commands.Alerts = Accepted
+
+-- the verdict on a command after a history
+abbrev pub verdict_of : History → Role → ℕ → Command → Verdict
+verdict_of J role moment c = verdict_for (exists J (flight_of c)) (length (flights J)) (record_of J (flight_of c)) role c
+
+-- ---- what comes of a command
+
+-- a record's flight with its alerts, where it has any
+abbrev pub alerted : Fields → List Alerted
+alerted r = if number_of r Alerts == 0 then [] else record { flight = number_of r Flight; alerts = number_of r Alerts } ∷ []
+
+abbrev pub alert_list : List Fields → List Alerted
+alert_list rs = flat_map alerted rs
+
+-- what an accepted command is answered: the record of a flight, or all flights with alerts in order of creation
+abbrev pub answer : History → Command → Outcome
+answer J (Show f) = outcomes.Shown (record_of J f)
+answer J commands.Alerts = outcomes.Listed (alert_list (map (record_of J) (flights J)))
+answer J _ = outcomes.Done
+
+abbrev pub outcome_with : Outcome → Verdict → Outcome
+outcome_with o Accepted = o
+outcome_with o (Refused x) = outcomes.Refused x
 
 -- what comes of a command after a history
 abbrev pub outcome_of : History → Role → ℕ → Command → Outcome
-outcome_of J role moment c = outcome_for (exists J (flight_of c)) (length (flights J)) (record_of J (flight_of c)) role c
+outcome_of J role moment c = outcome_with (answer J c) (verdict_of J role moment c)
+
+-- the verdict that an outcome says
+abbrev pub verdict_in : Outcome → Verdict
+verdict_in (outcomes.Refused x) = Refused x
+verdict_in _ = Accepted
 
 -- ---- histories that the platform may have
 
 abbrev pub IsLegal : History → Type 0
 IsLegal [] = Unit {0}
-IsLegal (e ∷ J) = IsLegal J × (e.number ≡ length J) × (e.outcome ≡ outcome_of J e.role e.moment e.command)
+IsLegal (e ∷ J) = IsLegal J × (e.number ≡ length J) × (e.verdict ≡ verdict_of J e.role e.moment e.command)
 
 -- the board after a history: the records in order of creation
 pub record Board : Type 0 where
@@ -222,8 +262,16 @@ replay J = record { records = map (record_of J) (flights J) }
 
 -- the history with one more command
 abbrev pub after : History → ℕ → Role → ℕ → Command → History
-after J session role moment command = record { number = length J; session = session; role = role; moment = moment; command = command; outcome = outcome_of J role moment command } ∷ J
+after J session role moment command = record { number = length J; session = session; role = role; moment = moment; command = command; verdict = verdict_of J role moment command } ∷ J
 
 -- whether a command would create a flight
 abbrev pub would_create : History → Role → ℕ → Command → Bool
-would_create J role moment c = is_done (outcome_of J role moment c) && (changes_flight c && not (exists J (flight_of c)))
+would_create J role moment c = is_accepted (verdict_of J role moment c) && (changes_flight c && not (exists J (flight_of c)))
+
+abbrev pub is_alerts : Command → Bool
+is_alerts commands.Alerts = true
+is_alerts _ = false
+
+-- whether a command needs memory: for the record of a new flight, or for a list of alerts
+abbrev pub needs_memory : History → Role → ℕ → Command → Bool
+needs_memory J role moment c = is_alerts c || would_create J role moment c

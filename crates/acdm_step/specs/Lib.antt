@@ -1,3 +1,4 @@
 pub mod Facts
 pub mod History
 pub mod Board
+pub mod Laws

@@ -1,11 +1,11 @@
 //! What a command does to the record of its flight.
 ghost use Rattle.std.specs.Prelude.{◌≡◌, IsTrue};
 ghost use Rattle.acdm_record.specs.Assign.{with_all};
-ghost use Rattle.acdm_step.specs.History.{schedule_outcome, report_outcome, tick_outcome, outcome_for, flight_of, changes_flight, planned};
+ghost use Rattle.acdm_step.specs.History.{schedule_verdict, report_verdict, tick_verdict, verdict_for, flight_of, changes_flight, planned};
 ghost use Rattle.acdm_step.specs.Board.{assigned_to, changed as after_command, touched};
 
 use crate::command::{Command, Plan, Report, Schedule};
-use crate::entry::Outcome;
+use crate::entry::Verdict;
 use acdm_alerts::builtin;
 use acdm_milestones::{
     Action, Milestone, Refusal, Role, admit, has_reached, mark_reached, owns, set_time,
@@ -70,7 +70,7 @@ fn assign(record: &mut Record, command: &Command)
     match command {
         Command::Schedule(schedule) => set_scheduled(record, schedule),
         Command::Report(report) => set_reported(record, report),
-        Command::Tick => unreachable!(),
+        Command::Tick | Command::Show(_) | Command::Alerts => unreachable!(),
     }
 }
 
@@ -83,83 +83,85 @@ pub(crate) fn change(record: &mut Record, now: u32, command: &Command)
     touch(record, now);
 }
 
-fn outcome_of_schedule(record: &Record, is_there: bool, count: usize, role: Role) -> Outcome
-    ensures { result ≡ schedule_outcome is_there count record.now role }
+fn verdict_on_schedule(record: &Record, is_there: bool, count: usize, role: Role) -> Verdict
+    ensures { result ≡ schedule_verdict is_there count record.now role }
 {
     if !owns(role, Action::Schedule) {
-        return Outcome::Refused(Refusal::NotOwner);
+        return Verdict::Refused(Refusal::NotOwner);
     }
     if has_reached(record, 0) && has_reached(record, 1) {
-        return Outcome::Refused(Refusal::AlreadyPlanned);
+        return Verdict::Refused(Refusal::AlreadyPlanned);
     }
     if !is_there && count >= MOST_FLIGHTS {
-        return Outcome::Refused(Refusal::FullBoard);
+        return Verdict::Refused(Refusal::FullBoard);
     }
-    Outcome::Done
+    Verdict::Accepted
 }
 
-fn outcome_of_report(
+fn verdict_on_report(
     record: &Record,
     is_there: bool,
     count: usize,
     role: Role,
     milestone: Milestone,
     time: u32,
-) -> Outcome
-    ensures { result ≡ report_outcome is_there count record.now role milestone time }
+) -> Verdict
+    ensures { result ≡ report_verdict is_there count record.now role milestone time }
 {
     if !owns(role, Action::Report(milestone)) {
-        return Outcome::Refused(Refusal::NotOwner);
+        return Verdict::Refused(Refusal::NotOwner);
     }
     if !is_there && !matches!(milestone, Milestone::FlightPlanActivated) {
-        return Outcome::Refused(Refusal::UnknownFlight);
+        return Verdict::Refused(Refusal::UnknownFlight);
     }
     if !is_there && count >= MOST_FLIGHTS {
-        return Outcome::Refused(Refusal::FullBoard);
+        return Verdict::Refused(Refusal::FullBoard);
     }
     match admit(record, role, milestone, time) {
-        Ok(()) => Outcome::Done,
-        Err(refusal) => Outcome::Refused(refusal),
+        Ok(()) => Verdict::Accepted,
+        Err(refusal) => Verdict::Refused(refusal),
     }
 }
 
-/// What comes of a tick.
-pub(crate) fn outcome_of_tick(role: Role) -> Outcome
-    ensures { result ≡ tick_outcome role }
+/// The verdict on a tick.
+pub(crate) fn verdict_on_tick(role: Role) -> Verdict
+    ensures { result ≡ tick_verdict role }
 {
     if owns(role, Action::Tick) {
-        Outcome::Done
+        Verdict::Accepted
     } else {
-        Outcome::Refused(Refusal::NotOwner)
+        Verdict::Refused(Refusal::NotOwner)
     }
 }
 
-/// What comes of a command, by the record of its flight.
-pub(crate) fn outcome(
+/// The verdict on a command that changes a flight, by that flight's record.
+pub(crate) fn verdict(
     record: &Record,
     is_there: bool,
     count: usize,
     role: Role,
     command: &Command,
-) -> Outcome
-    ensures { result ≡ outcome_for is_there count record.now role command.now }
+) -> Verdict
+    requires { IsTrue (changes_flight command.now) }
+    ensures { result ≡ verdict_for is_there count record.now role command.now }
 {
     match command {
-        Command::Schedule(_) => outcome_of_schedule(record, is_there, count, role),
+        Command::Schedule(_) => verdict_on_schedule(record, is_there, count, role),
         Command::Report(report) => {
-            outcome_of_report(record, is_there, count, role, report.milestone, report.time)
+            verdict_on_report(record, is_there, count, role, report.milestone, report.time)
         }
-        Command::Tick => outcome_of_tick(role),
+        Command::Tick | Command::Show(_) | Command::Alerts => unreachable!(),
     }
 }
 
-/// The flight of a command, 0 for a tick.
+/// The flight that a command changes.
 pub(crate) fn flight_of_command(command: &Command) -> u64
+    requires { IsTrue (changes_flight command.now) }
     ensures { result ≡ flight_of command.now }
 {
     match command {
         Command::Schedule(schedule) => schedule.flight,
         Command::Report(report) => report.flight,
-        Command::Tick => 0,
+        Command::Tick | Command::Show(_) | Command::Alerts => unreachable!(),
     }
 }

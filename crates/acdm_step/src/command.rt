@@ -108,6 +108,41 @@ impl Report {
     }
 }
 
+/// The number of a flight, which is at least 1.
+#[derive(Clone, Copy)]
+pub struct FlightNumber {
+    number: u64,
+}
+
+impl Model for FlightNumber {
+    ghost use Rattle.std.specs.Prelude.{ℕ, ◌≤◌};
+
+    ghost Value = { ℕ };
+
+    ghost view = { λ f. f.number };
+
+    ghost invariant = { λ f. 1 ≤ f.number };
+
+    ghost inverse = { λ n. record { number = n } };
+}
+
+impl FlightNumber {
+    /// The flight of this number.
+    pub fn new(number: u64) -> FlightNumber
+        requires { 1 ≤ number }
+        ensures { result ≡ number }
+    {
+        FlightNumber { number }
+    }
+
+    /// The number.
+    pub fn get(self) -> u64
+        ensures { result ≡ self }
+    {
+        self.number
+    }
+}
+
 /// What a partner asks for.
 #[derive(Drop)]
 pub enum Command {
@@ -117,4 +152,8 @@ pub enum Command {
     Report(Report),
     /// To compute the alerts of all flights anew.
     Tick,
+    /// To see the record of a flight.
+    Show(FlightNumber),
+    /// To see the alerts of all flights that have any.
+    Alerts,
 }

@@ -1,29 +1,29 @@
 //! The journal's entries.
 ghost use Rattle.std.specs.Prelude.{◌≡◌};
-ghost use Rattle.acdm_step.specs.History.{is_done as is_accepted};
+ghost use Rattle.acdm_step.specs.History.{is_accepted as was_accepted};
 
 use crate::command::Command;
 use acdm_milestones::{Refusal, Role};
 
-/// What came of a command.
+/// Whether a command was accepted.
 #[derive(Clone, Copy, Debug, PartialEq, Eq)]
-pub enum Outcome {
+pub enum Verdict {
     /// It was accepted.
-    Done,
+    Accepted,
     /// It was refused, and changed nothing.
     Refused(Refusal),
 }
 
-impl Outcome {
+impl Verdict {
     /// Whether the command was accepted.
-    pub fn is_done(&self) -> bool
-        ensures { result ≡ is_accepted self.now }
+    pub fn is_accepted(&self) -> bool
+        ensures { result ≡ was_accepted self.now }
     {
-        matches!(self, Outcome::Done)
+        matches!(self, Verdict::Accepted)
     }
 }
 
-/// One command, with what came of it.
+/// One command, with the verdict on it. What an accepted question was answered can be told from the entries before.
 ///
 /// The moment is in minutes since 1970-01-01T00:00Z.
 #[derive(Drop)]
@@ -33,5 +33,5 @@ pub struct Entry {
     pub role: Role,
     pub moment: u32,
     pub command: Command,
-    pub outcome: Outcome,
+    pub verdict: Verdict,
 }

@@ -4,10 +4,12 @@
 mod change;
 mod command;
 mod entry;
+mod outcome;
 mod state;
 
-pub use command::{Command, Plan, Report, Schedule};
-pub use entry::{Entry, Outcome};
+pub use command::{Command, FlightNumber, Plan, Report, Schedule};
+pub use entry::{Entry, Verdict};
+pub use outcome::{AlertList, Alerted, Outcome};
 pub use state::Core;
 
 #[cfg(test)]

@@ -1,14 +1,15 @@
 //! The core: the records of the flights in order of creation.
-ghost use Rattle.std.specs.Prelude.{◌≡◌, ◌==◌, ◌&&◌, ◌≤◌, ℕ, [], not, IsTrue, IfOk, OnErr, OnOk, IfSome, map, if◌then◌else◌, Option, Some, None};
+ghost use Rattle.std.specs.Prelude.{◌≡◌, ◌==◌, ◌||◌, ◌≤◌, ℕ, [], IsTrue, IfOk, OnErr, OnOk, IfSome, map, if◌then◌else◌, Option, Some, None};
 ghost use Rattle.std.specs.Option.{option_copied};
 ghost use Rattle.acdm_milestones.specs.Tables.{has_reached};
-ghost use Rattle.acdm_step.specs.History.{History, IsLegal, replay, after, outcome_of, would_create, exists, record_of as record_in, has_come_to, is_done, flight_of, changes_flight, tick_outcome};
-ghost use Rattle.acdm_step.specs.Board.{touched, place_of, is_there, board_outcome, board_after};
+ghost use Rattle.acdm_step.specs.History.{History, IsLegal, replay, after, outcome_of, outcome_with, needs_memory, exists, record_of as record_in, has_come_to, is_accepted, changes_flight, tick_verdict, show_verdict, is_alerts};
+ghost use Rattle.acdm_step.specs.Board.{touched, place_of, is_there, record_on, board_creates, board_verdict, board_outcome, board_after};
 
-use crate::change::{change, flight_of_command, outcome, outcome_of_tick, touch};
+use crate::change::{change, flight_of_command, touch, verdict, verdict_on_tick};
 use crate::command::Command;
-use crate::entry::Outcome;
-use acdm_milestones::Role;
+use crate::entry::Verdict;
+use crate::outcome::{AlertList, Outcome};
+use acdm_milestones::{Refusal, Role};
 use acdm_record::{Field, Record};
 use std::alloc::{AllocError, Global};
 use std::marker::Model;
@@ -35,12 +36,12 @@ fn touch_all(records: &mut [Record], now: u32)
 }
 
 // A tick on the records.
-fn tick(records: &mut [Record], role: Role, now: u32) -> Outcome
-    ensures outcome { result ≡ tick_outcome role }
-    ensures records { records.new ≡ (if is_done (tick_outcome role) then map (touched now) records.old else records.old) }
+fn tick(records: &mut [Record], role: Role, now: u32) -> Verdict
+    ensures verdict { result ≡ tick_verdict role }
+    ensures records { records.new ≡ (if is_accepted (tick_verdict role) then map (touched now) records.old else records.old) }
 {
-    let result = outcome_of_tick(role);
-    if !result.is_done() {
+    let result = verdict_on_tick(role);
+    if !result.is_accepted() {
         return result;
     }
     touch_all(records, now);
@@ -53,29 +54,28 @@ fn step_flight(
     role: Role,
     now: u32,
     command: &Command,
-) -> Result<Outcome, AllocError>
+) -> Result<Verdict, AllocError>
     requires { IsTrue (changes_flight command.now) }
-    ensures outcome { IfOk result (λ outcome. outcome ≡ board_outcome records.old.items role command.now) }
+    ensures verdict { IfOk result (λ verdict. verdict ≡ board_verdict records.old.items role command.now) }
     ensures records { OnOk result (records.new.items ≡ board_after records.old.items role now command.now) }
     ensures err { OnErr result (records.new.items ≡ records.old.items) }
-    ensures creating { OnErr result (IsTrue (is_done (board_outcome records.old.items role command.now)
-        && (changes_flight command.now && not (is_there records.old.items (flight_of command.now))))) }
+    ensures creating { OnErr result (IsTrue (board_creates records.old.items role command.now)) }
 {
     let flight = flight_of_command(command);
     let place = place_in(records.as_slice(), flight);
     let count = records.len();
     if place < count {
         let record = &mut records[place];
-        let result = outcome(record, true, count, role, command);
-        if !result.is_done() {
+        let result = verdict(record, true, count, role, command);
+        if !result.is_accepted() {
             return Ok(result);
         }
         change(record, now, command);
         return Ok(result);
     }
     let mut record = Record::new(flight);
-    let result = outcome(&record, false, count, role, command);
-    if !result.is_done() {
+    let result = verdict(&record, false, count, role, command);
+    if !result.is_accepted() {
         return Ok(result);
     }
     records.reserve(1)?;
@@ -84,6 +84,35 @@ fn step_flight(
         unreachable!();
     }
     Ok(result)
+}
+
+// The same, with what comes of it.
+fn change_one(
+    records: &mut Vec<Record>,
+    role: Role,
+    now: u32,
+    command: &Command,
+) -> Result<Outcome, AllocError>
+    requires { IsTrue (changes_flight command.now) }
+    ensures outcome { IfOk result (λ outcome. outcome ≡ board_outcome records.old.items role command.now) }
+    ensures records { OnOk result (records.new.items ≡ board_after records.old.items role now command.now) }
+    ensures err { OnErr result (records.new.items ≡ records.old.items) }
+    ensures creating { OnErr result (IsTrue (board_creates records.old.items role command.now)) }
+{
+    let verdict = step_flight(records, role, now, command)?;
+    Ok(Outcome::of(verdict))
+}
+
+// The record of a flight, as it is answered.
+fn show(records: &[Record], flight: u64) -> Outcome
+    ensures { result ≡ outcome_with (Outcome.Shown (record_on records.now flight)) (show_verdict (is_there records.now flight)) }
+{
+    let place = place_in(records, flight);
+    if place < records.len() {
+        Outcome::Shown(records[place].copy())
+    } else {
+        Outcome::Refused(Refusal::UnknownFlight)
+    }
 }
 
 // A step on the records.
@@ -96,13 +125,17 @@ fn step(
     ensures outcome { IfOk result (λ outcome. outcome ≡ board_outcome records.old.items role command.now) }
     ensures records { OnOk result (records.new.items ≡ board_after records.old.items role now command.now) }
     ensures err { OnErr result (records.new.items ≡ records.old.items) }
-    ensures creating { OnErr result (IsTrue (is_done (board_outcome records.old.items role command.now)
-        && (changes_flight command.now && not (is_there records.old.items (flight_of command.now))))) }
+    ensures memory { OnErr result (IsTrue (is_alerts command.now || board_creates records.old.items role command.now)) }
 {
     match command {
-        Command::Tick => Ok(tick(records.as_mut_slice(), role, now)),
-        Command::Schedule(_) => step_flight(records, role, now, command),
-        Command::Report(_) => step_flight(records, role, now, command),
+        Command::Schedule(_) => change_one(records, role, now, command),
+        Command::Report(_) => change_one(records, role, now, command),
+        Command::Tick => Ok(Outcome::of(tick(records.as_mut_slice(), role, now))),
+        Command::Show(flight) => Ok(show(records.as_slice(), flight.get())),
+        Command::Alerts => {
+            let list = AlertList::of(*records.allocator(), records.as_slice())?;
+            Ok(Outcome::Listed(list))
+        }
     }
 }
 
@@ -149,7 +182,8 @@ impl Core {
 
     /// What comes of a command at a moment (minutes since 1970-01-01T00:00Z), and the board after it.
     ///
-    /// Memory is asked for only where a flight would be created, before anything changes.
+    /// `Err` only where memory was refused, which is asked for where a flight would be created, and for a list of alerts,
+    /// before anything changes.
     pub fn apply(
         &mut self,
         role: Role,
@@ -161,8 +195,8 @@ impl Core {
         ensures board { OnOk result ((J : History) (session : ℕ) → IsLegal J → self.old ≡ replay J →
             self.new ≡ replay (after J session role moment command.now)) }
         ensures err { OnErr result (self.new ≡ self.old) }
-        ensures creating { OnErr result ((J : History) → IsLegal J → self.old ≡ replay J →
-            IsTrue (would_create J role moment command.now)) }
+        ensures memory { OnErr result ((J : History) → IsLegal J → self.old ≡ replay J →
+            IsTrue (needs_memory J role moment command.now)) }
     {
         step(&mut self.records, role, moment, command)
     }

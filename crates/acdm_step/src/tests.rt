@@ -1,5 +1,5 @@
 //! Alerts of the board, by the profile's worked examples.
-use crate::{Command, Core, Outcome, Plan, Report, Schedule};
+use crate::{Command, Core, FlightNumber, Outcome, Plan, Report, Schedule, Verdict};
 use acdm_milestones::{Milestone, Refusal, Role};
 use acdm_record::{Field, Text};
 use std::test::Fail;
@@ -44,10 +44,43 @@ fn a_tick_tells_a_missing_flight_plan(rt: HostRuntime) -> Result<(), Fail> {
     core.apply(Role::AirportOperator, 29_000_579, &scheduled()?)?;
     assert_eq!(rt; alerts_of(&core)?, 0);
     let refused = core.apply(Role::NetworkManager, 29_000_580, &Command::Tick)?;
-    assert_eq!(rt; refused, Outcome::Refused(Refusal::NotOwner));
+    assert_eq!(rt; refused.verdict(), Verdict::Refused(Refusal::NotOwner));
     assert_eq!(rt; alerts_of(&core)?, 0);
     let ticked = core.apply(Role::AirportOperator, 29_000_580, &Command::Tick)?;
-    assert_eq!(rt; ticked, Outcome::Done);
+    assert_eq!(rt; ticked.verdict(), Verdict::Accepted);
     assert_eq!(rt; alerts_of(&core)?, 1 << 13);
+    Ok(())
+}
+
+#[test]
+fn a_record_is_shown_of_a_flight_that_is_there(rt: HostRuntime) -> Result<(), Fail> {
+    let mut core = Core::new(rt.alloc());
+    core.apply(Role::AirportOperator, 29_000_580, &scheduled()?)?;
+    let seen = core.apply(Role::GroundHandler, 1, &Command::Show(FlightNumber::new(7)))?;
+    let Outcome::Shown(record) = seen else {
+        return Err("no record".into());
+    };
+    assert_eq!(rt; record.get(Field::Sobt), 29_000_760);
+    assert_eq!(rt; record.get(Field::Stand), 12);
+    let unseen = core.apply(Role::GroundHandler, 1, &Command::Show(FlightNumber::new(8)))?;
+    assert_eq!(rt; unseen.verdict(), Verdict::Refused(Refusal::UnknownFlight));
+    Ok(())
+}
+
+#[test]
+fn flights_with_alerts_are_listed(rt: HostRuntime) -> Result<(), Fail> {
+    let mut core = Core::new(rt.alloc());
+    core.apply(Role::NetworkManager, 29_000_580, &planned()?)?;
+    let Outcome::Listed(list) = core.apply(Role::GroundHandler, 1, &Command::Alerts)? else {
+        return Err("no list".into());
+    };
+    assert_eq!(rt; list.as_slice().len(), 1);
+    assert_eq!(rt; list.as_slice()[0].flight, 7);
+    assert_eq!(rt; list.as_slice()[0].alerts.word(), 2);
+    core.apply(Role::AirportOperator, 29_000_580, &scheduled()?)?;
+    let Outcome::Listed(none) = core.apply(Role::GroundHandler, 1, &Command::Alerts)? else {
+        return Err("no list".into());
+    };
+    assert!(rt; none.as_slice().is_empty());
     Ok(())
 }

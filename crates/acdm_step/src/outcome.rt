@@ -1,0 +1,95 @@
+//! What comes of a command.
+ghost use Rattle.std.specs.Prelude.{◌≡◌, ◌++◌, IfOk};
+ghost use Rattle.acdm_step.specs.History.{verdict_in, outcome_with, alert_list};
+
+use crate::entry::Verdict;
+use acdm_alerts::AlertSet;
+use acdm_milestones::Refusal;
+use acdm_record::{Field, Record};
+use std::alloc::{AllocError, Global};
+use std::marker::Model;
+
+/// A flight and its alerts.
+#[derive(Clone, Copy)]
+pub struct Alerted {
+    pub flight: u64,
+    pub alerts: AlertSet,
+}
+
+/// Flights with their alerts, in order of creation.
+#[derive(Drop)]
+pub struct AlertList {
+    items: Vec<Alerted>,
+}
+
+impl Model for AlertList {
+    ghost use Rattle.std.specs.Prelude.{List};
+    ghost use Rattle.acdm_step.specs.declared.outcome.Alerted.{Alerted};
+
+    ghost Value = { List Alerted };
+
+    ghost view = { λ l. l.items.items };
+}
+
+impl AlertList {
+    /// The flights with an alert, and with all of its alerts each. `Err` only where memory was refused.
+    pub(crate) fn of(alloc: Global, records: &[Record]) -> Result<AlertList, AllocError>
+        ensures { IfOk result (λ list. list ≡ alert_list records.now) }
+    {
+        let mut items = Vec::new(alloc);
+        let mut rest = records;
+        while let Some((record, more)) = rest.split_first() {
+            let alerts = AlertSet::of(record);
+            if !alerts.is_empty() {
+                items.push(Alerted {
+                    flight: record.get(Field::Flight),
+                    alerts,
+                })?;
+            }
+            rest = more;
+        }
+        Ok(AlertList { items })
+    }
+
+    /// The flights, each with its alerts.
+    pub fn as_slice(&self) -> &[Alerted]
+        ensures { result.now ≡ self.now }
+    {
+        self.items.as_slice()
+    }
+}
+
+/// What comes of a command.
+#[derive(Drop)]
+pub enum Outcome {
+    /// It was accepted, and asks nothing.
+    Done,
+    /// The record that was asked for.
+    Shown(Record),
+    /// The flights with alerts.
+    Listed(AlertList),
+    /// It was refused, and changed nothing.
+    Refused(Refusal),
+}
+
+impl Outcome {
+    /// Whether the command was accepted, which is what an entry keeps.
+    pub fn verdict(&self) -> Verdict
+        ensures { result ≡ verdict_in self.now }
+    {
+        match self {
+            Outcome::Refused(refusal) => Verdict::Refused(*refusal),
+            Outcome::Done | Outcome::Shown(_) | Outcome::Listed(_) => Verdict::Accepted,
+        }
+    }
+
+    /// The outcome of a command that asks nothing.
+    pub(crate) fn of(verdict: Verdict) -> Outcome
+        ensures { result ≡ outcome_with Outcome.Done verdict }
+    {
+        match verdict {
+            Verdict::Accepted => Outcome::Done,
+            Verdict::Refused(refusal) => Outcome::Refused(refusal),
+        }
+    }
+}
