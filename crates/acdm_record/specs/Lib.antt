@@ -1,4 +1,5 @@
 pub mod Place
 pub mod Fields
+pub mod Faults
 pub mod Texts
 pub mod Assign
