@@ -13,7 +13,7 @@ use Rattle.acdm_record.specs.Place.{text_offset_of, text_width_of, text_fields}
 use Rattle.acdm_record.specs.Fields.{bytes_of, part, number_at, text_at, fields_at, padded, is_text, is_allowed, IsRecord}
 use Rattle.acdm_record.specs.Faults.{AreOfRecord, is_filled, has_fault, faults, first_fault}
 use Rattle.acdm_record.proofs.Whole.{bytes_of-fields_at}
-use Rattle.acdm_record.proofs.Table.{and_left, and_right, both_true}
+use Rattle.acdm_record.specs.Bools.{and_left, and_right, both_true}
 use Rattle.acdm_record.proofs.Places.{each_text_field, text_length, text-padded, number_of-fields_of, text_of-fields_of}
 
 some_none : {K : Type 0} (x : K) → ◌≡◌ {A = Option K} (Some x) None → ⊥

@@ -1,3 +1,4 @@
+pub mod Bools
 pub mod Place
 pub mod Fields
 pub mod Faults
