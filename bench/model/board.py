@@ -21,6 +21,7 @@ LONGEST_LINE = 70_000
 DEEPEST = 127
 MOST_FLIGHTS = 4096
 MOST_MINUTES = 2**32 - 1
+LAST_INSTANT = 4_223_370_120  # the last minute that `jiff` reads, 9999-12-30T22:00Z
 ROLES = ("NM", "ATC", "APT", "AO", "GH")
 
 
@@ -47,15 +48,15 @@ class NoNumber:
     """A JSON number that is no whole number from 0 to 2^64 - 1."""
 
 
-def json_integer(text):
-    value = int(text)
-    return NoNumber() if text.startswith("-") or value >= 2**64 else value
-
-
 def json_float(text):
     if float(text) in (float("inf"), float("-inf")):
         raise ValueError("number out of range")
     return NoNumber()
+
+
+def json_integer(text):
+    other = json_float(text)
+    return other if text.startswith("-") or int(text) >= 2**64 else int(text)
 
 
 def json_constant(text):
@@ -119,15 +120,18 @@ def minute_of(instant):
     parts = INSTANT.fullmatch(instant)
     if not parts:
         return None
+    *day_and_time, seconds = (int(part) for part in parts.groups()[:6])
     try:
-        moment = datetime(*(int(part) for part in parts.groups()[:6]), tzinfo=timezone.utc)
+        moment = datetime(*day_and_time, 59 if seconds == 60 else seconds, tzinfo=timezone.utc)
     except ValueError:
         return None
-    seconds = (moment - datetime(1970, 1, 1, tzinfo=timezone.utc)) // timedelta(seconds=1)
+    minute = (moment - datetime(1970, 1, 1, tzinfo=timezone.utc)) // timedelta(minutes=1)
     if parts[7]:
-        ahead = int(parts[8]) * 60 + int(parts[9])
-        seconds += -60 * ahead if parts[7] == "+" else 60 * ahead
-    return seconds // 60
+        hours, minutes = int(parts[8]), int(parts[9])
+        if hours > 25 or minutes > 59:
+            return None
+        minute += (-1 if parts[7] == "+" else 1) * (60 * hours + minutes)
+    return minute if minute <= LAST_INSTANT else None
 
 
 def time(fields, key, optional=False):
