@@ -1,5 +1,5 @@
 -- What every record keeps, is kept by a change of one name.
-use Rattle.std.proofs.Common.{◌≡◌, ◌≢◌, ℕ, ◌+◌, ◌-◌, ◌<◌, ◌≤◌, true, false, ◌==◌, not, List, [], length, set, take, drop, replicate, refl, sym, ap, ◌∙◌, subst, arith, eqb-true}
+use Rattle.std.proofs.Common.{◌≡◌, ◌≢◌, ℕ, ◌<◌, ◌≤◌, true, false, ◌==◌, not, List, [], length, set, drop, replicate, refl, sym, ap, ◌∙◌, subst, arith, eqb-true}
 use Rattle.std.proofs.lemmas.List.{get_or-set_same, get_or-set_other, length-map, length-take}
 use Rattle.std.proofs.lemmas.Bool.{eqb-false}
 use Rattle.std.specs.List.{before_first, prefix_len}
@@ -61,11 +61,9 @@ kept-text b c t v e h p r =
       numbers = subst AreAllowed (sym e) r.numbers;
     }
 
--- the text that a slice up to the first zero byte reads
-pub text_read : (t : TextField) (b : List ℕ) (o w : ℕ) (r : List ℕ) → o ≡ text_offset_of t → w ≡ text_width_of t → r ≡ before_first (λ x. x == 0) (take (o + w - o) (drop o b)) → r ≡ text_of (fields_at b) t
-text_read t b o w r eo ew e =
-    let width : o + w - o ≡ w = omega arith in
-    e ∙ ap (λ n. before_first (λ x. x == 0) (take n (drop o b))) (width ∙ ew) ∙ ap (λ i. before_first (λ x. x == 0) (take (text_width_of t) (drop i b))) eo ∙ sym (text_of-fields_of (number_at b) (text_at b) t)
+-- the text that is read up to the first zero byte of its place
+pub text_read : (t : TextField) (b p r : List ℕ) → p ≡ part (text_offset_of t) (text_width_of t) b → r ≡ before_first (λ x. x == 0) p → r ≡ text_of (fields_at b) t
+text_read t b p r ep er = er ∙ ap (before_first (λ x. x == 0)) ep ∙ sym (text_of-fields_of (number_at b) (text_at b) t)
 
 -- a text is no longer than its place
 pub text_short : (b : List ℕ) (t : TextField) → length (text_of (fields_at b) t) ≤ text_width_of t

@@ -2,3 +2,5 @@ pub mod Table
 pub mod Places
 pub mod Whole
 pub mod Kept
+pub mod Judged
+mod FaultRows

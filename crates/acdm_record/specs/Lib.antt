@@ -1,4 +1,6 @@
+pub mod Bools
 pub mod Place
 pub mod Fields
+pub mod Faults
 pub mod Texts
 pub mod Assign

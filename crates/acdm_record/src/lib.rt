@@ -1,10 +1,13 @@
 //! The record of a flight: 128 bytes that callers see as a map from field names to values.
 #![tactic(auto)]
 
+mod fault;
 mod field;
+mod part;
 mod record;
 mod text;
 
+pub use fault::RecordError;
 pub use field::{Field, TextField};
 pub use record::Record;
 pub use text::Text;

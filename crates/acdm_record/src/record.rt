@@ -1,10 +1,12 @@
 //! The record itself.
-ghost use Rattle.std.specs.Prelude.{◌≡◌, ◌<◌, ◌≤◌, ◌^◌, ◌==◌, length, IsTrue, ℕ, slice_index};
-ghost use Rattle.std.specs.List.{before_first, position_or_len};
+ghost use Rattle.std.specs.Prelude.{◌≡◌, ◌<◌, ◌≤◌, ◌^◌, ◌↔◌, length, IsTrue, IsOk, IfOk, IfErr, Some};
 ghost use Rattle.acdm_record.specs.Place.{width_of, text_width_of};
-ghost use Rattle.acdm_record.specs.Fields.{number_of, set_number, text_of, set_text, is_text, bytes_of, new_record, padded, is_allowed};
+ghost use Rattle.acdm_record.specs.Fields.{fields_at, number_of, set_number, text_of, set_text, is_text, bytes_of, new_record, padded, is_allowed};
+ghost use Rattle.acdm_record.specs.Faults.{AreOfRecord, first_fault};
 
+use crate::fault::{RecordError, fault_of};
 use crate::field::{Field, TextField};
+use crate::part::{before_zero, in_range, number_in, text_part};
 use byteorder::{ByteOrder, LittleEndian};
 use std::marker::Model;
 
@@ -24,31 +26,6 @@ impl Model for Record {
     ghost invariant = { λ r. IsRecord r.bytes };
 }
 
-// What stands before the first zero byte.
-fn before_zero(part: &[u8]) -> &[u8]
-    ensures { result.now ≡ before_first (λ b. b == 0) part.now }
-{
-    &part[..zero_place(part)]
-}
-
-// The place of the first zero byte, or the length.
-fn zero_place(part: &[u8]) -> usize
-    ensures place { result ≡ position_or_len (λ b. b == 0) part.now }
-    ensures inside { result ≤ length part.now }
-{
-    for (i, byte) in part.iter().enumerate() {
-        if *byte == 0 {
-            return i;
-        }
-    }
-    part.len()
-}
-
-// Bytes are below 256, which a proof is told of a slice and not of an array behind a reference.
-fn in_range(bytes: &[u8])
-    ensures { (i : ℕ) → slice_index bytes.now i < 256 }
-{}
-
 // Writes a text, and zero bytes behind it.
 fn write_padded(part: &mut [u8], text: &[u8])
     requires { length text.now ≤ length part.old }
@@ -65,10 +42,7 @@ impl Record {
         ensures fits { result < 256 ^ width_of field }
         ensures allowed { IsTrue (is_allowed field result) }
     {
-        let (offset, width) = field.place();
-        let part = &self.bytes[offset..offset + width];
-        in_range(part);
-        LittleEndian::read_uint(part, width)
+        number_in(&self.bytes, field)
     }
 
     /// Puts a number under a name, and leaves every other name as it is.
@@ -90,8 +64,7 @@ impl Record {
         ensures printable { IsTrue (is_text result.now) }
         ensures short { length result.now ≤ text_width_of field }
     {
-        let (offset, width) = field.place();
-        before_zero(&self.bytes[offset..offset + width])
+        before_zero(text_part(&self.bytes, field))
     }
 
     /// Puts a text under a name, and leaves every other name as it is.
@@ -115,10 +88,28 @@ impl Record {
 
     /// The bytes of the record.
     pub fn bytes(&self) -> &[u8; 128]
-        ensures { result.now ≡ bytes_of self.now }
+        ensures layout { result.now ≡ bytes_of self.now }
+        ensures of_record { AreOfRecord result.now }
     {
         in_range(&self.bytes);
         &self.bytes
+    }
+
+    /// The record that has these bytes, or what is first wrong with them: their number, the layout,
+    /// a text, or a bit of the reached or alert word (this project's profile).
+    pub fn from_bytes(bytes: &[u8]) -> Result<Record, RecordError>
+        ensures fields { IfOk result (λ r. r ≡ fields_at bytes.now) }
+        ensures same { IfOk result (λ r. bytes_of r ≡ bytes.now) }
+        ensures exactly { IsOk result ↔ AreOfRecord bytes.now }
+        ensures refused { IfErr result (λ e. first_fault bytes.now ≡ Some e) }
+    {
+        let Ok(bytes) = <[u8; 128]>::try_from(bytes) else {
+            return Err(RecordError::WrongLength);
+        };
+        match fault_of(&bytes) {
+            Some(fault) => Err(fault),
+            None => Ok(Record { bytes }),
+        }
     }
 
     /// A new record: the flight number, the layout, and nothing else.

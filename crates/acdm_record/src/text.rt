@@ -5,7 +5,7 @@ ghost use Rattle.acdm_record.specs.Texts.{text_from};
 
 use std::marker::Model;
 
-fn is_printable(bytes: &[u8]) -> bool
+pub(crate) fn is_printable(bytes: &[u8]) -> bool
     ensures { result ≡ is_text bytes.now }
 {
     bytes.iter().all(|byte| 33 <= *byte && *byte <= 126)
