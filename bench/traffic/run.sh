@@ -12,7 +12,7 @@ trap 'rm -rf "$work"' EXIT
 "$top/acdm" run < /dev/null
 python3 "$here/generate.py" --flights "$flights" > "$work/day"
 python3 "$here/measure.py" "$work/day" "$work/replies" "$top/crates/acdm/out/acdm" run
-echo "replies: $(cut -d ' ' -f 1 "$work/replies" | sort | uniq -c | awk '{ printf "%s%s %s", NR > 1 ? ", " : "", $1, $2 }')"
+echo "replies: $(cut -d ' ' -f 1 "$work/replies" | sort | uniq -c | awk '{ print $1, $2 }' | paste -sd ,)"
 
 echo "against the model, $compared flights:"
 python3 "$here/generate.py" --flights "$compared" > "$work/small"
