@@ -1,6 +1,9 @@
 pub mod ResultsInRange
+pub mod ResultsOfOne
 pub mod Ordered
 pub mod Shapes
 pub mod Each
 pub mod JoinsHold
+pub mod NarrowingHolds
+pub mod RefinedHolds
 pub mod Push
