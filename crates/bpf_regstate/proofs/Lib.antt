@@ -7,3 +7,5 @@ pub mod JoinsHold
 pub mod NarrowingHolds
 pub mod RefinedHolds
 pub mod Push
+pub mod VerdictRows
+pub mod AccessHolds
