@@ -9,3 +9,5 @@ pub mod RefinedHolds
 pub mod Push
 pub mod VerdictRows
 pub mod AccessHolds
+pub mod NoFault
+pub mod Steps

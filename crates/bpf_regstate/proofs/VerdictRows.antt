@@ -1,12 +1,12 @@
 -- Worked programs: which are accepted, and the first fault of the others.
-use Rattle.std.proofs.Common.{◌≡◌, ℕ, zero, suc, ◌+◌, ◌<◌, ◌≤◌, Bool, true, false, ◌&&◌, List, [], ◌∷◌, length, Option, Some, None, refl, arith, subst, ⊎_elim}
+use Rattle.std.proofs.Common.{◌≡◌, ℕ, zero, suc, ◌<◌, ◌≤◌, Bool, true, false, ◌&&◌, List, [], ◌∷◌, length, Option, Some, None, refl, arith, subst, ⊎_elim}
 use Rattle.std.specs.Prelude.{pos, negsuc}
 use Rattle.std.proofs.lemmas.Bool.{cases_lt}
 use Rattle.bpf_decode.specs.declared.op.Op.{Op}
-use Rattle.bpf_decode.specs.declared.op.Op.TheVariants.{Arith, Negate, Extend, End, Ja, Ja32, Jump, Call, Exit, Load, LoadSigned, Store, Wide, Tail}
+use Rattle.bpf_decode.specs.declared.op.Op.TheVariants.{Arith, Ja, Jump, Call, Exit, Load, Store, Wide, Tail}
 use Rattle.bpf_decode.specs.declared.op.Operand.TheVariants.{From, Immediate}
 use Rattle.bpf_decode.specs.declared.op.Code.TheVariants.{Add, And, Mov}
-use Rattle.bpf_decode.specs.declared.op.Width.TheVariants.{W32, W64}
+use Rattle.bpf_decode.specs.declared.op.Width.TheVariants.{W64}
 use Rattle.bpf_decode.specs.declared.op.Size.TheVariants.{Byte, Half, Word, Double}
 use Rattle.bpf_decode.specs.declared.op.Condition.TheVariants.{Equal, Above, NotEqual}
 use Rattle.bpf_helpers.specs.Promise.{Promise}
