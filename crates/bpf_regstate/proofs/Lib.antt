@@ -11,3 +11,8 @@ pub mod VerdictRows
 pub mod AccessHolds
 pub mod NoFault
 pub mod Steps
+pub mod MemorySteps
+pub mod CallSteps
+pub mod StatesAreShapes
+pub mod Counting
+pub mod Safe

@@ -35,7 +35,7 @@ negate_in w a x i =
 
 -- ---- sign extension
 
-extended_below : (w : Width) (part : Part) (x : ℕ) → extended w part x < modulus w
+pub extended_below : (w : Width) (part : Part) (x : ℕ) → extended w part x < modulus w
 extended_below W32 Low8 x = omega (arith, ints)
 extended_below W32 Low16 x = omega (arith, ints)
 extended_below W32 Low32 x = omega (arith, ints)
@@ -66,12 +66,12 @@ extend_in w part b x r i =
 
 -- ---- byte order
 
-turned_below : (n : Bytes) (x : ℕ) → turned n x < 2 ^ (8 * count_of n)
+pub turned_below : (n : Bytes) (x : ℕ) → turned n x < 2 ^ (8 * count_of n)
 turned_below Two x = omega arith
 turned_below Four x = omega arith
 turned_below Eight x = omega arith
 
-low_bytes : (n : Bytes) (x : ℕ) → x % 2 ^ (8 * count_of n) < 2 ^ (8 * count_of n)
+pub low_bytes : (n : Bytes) (x : ℕ) → x % 2 ^ (8 * count_of n) < 2 ^ (8 * count_of n)
 low_bytes Two x = omega arith
 low_bytes Four x = omega arith
 low_bytes Eight x = omega arith

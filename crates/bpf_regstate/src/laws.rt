@@ -1,6 +1,6 @@
 //! Laws of the definitions. Each function does nothing when it runs; its contract is the law.
 
-ghost use Rattle.std.specs.Prelude.{◌≡◌, ℕ, ◌<◌, ◌+◌, ◌-◌, ◌*◌, ◌^◌, Bool, false, List, Option, Some, None, slice_get};
+ghost use Rattle.std.specs.Prelude.{◌≡◌, ℕ, ◌<◌, ◌+◌, ◌-◌, ◌*◌, ◌^◌, Bool, false, List, Option, Some, None, length, slice_get};
 ghost use Rattle.bpf_decode.specs.Words.{arith_word, comparison, extended, holds, negated, ordered};
 ghost use Rattle.bpf_decode.specs.declared.op.Bytes.{Bytes};
 ghost use Rattle.bpf_decode.specs.declared.op.Code.{Code};
@@ -9,26 +9,32 @@ ghost use Rattle.bpf_decode.specs.declared.op.Op.{Op};
 ghost use Rattle.bpf_decode.specs.declared.op.Operand.{Operand};
 ghost use Rattle.bpf_decode.specs.declared.op.Order.{Order};
 ghost use Rattle.bpf_decode.specs.declared.op.Part.{Part};
+ghost use Rattle.bpf_decode.specs.declared.op.Size.{Size};
 ghost use Rattle.bpf_decode.specs.declared.op.Width.{Width};
 ghost use Rattle.bpf_helpers.specs.declared.range.Range.{Range};
 ghost use Rattle.bpf_helpers.specs.Promise.{Promise};
-ghost use Rattle.bpf_semantics.specs.Machine.{Machine, operand, register};
+ghost use Rattle.bpf_semantics.specs.Machine.{Machine, action, operand, register, size_type, start};
+ghost use Rattle.bpf_semantics.specs.Runs.{IsTrapped, Reaches};
+ghost use Rattle.bpf_regstate.specs.Soundness.{IsAcceptedRun};
+ghost use Rattle.std.specs.Int.{byte_len, from_le_bytes};
 ghost use Rattle.bpf_regstate.specs.Shape.{IsRange, IsShape, Shape, known};
-ghost use Rattle.bpf_regstate.specs.Holds.{EdgeHolds, Holds, HoldsAt, In, IsOperand, Leaves, SomeHolds};
+ghost use Rattle.bpf_regstate.specs.Holds.{AreBytes, EdgeHolds, Holds, HoldsAt, In, IsOperand, Leaves, SomeHolds};
 ghost use Rattle.bpf_regstate.specs.Effect.{arith_result, extend_range, negate_range, order_result};
 ghost use Rattle.bpf_regstate.specs.Faults.{is_uninit, operand_uninit};
 ghost use Rattle.bpf_regstate.specs.Narrowing.{narrowed, refined};
 ghost use Rattle.bpf_regstate.specs.Joins.{joined};
-ghost use Rattle.bpf_regstate.specs.States.{into, join_all, pushed_all, sends, so_far, start_shape, state_at};
+ghost use Rattle.bpf_regstate.specs.States.{instruction_count, into, join_all, pushed_all, sends, so_far, start_shape, state_at};
 
 /// The range of the results of an operation on the words of ranges has each result: arithmetic on two operands, negation, sign
-/// extension and byte order.
+/// extension, byte order and loads.
 pub fn results_stay_in_range()
     ensures arithmetic { (code : Code) (w : Width) (a b : Range) (x y : ℕ) → IsRange a → IsRange b → In a x → In b y →
         In (arith_result code w a b) (arith_word code w x y) }
     ensures negation { (w : Width) (a : Range) (x : ℕ) → In a x → In (negate_range w a) (negated w x) }
     ensures extension { (w : Width) (part : Part) (b : Range) (x : ℕ) → IsRange b → In b x → In (extend_range w part b) (extended w part x) }
     ensures order { (order : Order) (n : Bytes) (a : Range) (x : ℕ) → In a x → In (order_result order n a) (ordered order n x) }
+    ensures loads { (size : Size) (bytes : List ℕ) → AreBytes bytes →
+        In (record { lo = 0; hi = 2 ^ (8 * byte_len (size_type size)) - 1 }) (from_le_bytes (size_type size) bytes) }
     ensures ranges { (code : Code) (w : Width) (a b : Range) → IsRange a → IsRange b → IsRange (arith_result code w a b) }
 {}
 
@@ -69,4 +75,20 @@ pub fn one_pass_is_enough()
         ≡ pushed_all (so_far record_length ops sigs slot to) (into to (sends record_length ops sigs slot (slice_get ops slot) (state_at record_length ops sigs slot))) }
     ensures turn { (record_length : ℕ) (ops : List Op) (sigs : List (ℕ × Promise)) (slot : ℕ) →
         so_far record_length ops sigs slot slot ≡ state_at record_length ops sigs slot }
+{}
+
+/// An accepted program never goes wrong, on any record of bytes, at any moment and milestone, whatever promised answers its
+/// calls are given: each machine that it reaches from the start is held by the state at its slot and isn't trapped, and it was
+/// reached in fewer steps than the program has instructions. So a run that goes on as long as it can ends at an exit, which is at
+/// most the step of that number.
+pub fn accepted_programs_never_trap()
+    ensures held { (ops : List Op) (sigs : List (ℕ × Promise)) (flight : List ℕ) (now milestone : ℕ) → IsAcceptedRun ops sigs flight now milestone →
+        (answers : List ℕ) (n : ℕ) (end : Machine) → Reaches ops sigs flight (start (length flight) now milestone) answers n end →
+        HoldsAt (state_at (length flight) ops sigs end.slot) end }
+    ensures free { (ops : List Op) (sigs : List (ℕ × Promise)) (flight : List ℕ) (now milestone : ℕ) → IsAcceptedRun ops sigs flight now milestone →
+        (answers : List ℕ) (n : ℕ) (end : Machine) → Reaches ops sigs flight (start (length flight) now milestone) answers n end →
+        IsTrapped sigs (action ops sigs flight end) → ⊥ }
+    ensures few { (ops : List Op) (sigs : List (ℕ × Promise)) (flight : List ℕ) (now milestone : ℕ) → IsAcceptedRun ops sigs flight now milestone →
+        (answers : List ℕ) (n : ℕ) (end : Machine) → Reaches ops sigs flight (start (length flight) now milestone) answers n end →
+        n < instruction_count ops }
 {}
