@@ -1,6 +1,6 @@
 -- A call without a fault asks, some answer is promised, and each promised answer leads along its edge.
-use Rattle.std.proofs.Common.{◌≡◌, ◌≢◌, ℕ, zero, suc, ◌+◌, ◌-◌, ◌<◌, ◌≤◌, ◌^◌, Bool, true, false, not, ◌&&◌, ◌||◌, cond, eqb, leb, List, [], ◌∷◌, ◌++◌, length, drop, replicate, Option, Some, None, IsTrue, refl, sym, ap, subst, ◌∙◌, arith, inl, inr, get_or, if◌then◌else◌}
-use Rattle.std.specs.Prelude.{slice_get, IfSome}
+use Rattle.std.proofs.Common.{◌≡◌, ℕ, zero, suc, ◌+◌, ◌-◌, true, false, not, ◌&&◌, eqb, leb, List, [], ◌∷◌, ◌++◌, length, drop, replicate, Option, Some, None, IsTrue, refl, sym, ap, subst, ◌∙◌, arith, inl, get_or, if◌then◌else◌}
+use Rattle.std.specs.Prelude.{slice_get}
 use Rattle.std.specs.List.{list_all}
 use Rattle.std.proofs.lemmas.Bool.{leb-true, le-leb}
 use Rattle.std.proofs.lemmas.List.{get_or-drop, length-drop}
@@ -8,16 +8,16 @@ use Rattle.std.proofs.Math.Seq.{drop-append_seam}
 use Rattle.bpf_decode.specs.declared.op.Op.{Op}
 use Rattle.bpf_decode.specs.declared.op.Op.TheVariants.{Call}
 use Rattle.bpf_helpers.specs.declared.range.Range.{Range}
-use Rattle.bpf_helpers.specs.Promise.{Promise, are_in, are_well_formed, is_answer, is_answer_by, is_call, is_call_by, is_in, is_promised, is_question, signature_of}
+use Rattle.bpf_helpers.specs.Promise.{Promise, are_in, are_well_formed, is_answer, is_call, is_in, is_promised, is_question, signature_of}
 use Rattle.bpf_helpers.proofs.SomeAnswer.{some_answer}
 use Rattle.bpf_semantics.specs.Machine.{Machine, Action, Asks, Stuck, ◌>>=◌, act_on, answered, arguments, calls, is_entry, padded, register}
 use Rattle.bpf_regstate.specs.declared.reg.Reg.{Reg}
 use Rattle.bpf_regstate.specs.declared.reg.Reg.TheVariants.{Uninit, Known}
-use Rattle.bpf_regstate.specs.Shape.{Shape, IsReg, IsShape, known}
+use Rattle.bpf_regstate.specs.Shape.{Shape, IsShape, known}
 use Rattle.bpf_regstate.specs.Holds.{In, HoldsWord, Holds, IsMachine}
 use Rattle.bpf_regstate.specs.Effect.{after_op, answer_reg, range_of}
 use Rattle.bpf_regstate.specs.Edges.{edges}
-use Rattle.bpf_regstate.specs.Faults.{argument_uninit, arguments_within, call_uninit, call_within, is_missing, is_uninit, lies_within}
+use Rattle.bpf_regstate.specs.Faults.{argument_uninit, arguments_within, is_missing, is_uninit, lies_within}
 use Rattle.bpf_regstate.proofs.ResultsInRange.{both}
 use Rattle.bpf_regstate.proofs.RefinedHolds.{reg_held}
 use Rattle.bpf_regstate.proofs.NoFault.{IsClear, not_false, or_false}
@@ -76,7 +76,7 @@ all_zero (suc n) = all_zero n
 may_call : (sig : Promise) (xs : List ℕ) → are_in sig.args xs ≡ true → length xs ≡ length sig.args → is_call sig (padded xs) ≡ true
 may_call sig xs inside count =
     let behind : drop (length sig.args) (padded xs) ≡ replicate (5 - length xs) 0 =
-        subst (λ (n : ℕ). drop n (padded xs) ≡ replicate (5 - length xs) 0) count (drop-append_seam xs (replicate (5 - length xs) 0)) in
+    subst (λ (n : ℕ). drop n (padded xs) ≡ replicate (5 - length xs) 0) count (drop-append_seam xs (replicate (5 - length xs) 0)) in
     rw (are_in_more sig.args xs (replicate (5 - length xs) 0) inside, behind, all_zero (5 - length xs)) refl
 
 -- ---- the answer
@@ -112,7 +112,7 @@ module _ (ops : List Op) (sigs : List (ℕ × Promise)) (flight : List ℕ) (m :
       let known_answer : answer_reg (signature_of sigs helper) ≡ Known sig.answer = rw is refl in
       let held : Holds (after_op (length flight) sigs (Call helper) s) (answered m answer) = record {
         registers = λ r. subst (λ (x : Reg). HoldsWord (get_or (x ∷ Uninit ∷ Uninit ∷ Uninit ∷ Uninit ∷ Uninit ∷ drop 6 s.registers) r Uninit)
-        (get_or (Some answer ∷ None ∷ None ∷ None ∷ None ∷ None ∷ drop 6 m.registers) r None)) (sym known_answer) (answer_held s m sig answer r h (promised_in sig passed answer e));
+            (get_or (Some answer ∷ None ∷ None ∷ None ∷ None ∷ None ∷ drop 6 m.registers) r None)) (sym known_answer) (answer_held s m sig answer r h (promised_in sig passed answer e));
         marks = h.marks;
       } in
       record {
@@ -130,7 +130,7 @@ module _ (ops : List Op) (sigs : List (ℕ × Promise)) (flight : List ℕ) (m :
       let asked : IsTrue (is_question sigs helper (padded p.words)) = rw is may in
       let some = some_answer sigs helper (padded p.words) well asked in
       let each : (answer : ℕ) → IsTrue (is_answer sigs helper (padded p.words) answer) → LeadsTo ops m.slot (edges (length flight) sigs m.slot (Call helper) s) (answered m answer) =
-          λ answer e. answers_well helper sig (padded p.words) answer is (rw is at e) next in
+      λ answer e. answers_well helper sig (padded p.words) answer is (rw is at e) next in
       asks helper sig p.words is p.are may next (some, each)
     where
       asks : (helper : ℕ) (sig : Promise) (words : List ℕ) → signature_of sigs helper ≡ Some sig → arguments m (length sig.args) 1 ≡ Some words → is_call sig (padded words) ≡ true
@@ -139,9 +139,9 @@ module _ (ops : List Op) (sigs : List (ℕ × Promise)) (flight : List ℕ) (m :
           → LeadsWell ops sigs (edges (length flight) sigs m.slot (Call helper) s) m (act_on ops sigs flight m (Call helper))
       asks helper sig words is are may next leads =
           let acts : act_on ops sigs flight m (Call helper) ≡ Asks helper (padded words) =
-              ap (λ (o : Option Promise). o >>= λ x. calls ops m helper x) is
-              ∙ ap (λ (o : Option (List ℕ)). o >>= λ xs. if is_call sig (padded xs) && is_entry (slice_get ops (m.slot + 1)) then Asks helper (padded xs) else Stuck) are
-              ∙ rw (may, next) refl in
+          ap (λ (o : Option Promise). o >>= λ x. calls ops m helper x) is
+          ∙ ap (λ (o : Option (List ℕ)). o >>= λ xs. if is_call sig (padded xs) && is_entry (slice_get ops (m.slot + 1)) then Asks helper (padded xs) else Stuck) are
+          ∙ rw (may, next) refl in
           subst (λ (a : Action). LeadsWell ops sigs (edges (length flight) sigs m.slot (Call helper) s) m a) (sym acts) leads
 
   pub call_steps : (helper : ℕ) → IsClear (length flight) ops sigs m.slot s (Call helper)

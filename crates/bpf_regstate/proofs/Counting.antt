@@ -1,5 +1,5 @@
 -- Counting the instructions of a program.
-use Rattle.std.proofs.Common.{◌≡◌, ℕ, zero, suc, ◌+◌, ◌<◌, ◌≤◌, Bool, true, false, not, cond, List, [], ◌∷◌, length, take, Option, Some, None, refl, arith}
+use Rattle.std.proofs.Common.{◌≡◌, ℕ, zero, suc, ◌<◌, Bool, true, false, cond, List, [], ◌∷◌, take, Some, refl, arith}
 use Rattle.std.specs.Prelude.{slice_get}
 use Rattle.bpf_decode.specs.declared.op.Op.{Op}
 use Rattle.bpf_decode.specs.declared.op.Op.TheVariants.{Arith, Negate, Extend, End, Ja, Ja32, Jump, Call, Exit, Load, LoadSigned, Store, Wide, Tail}

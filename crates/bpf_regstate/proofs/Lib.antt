@@ -16,3 +16,4 @@ pub mod CallSteps
 pub mod StatesAreShapes
 pub mod Counting
 pub mod Safe
+pub mod RangeRows

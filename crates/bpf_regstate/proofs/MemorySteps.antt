@@ -1,23 +1,22 @@
 -- Loads and stores without a fault lead along their edges.
-use Rattle.std.proofs.Common.{◌≡◌, ◌≢◌, ℕ, zero, suc, ◌+◌, ◌-◌, ◌*◌, ◌%◌, ◌/◌, ◌<◌, ◌≤◌, ◌^◌, Bool, true, false, not, ◌&&◌, ◌||◌, cond, eqb, List, [], ◌∷◌, ◌++◌, length, take, drop, replicate, map, Option, Some, None, IsSome, IfSome, refl, sym, ap, subst, ◌∙◌, arith, ◌⊎◌, inl, inr, get_or, ⊎_elim, if◌then◌else◌}
+use Rattle.std.proofs.Common.{◌≡◌, ℕ, zero, suc, ◌+◌, ◌-◌, ◌*◌, ◌<◌, ◌≤◌, ◌^◌, Bool, true, false, cond, List, [], ◌∷◌, ◌++◌, length, take, drop, replicate, map, Option, Some, None, IsSome, IfSome, refl, sym, ap, ◌∙◌, arith, ◌⊎◌, inl, inr, get_or, ⊎_elim}
 use Rattle.std.specs.Prelude.{slice_get, ℤ, pos, ◌+ℤ◌}
 use Rattle.std.specs.Int as int
-use Rattle.std.specs.Int.{byte_len, from_le_bytes, to_le_bytes, w8, w16, w32, w64}
+use Rattle.std.specs.Int.{byte_len, from_le_bytes, to_le_bytes, w64}
 use Rattle.std.proofs.lemmas.Bool.{cases_lt, eqb-true}
-use Rattle.std.proofs.lemmas.List.{get_or-drop, get_or-take, get_or-replicate, get_or-append_right, get_or_append_left, length-append, length-drop, length-map, length-take-le, length-replicate}
+use Rattle.std.proofs.lemmas.List.{get_or-drop, get_or-take, get_or-append_right, get_or_append_left, length-append, length-drop, length-map, length-take-le, length-replicate}
 use Rattle.bpf_decode.specs.declared.op.Op.{Op}
 use Rattle.bpf_decode.specs.declared.op.Op.TheVariants.{Load, LoadSigned, Store}
 use Rattle.bpf_decode.specs.declared.op.Operand.{Operand}
 use Rattle.bpf_decode.specs.declared.op.Part.{Part}
-use Rattle.bpf_decode.specs.declared.op.Part.TheVariants.{Low8, Low16, Low32}
 use Rattle.bpf_decode.specs.declared.op.Size.{Size}
 use Rattle.bpf_decode.specs.declared.op.Size.TheVariants.{Byte, Half, Word, Double}
 use Rattle.bpf_decode.specs.declared.op.Width.TheVariants.{W64}
 use Rattle.bpf_decode.specs.Words.{extended, part_type}
 use Rattle.bpf_helpers.specs.declared.range.Range.{Range}
 use Rattle.bpf_helpers.specs.Promise.{Promise}
-use Rattle.bpf_semantics.specs.Machine.{Machine, Place, InRecord, InStack, Nowhere, register, operand, enters, act_on, is_entry, bytes_at, loaded, place_of, size_type, stored}
-use Rattle.bpf_regstate.specs.Shape.{Shape, IsRange, IsShape, known}
+use Rattle.bpf_semantics.specs.Machine.{Machine, Place, InRecord, InStack, Nowhere, register, act_on, is_entry, bytes_at, loaded, place_of, size_type, stored}
+use Rattle.bpf_regstate.specs.Shape.{Shape, IsShape, known}
 use Rattle.bpf_regstate.specs.Ranges.{span, full, is_single}
 use Rattle.bpf_regstate.specs.Holds.{In, Holds, IsMachine, IsOperand, AreBytes}
 use Rattle.bpf_regstate.specs.Effect.{range_of, access, marked, store_marks}
@@ -28,7 +27,7 @@ use Rattle.bpf_regstate.proofs.ResultsOfOne.{extended_below}
 use Rattle.bpf_regstate.proofs.RefinedHolds.{reg_held}
 use Rattle.bpf_regstate.proofs.AccessHolds.{IsSomewhere, further_on, access_moves, access_marked, inside_stack, marked_present, bytes_dropped, bytes_taken, size_below}
 use Rattle.bpf_regstate.proofs.NoFault.{IsClear, not_false, or_false}
-use Rattle.bpf_regstate.proofs.Steps.{LeadsTo, LeadsWell, operand_held, range_is, sets_well}
+use Rattle.bpf_regstate.proofs.Steps.{LeadsTo, LeadsWell, operand_held, sets_well}
 
 -- ---- places
 
@@ -85,9 +84,6 @@ module _ (flight : List ℕ) (short : length flight < 2 ^ 32) (bytes : AreBytes 
         c.end (not_false (is_entry (slice_get ops (m.slot + 1))) c.next) (omega arith))
 
 -- ---- a part of a list is replaced
-
-replaced : {X : Type 0} → List X → ℕ → List X → ℕ → List X
-replaced xs at ys n = take at xs ++ (ys ++ drop (at + n) xs)
 
 pub outside : {X : Type 0} (xs ys : List X) (at n j : ℕ) (d : X) → length ys ≡ n → at + n ≤ length xs → (j < at) ⊎ (at + n ≤ j)
     → get_or (take at xs ++ (ys ++ drop (at + n) xs)) j d ≡ get_or xs j d
@@ -215,7 +211,7 @@ module _ (m : Machine) (s : Shape) (i : IsShape s) (k : IsMachine m) (h : Holds 
         let written : stored m.stack (place_of (length flight) (pos a.0 +ℤ offset) n) bs ≡ Some (after_store (at.0 + (a.0 - r.lo)) bs) = ap (λ (p : Place). stored m.stack p bs) place in
         let next = not_false (is_entry (slice_get ops (m.slot + 1))) c.next in
         let goes : LeadsTo ops m.slot (edges (length flight) sigs m.slot (Store size base offset from) s)
-            (record { slot = m.slot + 1; registers = m.registers; stack = after_store (at.0 + (a.0 - r.lo)) bs }) = record {
+        (record { slot = m.slot + 1; registers = m.registers; stack = after_store (at.0 + (a.0 - r.lo)) bs }) = record {
           later = omega arith;
           entry = next;
           machine = record {
@@ -223,9 +219,12 @@ module _ (m : Machine) (s : Shape) (i : IsShape s) (k : IsMachine m) (h : Holds 
             stack = length-replaced m.stack (map (λ b. Some b) bs) (at.0 + (a.0 - r.lo)) (length bs) (length-map bs (λ b. Some b)) (omega (arith, k.stack, room)) ∙ k.stack;
             bytes = store_bytes (at.0 + (a.0 - r.lo)) bs room (bytes_taken n (to_le_bytes w64 v.0) (le_bytes v.0));
           };
-          held = inl (refl, record {
-            registers = h.registers;
-            marks = store_marks_there (length flight) r a.0 offset n at.0 bs len a.2 fits at.1;
-          });
+          held = inl (
+            refl,
+            record {
+              registers = h.registers;
+              marks = store_marks_there (length flight) r a.0 offset n at.0 bs len a.2 fits at.1;
+            },
+          );
         } in
         rw (a.1, v.1, written, next) goes

@@ -1,7 +1,6 @@
 -- Each state at a slot of a program is well formed: its ranges have words, and words alone.
-use Rattle.std.proofs.Common.{◌≡◌, ℕ, zero, suc, ◌+◌, ◌-◌, ◌*◌, ◌%◌, ◌/◌, ◌<◌, ◌≤◌, ◌^◌, Bool, true, false, not, ◌&&◌, cond, eqb, ltb, leb, List, [], ◌∷◌, ◌++◌, length, take, drop, replicate, Option, Some, None, IsTrue, IfSome, refl, sym, ap, subst, ◌∙◌, arith, get_or, set, lit<, lit≤}
+use Rattle.std.proofs.Common.{◌≡◌, ℕ, zero, suc, ◌+◌, ◌-◌, ◌*◌, ◌<◌, ◌≤◌, ◌^◌, Bool, true, false, not, ◌&&◌, cond, eqb, ltb, leb, List, [], ◌∷◌, ◌++◌, length, replicate, Option, Some, None, IsTrue, IfSome, refl, ◌∙◌, arith, get_or, set, lit<, lit≤}
 use Rattle.std.specs.Prelude.{slice_get, ℤ, pos, ◌+ℤ◌}
-use Rattle.std.specs.Int as int
 use Rattle.std.specs.Int.{byte_len, cast_unsigned, w32, w64}
 use Rattle.std.specs.Int.RustNames.{FitsSigned}
 use Rattle.std.specs.List.{list_all}
@@ -24,21 +23,20 @@ use Rattle.bpf_decode.specs.declared.op.Bytes.TheVariants.{Two, Four, Eight}
 use Rattle.bpf_decode.specs.declared.op.Size.{Size}
 use Rattle.bpf_decode.specs.declared.op.Size.TheVariants.{Byte, Half, Word, Double}
 use Rattle.bpf_decode.specs.Encoding.{FitsSlot, IsProgram}
-use Rattle.bpf_decode.specs.Words.{bits_of, count_of, extended, low, negated, ordered, part_bits}
+use Rattle.bpf_decode.specs.Words.{count_of, extended, low, negated, ordered, part_bits}
 use Rattle.bpf_decode.proofs.ProgramLemmas.{slot_can_be_encoded}
 use Rattle.bpf_helpers.specs.declared.range.Range.{Range}
 use Rattle.bpf_helpers.specs.Promise.{Promise, are_well_formed, is_ordered, is_well_formed, signature_of}
-use Rattle.bpf_semantics.specs.Machine.{Place, InRecord, InStack, Nowhere, place_of, size_type, target}
+use Rattle.bpf_semantics.specs.Machine.{Place, InRecord, InStack, Nowhere, size_type, target}
 use Rattle.bpf_regstate.specs.declared.reg.Reg.{Reg}
 use Rattle.bpf_regstate.specs.declared.reg.Reg.TheVariants.{Uninit, Known}
 use Rattle.bpf_regstate.specs.Shape.{Shape, IsRange, IsReg, IsShape, known}
 use Rattle.bpf_regstate.specs.Ranges.{span, full, is_single, modulus, reduced}
-use Rattle.bpf_regstate.specs.Holds.{In, IsOperand}
+use Rattle.bpf_regstate.specs.Holds.{IsOperand}
 use Rattle.bpf_regstate.specs.Effect.{access, after_op, answer_reg, arith_result, extend_range, marked, negate_range, operand_reg, order_range, order_result, range_of, store_marks, with_register}
 use Rattle.bpf_regstate.specs.Narrowing.{compared, immediate_word, is_low, narrowed, narrows, put_both, refined, same_register}
 use Rattle.bpf_regstate.specs.Edges.{edge, edges}
 use Rattle.bpf_regstate.specs.Faults.{faults, least}
-use Rattle.bpf_regstate.specs.Joins.{joined}
 use Rattle.bpf_regstate.specs.States.{join_with, join_all, start_shape, into, unless_fault, sends, arriving, entering, pulled, states, state_at}
 use Rattle.bpf_regstate.proofs.ResultsInRange.{both, low_below, reduced_high, reduced_in, width_fits}
 use Rattle.bpf_regstate.proofs.ResultsOfOne.{extended_below, turned_below, low_bytes}
@@ -139,6 +137,7 @@ store_length record_length marks r offset n len = by_test (is_single r) refl
         let fits = inside_stack record_length (pos r.lo +ℤ offset) (r.hi - r.lo + n) at e in
         length-replaced marks (replicate n true) at n (length-replicate n true) (omega (arith, fits, len)) ∙ len
     by_place Nowhere e one = len
+
     by_test : (t : Bool) → is_single r ≡ t → length (cond t (marked marks (access record_length r offset n) n) marks) ≡ 512
     by_test true e = by_place (access record_length r offset n) refl (eqb-true _ _ e)
     by_test false e = len

@@ -11,6 +11,9 @@ use Rattle.bpf_decode.specs.declared.op.Size.TheVariants.{Byte, Half, Word, Doub
 use Rattle.bpf_decode.specs.declared.op.Condition.TheVariants.{Equal, Above, NotEqual}
 use Rattle.bpf_helpers.specs.Promise.{Promise}
 use Rattle.bpf_helpers.specs.Known.{turn_round, taxi, sum}
+use Rattle.std.specs.Prelude.{replicate, slice_index_or}
+use Rattle.std.proofs.lemmas.List.{length-replicate}
+use Rattle.bpf_regstate.specs.Soundness.{IsAcceptedRun}
 use Rattle.bpf_regstate.specs.States.{fault_at, states, start_shape, Accepts, IsFirstFault}
 use Rattle.bpf_regstate.proofs.ResultsInRange.{both}
 
@@ -198,3 +201,26 @@ stand_of_ten_bits = refused _ _ 2 313 (omega arith) refl refl
 after_a_call : IsFirstFault 128 (Arith W64 Mov 1 (Immediate (pos 5)) ∷ Call 2 ∷ Arith W64 Mov 0 (From 1) ∷ Exit ∷ []) helpers 2 308
 unfolding states start_shape helpers
 after_a_call = refused _ _ 2 308 (omega arith) refl refl
+
+-- ---- a run
+
+no_bytes : (n k : ℕ) → slice_index_or (replicate n 0) k 0 < 256
+no_bytes zero k = omega arith
+no_bytes (suc n) zero = omega arith
+no_bytes (suc n) (suc k) = no_bytes n k
+
+accepts_all : (ops : List Op) (sigs : List (ℕ × Promise)) → IsAccepted ops sigs → (flight : List ℕ) → length flight ≡ 128 → Accepts (length flight) ops sigs
+accepts_all ops sigs a flight e = rw e a.accepts
+
+-- the laws speak of this run: two slots on a record of zeros
+run_of_two_slots : IsAcceptedRun (Arith W64 Mov 0 (Immediate (pos 0)) ∷ Exit ∷ []) [] (replicate 128 0) 29000580 1
+run_of_two_slots = record {
+  program = record { some = omega arith; few = omega arith; whole = (refl, ((tt, omega arith, record { sfits = omega arith }), ((tt, tt, tt), tt))) };
+  signatures = refl;
+  short = omega (arith, length-replicate 128 zero);
+  bytes = no_bytes 128;
+  moment = omega arith;
+  first_milestone = omega arith;
+  last_milestone = omega arith;
+  accepts = accepts_all (Arith W64 Mov 0 (Immediate (pos 0)) ∷ Exit ∷ []) [] two_slots (replicate 128 0) (length-replicate 128 zero);
+}

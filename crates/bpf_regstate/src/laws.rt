@@ -1,6 +1,6 @@
 //! Laws of the definitions. Each function does nothing when it runs; its contract is the law.
 
-ghost use Rattle.std.specs.Prelude.{◌≡◌, ℕ, ◌<◌, ◌+◌, ◌-◌, ◌*◌, ◌^◌, Bool, false, List, Option, Some, None, length, slice_get};
+ghost use Rattle.std.specs.Prelude.{◌≡◌, ℕ, ◌<◌, ◌≤◌, ◌++◌, ◌+◌, ◌-◌, ◌*◌, ◌^◌, Bool, false, List, Option, Some, None, length, slice_get};
 ghost use Rattle.bpf_decode.specs.Words.{arith_word, comparison, extended, holds, negated, ordered};
 ghost use Rattle.bpf_decode.specs.declared.op.Bytes.{Bytes};
 ghost use Rattle.bpf_decode.specs.declared.op.Code.{Code};
@@ -14,7 +14,7 @@ ghost use Rattle.bpf_decode.specs.declared.op.Width.{Width};
 ghost use Rattle.bpf_helpers.specs.declared.range.Range.{Range};
 ghost use Rattle.bpf_helpers.specs.Promise.{Promise};
 ghost use Rattle.bpf_semantics.specs.Machine.{Machine, action, operand, register, size_type, start};
-ghost use Rattle.bpf_semantics.specs.Runs.{IsTrapped, Reaches};
+ghost use Rattle.bpf_semantics.specs.Runs.{IsTrapped, Reaches, RunEnds};
 ghost use Rattle.bpf_regstate.specs.Soundness.{IsAcceptedRun};
 ghost use Rattle.std.specs.Int.{byte_len, from_le_bytes};
 ghost use Rattle.bpf_regstate.specs.Shape.{IsRange, IsShape, Shape, known};
@@ -79,8 +79,8 @@ pub fn one_pass_is_enough()
 
 /// An accepted program never goes wrong, on any record of bytes, at any moment and milestone, whatever promised answers its
 /// calls are given: each machine that it reaches from the start is held by the state at its slot and isn't trapped, and it was
-/// reached in fewer steps than the program has instructions. So a run that goes on as long as it can ends at an exit, which is at
-/// most the step of that number.
+/// reached in fewer steps than the program has instructions. With some more promised answers each run that was begun ends at an
+/// exit, which is at most the step of that number.
 pub fn accepted_programs_never_trap()
     ensures held { (ops : List Op) (sigs : List (ℕ × Promise)) (flight : List ℕ) (now milestone : ℕ) → IsAcceptedRun ops sigs flight now milestone →
         (answers : List ℕ) (n : ℕ) (end : Machine) → Reaches ops sigs flight (start (length flight) now milestone) answers n end →
@@ -91,4 +91,7 @@ pub fn accepted_programs_never_trap()
     ensures few { (ops : List Op) (sigs : List (ℕ × Promise)) (flight : List ℕ) (now milestone : ℕ) → IsAcceptedRun ops sigs flight now milestone →
         (answers : List ℕ) (n : ℕ) (end : Machine) → Reaches ops sigs flight (start (length flight) now milestone) answers n end →
         n < instruction_count ops }
+    ensures ends { (ops : List Op) (sigs : List (ℕ × Promise)) (flight : List ℕ) (now milestone : ℕ) → IsAcceptedRun ops sigs flight now milestone →
+        (answers : List ℕ) (n : ℕ) (m : Machine) → Reaches ops sigs flight (start (length flight) now milestone) answers n m →
+        (more : List ℕ) × (r0 : ℕ) × (k : ℕ) × (k ≤ instruction_count ops) × RunEnds ops sigs flight now milestone (answers ++ more) r0 k }
 {}

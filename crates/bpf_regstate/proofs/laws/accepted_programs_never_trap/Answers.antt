@@ -1,4 +1,4 @@
-use Rattle.bpf_regstate.proofs.Safe.{few_steps, never_trapped, reached_is_held}
+use Rattle.bpf_regstate.proofs.Safe.{few_steps, goes_to_its_end, never_trapped, reached_is_held}
 use Rattle.bpf_regstate.proofs.laws.accepted_programs_never_trap.Goals as goal
 
 pub returns-clause-held : goal.returns-clause-held
@@ -9,3 +9,6 @@ returns-clause-free c = λ ops sigs flight now milestone run. never_trapped ops 
 
 pub returns-clause-few : goal.returns-clause-few
 returns-clause-few c = λ ops sigs flight now milestone run. few_steps ops sigs flight now milestone run
+
+pub returns-clause-ends : goal.returns-clause-ends
+returns-clause-ends c = λ ops sigs flight now milestone run. goes_to_its_end ops sigs flight now milestone run
