@@ -1,0 +1,11 @@
+pub mod Shape
+pub mod Ranges
+pub mod Joins
+pub mod Holds
+pub mod Effect
+pub mod Narrowing
+pub mod Edges
+pub mod Faults
+pub mod States
+pub mod Memory
+pub mod Soundness

@@ -1,0 +1,64 @@
+-- Ranges of results (this project's profile).
+use Rattle.std.specs.Prelude.{ℕ, ◌+◌, ◌-◌, ◌*◌, ◌/◌, ◌%◌, ◌^◌, Bool, ◌&&◌, ◌==◌, nat_lt, nat_le, min, max, if◌then◌else◌}
+use Rattle.std.specs.Int.{leading_zeros, w64}
+use Rattle.bpf_decode.specs.declared.op.Width.{Width}
+use Rattle.bpf_decode.specs.declared.op.Width.TheVariants.{W32, W64}
+use Rattle.bpf_decode.specs.declared.op.Code.{Code}
+use Rattle.bpf_decode.specs.declared.op.Code.TheVariants.{Add, Sub, Mul, Div, SignedDiv, Mod, SignedMod, Or, And, Xor, LeftShift, RightShift, ArithmeticShift, Mov}
+use Rattle.bpf_decode.specs.Words.{bits_of, arith_word}
+use Rattle.bpf_helpers.specs.declared.range.Range.{Range}
+
+abbrev pub span : ℕ → ℕ → Range
+span lo hi = record { lo = lo; hi = hi }
+
+abbrev pub is_single : Range → Bool
+is_single r = r.lo == r.hi
+
+abbrev pub modulus : Width → ℕ
+modulus w = 2 ^ bits_of w
+
+-- every word of the width
+abbrev pub full : Width → Range
+full w = span 0 (modulus w - 1)
+
+-- the low halves of the words of a range
+abbrev pub reduced : Width → Range → Range
+reduced W64 r = r
+reduced W32 r = if r.lo / 2 ^ 32 == r.hi / 2 ^ 32 then span (r.lo % 2 ^ 32) (r.hi % 2 ^ 32) else full W32
+
+-- the numbers from lo to hi, modulo the width, where they have one quotient
+abbrev pub wrapped : Width → ℕ → ℕ → Range
+wrapped w lo hi = if lo / modulus w == hi / modulus w then span (lo % modulus w) (hi % modulus w) else full w
+
+-- the least 2 ^ k - 1 that isn't below n
+abbrev pub filled : ℕ → ℕ
+filled n = 2 ^ (64 - leading_zeros w64 n) - 1
+
+-- The range of the results of an operation on the words of two ranges, of which one isn't single.
+-- In differences the modulus is added once, so that none is below 0.
+abbrev pub ranged : Code → Width → Range → Range → Range
+ranged Add w a b = wrapped w (a.lo + b.lo) (a.hi + b.hi)
+ranged Sub w a b = wrapped w (a.lo + (modulus w - b.hi)) (a.hi + (modulus w - b.lo))
+ranged Mul w a b = if nat_lt (a.hi * b.hi) (modulus w) then span (a.lo * b.lo) (a.hi * b.hi) else full w
+ranged Div w a b = if nat_le 1 b.lo then span (a.lo / b.hi) (a.hi / b.lo) else span 0 a.hi
+ranged SignedDiv w a b = full w
+ranged Mod w a b =
+    if nat_le 1 b.lo then (if nat_lt a.hi b.lo then a else span 0 (min a.hi (b.hi - 1))) else span 0 a.hi
+ranged SignedMod w a b = full w
+ranged Or w a b = span (max a.lo b.lo) (filled (max a.hi b.hi))
+ranged And w a b = span 0 (min a.hi b.hi)
+ranged Xor w a b = span 0 (filled (max a.hi b.hi))
+ranged LeftShift w a b =
+    if is_single b && nat_lt (a.hi * 2 ^ (b.lo % bits_of w)) (modulus w)
+    then span (a.lo * 2 ^ (b.lo % bits_of w)) (a.hi * 2 ^ (b.lo % bits_of w)) else full w
+ranged RightShift w a b =
+    if is_single b then span (a.lo / 2 ^ (b.lo % bits_of w)) (a.hi / 2 ^ (b.lo % bits_of w)) else span 0 a.hi
+ranged ArithmeticShift w a b = full w
+ranged Mov w a b = b
+
+-- The range of the results on whole words: that of their low halves where the width is 32, and the machine's own result where both
+-- ranges have one word.
+abbrev pub arith_range : Code → Width → Range → Range → Range
+arith_range code w a b =
+    if is_single a && is_single b then span (arith_word code w a.lo b.lo) (arith_word code w a.lo b.lo)
+    else ranged code w (reduced w a) (reduced w b)

@@ -1,0 +1,19 @@
+//! What is known of registers and of the stack before each instruction of a program: the abstract states by which
+//! programs are accepted.
+#![tactic(auto)]
+
+mod arith;
+pub mod laws;
+mod narrowing;
+mod places;
+mod reg;
+mod single;
+mod state;
+
+pub use bpf_helpers::Range;
+pub use places::{Place, byte_count, part_byte_count, place_of_access};
+pub use reg::Reg;
+pub use state::State;
+
+#[cfg(test)]
+mod tests;

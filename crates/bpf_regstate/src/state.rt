@@ -1,0 +1,400 @@
+//! What is known before an instruction.
+
+ghost use Rattle.std.specs.Prelude.{◌≡◌, ◌≤◌, ◌+◌, ◌-◌, ◌*◌, ◌^◌, ◌++◌, ◌∷◌, ◌&&◌, true, drop, take, length, replicate};
+ghost use Rattle.std.specs.Int.{byte_len};
+ghost use Rattle.bpf_helpers.specs.Promise.{signature_of};
+ghost use Rattle.bpf_semantics.specs.Machine.{size_type};
+ghost use Rattle.bpf_regstate.specs.Shape.{IsRange, IsReg};
+ghost use Rattle.bpf_regstate.specs.Effect.{answer_reg, range_of};
+ghost use Rattle.bpf_regstate.specs.Narrowing.{immediate_word, is_low, narrows};
+ghost use Rattle.bpf_regstate.specs.Joins.{join_marks, join_reg, join_registers};
+ghost use Rattle.bpf_regstate.specs.declared.reg.Reg.TheVariants.{Uninit};
+
+use crate::arith::{all_of, operate_on_ranges};
+use crate::narrowing::{narrow, narrows};
+use crate::places::{
+    Place, RECORD_BASE, RECORD_LENGTH, STACK_BASE, STACK_LENGTH, byte_count, place_of_access,
+};
+use crate::reg::Reg;
+use crate::single::{extend_words, negate_words, order_words, single};
+use bpf_decode::{Condition, Op, Operand, Register, Size, Width};
+use bpf_helpers::{Range, Sigs};
+use std::marker::Model;
+
+/// What is known before an instruction: of each register, and which bytes of the stack were written on every way there.
+/// Contracts see it as a `Shape`.
+#[derive(Clone, Copy)]
+pub struct State {
+    registers: [Reg; 11],
+    marks: [bool; 512],
+}
+
+impl Model for State {
+    ghost use Rattle.bpf_regstate.specs.Shape.{Shape, IsShape};
+
+    ghost Value = { Shape };
+
+    ghost view = { λ s. record { registers = s.registers; marks = s.marks } };
+
+    ghost invariant = { λ s. IsShape (record { registers = s.registers; marks = s.marks }) };
+
+    ghost inverse = { λ s. record { registers = s.registers; marks = s.marks } };
+}
+
+/// The greatest number of this size.
+fn greatest(size: Size) -> u64
+    ensures { result ≡ 2 ^ (8 * byte_len (size_type size)) - 1 }
+{
+    match size {
+        Size::Byte => 0xff,
+        Size::Half => 0xffff,
+        Size::Word => 0xffff_ffff,
+        Size::Double => u64::MAX,
+    }
+}
+
+/// The range of a register's words; every word where nothing is known.
+fn range_of(reg: Reg) -> Range
+    requires { IsReg reg }
+    ensures value { result ≡ range_of reg }
+    ensures range { IsRange result }
+{
+    match reg {
+        Reg::Uninit => all_of(Width::W64),
+        Reg::Known(range) => range,
+    }
+}
+
+/// What two edges have in common of a register.
+fn join_one(x: Reg, y: Reg) -> Reg
+    ensures { result ≡ join_reg x y }
+{
+    match (x, y) {
+        (Reg::Known(a), Reg::Known(b)) => Reg::Known(Range {
+            lo: a.lo.min(b.lo),
+            hi: a.hi.max(b.hi),
+        }),
+        _ => Reg::Uninit,
+    }
+}
+
+/// What two edges have in common of a mark.
+fn mark_one(first: bool, second: bool) -> bool
+    ensures { result ≡ (first && second) }
+{
+    first && second
+}
+
+fn join_each(xs: &mut [Reg], ys: &[Reg])
+    requires { length xs.old ≡ length ys.now }
+    ensures { xs.new ≡ join_registers xs.old ys.now }
+{
+    for i in 0..xs.len() {
+        xs[i] = join_one(xs[i], ys[i]);
+    }
+}
+
+fn mark_each(xs: &mut [bool], ys: &[bool])
+    requires { length xs.old ≡ length ys.now }
+    ensures { xs.new ≡ join_marks xs.old ys.now }
+{
+    for i in 0..xs.len() {
+        xs[i] = mark_one(xs[i], ys[i]);
+    }
+}
+
+/// Marks so many bytes from a place on.
+fn mark_from(marks: &mut [bool], at: usize, count: usize)
+    requires { at + count ≤ length marks.old }
+    ensures { marks.new ≡ take at marks.old ++ (replicate count true ++ drop (at + count) marks.old) }
+{
+    marks[at..at + count].fill(true);
+}
+
+/// Changes the registers as a call does: the answer in r0, nothing known of r1 to r5, and the others as they were.
+fn after_call(registers: &mut [Reg], answer: Reg)
+    requires { 6 ≤ length registers.old }
+    ensures { registers.new ≡ answer ∷ Uninit ∷ Uninit ∷ Uninit ∷ Uninit ∷ Uninit ∷ drop 6 registers.old }
+{
+    let none = Reg::Uninit;
+    registers[..6].copy_from_slice(&[answer, none, none, none, none, none]);
+}
+
+/// What is known of the answer of the helper of this number.
+fn answer_of(sigs: &Sigs, helper: u32) -> Reg
+    ensures value { result ≡ answer_reg (signature_of sigs.now helper) }
+    ensures range { IsReg result }
+{
+    match sigs.get(helper) {
+        Some(signature) => Reg::Known(signature.answer()),
+        None => Reg::Uninit,
+    }
+}
+
+impl State {
+    ghost use Rattle.std.specs.Prelude.{◌≡◌, ◌≤◌, Some};
+    ghost use Rattle.bpf_decode.specs.declared.op.Op.TheVariants.{Call};
+    ghost use Rattle.bpf_decode.specs.declared.op.Operand.TheVariants.{From, Immediate};
+    ghost use Rattle.bpf_regstate.specs.Shape.{IsRange, IsReg, IsShape, known};
+    ghost use Rattle.bpf_regstate.specs.Effect.{after_op, operand_reg, range_of, store_marks, with_register};
+    ghost use Rattle.bpf_regstate.specs.Faults.{all_marked};
+    ghost use Rattle.bpf_regstate.specs.Joins.{joined};
+    ghost use Rattle.bpf_regstate.specs.Narrowing.{refined};
+    ghost use Rattle.bpf_regstate.specs.States.{start_shape};
+    ghost use Rattle.bpf_regstate.specs.declared.reg.Reg.TheVariants.{Known};
+
+    /// What is known before the first instruction (this project's profile): r1 is the first address of a record of 128 bytes,
+    /// r2 is 128, r3 a moment of 32 bits, r4 a milestone from 1 to 16, and r10 the end of the stack, of which no byte is
+    /// written.
+    #[tactic(auto, unfolding(crate::specs::States::start_shape))]
+    pub fn start() -> State
+        ensures { result ≡ start_shape 128 }
+    {
+        let none = Reg::Uninit;
+        let record = Reg::Known(single(RECORD_BASE));
+        let length = Reg::Known(single(RECORD_LENGTH));
+        let now = Reg::Known(Range {
+            lo: 0,
+            hi: 0xffff_ffff,
+        });
+        let milestone = Reg::Known(Range { lo: 1, hi: 16 });
+        let end = Reg::Known(single(STACK_BASE + STACK_LENGTH));
+        State {
+            registers: [
+                none, record, length, now, milestone, none, none, none, none, none, end,
+            ],
+            marks: [false; 512],
+        }
+    }
+
+    /// What is known of a register.
+    pub fn register(&self, register: Register) -> Reg
+        ensures value { result ≡ known self.now register }
+        ensures range { IsReg result }
+        ensures shape { IsShape self.now }
+    {
+        self.registers[register.index()]
+    }
+
+    /// Whether so many bytes of the stack from a place on are marked as written.
+    pub fn all_marked(&self, at: usize, count: usize) -> bool
+        ensures { result ≡ all_marked self.now at count }
+    {
+        self.marks.iter().skip(at).take(count).all(|mark| *mark)
+    }
+
+    /// Changes what is known of a register.
+    fn set(&mut self, register: Register, range: Range)
+        requires { IsRange range }
+        ensures { self.new ≡ with_register self.old register (Known range) }
+    {
+        let place = register.index();
+        self.registers[place] = Reg::Known(range);
+    }
+
+    /// The range of a register's words.
+    fn range_of(&self, register: Register) -> Range
+        ensures value { result ≡ range_of (known self.now register) }
+        ensures range { IsRange result }
+    {
+        range_of(self.register(register))
+    }
+
+    /// The range of the second operand.
+    fn operand(&self, operand: Operand) -> Range
+        ensures value { result ≡ range_of (operand_reg self.now operand) }
+        ensures range { IsRange result }
+    {
+        match operand {
+            Operand::From(register) => self.range_of(register),
+            Operand::Immediate(value) => single((value as i64).cast_unsigned()),
+        }
+    }
+
+    /// Keeps what both have in common: a register is uninitialised if either says so, else it has the least range that has
+    /// both, and a byte of the stack is marked if both mark it.
+    pub fn join(&mut self, other: &State)
+        ensures { self.new ≡ joined self.old other.now }
+    {
+        join_each(&mut self.registers, &other.registers);
+        mark_each(&mut self.marks, &other.marks);
+    }
+
+    /// Marks what a store writes, if there is one place where it goes.
+    fn mark(&mut self, address: Range, offset: i32, count: usize)
+        requires range { IsRange address }
+        requires few { count ≤ 8 }
+        ensures { self.new ≡ record { registers = self.old.registers; marks = store_marks 128 self.old.marks address offset count } }
+    {
+        if address.lo != address.hi {
+            return;
+        }
+        if let Place::Stack(at) = place_of_access(128, address, offset, count) {
+            mark_from(&mut self.marks, at, count);
+        }
+    }
+
+    /// What is known after an instruction, of those that are no conditional jumps (this project's profile). Jumps and the exit
+    /// change nothing.
+    pub fn transfer(&self, op: Op, sigs: &Sigs) -> State
+        ensures { result ≡ after_op 128 sigs.now op self.now }
+    {
+        let mut after = *self;
+        match op {
+            Op::Arith {
+                width,
+                code,
+                dst,
+                operand,
+            } => after.set(
+                dst,
+                operate_on_ranges(code, width, self.range_of(dst), self.operand(operand)),
+            ),
+            Op::Negate { width, dst } => after.set(dst, negate_words(width, self.range_of(dst))),
+            Op::Extend {
+                width,
+                part,
+                dst,
+                src,
+            } => after.set(dst, extend_words(width, part, self.range_of(src))),
+            Op::End { order, bytes, dst } => {
+                after.set(dst, order_words(order, bytes, self.range_of(dst)))
+            }
+            Op::Load { size, dst, .. } => after.set(
+                dst,
+                Range {
+                    lo: 0,
+                    hi: greatest(size),
+                },
+            ),
+            Op::LoadSigned { dst, .. } => after.set(dst, all_of(Width::W64)),
+            Op::Store {
+                size,
+                base,
+                offset,
+                ..
+            } => after.mark(self.range_of(base), offset as i32, byte_count(size)),
+            Op::Wide { dst, value } => after.set(dst, single(value)),
+            Op::Call { helper } => after.call(sigs, helper),
+            Op::Jump { .. } => {}
+            Op::Ja { .. } => {}
+            Op::Ja32 { .. } => {}
+            Op::Exit => {}
+            Op::Tail => {}
+        }
+        after
+    }
+
+    /// A call: nothing is known of r1 to r5 after it, and r0 has an answer that is promised.
+    fn call(&mut self, sigs: &Sigs, helper: u32)
+        ensures { self.new ≡ after_op 128 sigs.now (Call helper) self.old }
+    {
+        after_call(&mut self.registers, answer_of(sigs, helper));
+    }
+
+    /// What is known along one edge of a conditional jump: where the condition holds if `taken`, else where it doesn't.
+    /// `None` where no words of the two ranges lead there. Unsigned comparisons of two different registers, or of a register
+    /// and an immediate, narrow both ranges; comparisons of low halves only where both ranges lie below 2^32 (this project's
+    /// profile).
+    pub fn refine(
+        &self,
+        width: Width,
+        condition: Condition,
+        dst: Register,
+        operand: Operand,
+        taken: bool,
+    ) -> Option<State>
+        ensures { result ≡ refined width condition dst operand taken self.now }
+    {
+        match operand {
+            Operand::From(src) => self.refine_registers(width, condition, dst, src, taken),
+            Operand::Immediate(value) => {
+                self.refine_immediate(width, condition, dst, value, taken)
+            }
+        }
+    }
+
+    /// The same for two registers.
+    fn refine_registers(
+        &self,
+        width: Width,
+        condition: Condition,
+        dst: Register,
+        src: Register,
+        taken: bool,
+    ) -> Option<State>
+        ensures { result ≡ refined width condition dst (From src) taken self.now }
+    {
+        if dst.index() == src.index() {
+            return Some(*self);
+        }
+        let a = self.range_of(dst);
+        let b = self.range_of(src);
+        if !tells(condition, width, a, b) {
+            return Some(*self);
+        }
+        match narrow(condition, taken, a, b) {
+            Some((left, right)) => Some(self.with(dst, left).with(src, right)),
+            None => None,
+        }
+    }
+
+    /// The same for a register and an immediate.
+    fn refine_immediate(
+        &self,
+        width: Width,
+        condition: Condition,
+        dst: Register,
+        value: i32,
+        taken: bool,
+    ) -> Option<State>
+        ensures { result ≡ refined width condition dst (Immediate value) taken self.now }
+    {
+        let a = self.range_of(dst);
+        let b = single(word_of(width, value));
+        if !tells(condition, width, a, b) {
+            return Some(*self);
+        }
+        match narrow(condition, taken, a, b) {
+            Some((left, _)) => Some(self.with(dst, left)),
+            None => None,
+        }
+    }
+
+    /// The state with another range of a register.
+    fn with(&self, register: Register, range: Range) -> State
+        requires { IsRange range }
+        ensures { result ≡ with_register self.now register (Known range) }
+    {
+        let mut after = *self;
+        after.set(register, range);
+        after
+    }
+}
+
+/// The word with which a jump of the width compares: the sign-extended immediate, of the low halves its 32 bits.
+fn word_of(width: Width, value: i32) -> u64
+    ensures { result ≡ immediate_word width value }
+{
+    match width {
+        Width::W32 => value.cast_unsigned() as u64,
+        Width::W64 => (value as i64).cast_unsigned(),
+    }
+}
+
+/// Whether the low parts of the words of a range are the words.
+fn is_low(width: Width, range: Range) -> bool
+    ensures { result ≡ is_low width range }
+{
+    match width {
+        Width::W32 => range.hi < 0x1_0000_0000,
+        Width::W64 => true,
+    }
+}
+
+/// Whether a comparison tells anything of the ranges of two different operands.
+fn tells(condition: Condition, width: Width, a: Range, b: Range) -> bool
+    ensures { result ≡ (narrows condition && is_low width a && is_low width b) }
+{
+    narrows(condition) && is_low(width, a) && is_low(width, b)
+}
