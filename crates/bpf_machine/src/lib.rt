@@ -5,7 +5,6 @@ mod memory;
 mod run;
 mod state;
 mod tested;
-mod words;
 
 pub use run::{Ended, Trap};
 pub use tested::run_tested;
