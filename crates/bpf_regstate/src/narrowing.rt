@@ -152,7 +152,7 @@ fn narrow_holding(condition: Condition, a: Range, b: Range) -> Option<(Range, Ra
     }
 }
 
-/// The condition that holds where this one doesn't.
+/// The condition that leaves where it holds what this one leaves where it doesn't hold.
 fn opposite(condition: Condition) -> Condition
     ensures { (a b : Range) → narrowed result true a b ≡ narrowed condition false a b }
 {

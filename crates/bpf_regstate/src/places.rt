@@ -11,7 +11,7 @@ use bpf_decode::{Part, Size};
 use bpf_helpers::Range;
 
 /// How many bytes a record has.
-pub const RECORD_LENGTH: u64 = 128;
+pub const RECORD_LENGTH: usize = 128;
 
 /// The first address of the record.
 pub const RECORD_BASE: u64 = 0x1_0000_0000;

@@ -85,6 +85,7 @@ fn mark_one(first: bool, second: bool) -> bool
     first && second
 }
 
+/// Joins each register with the one at its place.
 fn join_each(xs: &mut [Reg], ys: &[Reg])
     requires { length xs.old ≡ length ys.now }
     ensures { xs.new ≡ join_registers xs.old ys.now }
@@ -94,6 +95,7 @@ fn join_each(xs: &mut [Reg], ys: &[Reg])
     }
 }
 
+/// Joins each mark with the one at its place.
 fn mark_each(xs: &mut [bool], ys: &[bool])
     requires { length xs.old ≡ length ys.now }
     ensures { xs.new ≡ join_marks xs.old ys.now }
@@ -152,7 +154,7 @@ impl State {
     {
         let none = Reg::Uninit;
         let record = Reg::Known(single(RECORD_BASE));
-        let length = Reg::Known(single(RECORD_LENGTH));
+        let length = Reg::Known(single(RECORD_LENGTH as u64));
         let now = Reg::Known(Range {
             lo: 0,
             hi: 0xffff_ffff,
@@ -229,7 +231,7 @@ impl State {
         if address.lo != address.hi {
             return;
         }
-        if let Place::Stack(at) = place_of_access(128, address, offset, count) {
+        if let Place::Stack(at) = place_of_access(RECORD_LENGTH, address, offset, count) {
             mark_from(&mut self.marks, at, count);
         }
     }
