@@ -60,36 +60,6 @@ fn push_edge(table: &mut [Option<State>], to: Option<usize>, state: Option<State
     }
 }
 
-/// Pushes both edges of a conditional jump, of which the taken one leads to the target.
-fn push_jump(
-    table: &mut [Option<State>],
-    state: &State,
-    slot: usize,
-    width: Width,
-    condition: Condition,
-    dst: Register,
-    operand: &Operand,
-    to: Option<usize>,
-)
-    requires few { slot < 2 ^ 32 }
-    requires jumps { ForSome to (λ end. end < length table.old) }
-    requires falls { slot + 1 < length table.old }
-    ensures { let taken = refined width condition dst operand.now true state.now in
-        let other = refined width condition dst operand.now false state.now in
-        table.new ≡ sent table.old (edge to taken ++ edge (Some (slot + 1)) other) }
-{
-    push_edge(
-        table,
-        to,
-        state.refine(width, condition, dst, *operand, true),
-    );
-    push_edge(
-        table,
-        Some(slot + 1),
-        state.refine(width, condition, dst, *operand, false),
-    );
-}
-
 /// Pushes the edges of a slot without a fault, by what is known there.
 fn send(table: &mut [Option<State>], ops: &[Op], sigs: &Sigs, slot: usize, op: &Op, state: &State)
     requires same { length table.old ≡ length ops.now }
@@ -98,9 +68,9 @@ fn send(table: &mut [Option<State>], ops: &[Op], sigs: &Sigs, slot: usize, op: &
     requires falls { op.now ≢ Op.Tail → falls_off ops.now slot op.now ≡ false }
     ensures { table.new ≡ sent table.old (edges 128 sigs.now slot op.now state.now) }
 {
-    match *op {
-        Op::Ja { offset } => push_edge(table, target(slot, offset as i32), Some(*state)),
-        Op::Ja32 { offset } => push_edge(table, target(slot, offset), Some(*state)),
+    match op {
+        Op::Ja { offset } => push_edge(table, target(slot, *offset as i32), Some(*state)),
+        Op::Ja32 { offset } => push_edge(table, target(slot, *offset), Some(*state)),
         Op::Jump {
             width,
             condition,
@@ -108,8 +78,10 @@ fn send(table: &mut [Option<State>], ops: &[Op], sigs: &Sigs, slot: usize, op: &
             operand,
             offset,
         } => {
-            let to = target(slot, offset as i32);
-            push_jump(table, state, slot, width, condition, dst, &operand, to);
+            let taken = state.refine(*width, *condition, *dst, *operand, true);
+            let other = state.refine(*width, *condition, *dst, *operand, false);
+            push_edge(table, target(slot, *offset as i32), taken);
+            push_edge(table, Some(slot + 1), other);
         }
         Op::Exit => {}
         Op::Tail => {}
@@ -118,36 +90,19 @@ fn send(table: &mut [Option<State>], ops: &[Op], sigs: &Sigs, slot: usize, op: &
 }
 
 /// The fault of a slot, by what the edges of earlier slots have brought to it; where it has none, its own edges are pushed.
-fn pass(
-    table: &mut [Option<State>],
-    ops: &[Op],
-    sigs: &Sigs,
-    slot: usize,
-    op: &Op,
-    state: &Option<State>,
-) -> Option<Fault>
-    requires same { length table.old ≡ length ops.now }
-    requires few { slot < 4096 }
-    ensures found { option_map code_of result ≡ least (faults 128 ops.now sigs.now slot op.now state.now) }
-    ensures pushed { IfNone result (table.new ≡ sent_from sigs.now slot op.now state.now table.old) }
-{
-    let fault = least_fault(ops, sigs, slot, *op, state);
-    if fault.is_some() {
-        return fault;
-    }
-    if let Some(state) = state {
-        send(table, ops, sigs, slot, op, state);
-    }
-    None
-}
-
-/// The fault of a slot, or the next turn of the table: its edges are pushed.
 pub fn pass_slot(table: &mut [Option<State>], ops: &[Op], sigs: &Sigs, slot: usize) -> Option<Fault>
     requires same { length table.old ≡ length ops.now }
     requires inside { slot < length ops.now }
     requires few { length ops.now ≤ 4096 }
     ensures { Passes ops.now sigs.now slot table.old table.new (option_map code_of result) }
 {
+    let op = &ops[slot];
     let state = table[slot];
-    pass(table, ops, sigs, slot, &ops[slot], &state)
+    if let Some(fault) = least_fault(ops, sigs, slot, *op, &state) {
+        return Some(fault);
+    }
+    if let Some(state) = &state {
+        send(table, ops, sigs, slot, op, state);
+    }
+    None
 }
