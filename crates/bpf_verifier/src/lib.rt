@@ -13,3 +13,6 @@ mod verifier;
 pub use checked::Checked;
 pub use fault::{Fault, VerifyError};
 pub use verifier::verify;
+
+#[cfg(test)]
+mod tests;
