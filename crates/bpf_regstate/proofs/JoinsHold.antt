@@ -1,5 +1,5 @@
 -- A join holds what each side holds, and a state that is pulled together holds what each edge brings.
-use Rattle.std.proofs.Common.{◌≡◌, ℕ, zero, suc, ◌+◌, ◌<◌, ◌≤◌, Bool, true, false, ◌&&◌, cond, eqb, List, [], ◌∷◌, ◌++◌, length, Option, Some, None, refl, ap, subst, ◌∙◌, arith, ◌⊎◌, inl, inr, get_or, add-zero, zero-add}
+use Rattle.std.proofs.Common.{◌≡◌, ℕ, zero, suc, ◌+◌, ◌<◌, ◌≤◌, Bool, true, false, ◌&&◌, cond, eqb, List, [], ◌∷◌, ◌++◌, length, Option, Some, None, refl, ap, subst, ◌∙◌, arith, inl, inr, get_or, add-zero, zero-add}
 use Rattle.std.specs.Prelude.{slice_get}
 use Rattle.std.proofs.lemmas.Bool.{cases_lt}
 use Rattle.std.proofs.Common.{eq-eqb, ⊎_elim, length-append}
@@ -9,7 +9,7 @@ use Rattle.bpf_semantics.specs.Machine.{Machine}
 use Rattle.bpf_regstate.specs.declared.reg.Reg.{Reg}
 use Rattle.bpf_regstate.specs.declared.reg.Reg.TheVariants.{Uninit, Known}
 use Rattle.bpf_regstate.specs.Shape.{Shape}
-use Rattle.bpf_regstate.specs.Holds.{HoldsWord, Holds}
+use Rattle.bpf_regstate.specs.Holds.{HoldsWord, Holds, HoldsAt, SomeHolds, EdgeHolds}
 use Rattle.bpf_regstate.specs.Joins.{join_reg, join_registers, join_marks, joined}
 use Rattle.bpf_regstate.specs.States.{join_with, join_all, into, sends, arriving, entering, pulled, states, state_at}
 
@@ -17,13 +17,13 @@ reg_left : (x y : Reg) (o : Option ℕ) → HoldsWord x o → HoldsWord (join_re
 reg_left Uninit y o h = tt
 reg_left (Known a) Uninit o h = tt
 reg_left (Known a) (Known b) None h = h
-reg_left (Known a) (Known b) (Some v) h = (record { low = omega (arith, h.0.low); high = omega (arith, h.0.high) }, h.1)
+reg_left (Known a) (Known b) (Some v) h = record { low = omega (arith, h.low); high = omega (arith, h.high) }
 
 reg_right : (x y : Reg) (o : Option ℕ) → HoldsWord y o → HoldsWord (join_reg x y) o
 reg_right Uninit y o h = tt
 reg_right (Known a) Uninit o h = tt
 reg_right (Known a) (Known b) None h = h
-reg_right (Known a) (Known b) (Some v) h = (record { low = omega (arith, h.0.low); high = omega (arith, h.0.high) }, h.1)
+reg_right (Known a) (Known b) (Some v) h = record { low = omega (arith, h.low); high = omega (arith, h.high) }
 
 registers_left : (xs ys : List Reg) (r : ℕ) (o : Option ℕ) → HoldsWord (get_or xs r Uninit) o → HoldsWord (get_or (join_registers xs ys) r Uninit) o
 registers_left [] ys r o h = tt
@@ -71,15 +71,6 @@ joined_right s t m h = record {
 
 -- ---- some state of a list, some edge of a list
 
-abbrev pub SomeHolds : Machine → List Shape → Type 0
-SomeHolds m [] = ⊥
-SomeHolds m (s ∷ ss) = Holds s m ⊎ SomeHolds m ss
-
--- there is a state, and it holds the machine's
-abbrev pub HoldsAt : Option Shape → Machine → Type 0
-HoldsAt None m = ⊥
-HoldsAt (Some s) m = Holds s m
-
 with_left : (s : Shape) (o : Option Shape) (m : Machine) → Holds s m → HoldsAt (join_with s o) m
 with_left s None m h = h
 with_left s (Some t) m h = joined_left s t m h
@@ -101,11 +92,6 @@ some_append_left (x ∷ xs) ys m (inr h) = inr (some_append_left xs ys m h)
 some_append_right : (xs ys : List Shape) (m : Machine) → SomeHolds m ys → SomeHolds m (xs ++ ys)
 some_append_right [] ys m h = h
 some_append_right (x ∷ xs) ys m h = inr (some_append_right xs ys m h)
-
--- an edge leads to the slot, and its state holds the machine's
-abbrev pub EdgeHolds : Machine → ℕ → List (ℕ × Shape) → Type 0
-EdgeHolds m to [] = ⊥
-EdgeHolds m to (e ∷ es) = ((e.0 ≡ to) × Holds e.1 m) ⊎ EdgeHolds m to es
 
 some_chosen : (b : Bool) (s : Shape) (ss : List Shape) (m : Machine) → b ≡ true → Holds s m → SomeHolds m (cond b (s ∷ ss) ss)
 some_chosen true s ss m e h = inl h

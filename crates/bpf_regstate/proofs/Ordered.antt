@@ -26,7 +26,7 @@ choice_words : (b : Bool) (r s : Range) → (b ≡ true → r.hi < 2 ^ 64) → (
 choice_words true r s f g = f refl
 choice_words false r s f g = g refl
 
-full_words : (w : Width) → (full w).hi < 2 ^ 64
+pub full_words : (w : Width) → (full w).hi < 2 ^ 64
 full_words W32 = lit< tt
 full_words W64 = lit< tt
 

@@ -16,6 +16,8 @@ use Rattle.bpf_decode.specs.Words.{bits_of, low, operation, arith_word, signed, 
 use Rattle.bpf_helpers.specs.declared.range.Range.{Range}
 use Rattle.bpf_regstate.specs.Ranges.{span, full, modulus, reduced, wrapped, filled, ranged, arith_range}
 use Rattle.bpf_regstate.specs.Holds.{In}
+use Rattle.bpf_regstate.specs.Shape.{IsRange}
+use Rattle.bpf_regstate.specs.Effect.{arith_result}
 
 pub both : (b c : Bool) → (b && c) ≡ true → (b ≡ true) × (c ≡ true)
 both true c e = (refl, e)
@@ -26,7 +28,7 @@ pub choice_in : (b : Bool) (r s : Range) (x : ℕ) → (b ≡ true → In r x) �
 choice_in true r s x f g = f refl
 choice_in false r s x f g = g refl
 
-full_in : (w : Width) (x : ℕ) → x < modulus w → In (full w) x
+pub full_in : (w : Width) (x : ℕ) → x < modulus w → In (full w) x
 full_in W32 x h = record { low = omega arith; high = omega arith }
 full_in W64 x h = record { low = omega arith; high = omega arith }
 
@@ -117,7 +119,7 @@ xor_in w a b x y p q i j = record {
 
 -- ---- shifts
 
-same_single : (b : Range) (y : ℕ) → eqb b.lo b.hi ≡ true → In b y → b.lo ≡ y
+pub same_single : (b : Range) (y : ℕ) → eqb b.lo b.hi ≡ true → In b y → b.lo ≡ y
 same_single b y e j = let f = eqb-true _ _ e in omega arith
 
 pub shl_in : (w : Width) (a b : Range) (x y : ℕ) → In a x → In b y → In (ranged LeftShift w a b) (operation LeftShift w x y)
@@ -247,3 +249,10 @@ width_fits W64 = lit≤ tt
 
 pub word_below : (code : Code) (w : Width) (x y : ℕ) → arith_word code w x y < 2 ^ 64
 word_below code w x y = omega (arith, width_fits w, operation_below code w (low w x) (low w y) (low_below w x) (low_below w y))
+
+-- MOV reads its second operand alone.
+pub result_in : (code : Code) (w : Width) (a b : Range) (x y : ℕ) → IsRange a → IsRange b → In a x → In b y → In (arith_result code w a b) (arith_word code w x y)
+result_in Mov w a b x y p q i j =
+    let word : y < 2 ^ 64 = omega (arith, j.high, q.words) in arith_in Mov w b b y y word word q.words q.words j j
+result_in code w a b x y p q i j =
+    arith_in code w a b x y (omega (arith, i.high, p.words)) (omega (arith, j.high, q.words)) p.words q.words i j

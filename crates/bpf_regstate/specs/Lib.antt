@@ -8,3 +8,4 @@ pub mod Edges
 pub mod Faults
 pub mod States
 pub mod Memory
+pub mod Soundness

@@ -1,6 +1,7 @@
 -- What is known at each slot, and which programs are accepted (this project's profile).
 use Rattle.std.specs.Prelude.{◌≡◌, ℕ, zero, suc, ◌<◌, List, [], ◌∷◌, ◌++◌, length, replicate, false, ◌==◌, if◌then◌else◌, Option, Some, None, slice_get}
 use Rattle.bpf_decode.specs.declared.op.Op.{Op}
+use Rattle.bpf_decode.specs.Encoding.{is_tail}
 use Rattle.bpf_helpers.specs.Promise.{Promise}
 use Rattle.bpf_regstate.specs.declared.reg.Reg.TheVariants.{Uninit, Known}
 use Rattle.bpf_regstate.specs.Shape.{Shape}
@@ -90,6 +91,11 @@ pub record IsFirstFault (record_length : ℕ) (ops : List Op) (sigs : List (ℕ 
   pub inside : slot < length ops
   pub fault : fault_at record_length ops sigs slot ≡ Some code
   pub before : (k : ℕ) → k < slot → fault_at record_length ops sigs k ≡ None
+
+-- how many instructions a program has: its slots but the second ones of wide loads
+abbrev pub instruction_count : List Op → ℕ
+instruction_count [] = 0
+instruction_count (op ∷ ops) = if is_tail op then instruction_count ops else suc (instruction_count ops)
 
 -- ---- one pass forward
 

@@ -115,11 +115,11 @@ fn multiply(width: Width, a: Range, b: Range) -> Range
     requires second { b.lo ≤ b.hi }
     ensures { result ≡ ranged Mul width a b }
 {
-    let high = a.hi as u128 * b.hi as u128;
-    if high < size_of_width(width) {
+    let most = a.hi as u128 * b.hi as u128;
+    if most < size_of_width(width) {
         Range {
             lo: (a.lo as u128 * b.lo as u128) as u64,
-            hi: high as u64,
+            hi: most as u64,
         }
     } else {
         all_of(width)

@@ -14,3 +14,6 @@ pub use bpf_helpers::Range;
 pub use places::{Place, byte_count, part_byte_count, place_of_access};
 pub use reg::Reg;
 pub use state::State;
+
+#[cfg(test)]
+mod tests;

@@ -78,10 +78,11 @@ fn join_one(x: Reg, y: Reg) -> Reg
     }
 }
 
-fn mark_one(x: bool, y: bool) -> bool
-    ensures { result ≡ (x && y) }
+/// What two edges have in common of a mark.
+fn mark_one(first: bool, second: bool) -> bool
+    ensures { result ≡ (first && second) }
 {
-    x && y
+    first && second
 }
 
 fn join_each(xs: &mut [Reg], ys: &[Reg])
@@ -187,7 +188,8 @@ impl State {
         requires { IsRange range }
         ensures { self.new ≡ with_register self.old register (Known range) }
     {
-        self.registers[register.index()] = Reg::Known(range);
+        let place = register.index();
+        self.registers[place] = Reg::Known(range);
     }
 
     /// The range of a register's words.
