@@ -42,7 +42,7 @@ fn verify_command<'a>(alloc: Global) -> Result<Command<'a>, AllocError>
         .required(true)
         .help("The raw bytes of a BPF program");
     Command::new(alloc, "verify")
-        .about("Lists a BPF program, or tells its first fault")
+        .about("Lists a BPF program that may run, or tells its first fault")
         .arg(file)
 }
 

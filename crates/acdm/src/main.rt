@@ -3,9 +3,11 @@
 
 mod command_line;
 mod failure;
+mod helpers;
 mod serving;
 #[cfg(test)]
 mod tests;
+mod verdict;
 mod verifying;
 
 use command_line::{Line, parse};

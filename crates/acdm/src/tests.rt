@@ -4,6 +4,7 @@ use crate::serving::run_on;
 use crate::verifying::verify_on;
 use acdm_board::Desk;
 use acdm_sessions::{Counted, run};
+use std::alloc::Global;
 use std::io::{self, Read, Write};
 use std::test::Fail;
 
@@ -138,7 +139,7 @@ fn a_program_is_listed(rt: HostRuntime) -> Result<(), Fail> {
     let bytes = [0xb7, 0, 0, 0, 0, 0, 0, 0, 0x95, 0, 0, 0, 0, 0, 0, 0];
     let (status, text) = verdict_of(&rt, bytes.as_slice())?;
     assert_eq!(rt; status, 0);
-    assert_eq!(rt; text.as_str(), "0: mov64 r0, 0\n1: exit\ndecoded 2\n");
+    assert_eq!(rt; text.as_str(), "0: mov64 r0, 0\n1: exit\naccepted 2\n");
     Ok(())
 }
 
@@ -151,12 +152,73 @@ fn a_faulty_program_is_refused(rt: HostRuntime) -> Result<(), Fail> {
         ([0x18, 0, 0, 0, 1, 0, 0, 0].as_slice(), "refused 315 0\n"),
         ([0u8; 12].as_slice(), "refused 301 0\n"),
         ([].as_slice(), "refused 301 0\n"),
+        ([0x95, 0, 0, 0, 0, 0, 0, 0].as_slice(), "refused 308 0\n"),
+        ([0xb7, 0, 0, 0, 0, 0, 0, 0].as_slice(), "refused 307 0\n"),
         (many.as_slice(), "refused 302 0\n"),
         (more.as_slice(), "refused 302 0\n"),
     ] {
         let (status, written) = verdict_of(&rt, bytes)?;
         assert_eq!(rt; status, 1);
         assert_eq!(rt; written.as_str(), text);
+    }
+    Ok(())
+}
+
+/// The bytes of some slots.
+fn bytes_of_slots(alloc: Global, slots: &[u64]) -> Result<Vec<u8>, Fail> {
+    let mut bytes = Vec::new(alloc);
+    for slot in slots {
+        bytes.extend_from_slice(&slot.to_be_bytes())?;
+    }
+    Ok(bytes)
+}
+
+#[test]
+fn calls_keep_within_the_helpers_signatures(rt: HostRuntime) -> Result<(), Fail> {
+    let exit = 0x9500_0000_0000_0000;
+    let helper_1 = 0x8500_0000_0100_0000;
+    let helper_2 = 0x8500_0000_0200_0000;
+    let helper_3 = 0x8500_0000_0300_0000;
+    let helper_4 = 0x8500_0000_0400_0000;
+    // Words of the record: the scheduled type, of four bytes, and the stand, of two.
+    let type_in_r1 = 0x6111_1000_0000_0000;
+    let stand_in_r1 = 0x6911_3c00_0000_0000;
+    let low_nine_bits = 0x5701_0000_ff01_0000;
+    let now_in_r1 = 0xbf31_0000_0000_0000;
+    for (slots, status, text) in [
+        (
+            [type_in_r1, helper_1, exit].as_slice(),
+            0,
+            "0: ldxw r1, [r1+16]\n1: call 1\n2: exit\naccepted 3\n",
+        ),
+        ([helper_1, exit].as_slice(), 1, "refused 313 0\n"),
+        (
+            [stand_in_r1, low_nine_bits, helper_2, exit].as_slice(),
+            0,
+            "0: ldxh r1, [r1+60]\n1: and64 r1, 511\n2: call 2\n3: exit\naccepted 4\n",
+        ),
+        (
+            [stand_in_r1, helper_2, exit].as_slice(),
+            1,
+            "refused 313 1\n",
+        ),
+        (
+            [now_in_r1, 0xb702_0000_1027_0000, helper_3, exit].as_slice(),
+            0,
+            "0: mov64 r1, r3\n1: mov64 r2, 10000\n2: call 3\n3: exit\naccepted 4\n",
+        ),
+        (
+            [now_in_r1, 0xb702_0000_1127_0000, helper_3, exit].as_slice(),
+            1,
+            "refused 313 2\n",
+        ),
+        ([helper_3, exit].as_slice(), 1, "refused 313 0\n"),
+        ([helper_4, exit].as_slice(), 1, "refused 312 0\n"),
+    ] {
+        let bytes = bytes_of_slots(rt.alloc(), slots)?;
+        let (ended, written) = verdict_of(&rt, bytes.as_slice())?;
+        assert_eq!(rt; written.as_str(), text);
+        assert_eq!(rt; ended, status, "{text}");
     }
     Ok(())
 }

@@ -1,15 +1,17 @@
 //! The command `verify`, over the reader and the writers that it is handed.
 use crate::failure::Failure;
-use bpf_decode::{DecodeError, Program, decode, line};
+use crate::verdict::{Verdict, verdict_on};
+use bpf_decode::{Program, line};
 use std::alloc::Global;
 use std::io::{self, BufWriter, ErrorKind, Read, Write};
 
 // More bytes than any program has, so that a longer file is refused by what was read of it.
 const MOST_READ: u64 = 65_537;
 
-/// Lists the program that a reader's bytes encode, one line for each slot, or tells the first fault.
+/// Lists the program that a reader's bytes encode, one line for each slot, and then its slots, if it may run with the known
+/// helpers; else tells its first fault.
 ///
-/// The status is 0 for a program and 1 for a fault, else 2, with a line on the errors' writer.
+/// The status is 0 for a program that is accepted and 1 for one that is refused, else 2, with a line on the errors' writer.
 pub fn verify_on<R: Read + Drop, W: Write + Drop, E: Write + Drop>(
     alloc: Global,
     reader: R,
@@ -31,13 +33,10 @@ fn judge<R: Read + Drop, W: Write + Drop>(
     let Ok(mut writer) = BufWriter::new(alloc, writer) else {
         return Err(Failure::Memory);
     };
-    let (status, written) = match decode(alloc, bytes.as_slice()) {
-        Ok(program) => (0, list(&program, &mut writer)),
-        Err(DecodeError::Memory) => return Err(Failure::Memory),
-        Err(error) => (
-            1,
-            writeln!(writer, "refused {} {}", error.code(), error.slot()),
-        ),
+    let (status, written) = match verdict_on(alloc, bytes.as_slice()) {
+        Ok(Verdict::Accepted(checked)) => (0, list(checked.program(), &mut writer)),
+        Ok(Verdict::Refused { code, slot }) => (1, writeln!(writer, "refused {code} {slot}")),
+        Err(_) => return Err(Failure::Memory),
     };
     if written.is_err() || writer.flush().is_err() {
         return Err(Failure::Write);
@@ -60,5 +59,5 @@ fn list<W: Write>(program: &Program, writer: &mut W) -> io::Result<()> {
         line(program, slot, writer)?;
         writeln!(writer)?;
     }
-    writeln!(writer, "decoded {slots}")
+    writeln!(writer, "accepted {slots}")
 }

@@ -1,0 +1,18 @@
+//! Which programs may run: those of which no slot has a fault.
+#![tactic(auto)]
+
+mod checked;
+mod fault;
+mod flow;
+mod memory;
+mod reads;
+mod slot;
+mod table;
+mod verifier;
+
+pub use checked::Checked;
+pub use fault::{Fault, VerifyError};
+pub use verifier::verify;
+
+#[cfg(test)]
+mod tests;

@@ -1,0 +1,102 @@
+//! Faults of loads and stores: where they may go, and what they may find there.
+
+ghost use Rattle.std.specs.Prelude.{◌≡◌, ◌≤◌, ◌+◌, ◌-◌};
+ghost use Rattle.bpf_regstate.specs.Shape.{known};
+ghost use Rattle.bpf_regstate.specs.Effect.{access, range_of};
+ghost use Rattle.bpf_regstate.specs.Memory.{PlaceIs};
+ghost use Rattle.bpf_regstate.specs.Faults.{access_of, is_nowhere, is_unmarked, loads_unmarked, stores_in_record};
+
+use crate::reads::range_of;
+use bpf_decode::{Op, Register};
+use bpf_regstate::{Place, State, byte_count, part_byte_count, place_of_access};
+
+/// How many bytes a record has.
+const RECORD_LENGTH: usize = 128;
+
+/// Where all addresses lie that so many bytes at a register plus the offset may have.
+fn place_at(state: &State, base: Register, offset: i32, count: usize) -> Place
+    requires { count ≤ 8 }
+    ensures { let range = range_of (known state.now base) in PlaceIs result 128 (range.hi - range.lo + count) (access 128 range offset count) }
+{
+    place_of_access(RECORD_LENGTH, range_of(state, base), offset, count)
+}
+
+/// Whether some address of the slot's load or store lies in no region, or not in that of the others.
+pub fn misses_memory(state: &State, op: Op) -> bool
+    ensures { result ≡ is_nowhere (access_of 128 state.now op) }
+{
+    match op {
+        Op::Load {
+            size,
+            base,
+            offset,
+            ..
+        } => place_at(state, base, offset as i32, byte_count(size)) == Place::Nowhere,
+        Op::LoadSigned {
+            part,
+            base,
+            offset,
+            ..
+        } => place_at(state, base, offset as i32, part_byte_count(part)) == Place::Nowhere,
+        Op::Store {
+            size,
+            base,
+            offset,
+            ..
+        } => place_at(state, base, offset as i32, byte_count(size)) == Place::Nowhere,
+        _ => false,
+    }
+}
+
+/// Whether a load of so many bytes may read a byte of the stack that is not marked.
+fn is_unmarked(state: &State, base: Register, offset: i32, count: usize) -> bool
+    requires { count ≤ 8 }
+    ensures { let range = range_of (known state.now base) in result ≡ is_unmarked state.now range count (access 128 range offset count) }
+{
+    match place_at(state, base, offset, count) {
+        Place::Stack(at) => {
+            let range = range_of(state, base);
+            !state.all_marked(at, (range.hi - range.lo) as usize + count)
+        }
+        _ => false,
+    }
+}
+
+/// Whether the slot loads a byte of the stack that may be uninitialised.
+pub fn loads_unmarked(state: &State, op: Op) -> bool
+    ensures { result ≡ loads_unmarked 128 state.now op }
+{
+    match op {
+        Op::Load {
+            size,
+            base,
+            offset,
+            ..
+        } => is_unmarked(state, base, offset as i32, byte_count(size)),
+        Op::LoadSigned {
+            part,
+            base,
+            offset,
+            ..
+        } => is_unmarked(state, base, offset as i32, part_byte_count(part)),
+        _ => false,
+    }
+}
+
+/// Whether the slot stores to the record.
+pub fn stores_in_record(state: &State, op: Op) -> bool
+    ensures { result ≡ stores_in_record 128 state.now op }
+{
+    match op {
+        Op::Store {
+            size,
+            base,
+            offset,
+            ..
+        } => matches!(
+            place_at(state, base, offset as i32, byte_count(size)),
+            Place::Record(_)
+        ),
+        _ => false,
+    }
+}

@@ -1,0 +1,61 @@
+//! The fault of a slot.
+
+ghost use Rattle.std.specs.Prelude.{◌≡◌, ◌<◌, ◌^◌, option_map};
+ghost use Rattle.bpf_regstate.specs.Faults.{faults, least};
+ghost use Rattle.bpf_verifier.specs.Verdict.{code_of};
+
+use crate::fault::Fault;
+use crate::flow::{calls_unknown, falls_off, jumps_badly, writes_end};
+use crate::memory::{loads_unmarked, misses_memory, stores_in_record};
+use crate::reads::{passes_badly, reads_uninit};
+use bpf_decode::Op;
+use bpf_helpers::Sigs;
+use bpf_regstate::State;
+
+/// The fault of the least number that a slot has, by what is known there; nothing is known where no edge leads.
+pub fn least_fault(
+    ops: &[Op],
+    sigs: &Sigs,
+    slot: usize,
+    op: Op,
+    state: &Option<State>,
+) -> Option<Fault>
+    requires { slot < 2 ^ 32 }
+    ensures { option_map code_of result ≡ least (faults 128 ops.now sigs.now slot op state.now) }
+{
+    if op == Op::Tail {
+        return None;
+    }
+    if jumps_badly(ops, slot, op) {
+        return Some(Fault::Jump);
+    }
+    if falls_off(ops, slot, op) {
+        return Some(Fault::FallsOff);
+    }
+    if let Some(state) = state {
+        if reads_uninit(sigs, state, op) {
+            return Some(Fault::Uninitialised);
+        }
+        if misses_memory(state, op) {
+            return Some(Fault::Address);
+        }
+        if loads_unmarked(state, op) {
+            return Some(Fault::StackByte);
+        }
+        if stores_in_record(state, op) {
+            return Some(Fault::WritesRecord);
+        }
+        if calls_unknown(sigs, op) {
+            return Some(Fault::Helper);
+        }
+        if passes_badly(sigs, state, op) {
+            return Some(Fault::Argument);
+        }
+    } else if calls_unknown(sigs, op) {
+        return Some(Fault::Helper);
+    }
+    if writes_end(op) {
+        return Some(Fault::WritesEnd);
+    }
+    None
+}

@@ -1,0 +1,258 @@
+//! Worked verdicts.
+
+ghost use Rattle.std.specs.Prelude.{◌≡◌, IfOk};
+ghost use Rattle.bpf_helpers.specs.Known.{taxi, taxi_from};
+
+use super::*;
+use bpf_decode::{decode, encode};
+use bpf_helpers::{Bank, Code, Helper, Range, Signature, Sigs};
+use std::alloc::Global;
+use std::process::Abort;
+use std::test::Fail;
+
+/// The program is accepted under these signatures, and given back with them.
+fn accepts(rt: &impl Abort, alloc: Global, sigs: &Sigs, text: &str) -> Result<(), Fail> {
+    let bytes = hex::decode(alloc, text)?;
+    let checked = verify(alloc, decode(alloc, &bytes)?, sigs)?;
+    let again = encode(alloc, checked.program())?;
+    assert_eq!(rt; again.as_slice(), bytes.as_slice(), "{text}");
+    assert!(rt; checked.sigs().is_same(sigs), "{text}");
+    Ok(())
+}
+
+/// The program is refused by this number at this slot.
+fn refuses(
+    rt: &impl Abort,
+    alloc: Global,
+    sigs: &Sigs,
+    text: &str,
+    code: u16,
+    slot: usize,
+) -> Result<(), Fail> {
+    let program = decode(alloc, &hex::decode(alloc, text)?)?;
+    let error = verify(alloc, program, sigs).err().ok_or("accepted")?;
+    assert_eq!(rt; (error.code(), error.slot()), (code, slot), "{text}");
+    Ok(())
+}
+
+/// The signature of helper 2, the taxi time from a stand.
+fn taxi_signature(alloc: Global) -> Result<Signature, Fail>
+    ensures { IfOk result (λ signature. signature ≡ taxi) }
+{
+    let args = vec![in alloc; Range { lo: 0, hi: 999 }]?;
+    let table = vec![in alloc; (12, 10), (120, 15), (900, 20)]?;
+    Ok(Signature::new(args, Range { lo: 1, hi: 60 }, table).ok_or("no signature")?)
+}
+
+#[test]
+fn programs_are_accepted(rt: HostRuntime) -> Result<(), Fail> {
+    let sigs = Bank::new(rt.alloc())?.sigs()?;
+    for text in [
+        "b7000000000000009500000000000000",
+        "61107c00000000009500000000000000",
+        "b7000000090000001504010001000000b7000000050000009500000000000000",
+        // From the record at an index of which a jump says that it is in bounds.
+        "71153f0000000000250503007c0000000f5100000000000071100000000000009500000000000000b7000000000000009500000000000000",
+        "71153f0000000000250503007f0000000f5100000000000071100000000000009500000000000000b7000000000000009500000000000000",
+        "bfa100000000000007010000f8ffffff7a01000000000000b7000000000000009500000000000000",
+        "720affff0500000071a0ffff000000009500000000000000",
+        "5502010080000000b7000000070000009500000000000000",
+        // What is not reached may read what is not there.
+        "b7000000000000000500010000000000bf600000000000009500000000000000",
+    ] {
+        accepts(&rt, rt.alloc(), &sigs, text)?;
+    }
+    Ok(())
+}
+
+#[test]
+fn programs_are_refused(rt: HostRuntime) -> Result<(), Fail> {
+    let sigs = Bank::new(rt.alloc())?.sigs()?;
+    for (text, code, slot) in [
+        ("9500000000000000", 308, 0),
+        ("61107d00000000009500000000000000", 309, 0),
+        ("0500ffff000000009500000000000000", 306, 0),
+        ("1504010001000000b7000000050000009500000000000000", 308, 2),
+        (
+            "71153f000000000025050300800000000f5100000000000071100000000000009500000000000000b7000000000000009500000000000000",
+            309,
+            3,
+        ),
+        (
+            "71153f000000000025050300ff0000000f5100000000000071100000000000009500000000000000b7000000000000009500000000000000",
+            309,
+            3,
+        ),
+        ("070a0000f8ffffff9500000000000000", 314, 0),
+        ("79a0f8ff000000009500000000000000", 310, 0),
+        ("7a010000000000009500000000000000", 311, 0),
+        (
+            "79154000000000000f5100000000000071100000000000009500000000000000",
+            309,
+            2,
+        ),
+        // The byte is stored on one way alone.
+        (
+            "1504010001000000720affff0500000071a0ffff000000009500000000000000",
+            310,
+            2,
+        ),
+        // One register against itself tells nothing.
+        ("2d22010000000000b7000000070000009500000000000000", 308, 2),
+        // The address lies in one of two regions.
+        (
+            "1504020001000000bfa100000000000007010000f8ffffff71100000000000009500000000000000",
+            309,
+            3,
+        ),
+        // What is not reached may not write r10.
+        (
+            "b7000000000000000500010000000000b70a0000000000009500000000000000",
+            314,
+            2,
+        ),
+    ] {
+        refuses(&rt, rt.alloc(), &sigs, text, code, slot)?;
+    }
+    Ok(())
+}
+
+#[test]
+fn each_fault_has_a_neighbour(rt: HostRuntime) -> Result<(), Fail> {
+    let alloc = rt.alloc();
+    let code: Code = Box::new(
+        alloc,
+        |stand: u64, _b: u64, _c: u64, _d: u64, _e: u64| -> u64
+            ensures { result ≡ taxi_from stand }
+        {
+            if stand < 100 {
+                10
+            } else if stand < 500 {
+                15
+            } else {
+                20
+            }
+        },
+    )?;
+    let mut bank = Bank::new(alloc)?;
+    bank.add(Helper::new(2, taxi_signature(alloc)?, code))
+        .map_err(|refused| refused.fault)?;
+    let sigs = bank.sigs()?;
+    for (accepted, refused, code, slot) in [
+        // A jump over a wide load, and one into it.
+        (
+            "b7000000000000000500020000000000180100000000000000000000000000009500000000000000",
+            "b7000000000000000500010000000000180100000000000000000000000000009500000000000000",
+            306,
+            1,
+        ),
+        // A jump to the exit, and one past the end.
+        (
+            "b7000000000000000500000000000000180100000000000000000000000000009500000000000000",
+            "b7000000000000000500030000000000180100000000000000000000000000009500000000000000",
+            306,
+            1,
+        ),
+        (
+            "b7000000000000009500000000000000",
+            "b700000000000000",
+            307,
+            0,
+        ),
+        (
+            "18000000000000000000000000000000b7000000000000009500000000000000",
+            "18000000000000000000000000000000",
+            307,
+            0,
+        ),
+        // After a call, r0 is read, and r1.
+        (
+            "b70100000500000085000000020000009500000000000000",
+            "b7010000050000008500000002000000bf100000000000009500000000000000",
+            308,
+            2,
+        ),
+        (
+            "61107c00000000009500000000000000",
+            "61107d00000000009500000000000000",
+            309,
+            0,
+        ),
+        // Eight bytes are stored, and four, of eight that are loaded.
+        (
+            "7a0af8ff0100000079a0f8ff000000009500000000000000",
+            "620af8ff0100000079a0f8ff000000009500000000000000",
+            310,
+            1,
+        ),
+        // A store to the stack, and one to the record.
+        (
+            "bfa100000000000007010000f8ffffff7a01000000000000b7000000000000009500000000000000",
+            "7a01000000000000b7000000000000009500000000000000",
+            311,
+            0,
+        ),
+        (
+            "b70100000500000085000000020000009500000000000000",
+            "b70100000500000085000000040000009500000000000000",
+            312,
+            1,
+        ),
+        // The stand of the record, with its low nine bits, and as it is.
+        (
+            "69113c000000000057010000ff01000085000000020000009500000000000000",
+            "69113c000000000085000000020000009500000000000000",
+            313,
+            1,
+        ),
+        (
+            "69113c000000000057010000ff01000085000000020000009500000000000000",
+            "69113c000000000057010000ff03000085000000020000009500000000000000",
+            313,
+            2,
+        ),
+        // A change of r1, and one of r10.
+        (
+            "07010000f8ffffffb7000000000000009500000000000000",
+            "070a0000f8ffffffb7000000000000009500000000000000",
+            314,
+            0,
+        ),
+    ] {
+        accepts(&rt, alloc, &sigs, accepted)?;
+        refuses(&rt, alloc, &sigs, refused, code, slot)?;
+    }
+    Ok(())
+}
+
+#[test]
+fn the_least_slot_and_its_least_number_are_told(rt: HostRuntime) -> Result<(), Fail> {
+    let sigs = Bank::new(rt.alloc())?.sigs()?;
+    for (text, code, slot) in [
+        // The end of the program, and an unknown helper.
+        ("8500000004000000", 307, 0),
+        // An unknown helper, and an exit without r0.
+        ("85000000040000009500000000000000", 312, 0),
+        // A register that is not there, and a write of r10.
+        ("bf5a0000000000009500000000000000", 308, 0),
+        // A slot without r0, and a later write of r10.
+        ("bf50000000000000b70a0000000000009500000000000000", 308, 0),
+    ] {
+        refuses(&rt, rt.alloc(), &sigs, text, code, slot)?;
+    }
+    Ok(())
+}
+
+#[test]
+fn the_longest_program_is_accepted(rt: HostRuntime) -> Result<(), Fail> {
+    let alloc = rt.alloc();
+    let mut bytes = Vec::with_capacity(alloc, 32_768)?;
+    for _ in 0..4_095 {
+        bytes.extend_from_slice(&[0xb7, 0, 0, 0, 0, 0, 0, 0])?;
+    }
+    bytes.extend_from_slice(&[0x95, 0, 0, 0, 0, 0, 0, 0])?;
+    let sigs = Bank::new(alloc)?.sigs()?;
+    let checked = verify(alloc, decode(alloc, &bytes)?, &sigs)?;
+    assert_eq!(rt; checked.program().slot_count(), 4_096);
+    Ok(())
+}

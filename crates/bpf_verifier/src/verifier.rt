@@ -1,0 +1,50 @@
+//! The verifier.
+
+ghost use Rattle.std.specs.Prelude.{◌≡◌, ◌∷◌, ◌<◌, ◌≤◌, ◌-◌, ℕ, Some, None, length, replicate, IfOk, IfErr, IsOkUnless, MatchOption};
+ghost use Rattle.bpf_regstate.specs.States.{Accepts, IsFirstFault, start_shape};
+ghost use Rattle.bpf_verifier.specs.Verdict.{AnswersFault, Refuses, code_of};
+
+use crate::checked::Checked;
+use crate::fault::{Fault, VerifyError};
+use crate::table::{first_table, pass_slot};
+use bpf_decode::{Op, Program};
+use bpf_helpers::Sigs;
+use bpf_regstate::State;
+use bpf_regstate::laws::one_pass_is_enough;
+use std::alloc::Global;
+
+/// The first fault of these slots with its slot, found in one pass forward over a table that has the start alone.
+fn first_fault(ops: &[Op], sigs: &Sigs, table: &mut [Option<State>]) -> Option<(Fault, usize)>
+    requires some { 0 < length ops.now }
+    requires few { length ops.now ≤ 4096 }
+    requires table { table.old ≡ Some (start_shape 128) ∷ replicate (length ops.now - 1) None }
+    ensures { MatchOption result (Accepts 128 ops.now sigs.now) (λ found. IsFirstFault 128 ops.now sigs.now found.1 (code_of found.0)) }
+{
+    one_pass_is_enough();
+    for slot in 0..ops.len() {
+        if let Some(fault) = pass_slot(table, ops, sigs, slot) {
+            return Some((fault, slot));
+        }
+    }
+    None
+}
+
+/// Whether the program may run with these helpers: whether no slot has a fault. It is answered with a copy of the signatures,
+/// or dropped. A refusal holds the least faulty slot with its fault of the least number. Its time is linear in the slots.
+pub fn verify(alloc: Global, program: Program, sigs: &Sigs) -> Result<Checked, VerifyError>
+    // What is answered is accepted, or the first fault, unless memory runs out.
+    ensures accepted { IfOk result (λ checked. Accepts 128 program sigs.now) }
+    ensures checked { IfOk result (λ checked. checked ≡ record { ops = program; sigs = sigs.now }) }
+    ensures refused { IfErr result (λ e. Refuses 128 program sigs.now e) }
+
+    // No accepted program is refused, and no other fault is the first.
+    ensures only_accepted { Accepts 128 program sigs.now → IsOkUnless result VerifyError.Memory }
+    ensures only_fault { (slot code : ℕ) → IsFirstFault 128 program sigs.now slot code → AnswersFault slot code result }
+{
+    let mut table = first_table(alloc, program.slot_count())?;
+    if let Some((fault, slot)) = first_fault(program.ops(), sigs, &mut table) {
+        return Err(VerifyError::Refused { fault, slot });
+    }
+    let sigs = sigs.copy()?;
+    Ok(Checked::new(program, sigs))
+}
