@@ -56,7 +56,10 @@ fn push_name(names: &mut ArrayVec<u8, 224>, is_first: bool, bit: u32)
     if !is_first {
         names.push(b',');
     }
-    if names.try_extend_from_slice(name_of(bit).as_bytes()).is_err() {
+    if names
+        .try_extend_from_slice(name_of(bit).as_bytes())
+        .is_err()
+    {
         unreachable!();
     }
 }

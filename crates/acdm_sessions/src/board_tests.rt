@@ -12,12 +12,10 @@ const START: &str =
 
 #[test]
 fn no_alert_and_the_whole_record(rt: HostRuntime) -> Result<(), Fail> {
-    let lines =
-        r#"1 29000580 APT {"cmd":"alerts"}
+    let lines = r#"1 29000580 APT {"cmd":"alerts"}
 1 29000580 APT {"cmd":"show","flight":7}
 "#;
-    let replies =
-        r#"ok 0
+    let replies = r#"ok 0
 ok 1
 alerts 2 -
 rec 3 0700000000000000444c4837000000004133323041333230444149424300000044414942430000004544444d4544444d030000000000000028000a000c0001053884ba013884ba010000000000000000000000000000000000000000000000000000000000000000000000000000000000000000000000000000000000000000
@@ -27,13 +25,14 @@ rec 3 0700000000000000444c483700000000413332304133323044414942430000004441494243
 }
 
 #[test]
-fn a_start_up_time_before_the_target_off_block_time_is_refused(rt: HostRuntime) -> Result<(), Fail> {
+fn a_start_up_time_before_the_target_off_block_time_is_refused(
+    rt: HostRuntime,
+) -> Result<(), Fail> {
     let lines =
         r#"3 29000580 ATC {"cmd":"report","flight":7,"milestone":10,"time":"2025-02-20T10:00:00Z"}
 4 29000580 AO {"cmd":"show","flight":7}
 "#;
-    let replies =
-        r#"ok 0
+    let replies = r#"ok 0
 ok 1
 no 2 205
 rec 3 0700000000000000444c4837000000004133323041333230444149424300000044414942430000004544444d4544444d030000000000000028000a000c0001053884ba013884ba010000000000000000000000000000000000000000000000000000000000000000000000000000000000000000000000000000000000000000
@@ -51,8 +50,7 @@ fn owners_and_unknown_flights_are_told(rt: HostRuntime) -> Result<(), Fail> {
 1 29000580 APT {"cmd":"schedule","flight":7,"callsign":"DLH7","type":"A320","reg":"DAIBC","dest":"EDDM","sobt":"2025-02-20T10:00:00Z","mttt":40,"exit":5,"exot":10,"stand":12}
 4 29000580 AO {"cmd":"show","flight":8}
 "#;
-    let replies =
-        r#"ok 0
+    let replies = r#"ok 0
 ok 1
 no 2 201
 no 3 201
@@ -65,7 +63,9 @@ no 6 202
 }
 
 #[test]
-fn a_deleted_target_off_block_time_takes_the_start_up_time_along(rt: HostRuntime) -> Result<(), Fail> {
+fn a_deleted_target_off_block_time_takes_the_start_up_time_along(
+    rt: HostRuntime,
+) -> Result<(), Fail> {
     let lines =
         r#"5 29000580 GH {"cmd":"report","flight":7,"milestone":9,"time":"2025-02-20T10:00:00Z"}
 3 29000580 ATC {"cmd":"report","flight":7,"milestone":10,"time":"2025-02-20T10:00:00Z"}
@@ -74,8 +74,7 @@ fn a_deleted_target_off_block_time_takes_the_start_up_time_along(rt: HostRuntime
 3 29000580 ATC {"cmd":"report","flight":7,"milestone":13,"time":"2025-02-20T10:00:00Z"}
 3 29000580 ATC {"cmd":"show","flight":7}
 "#;
-    let replies =
-        r#"ok 0
+    let replies = r#"ok 0
 ok 1
 ok 2
 ok 3
@@ -96,8 +95,7 @@ fn the_missing_slot_is_told_until_it_comes(rt: HostRuntime) -> Result<(), Fail> 
 1 29000580 APT {"cmd":"schedule","flight":7,"callsign":"DLH7","type":"A320","reg":"DAIBC","dest":"EDDM","sobt":"2025-02-20T10:00:00Z","mttt":40,"exit":5,"exot":10,"stand":12}
 1 29000580 APT {"cmd":"alerts"}
 "#;
-    let replies =
-        r#"ok 0
+    let replies = r#"ok 0
 alerts 1 7:CDM01
 ok 2
 alerts 3 -
@@ -116,8 +114,7 @@ fn a_tick_of_the_airport_tells_a_missing_flight_plan(rt: HostRuntime) -> Result<
 1 29000580 APT {"cmd":"tick"}
 1 29000580 APT {"cmd":"alerts"}
 "#;
-    let replies =
-        r#"ok 0
+    let replies = r#"ok 0
 alerts 1 -
 no 2 201
 alerts 3 -
@@ -134,8 +131,7 @@ fn the_same_flight_plan_twice_changes_nothing(rt: HostRuntime) -> Result<(), Fai
         r#"2 29000580 NM {"cmd":"report","flight":7,"milestone":1,"time":"2025-02-20T10:00:00Z","callsign":"DLH7","type":"A320","reg":"DAIBC","dest":"EDDM"}
 1 29000580 APT {"cmd":"show","flight":7}
 "#;
-    let replies =
-        r#"ok 0
+    let replies = r#"ok 0
 ok 1
 ok 2
 rec 3 0700000000000000444c4837000000004133323041333230444149424300000044414942430000004544444d4544444d030000000000000028000a000c0001053884ba013884ba010000000000000000000000000000000000000000000000000000000000000000000000000000000000000000000000000000000000000000
@@ -152,8 +148,7 @@ fn a_slot_time_is_set_and_taken_back(rt: HostRuntime) -> Result<(), Fail> {
 2 29000580 NM {"cmd":"report","flight":7,"milestone":2,"time":null}
 2 29000580 NM {"cmd":"show","flight":7}
 "#;
-    let replies =
-        r#"ok 0
+    let replies = r#"ok 0
 ok 1
 ok 2
 rec 3 0700000000000000444c4837000000004133323041333230444149424300000044414942430000004544444d4544444d070000000000000028000a000c0001053884ba013884ba014284ba0100000000000000000000000000000000000000000000000000000000000000000000000000000000000000000000000000000000
@@ -171,8 +166,7 @@ fn flights_with_alerts_are_listed_in_order_of_creation(rt: HostRuntime) -> Resul
 2 29000580 NM {"cmd":"report","flight":7,"milestone":1,"time":"2025-02-20T10:00:00Z","callsign":"DLH7","type":"A320","reg":"DAIBC","dest":"EDDM"}
 1 29000580 APT {"cmd":"alerts"}
 "#;
-    let replies =
-        r#"ok 0
+    let replies = r#"ok 0
 ok 1
 alerts 2 9:CDM13;7:CDM01
 "#;

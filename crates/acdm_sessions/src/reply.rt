@@ -54,10 +54,7 @@ fn write_more<W: Write>(writer: &mut Counted<W>, flights: &[Alerted]) -> Result<
 }
 
 // Writes flights with their alerts.
-fn write_flights<W: Write>(
-    writer: &mut Counted<W>,
-    flights: &[Alerted],
-) -> Result<(), RunError>
+fn write_flights<W: Write>(writer: &mut Counted<W>, flights: &[Alerted]) -> Result<(), RunError>
     ensures ok { OnOk result (Appends (W.contents writer.old.inner) (W.contents writer.new.inner)
         (list_text flights.now)) }
     ensures well { OnOk result (writer.new.faults ≡ writer.old.faults) }
@@ -105,7 +102,10 @@ fn write_entered<W: Write>(writer: &mut Counted<W>, reply: &Reply) -> Result<(),
         Outcome::Done => write_whole(writer, done(reply.number).as_slice()),
         Outcome::Shown(record) => write_whole(writer, shown(reply.number, record).as_slice()),
         Outcome::Listed(list) => write_list(writer, reply.number, list.as_slice()),
-        Outcome::Refused(refusal) => write_whole(writer, refused(reply.number, *refusal).as_slice()),
+        Outcome::Refused(refusal) => write_whole(
+            writer,
+            refused(reply.number, *refusal).as_slice(),
+        ),
     }
 }
 

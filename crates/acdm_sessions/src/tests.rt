@@ -21,7 +21,11 @@ const LANDED: &str =
     r#"3 29000700 ATC {"cmd":"report","flight":7,"milestone":6,"time":"2025-02-20T09:00:00Z"}
 "#;
 
-pub(crate) fn replies_to(rt: &HostRuntime, parts: &[&str], capacity: usize) -> Result<String, Fail> {
+pub(crate) fn replies_to(
+    rt: &HostRuntime,
+    parts: &[&str],
+    capacity: usize,
+) -> Result<String, Fail> {
     let mut text = Vec::new(rt.alloc());
     for part in parts {
         text.extend_from_slice(part.as_bytes())?;
