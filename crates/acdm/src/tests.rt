@@ -4,7 +4,6 @@ use crate::serving::run_on;
 use crate::verifying::verify_on;
 use acdm_board::Desk;
 use acdm_sessions::{Counted, run};
-use std::alloc::Global;
 use std::io::{self, Read, Write};
 use std::test::Fail;
 
@@ -164,13 +163,16 @@ fn a_faulty_program_is_refused(rt: HostRuntime) -> Result<(), Fail> {
     Ok(())
 }
 
-/// The bytes of some slots.
-fn bytes_of_slots(alloc: Global, slots: &[u64]) -> Result<Vec<u8>, Fail> {
-    let mut bytes = Vec::new(alloc);
+/// Of a program of these slots `verify` writes this, with this status.
+fn says(rt: &HostRuntime, slots: &[u64], status: u8, text: &str) -> Result<(), Fail> {
+    let mut bytes = Vec::new(rt.alloc());
     for slot in slots {
         bytes.extend_from_slice(&slot.to_be_bytes())?;
     }
-    Ok(bytes)
+    let (ended, written) = verdict_of(rt, bytes.as_slice())?;
+    assert_eq!(rt; written.as_str(), text);
+    assert_eq!(rt; ended, status);
+    Ok(())
 }
 
 #[test]
@@ -185,42 +187,34 @@ fn calls_keep_within_the_helpers_signatures(rt: HostRuntime) -> Result<(), Fail>
     let stand_in_r1 = 0x6911_3c00_0000_0000;
     let low_nine_bits = 0x5701_0000_ff01_0000;
     let now_in_r1 = 0xbf31_0000_0000_0000;
-    for (slots, status, text) in [
-        (
-            [type_in_r1, helper_1, exit].as_slice(),
-            0,
-            "0: ldxw r1, [r1+16]\n1: call 1\n2: exit\naccepted 3\n",
-        ),
-        ([helper_1, exit].as_slice(), 1, "refused 313 0\n"),
-        (
-            [stand_in_r1, low_nine_bits, helper_2, exit].as_slice(),
-            0,
-            "0: ldxh r1, [r1+60]\n1: and64 r1, 511\n2: call 2\n3: exit\naccepted 4\n",
-        ),
-        (
-            [stand_in_r1, helper_2, exit].as_slice(),
-            1,
-            "refused 313 1\n",
-        ),
-        (
-            [now_in_r1, 0xb702_0000_1027_0000, helper_3, exit].as_slice(),
-            0,
-            "0: mov64 r1, r3\n1: mov64 r2, 10000\n2: call 3\n3: exit\naccepted 4\n",
-        ),
-        (
-            [now_in_r1, 0xb702_0000_1127_0000, helper_3, exit].as_slice(),
-            1,
-            "refused 313 2\n",
-        ),
-        ([helper_3, exit].as_slice(), 1, "refused 313 0\n"),
-        ([helper_4, exit].as_slice(), 1, "refused 312 0\n"),
-    ] {
-        let bytes = bytes_of_slots(rt.alloc(), slots)?;
-        let (ended, written) = verdict_of(&rt, bytes.as_slice())?;
-        assert_eq!(rt; written.as_str(), text);
-        assert_eq!(rt; ended, status, "{text}");
-    }
-    Ok(())
+    says(
+        &rt,
+        &[type_in_r1, helper_1, exit],
+        0,
+        "0: ldxw r1, [r1+16]\n1: call 1\n2: exit\naccepted 3\n",
+    )?;
+    says(&rt, &[helper_1, exit], 1, "refused 313 0\n")?;
+    says(
+        &rt,
+        &[stand_in_r1, low_nine_bits, helper_2, exit],
+        0,
+        "0: ldxh r1, [r1+60]\n1: and64 r1, 511\n2: call 2\n3: exit\naccepted 4\n",
+    )?;
+    says(&rt, &[stand_in_r1, helper_2, exit], 1, "refused 313 1\n")?;
+    says(
+        &rt,
+        &[now_in_r1, 0xb702_0000_1027_0000, helper_3, exit],
+        0,
+        "0: mov64 r1, r3\n1: mov64 r2, 10000\n2: call 3\n3: exit\naccepted 4\n",
+    )?;
+    says(
+        &rt,
+        &[now_in_r1, 0xb702_0000_1127_0000, helper_3, exit],
+        1,
+        "refused 313 2\n",
+    )?;
+    says(&rt, &[helper_3, exit], 1, "refused 313 0\n")?;
+    says(&rt, &[helper_4, exit], 1, "refused 312 0\n")
 }
 
 #[test]
