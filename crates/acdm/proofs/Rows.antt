@@ -1,5 +1,5 @@
 -- The journal of command lines, computed by the definitions alone.
-use Rattle.std.proofs.Common.{◌≡◌, List, [], ◌∷◌, codes, Option, Some, None, refl}
+use Rattle.std.proofs.Common.{◌≡◌, [], ◌∷◌, codes, Some, refl}
 use Rattle.clap.proofs.OnLiterals.{clap_on_literals}
 use Rattle.acdm.specs.CommandLine.{value_of}
 

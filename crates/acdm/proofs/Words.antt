@@ -1,7 +1,7 @@
 -- The subcommand that a parse entered, by its name and its rows.
 use Rattle.std.proofs.Common.{◌≡◌, Bool, true, false, not, cond, List, Option, Some, None, option_map, refl, ap, ◌∙◌}
 use Rattle.std.specs.Str.{bytes_eq}
-use Rattle.clap.specs.Words.{Row, Text, first_of, subcommand_rows_of}
+use Rattle.clap.specs.Words.{Row, Text, first_of}
 use Rattle.acdm.specs.CommandLine.{value_in}
 
 module _ {X : Type 0} (name : X → Text) (rows : X → List Row) where

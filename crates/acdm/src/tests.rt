@@ -6,6 +6,7 @@ use acdm_board::Desk;
 use acdm_sessions::{Counted, run};
 use std::alloc::Global;
 use std::io::{self, Read, Write};
+use std::process::Abort;
 use std::test::Fail;
 
 // At 2025-02-20T07:00Z the airport schedules flight 7, and the network manager activates its flight plan.
@@ -121,10 +122,10 @@ fn a_full_journal_leaves_the_flight_as_it_was(rt: HostRuntime) -> Result<(), Fai
     Ok(())
 }
 
-fn verdict_of(rt: &HostRuntime, bytes: &[u8]) -> Result<(u8, String), Fail> {
-    let mut text = Vec::new(rt.alloc());
-    let mut errors = Vec::new(rt.alloc());
-    let status = verify_on(rt.alloc(), bytes, &mut text, &mut errors);
+fn verdict_of(alloc: Global, bytes: &[u8]) -> Result<(u8, String), Fail> {
+    let mut text = Vec::new(alloc);
+    let mut errors = Vec::new(alloc);
+    let status = verify_on(alloc, bytes, &mut text, &mut errors);
     if !errors.is_empty() {
         return Err(Fail::from("a line on the errors' writer"));
     }
@@ -137,7 +138,7 @@ fn verdict_of(rt: &HostRuntime, bytes: &[u8]) -> Result<(u8, String), Fail> {
 #[test]
 fn a_program_is_listed(rt: HostRuntime) -> Result<(), Fail> {
     let bytes = [0xb7, 0, 0, 0, 0, 0, 0, 0, 0x95, 0, 0, 0, 0, 0, 0, 0];
-    let (status, text) = verdict_of(&rt, bytes.as_slice())?;
+    let (status, text) = verdict_of(rt.alloc(), bytes.as_slice())?;
     assert_eq!(rt; status, 0);
     assert_eq!(rt; text.as_str(), "0: mov64 r0, 0\n1: exit\naccepted 2\n");
     Ok(())
@@ -157,24 +158,28 @@ fn a_faulty_program_is_refused(rt: HostRuntime) -> Result<(), Fail> {
         (many.as_slice(), "refused 302 0\n"),
         (more.as_slice(), "refused 302 0\n"),
     ] {
-        let (status, written) = verdict_of(&rt, bytes)?;
+        let (status, written) = verdict_of(rt.alloc(), bytes)?;
         assert_eq!(rt; status, 1);
         assert_eq!(rt; written.as_str(), text);
     }
     Ok(())
 }
 
-/// The bytes of some slots.
-fn bytes_of_slots(alloc: Global, slots: &[u64]) -> Result<Vec<u8>, Fail> {
+/// Of a program of these slots `verify` writes this, with this status.
+fn says(rt: &impl Abort, alloc: Global, slots: &[u64], status: u8, text: &str) -> Result<(), Fail> {
     let mut bytes = Vec::new(alloc);
     for slot in slots {
         bytes.extend_from_slice(&slot.to_be_bytes())?;
     }
-    Ok(bytes)
+    let (ended, written) = verdict_of(alloc, bytes.as_slice())?;
+    assert_eq!(rt; written.as_str(), text);
+    assert_eq!(rt; ended, status);
+    Ok(())
 }
 
 #[test]
 fn calls_keep_within_the_helpers_signatures(rt: HostRuntime) -> Result<(), Fail> {
+    let alloc = rt.alloc();
     let exit = 0x9500_0000_0000_0000;
     let helper_1 = 0x8500_0000_0100_0000;
     let helper_2 = 0x8500_0000_0200_0000;
@@ -185,42 +190,44 @@ fn calls_keep_within_the_helpers_signatures(rt: HostRuntime) -> Result<(), Fail>
     let stand_in_r1 = 0x6911_3c00_0000_0000;
     let low_nine_bits = 0x5701_0000_ff01_0000;
     let now_in_r1 = 0xbf31_0000_0000_0000;
-    for (slots, status, text) in [
-        (
-            [type_in_r1, helper_1, exit].as_slice(),
-            0,
-            "0: ldxw r1, [r1+16]\n1: call 1\n2: exit\naccepted 3\n",
-        ),
-        ([helper_1, exit].as_slice(), 1, "refused 313 0\n"),
-        (
-            [stand_in_r1, low_nine_bits, helper_2, exit].as_slice(),
-            0,
-            "0: ldxh r1, [r1+60]\n1: and64 r1, 511\n2: call 2\n3: exit\naccepted 4\n",
-        ),
-        (
-            [stand_in_r1, helper_2, exit].as_slice(),
-            1,
-            "refused 313 1\n",
-        ),
-        (
-            [now_in_r1, 0xb702_0000_1027_0000, helper_3, exit].as_slice(),
-            0,
-            "0: mov64 r1, r3\n1: mov64 r2, 10000\n2: call 3\n3: exit\naccepted 4\n",
-        ),
-        (
-            [now_in_r1, 0xb702_0000_1127_0000, helper_3, exit].as_slice(),
-            1,
-            "refused 313 2\n",
-        ),
-        ([helper_3, exit].as_slice(), 1, "refused 313 0\n"),
-        ([helper_4, exit].as_slice(), 1, "refused 312 0\n"),
-    ] {
-        let bytes = bytes_of_slots(rt.alloc(), slots)?;
-        let (ended, written) = verdict_of(&rt, bytes.as_slice())?;
-        assert_eq!(rt; written.as_str(), text);
-        assert_eq!(rt; ended, status, "{text}");
-    }
-    Ok(())
+    says(
+        &rt,
+        alloc,
+        &[type_in_r1, helper_1, exit],
+        0,
+        "0: ldxw r1, [r1+16]\n1: call 1\n2: exit\naccepted 3\n",
+    )?;
+    says(&rt, alloc, &[helper_1, exit], 1, "refused 313 0\n")?;
+    says(
+        &rt,
+        alloc,
+        &[stand_in_r1, low_nine_bits, helper_2, exit],
+        0,
+        "0: ldxh r1, [r1+60]\n1: and64 r1, 511\n2: call 2\n3: exit\naccepted 4\n",
+    )?;
+    says(
+        &rt,
+        alloc,
+        &[stand_in_r1, helper_2, exit],
+        1,
+        "refused 313 1\n",
+    )?;
+    says(
+        &rt,
+        alloc,
+        &[now_in_r1, 0xb702_0000_1027_0000, helper_3, exit],
+        0,
+        "0: mov64 r1, r3\n1: mov64 r2, 10000\n2: call 3\n3: exit\naccepted 4\n",
+    )?;
+    says(
+        &rt,
+        alloc,
+        &[now_in_r1, 0xb702_0000_1127_0000, helper_3, exit],
+        1,
+        "refused 313 2\n",
+    )?;
+    says(&rt, alloc, &[helper_3, exit], 1, "refused 313 0\n")?;
+    says(&rt, alloc, &[helper_4, exit], 1, "refused 312 0\n")
 }
 
 #[test]

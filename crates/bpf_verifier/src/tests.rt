@@ -6,7 +6,7 @@ ghost use Rattle.bpf_helpers.specs.Known.{taxi, taxi_from};
 use super::*;
 use bpf_decode::{decode, encode};
 use bpf_helpers::{Bank, Code, Helper, Range, Signature, Sigs};
-use std::alloc::Global;
+use std::alloc::{AllocError, Global};
 use std::process::Abort;
 use std::test::Fail;
 
@@ -57,6 +57,9 @@ fn programs_are_accepted(rt: HostRuntime) -> Result<(), Fail> {
         "bfa100000000000007010000f8ffffff7a01000000000000b7000000000000009500000000000000",
         "720affff0500000071a0ffff000000009500000000000000",
         "5502010080000000b7000000070000009500000000000000",
+        // Two rules in C, as clang 14 made them.
+        "b70000000000000061124400000000001602040000000000070200001e00000061136000000000003d32010000000000b70000000100000061123000000000005402000040000000160203000000000069113c0000000000560101000000000047000000020000009500000000000000",
+        "b7000000000000006112580000000000160205000000000069113800000000000f21000000000000ad31010000000000bf13000000000000bf300000000000009500000000000000",
         // What is not reached may read what is not there.
         "b7000000000000000500010000000000bf600000000000009500000000000000",
     ] {
@@ -211,6 +214,13 @@ fn each_fault_has_a_neighbour(rt: HostRuntime) -> Result<(), Fail> {
             313,
             2,
         ),
+        // A rule in C, as clang 14 made it: with a test of the stand, and without.
+        (
+            "bf16000000000000b700000000000000616148000000000016010c0000000000616760000000000016070a000000000069613c000000000026010800e70300008500000002000000bf010000000000000f710000000000006162480000000000b4000000010000002d21010000000000b40000000000000067000000020000009500000000000000",
+            "bf16000000000000b700000000000000616148000000000016010b00000000006167600000000000160709000000000069613c00000000008500000002000000bf010000000000000f710000000000006162480000000000b4000000010000002d21010000000000b40000000000000067000000020000009500000000000000",
+            313,
+            7,
+        ),
         // A change of r1, and one of r10.
         (
             "07010000f8ffffffb7000000000000009500000000000000",
@@ -240,6 +250,23 @@ fn the_least_slot_and_its_least_number_are_told(rt: HostRuntime) -> Result<(), F
     ] {
         refuses(&rt, rt.alloc(), &sigs, text, code, slot)?;
     }
+    Ok(())
+}
+
+#[test]
+fn errors_have_texts(rt: HostRuntime) -> Result<(), Fail> {
+    let alloc = rt.alloc();
+    let refused = VerifyError::Refused {
+        fault: Fault::Uninitialised,
+        slot: 2,
+    };
+    assert_eq!(rt;
+        format!(in alloc; "{refused}")?.as_str(),
+        "slot 2: uninitialised register"
+    );
+    let memory = VerifyError::from(AllocError);
+    assert_eq!(rt; format!(in alloc; "{memory}")?.as_str(), "no memory");
+    assert_eq!(rt; memory.code(), 501);
     Ok(())
 }
 

@@ -1,7 +1,6 @@
-use Rattle.std.proofs.Common.{◌≡◌, List, Option, Some, None, option_map, true, cond, ap, sym, ◌∙◌}
-use Rattle.clap.specs.Words.{first_of, found_of, rows_of, subcommand_rows_of}
+use Rattle.std.proofs.Common.{sym, ◌∙◌}
+use Rattle.clap.specs.Words.{found_of, rows_of, subcommand_rows_of}
 use Rattle.clap.proofs.WalkLemmas.{first_value-rows}
-use Rattle.acdm.specs.CommandLine.{value_in}
 use Rattle.acdm.proofs.Words.{named_rows, value_found}
 use Rattle.acdm.proofs.command_line.value.Goals as goal
 

@@ -1,0 +1,12 @@
+/*
+ * The same as slot.c without the test of the stand. It is refused: a record may hold a stand up to 65535, and the
+ * taxi time is promised up to stand 999 alone.
+ */
+#include "helpers.h"
+
+u64 slot(const struct flight *flight, u64 length, u64 now, u64 milestone)
+{
+    if (flight->ctot == 0 || flight->tobt == 0)
+        return 0;
+    return flight->tobt + taxi_out(flight->stand) > flight->ctot ? 4 : 0;
+}
