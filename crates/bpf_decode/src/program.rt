@@ -1,5 +1,6 @@
 //! A program: its slots in order.
 
+use crate::fault::NoMemory;
 use crate::op::Op;
 use std::marker::Model;
 
@@ -23,7 +24,7 @@ impl Model for Program {
 }
 
 impl Program {
-    ghost use Rattle.std.specs.Prelude.{◌≡◌, ◌<◌, length, slice_get, Some};
+    ghost use Rattle.std.specs.Prelude.{◌≡◌, ◌<◌, length, slice_get, IfOk, Some};
     ghost use Rattle.bpf_decode.specs.Encoding.{IsProgram};
 
     /// The program of these slots.
@@ -55,5 +56,14 @@ impl Program {
         ensures { slice_get self.now slot ≡ Some result }
     {
         self.ops[slot]
+    }
+
+    /// A program that equals this one. `Err` only where there is no memory.
+    pub fn copy(&self) -> Result<Program, NoMemory>
+        ensures { IfOk result (λ program. program ≡ self.now) }
+    {
+        let mut ops = Vec::new(*self.ops.allocator());
+        ops.extend_from_slice(&self.ops)?;
+        Ok(Program { ops })
     }
 }

@@ -253,3 +253,16 @@ fn compiled_rules(rt: HostRuntime) -> Result<(), Fail> {
         ],
     )
 }
+
+#[test]
+fn a_copy_has_the_same_slots(rt: HostRuntime) -> Result<(), Fail> {
+    let text = "69113c000000000057010000ff01000085000000020000009500000000000000";
+    let bytes = hex::decode(rt.alloc(), text)?;
+    let program = decode(rt.alloc(), &bytes)?;
+    let copy = program.copy()?;
+    assert_eq!(rt; copy.slot_count(), 4);
+    assert!(rt; copy.ops() == program.ops());
+    let again = encode(rt.alloc(), &copy)?;
+    assert_eq!(rt; again.as_slice(), bytes.as_slice());
+    Ok(())
+}

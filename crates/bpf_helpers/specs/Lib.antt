@@ -4,3 +4,4 @@ pub mod Helpers
 pub mod Known
 pub mod Oracles
 pub mod Promise
+pub mod Same

@@ -5,6 +5,7 @@ ghost use Rattle.bpf_helpers.specs.Faults.{code_of};
 
 use crate::NoMemory;
 use crate::helper::Helper;
+use crate::helpers::Helpers;
 use crate::sigs::Sigs;
 use std::alloc::Global;
 
@@ -122,5 +123,19 @@ impl Bank {
             sigs.push(helper.number(), helper.signature().copy()?)?;
         }
         Ok(sigs)
+    }
+}
+
+impl Helpers for Bank {
+    ghost use Rattle.bpf_helpers.specs.Helpers.{entries_of};
+
+    ghost entries = { λ bank. entries_of bank };
+
+    fn answer(&self, number: u32, arguments: [u64; 5]) -> u64 {
+        Bank::answer(self, number, arguments)
+    }
+
+    fn sigs(&self) -> Result<Sigs, NoMemory> {
+        Bank::sigs(self)
     }
 }

@@ -3,6 +3,7 @@
 
 mod bank;
 mod helper;
+mod helpers;
 mod live;
 mod logged;
 mod oracle;
@@ -12,6 +13,7 @@ mod sigs;
 
 pub use bank::{Bank, BankFault, MAX_HELPERS, NotAdded};
 pub use helper::{Code, Helper};
+pub use helpers::Helpers;
 pub use live::Live;
 pub use logged::Logged;
 pub use oracle::Oracle;

@@ -1,10 +1,12 @@
 //! The three helpers of the programs, called through both oracles, and what is refused.
 
-ghost use Rattle.std.specs.Prelude.{◌≡◌, ◌+◌, ◌^◌, ◌<◌, IfOk};
+ghost use Rattle.std.specs.Prelude.{◌≡◌, ◌+◌, ◌^◌, ◌<◌, IfOk, IsTrue};
+ghost use Rattle.bpf_helpers.specs.Promise.{is_question};
 ghost use Rattle.bpf_helpers.specs.Known.{sum, taxi, taxi_from, turn_round, turn_round_of};
 
 use crate::bank::Bank;
 use crate::helper::{Code, Helper};
+use crate::helpers::Helpers;
 use crate::live::Live;
 use crate::logged::Logged;
 use crate::oracle::Oracle;
@@ -49,6 +51,29 @@ fn signature_3(alloc: Global) -> Result<Signature, Fail>
     Ok(Signature::new(args, range(0, 4_294_977_295), Vec::new(alloc)).ok_or("helper 3")?)
 }
 
+// What is answered to two questions, one after the other, where so many answers may be given.
+fn asked_twice<H: Helpers>(
+    alloc: Global,
+    helpers: &H,
+    room: u64,
+    number: u32,
+    first: [u64; 5],
+    second: [u64; 5],
+) -> Result<(Option<u64>, Option<u64>, Vec<u64>), Fail>
+    requires first { IsTrue (is_question (H.entries helpers.now) number first) }
+    requires second { IsTrue (is_question (H.entries helpers.now) number second) }
+{
+    let mut live = Live::new(alloc, helpers, room)?;
+    let one = live.call(number, first);
+    let other = live.call(number, second);
+    let kept = live.answers().len();
+    let given = live.into_answers();
+    if given.len() != kept {
+        return Err("answers are lost".into());
+    }
+    Ok((one, other, given))
+}
+
 #[test]
 fn turn_round_is_called(rt: HostRuntime) -> Result<(), Fail> {
     let alloc = rt.alloc();
@@ -67,9 +92,9 @@ fn turn_round_is_called(rt: HostRuntime) -> Result<(), Fail> {
     let mut bank = Bank::new(alloc)?;
     bank.add(Helper::new(1, signature_1(alloc)?, code))
         .map_err(|refused| refused.fault)?;
-    let mut live = Live::new(alloc, &bank, 2)?;
-    assert_eq!(rt; live.call(1, [A388, 0, 0, 0, 0]), Some(120));
-    assert_eq!(rt; live.call(1, [7, 0, 0, 0, 0]), Some(60));
+    let (one, other, _) = asked_twice(alloc, &bank, 2, 1, [A388, 0, 0, 0, 0], [7, 0, 0, 0, 0])?;
+    assert_eq!(rt; one, Some(120));
+    assert_eq!(rt; other, Some(60));
     Ok(())
 }
 
@@ -93,9 +118,9 @@ fn taxi_is_called(rt: HostRuntime) -> Result<(), Fail> {
     let mut bank = Bank::new(alloc)?;
     bank.add(Helper::new(2, signature_2(alloc)?, code))
         .map_err(|refused| refused.fault)?;
-    let mut live = Live::new(alloc, &bank, 2)?;
-    assert_eq!(rt; live.call(2, [120, 0, 0, 0, 0]), Some(15));
-    assert_eq!(rt; live.call(2, [600, 0, 0, 0, 0]), Some(20));
+    let (one, other, _) = asked_twice(alloc, &bank, 2, 2, [120, 0, 0, 0, 0], [600, 0, 0, 0, 0])?;
+    assert_eq!(rt; one, Some(15));
+    assert_eq!(rt; other, Some(20));
     Ok(())
 }
 
@@ -112,11 +137,10 @@ fn sum_is_called_while_there_is_room(rt: HostRuntime) -> Result<(), Fail> {
     let mut bank = Bank::new(alloc)?;
     bank.add(Helper::new(3, signature_3(alloc)?, code))
         .map_err(|refused| refused.fault)?;
-    let mut live = Live::new(alloc, &bank, 1)?;
-    assert_eq!(rt; live.call(3, [7, 5, 0, 0, 0]), Some(12));
-    assert_eq!(rt; live.call(3, [7, 6, 0, 0, 0]), None);
-    assert_eq!(rt; live.answers(), [12].as_slice());
-    assert_eq!(rt; live.into_answers().as_slice(), [12].as_slice());
+    let (one, other, given) = asked_twice(alloc, &bank, 1, 3, [7, 5, 0, 0, 0], [7, 6, 0, 0, 0])?;
+    assert_eq!(rt; one, Some(12));
+    assert_eq!(rt; other, None);
+    assert_eq!(rt; given.as_slice(), [12].as_slice());
     Ok(())
 }
 

@@ -1,4 +1,5 @@
 pub mod Decided
 pub mod Forward
 pub mod Laws
+pub mod Results
 pub mod Rows

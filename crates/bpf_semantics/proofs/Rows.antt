@@ -1,5 +1,5 @@
 -- Worked runs, computed from the definitions alone.
-use Rattle.std.proofs.Common.{◌≡◌, ℕ, List, [], ◌∷◌, ◌++◌, None, refl}
+use Rattle.std.proofs.Common.{◌≡◌, ℕ, List, [], ◌∷◌, ◌++◌, Some, None, refl}
 use Rattle.std.specs.Prelude.{replicate, pos, negsuc}
 use Rattle.bpf_decode.specs.declared.op.Op.{Op}
 use Rattle.bpf_decode.specs.declared.op.Op.TheVariants.{Arith, Ja, Jump, Call, Exit, Load, Store, Wide, Tail}
@@ -10,7 +10,7 @@ use Rattle.bpf_decode.specs.declared.op.Size.TheVariants.{Byte, Half, Word, Doub
 use Rattle.bpf_decode.specs.declared.op.Condition.TheVariants.{Equal, NotEqual, Above}
 use Rattle.bpf_helpers.specs.Promise.{Promise}
 use Rattle.bpf_semantics.specs.Machine.{start}
-use Rattle.bpf_semantics.specs.Runs.{after, RunEnds, RunTraps, RunAsks}
+use Rattle.bpf_semantics.specs.Runs.{after, RunEnds, RunTraps, RunAsks, result_of}
 
 -- ---- records and signatures
 
@@ -218,3 +218,28 @@ unknown = (1, _, refl, tt)
 last : RunTraps (Arith W64 Mov 1 (Immediate (pos 5)) ∷ Call 2 ∷ []) sigs zeros 5 7 []
 unfolding start sigs zeros
 last = (1, _, refl, tt)
+
+-- ---- results
+
+-- the answers that the run doesn't use are left
+stand_5_result : result_of (on_stand 5) sigs zeros 5 7 (20 ∷ 7 ∷ []) ≡ Some (20, 7 ∷ [])
+unfolding start on_stand sigs zeros
+stand_5_result = refl
+
+-- no answer, one outside the range, and a trap
+stand_5_unanswered : result_of (on_stand 5) sigs zeros 5 7 [] ≡ None
+unfolding start on_stand sigs zeros
+stand_5_unanswered = refl
+
+stand_5_other_result : result_of (on_stand 5) sigs zeros 5 7 (61 ∷ []) ≡ None
+unfolding start on_stand sigs zeros
+stand_5_other_result = refl
+
+into_record_result : result_of (Store Double 1 (pos 0) (Immediate (pos 0)) ∷ Exit ∷ []) [] zeros 5 7 [] ≡ None
+unfolding start zeros
+into_record_result = refl
+
+-- a jump over two slots
+twelve_result : result_of twelve [] zeros 5 1 (3 ∷ []) ≡ Some (9, 3 ∷ [])
+unfolding start twelve zeros
+twelve_result = refl

@@ -10,13 +10,16 @@ use std::alloc::{AllocError, Global};
 use std::process::Abort;
 use std::test::Fail;
 
-/// The program is accepted under these signatures, and given back with them.
+/// The program is accepted under these signatures, and given back with them, as its copy is.
 fn accepts(rt: &impl Abort, alloc: Global, sigs: &Sigs, text: &str) -> Result<(), Fail> {
     let bytes = hex::decode(alloc, text)?;
     let checked = verify(alloc, decode(alloc, &bytes)?, sigs)?;
-    let again = encode(alloc, checked.program())?;
-    assert_eq!(rt; again.as_slice(), bytes.as_slice(), "{text}");
-    assert!(rt; checked.sigs().is_same(sigs), "{text}");
+    let copy = checked.copy()?;
+    for checked in [&checked, &copy] {
+        let again = encode(alloc, checked.program())?;
+        assert_eq!(rt; again.as_slice(), bytes.as_slice(), "{text}");
+        assert!(rt; checked.sigs().is_same(sigs), "{text}");
+    }
     Ok(())
 }
 
