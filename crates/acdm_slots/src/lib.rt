@@ -1,0 +1,14 @@
+//! The programs of a board: for each milestone one of each kind, checked under the board's signatures.
+#![tactic(auto)]
+
+mod error;
+mod kind;
+pub mod law;
+mod slots;
+
+pub use error::SlotError;
+pub use kind::Kind;
+pub use slots::Slots;
+
+#[cfg(test)]
+mod tests;

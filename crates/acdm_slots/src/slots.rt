@@ -1,0 +1,109 @@
+//! The programs that are loaded, by milestone and kind.
+
+ghost use Rattle.std.specs.Prelude.{◌≡◌, ◌↔◌, ◌<◌, Some, None, IfOk, IfErr, IsOk, IsErr, OnOk, OnErr, MatchOption};
+ghost use Rattle.acdm_slots.specs.Loaded.{AreFit, nothing_loaded, place, program_in, with_program};
+
+use crate::error::SlotError;
+use crate::kind::Kind;
+use acdm_milestones::Milestone;
+use bpf_helpers::Sigs;
+use bpf_verifier::Checked;
+use std::alloc::{AllocError, Global};
+use std::marker::Model;
+
+/// The number of places: one for each of sixteen milestones and each of two kinds.
+const PLACES: usize = 32;
+
+/// The programs of a board, at most one for each milestone and kind, and the signatures of the board's helpers. Each program was
+/// checked under exactly these signatures. Contracts see a map from milestone and kind by the words of `specs/Loaded.antt`.
+#[derive(Drop)]
+pub struct Slots {
+    sigs: Sigs,
+    programs: Vec<Option<Checked>>,
+}
+
+impl Model for Slots {
+    ghost use Rattle.acdm_slots.specs.Loaded.{IsBoard, Loaded};
+
+    ghost Value = { Loaded };
+
+    ghost view = { λ s. record { sigs = s.sigs; programs = s.programs.items } };
+
+    ghost invariant = { λ s. IsBoard (record { sigs = s.sigs; programs = s.programs.items }) };
+}
+
+/// The place of a milestone's program of a kind, below 32.
+fn place_of(milestone: Milestone, kind: Kind) -> usize
+    ensures value { result ≡ place milestone kind }
+    ensures within { result < 32 }
+{
+    let first = 2 * (milestone.number() as usize - 1);
+    match kind {
+        Kind::Tobt => first,
+        Kind::Alert => first + 1,
+    }
+}
+
+impl Slots {
+    /// No program is loaded yet; there is room for all. `Err` only where there is no memory.
+    pub fn new(alloc: Global, sigs: Sigs) -> Result<Slots, AllocError>
+        ensures { IfOk result (λ slots. slots ≡ nothing_loaded sigs) }
+    {
+        let mut programs = Vec::with_capacity(alloc, PLACES)?;
+        for _ in 0..PLACES {
+            programs.push(None)?;
+        }
+        Ok(Slots { sigs, programs })
+    }
+
+    /// The signatures under which programs are checked before they are loaded.
+    pub fn sigs(&self) -> &Sigs
+        ensures value { result.now ≡ self.now.sigs }
+        ensures fit { AreFit self.now }
+    {
+        &self.sigs
+    }
+
+    /// The program of a kind at a milestone.
+    pub fn get(&self, milestone: Milestone, kind: Kind) -> Option<&Checked>
+        ensures value { MatchOption result (program_in self.now milestone kind ≡ None) (λ checked. program_in self.now milestone kind ≡ Some checked.now) }
+        ensures fit { AreFit self.now }
+    {
+        self.programs[place_of(milestone, kind)].as_ref()
+    }
+
+    /// Loads a program in place of what stands there. It takes no memory. A program that was checked under other signatures is
+    /// dropped.
+    pub fn load(
+        &mut self,
+        milestone: Milestone,
+        kind: Kind,
+        program: Checked,
+    ) -> Result<(), SlotError>
+        ensures same { IsOk result ↔ (program.sigs ≡ self.old.sigs) }
+        ensures loaded { OnOk result (self.new ≡ with_program self.old milestone kind (Some program)) }
+        ensures other { IfErr result (λ e. e ≡ SlotError.OtherSignatures) }
+        ensures kept { OnErr result (self.new ≡ self.old) }
+    {
+        if !program.sigs().is_same(&self.sigs) {
+            return Err(SlotError::OtherSignatures);
+        }
+        self.programs[place_of(milestone, kind)] = Some(program);
+        Ok(())
+    }
+
+    /// Takes a program out and drops it. It takes no memory.
+    pub fn unload(&mut self, milestone: Milestone, kind: Kind) -> Result<(), SlotError>
+        ensures empty { IsErr result ↔ (program_in self.old milestone kind ≡ None) }
+        ensures unloaded { OnOk result (self.new ≡ with_program self.old milestone kind None) }
+        ensures told { IfErr result (λ e. e ≡ SlotError.EmptySlot) }
+        ensures kept { OnErr result (self.new ≡ self.old) }
+    {
+        let place = place_of(milestone, kind);
+        if self.programs[place].is_none() {
+            return Err(SlotError::EmptySlot);
+        }
+        self.programs[place] = None;
+        Ok(())
+    }
+}
