@@ -1,5 +1,6 @@
 //! What keeps a command from its work.
 use acdm_sessions::RunError;
+use std::alloc::{AllocError, AllocFailed};
 use std::io::Write;
 
 /// Why a command could not do its work.
@@ -34,5 +35,17 @@ impl From<RunError> for Failure {
             RunError::Write => Failure::Write,
             RunError::Memory => Failure::Memory,
         }
+    }
+}
+
+impl From<AllocError> for Failure {
+    fn from(_error: AllocError) -> Failure {
+        Failure::Memory
+    }
+}
+
+impl<T: Drop> From<AllocFailed<T>> for Failure {
+    fn from(_failed: AllocFailed<T>) -> Failure {
+        Failure::Memory
     }
 }

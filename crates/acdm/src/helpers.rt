@@ -61,6 +61,38 @@ fn sum_signature(alloc: Global) -> Result<Signature, AllocError>
     Ok(Signature::new(args, answer, Vec::new(alloc)).unwrap())
 }
 
+/// The least turn-round time of an aircraft type, in minutes.
+pub(crate) fn turn_round_minutes(kind: u64, _b: u64, _c: u64, _d: u64, _e: u64) -> u64
+    ensures { result ≡ turn_round_of kind }
+{
+    match kind {
+        A320 | B738 => 45,
+        A388 => 120,
+        _ => 60,
+    }
+}
+
+/// The taxi time from a stand, in minutes.
+pub(crate) fn taxi_minutes(stand: u64, _b: u64, _c: u64, _d: u64, _e: u64) -> u64
+    ensures { result ≡ taxi_from stand }
+{
+    if stand < 100 {
+        10
+    } else if stand < 500 {
+        15
+    } else {
+        20
+    }
+}
+
+/// A moment some minutes later.
+pub(crate) fn minutes_later(moment: u64, minutes: u64, _c: u64, _d: u64, _e: u64) -> u64
+    requires { moment + minutes < 2 ^ 64 }
+    ensures { result ≡ moment + minutes }
+{
+    moment + minutes
+}
+
 /// Adds a helper whose number is not taken to a bank that has room.
 fn add(bank: &mut Bank, number: u32, signature: Signature, code: Code)
     requires callable { IsCallable signature (Code.pre code) }
@@ -76,7 +108,12 @@ fn add(bank: &mut Bank, number: u32, signature: Signature, code: Code)
 }
 
 /// A bank of the three helpers with this code.
-fn bank_of(alloc: Global, kinds: Code, stands: Code, minutes: Code) -> Result<Bank, AllocError>
+pub(crate) fn bank_of(
+    alloc: Global,
+    kinds: Code,
+    stands: Code,
+    minutes: Code,
+) -> Result<Bank, AllocError>
     requires kinds_callable { IsCallable turn_round (Code.pre kinds) }
     requires kinds_promised { KeepsPromise turn_round (Code.post kinds) }
     requires stands_callable { IsCallable taxi (Code.pre stands) }
@@ -100,39 +137,9 @@ fn bank_of(alloc: Global, kinds: Code, stands: Code, minutes: Code) -> Result<Ba
 pub fn known_sigs(alloc: Global) -> Result<Sigs, AllocError>
     ensures { IfOk result (λ sigs. sigs ≡ helpers) }
 {
-    let kinds: Code = Box::new(
-        alloc,
-        |kind: u64, _b: u64, _c: u64, _d: u64, _e: u64| -> u64
-            ensures { result ≡ turn_round_of kind }
-        {
-            match kind {
-                A320 | B738 => 45,
-                A388 => 120,
-                _ => 60,
-            }
-        },
-    )?;
-    let stands: Code = Box::new(
-        alloc,
-        |stand: u64, _b: u64, _c: u64, _d: u64, _e: u64| -> u64
-            ensures { result ≡ taxi_from stand }
-        {
-            if stand < 100 {
-                10
-            } else if stand < 500 {
-                15
-            } else {
-                20
-            }
-        },
-    )?;
-    let minutes: Code = Box::new(
-        alloc,
-        |a: u64, b: u64, _c: u64, _d: u64, _e: u64| -> u64
-            requires { a + b < 2 ^ 64 }
-            ensures { result ≡ a + b }
-        { a + b },
-    )?;
+    let kinds: Code = Box::new(alloc, turn_round_minutes)?;
+    let stands: Code = Box::new(alloc, taxi_minutes)?;
+    let minutes: Code = Box::new(alloc, minutes_later)?;
     let bank = bank_of(alloc, kinds, stands, minutes)?;
     bank.sigs()
 }

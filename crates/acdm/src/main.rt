@@ -7,7 +7,6 @@ mod helpers;
 mod serving;
 #[cfg(test)]
 mod tests;
-mod verdict;
 mod verifying;
 
 use command_line::{Line, parse};

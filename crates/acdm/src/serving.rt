@@ -1,11 +1,14 @@
 //! The command `run`, over the reader and the writers that it is handed.
 use crate::failure::Failure;
+use crate::helpers::{bank_of, minutes_later, taxi_minutes, turn_round_minutes};
 use acdm_board::Desk;
 use acdm_sessions::{Counted, run};
+use bpf_helpers::{Code, Helpers};
 use std::alloc::Global;
 use std::io::{Read, Write};
 
-/// Answers the lines of a reader on a writer, with room for so many entries in the journal.
+/// Answers the lines of a reader on a writer, with room for so many entries in the journal. Local programs may call the known
+/// helpers.
 ///
 /// The status is 0 where the input was read to its end, else 2, with a line on the errors' writer.
 pub fn run_on<R: Read + Drop, W: Write + Drop, E: Write + Drop>(
@@ -15,11 +18,36 @@ pub fn run_on<R: Read + Drop, W: Write + Drop, E: Write + Drop>(
     writer: W,
     errors: E,
 ) -> u8 {
+    match serve(alloc, journal, reader, writer) {
+        Ok(()) => 0,
+        Err(failure) => failure.complain(errors),
+    }
+}
+
+// Makes the known helpers.
+fn serve<R: Read + Drop, W: Write + Drop>(
+    alloc: Global,
+    journal: usize,
+    reader: R,
+    writer: W,
+) -> Result<(), Failure> {
+    let kinds: Code = Box::new(alloc, turn_round_minutes)?;
+    let stands: Code = Box::new(alloc, taxi_minutes)?;
+    let minutes: Code = Box::new(alloc, minutes_later)?;
+    let bank = bank_of(alloc, kinds, stands, minutes)?;
+    serve_with(alloc, bank, journal, reader, writer)
+}
+
+fn serve_with<H: Helpers + Drop, R: Read + Drop, W: Write + Drop>(
+    alloc: Global,
+    helpers: H,
+    journal: usize,
+    reader: R,
+    writer: W,
+) -> Result<(), Failure> {
     let mut reader = Counted::new(reader);
     let mut writer = Counted::new(writer);
-    let mut desk = Desk::new(alloc, journal);
-    match run(alloc, &mut reader, &mut writer, &mut desk) {
-        Ok(()) => 0,
-        Err(error) => Failure::from(error).complain(errors),
-    }
+    let mut desk = Desk::new(alloc, helpers, journal)?;
+    run(alloc, &mut reader, &mut writer, &mut desk)?;
+    Ok(())
 }

@@ -4,6 +4,7 @@ use crate::serving::run_on;
 use crate::verifying::verify_on;
 use acdm_board::Desk;
 use acdm_sessions::{Counted, run};
+use bpf_helpers::{Bank, Helpers};
 use std::alloc::Global;
 use std::io::{self, Read, Write};
 use std::process::Abort;
@@ -88,11 +89,15 @@ fn a_run_ends_with_its_status(rt: HostRuntime) -> Result<(), Fail> {
     Ok(())
 }
 
-#[test]
-fn a_full_journal_leaves_the_flight_as_it_was(rt: HostRuntime) -> Result<(), Fail> {
-    let alloc = rt.alloc();
+// A desk for one entry takes a schedule, and not the flight plan after it.
+fn takes_the_schedule_alone<H: Helpers + Drop>(
+    rt: &impl Abort,
+    alloc: Global,
+    some: H,
+    others: H,
+) -> Result<(), Fail> {
     let mut replies = Counted::new(Vec::new(alloc));
-    let mut one = Desk::new(alloc, 1);
+    let mut one = Desk::new(alloc, some, 1)?;
     run(
         alloc,
         &mut Counted::new(SCHEDULE.as_bytes()),
@@ -109,7 +114,7 @@ fn a_full_journal_leaves_the_flight_as_it_was(rt: HostRuntime) -> Result<(), Fai
         replies.into_inner().as_slice(),
         b"ok 0\nbad 502\n".as_slice()
     );
-    let mut expected = Desk::new(alloc, 10);
+    let mut expected = Desk::new(alloc, others, 10)?;
     run(
         alloc,
         &mut Counted::new(SCHEDULE.as_bytes()),
@@ -120,6 +125,50 @@ fn a_full_journal_leaves_the_flight_as_it_was(rt: HostRuntime) -> Result<(), Fai
     let scheduled = expected.core().record_of(7).ok_or("no flight was made")?;
     assert_eq!(rt; kept.bytes().as_slice(), scheduled.bytes().as_slice());
     Ok(())
+}
+
+#[test]
+fn a_full_journal_leaves_the_flight_as_it_was(rt: HostRuntime) -> Result<(), Fail> {
+    let alloc = rt.alloc();
+    takes_the_schedule_alone(&rt, alloc, Bank::new(alloc)?, Bank::new(alloc)?)
+}
+
+// Flight 7 comes in-block at 09:00, and its TOBT is five minutes later, as helper 3 says it.
+const SUMMED_TARGET: &str =
+    r#"1 29000700 APT {"cmd":"load","milestone":7,"kind":"tobt","program":"bf31000000000000b70200000500000085000000030000009500000000000000"}
+1 29000700 APT {"cmd":"schedule","flight":7,"callsign":"DLH7","type":"A320","reg":"DAIBC","dest":"EDDM","sobt":"2025-02-20T10:00:00Z","mttt":40,"exit":5,"exot":10,"stand":12}
+2 29000700 NM {"cmd":"report","flight":7,"milestone":1,"time":"2025-02-20T10:00:00Z","callsign":"DLH7","type":"A320","reg":"DAIBC","dest":"EDDM"}
+3 29000700 ATC {"cmd":"report","flight":7,"milestone":6,"time":"2025-02-20T09:00:00Z"}
+1 29000700 APT {"cmd":"report","flight":7,"milestone":7,"time":"2025-02-20T09:00:00Z"}
+1 29000700 APT {"cmd":"alerts"}
+"#;
+
+// Its local alerts are the taxi time from stand 12, as helper 2 says it.
+const TAXI_TIME: &str =
+    r#"1 29000580 APT {"cmd":"load","milestone":9,"kind":"alert","program":"69113c000000000057010000ff01000085000000020000009500000000000000"}
+1 29000580 APT {"cmd":"schedule","flight":7,"callsign":"DLH7","type":"A320","reg":"DAIBC","dest":"EDDM","sobt":"2025-02-20T10:00:00Z","mttt":40,"exit":5,"exot":10,"stand":12}
+2 29000580 NM {"cmd":"report","flight":7,"milestone":1,"time":"2025-02-20T10:00:00Z","callsign":"DLH7","type":"A320","reg":"DAIBC","dest":"EDDM"}
+5 29000580 GH {"cmd":"report","flight":7,"milestone":9,"time":"2025-02-20T10:00:00Z"}
+1 29000580 APT {"cmd":"alerts"}
+1 29000580 APT {"cmd":"load","milestone":9,"kind":"alert","program":"9500000000000000"}
+"#;
+
+fn runs_to(rt: &impl Abort, alloc: Global, text: &str, expected: &str) -> Result<(), Fail> {
+    let mut replies = Vec::new(alloc);
+    let mut errors = Vec::new(alloc);
+    let status = run_on(alloc, 10, text.as_bytes(), &mut replies, &mut errors);
+    assert_eq!(rt; status, 0);
+    assert_eq!(rt; replies.as_slice(), expected.as_bytes());
+    Ok(())
+}
+
+#[test]
+fn programs_ask_the_known_helpers(rt: HostRuntime) -> Result<(), Fail> {
+    let alloc = rt.alloc();
+    let summed = "ok 0\nok 1\nok 2\nok 3\nok 4\nalerts 5 7:CDM08,CDM09,CDM07a\n";
+    runs_to(&rt, alloc, SUMMED_TARGET, summed)?;
+    let taxi = "ok 0\nok 1\nok 2\nok 3\nalerts 4 7:LOC01,LOC03\nbad 308 0\n";
+    runs_to(&rt, alloc, TAXI_TIME, taxi)
 }
 
 fn verdict_of(alloc: Global, bytes: &[u8]) -> Result<(u8, String), Fail> {

@@ -1,6 +1,7 @@
 //! The command `verify`, over the reader and the writers that it is handed.
 use crate::failure::Failure;
-use crate::verdict::{Verdict, verdict_on};
+use crate::helpers::known_sigs;
+use acdm_sessions::{ProgramError, read_program};
 use bpf_decode::{Program, line};
 use std::alloc::Global;
 use std::io::{self, BufWriter, ErrorKind, Read, Write};
@@ -33,10 +34,13 @@ fn judge<R: Read + Drop, W: Write + Drop>(
     let Ok(mut writer) = BufWriter::new(alloc, writer) else {
         return Err(Failure::Memory);
     };
-    let (status, written) = match verdict_on(alloc, bytes.as_slice()) {
-        Ok(Verdict::Accepted(checked)) => (0, list(checked.program(), &mut writer)),
-        Ok(Verdict::Refused { code, slot }) => (1, writeln!(writer, "refused {code} {slot}")),
-        Err(_) => return Err(Failure::Memory),
+    let sigs = known_sigs(alloc)?;
+    let (status, written) = match read_program(alloc, bytes.as_slice(), &sigs) {
+        Ok(checked) => (0, list(checked.program(), &mut writer)),
+        Err(ProgramError::Refused { code, slot }) => {
+            (1, writeln!(writer, "refused {code} {slot}"))
+        }
+        Err(ProgramError::Memory) => return Err(Failure::Memory),
     };
     if written.is_err() || writer.flush().is_err() {
         return Err(Failure::Write);

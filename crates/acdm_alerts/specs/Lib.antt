@@ -1,3 +1,4 @@
 pub mod Conditions
+pub mod Decided
 pub mod Names
 pub mod Laws

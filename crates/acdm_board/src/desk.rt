@@ -1,30 +1,16 @@
-//! The desk: the core and the journal of what changed it.
-ghost use Rattle.std.specs.Prelude.{◌≡◌, ◌<◌, ◌≤◌, ◌^◌, ◌↔◌, [], length, IfOk, IfErr, OnErr, Err};
-ghost use Rattle.acdm_step.specs.History.{IsLegal, replay, after, outcome_of};
+//! The desk: helpers, the core and the journal of what changed it.
+ghost use Rattle.std.specs.Prelude.{◌≡◌, ◌≢◌, ◌≤◌, ◌↔◌, [], true, false, length, reverse, slice_get, IfOk, OnErr, Err};
+ghost use Rattle.std.specs.Option.{option_copied};
+ghost use Rattle.acdm_step.specs.History.{IsLegal, replay};
+ghost use Rattle.acdm_board.specs.Desk.{DeskView, Enters, is_foreign};
 
+use crate::book::Book;
+use crate::error::DeskError;
 use acdm_milestones::Role;
 use acdm_step::{Command, Core, Entry, Outcome};
+use bpf_helpers::{Helpers, Live, Sigs};
 use std::alloc::{AllocError, Global};
 use std::marker::Model;
-
-/// Why a desk took no command. Nothing has changed then.
-#[derive(Clone, Copy, Debug, PartialEq, Eq)]
-pub enum DeskError {
-    /// 502: the journal has as many entries as it takes.
-    Full,
-    /// 501: memory was refused.
-    Memory,
-}
-
-impl From<AllocError> for DeskError {
-    ghost use Rattle.acdm_board.specs.declared.desk.DeskError.TheVariants.{Memory};
-
-    ghost from_gives = { λ _ e. e ≡ Memory };
-
-    fn from(_error: AllocError) -> DeskError {
-        DeskError::Memory
-    }
-}
 
 /// What is replied: the number of the command's entry, and what came of the command.
 #[derive(Drop)]
@@ -33,51 +19,69 @@ pub struct Reply {
     pub outcome: Outcome,
 }
 
-/// A core and its journal, whose replay it is.
+/// Helpers, as those of a bank, and a core with its journal, whose replay it is.
 #[derive(Drop)]
-pub struct Desk {
-    core: Core,
-    journal: Vec<Entry>,
-    capacity: usize,
+pub struct Desk<H: Helpers + Drop> {
+    helpers: H,
+    book: Book,
 }
 
-impl Model for Desk {
-    ghost use Rattle.std.specs.Prelude.{reverse};
-    ghost use Rattle.acdm_board.specs.Desk.{DeskView, Keeps};
+impl<H: Helpers + Drop> Model for Desk<H> {
+    ghost use Rattle.std.specs.Prelude.{◌≡◌};
+    ghost use Rattle.acdm_board.specs.Desk.{DeskView};
 
     ghost Value = { DeskView };
 
-    ghost view = { λ d. record { history = reverse d.journal.items; capacity = d.capacity } };
+    ghost view = { λ d. d.book };
 
-    ghost invariant = { λ d. Keeps d.core d.journal.items d.capacity };
+    ghost invariant = { λ d. d.book.sigs ≡ H.entries d.helpers };
 }
 
-impl Desk {
-    /// An empty desk for so many entries. It takes no memory.
-    pub fn new(alloc: Global, capacity: usize) -> Desk
-        ensures { result ≡ record { history = []; capacity = capacity } }
+impl<H: Helpers + Drop> Desk<H> {
+    /// An empty desk for so many entries, with these helpers. `Err` only where memory was refused.
+    pub fn new(alloc: Global, helpers: H, capacity: usize) -> Result<Desk<H>, AllocError>
+        ensures { IfOk result (λ desk. desk ≡ record { history = []; capacity = capacity; sigs = H.entries helpers }) }
     {
-        Desk {
-            core: Core::new(alloc),
-            journal: Vec::new(alloc),
-            capacity,
-        }
+        let sigs = helpers.sigs()?;
+        let book = Book::new(alloc, sigs, capacity)?;
+        Ok(Desk { helpers, book })
     }
 
     /// The core, which is the replay of the journal. The journal is legal.
     pub fn core(&self) -> &Core
-        ensures replays { result.now ≡ replay self.now.history }
-        ensures legal { IsLegal self.now.history }
+        ensures replays { result.now ≡ replay self.now.sigs self.now.history }
+        ensures legal { IsLegal self.now.sigs self.now.history }
         ensures fits { length self.now.history ≤ self.now.capacity }
     {
-        &self.core
+        self.book.core()
     }
 
-    /// One event: a command of a session at a moment (minutes since 1970-01-01T00:00Z) becomes the next entry,
-    /// with what came of it.
+    /// The signatures of the helpers, against which programs are checked before they are loaded.
+    pub fn sigs(&self) -> &Sigs
+        ensures { result.now ≡ self.now.sigs }
+    {
+        self.book.sigs()
+    }
+
+    /// How many entries the journal has.
+    pub fn len(&self) -> u64
+        ensures { result ≡ length self.now.history }
+    {
+        self.book.len() as u64
+    }
+
+    /// The entry of this number, the first being 0.
+    pub fn entry(&self, number: u64) -> Option<&Entry>
+        ensures { option_copied result ≡ slice_get (reverse self.now.history) number }
+    {
+        self.book.entry(number)
+    }
+
+    /// One event: a command of a session at a moment (minutes since 1970-01-01T00:00Z) becomes the next entry, with what came of
+    /// it and the answers that its programs used.
     ///
-    /// `Full` where the journal is full, which is tested first; `Memory` where memory was refused. Nothing has
-    /// changed then.
+    /// `Full` where the journal is full, which is tested first; `OtherSignatures` where the program of a load was checked against
+    /// other signatures than those of the desk; `Memory` where memory was refused. Nothing has changed then.
     pub fn call(
         &mut self,
         session: u8,
@@ -85,29 +89,22 @@ impl Desk {
         moment: u32,
         command: Command,
     ) -> Result<Reply, DeskError>
-        ensures entry { IfOk result (λ _. self.new ≡ record self.old { history = after self.old.history session role moment command }) }
+        ensures entry { IfOk result (λ reply. Enters self.old session role moment command self.new reply.outcome) }
         ensures number { IfOk result (λ reply. reply.number ≡ length self.old.history) }
-        ensures outcome { IfOk result (λ reply. reply.outcome ≡ outcome_of self.old.history role moment command) }
         ensures full { (result ≡ Err DeskError.Full) ↔ (length self.old.history ≡ self.old.capacity) }
+        ensures other { (result ≡ Err DeskError.OtherSignatures) ↔ ((length self.old.history ≢ self.old.capacity) × (is_foreign self.old.sigs command ≡ true)) }
         ensures err { OnErr result (self.new ≡ self.old) }
     {
-        let number = self.journal.len();
-        if number == self.capacity {
+        let number = self.book.len();
+        if number == self.book.capacity() {
             return Err(DeskError::Full);
         }
-        self.journal.reserve(1)?;
-        let outcome = self.core.apply(role, moment, &command)?;
-        let entry = Entry {
-            number: number as u64,
-            session,
-            role,
-            moment,
-            command,
-            verdict: outcome.verdict(),
-        };
-        if self.journal.push(entry).is_err() {
-            unreachable!();
+        if self.book.refuses(&command) {
+            return Err(DeskError::OtherSignatures);
         }
+        let room = self.book.core().room(&command);
+        let live = Live::new(self.book.alloc(), &self.helpers, room)?;
+        let outcome = self.book.enter(live, session, role, moment, command)?;
         Ok(Reply {
             number: number as u64,
             outcome,

@@ -1,7 +1,7 @@
 -- The numbers of refusals in replies.
 use Rattle.std.specs.Prelude.{ℕ}
 use Rattle.acdm_milestones.specs.declared.refusal.Refusal.{Refusal}
-use Rattle.acdm_milestones.specs.declared.refusal.Refusal.TheVariants.{NotOwner, UnknownFlight, MissingMilestone, Barred, NotSet, TimeOrder, AlreadyPlanned, FullBoard}
+use Rattle.acdm_milestones.specs.declared.refusal.Refusal.TheVariants.{NotOwner, UnknownFlight, MissingMilestone, Barred, NotSet, TimeOrder, AlreadyPlanned, FullBoard, EmptySlot, OtherSignatures, Trapped}
 
 abbrev pub refusal_code : Refusal → ℕ
 refusal_code NotOwner = 201
@@ -12,3 +12,6 @@ refusal_code NotSet = 205
 refusal_code TimeOrder = 206
 refusal_code AlreadyPlanned = 207
 refusal_code FullBoard = 503
+refusal_code EmptySlot = 321
+refusal_code OtherSignatures = 322
+refusal_code Trapped = 599

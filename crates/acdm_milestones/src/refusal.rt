@@ -21,6 +21,12 @@ pub enum Refusal {
     AlreadyPlanned,
     /// 503: the board has as many flights as it takes.
     FullBoard,
+    /// 321: there is no program in the slot.
+    EmptySlot,
+    /// 322: the program was checked against other signatures than the board's.
+    OtherSignatures,
+    /// 599: a program of the report trapped.
+    Trapped,
 }
 
 impl Refusal {
@@ -37,6 +43,9 @@ impl Refusal {
             Refusal::TimeOrder => 206,
             Refusal::AlreadyPlanned => 207,
             Refusal::FullBoard => 503,
+            Refusal::EmptySlot => 321,
+            Refusal::OtherSignatures => 322,
+            Refusal::Trapped => 599,
         }
     }
 }

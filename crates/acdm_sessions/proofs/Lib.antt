@@ -1,9 +1,13 @@
+pub mod OneReading
+pub mod Completing
 pub mod Kept
 pub mod Feeds
 pub mod Taking
 pub mod Writing
 pub mod Serving
 pub mod Running
+pub mod Answering
 pub mod Json
 pub mod MeantRows
 pub mod OutputRows
+pub mod ProgramRows

@@ -4,6 +4,8 @@ use Rattle.acdm_sessions.specs.declared.fault.Fault.{Fault}
 use Rattle.acdm_sessions.specs.declared.fault.Fault.TheVariants.{Prefix, NoJson, UnknownCommand, Kind, Range, TooLong}
 use Rattle.acdm_sessions.specs.declared.fault.Bad.{Bad}
 use Rattle.acdm_sessions.specs.declared.fault.Bad.TheVariants as bad
+use Rattle.acdm_sessions.specs.declared.program.ProgramError.{ProgramError}
+use Rattle.acdm_sessions.specs.declared.program.ProgramError.TheVariants as errors
 
 abbrev pub fault_code : Fault → ℕ
 fault_code Prefix = 100
@@ -15,5 +17,11 @@ fault_code TooLong = 105
 
 abbrev pub bad_code : Bad → ℕ
 bad_code (bad.Faulty fault) = fault_code fault
+bad_code (bad.Program code slot) = code
 bad_code bad.NoMemory = 501
 bad_code bad.FullJournal = 502
+
+-- what is answered where bytes give no program
+abbrev pub bad_of : ProgramError → Bad
+bad_of errors.Memory = bad.NoMemory
+bad_of (errors.Refused code slot) = bad.Program code slot

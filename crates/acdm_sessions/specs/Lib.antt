@@ -1,6 +1,7 @@
 pub mod Counted
 pub mod Lines
 pub mod Codes
+pub mod Reading
 pub mod Meant
 pub mod Reply
 pub mod Output

@@ -1,26 +1,32 @@
 -- What a partner's line means (this project's profile). JSON (RFC 8259) is read as serde_json states it,
 -- and times (RFC 3339 and its kin) as jiff states them.
-use Rattle.std.specs.Prelude.{ℕ, ◌+◌, ◌-◌, ◌*◌, ◌/◌, ◌^◌, ◌≡◌, ℤ, pos, negsuc, Bool, true, false, ◌||◌, ◌&&◌, ◌==◌, nat_le, nat_lt, if◌then◌else◌, List, [], ◌∷◌, length, codes, slice_index, take, drop, position, Option, Some, None, is_some, option_and_then, option_map, Result, Ok, Err}
+use Rattle.std.specs.Prelude.{ℕ, ◌+◌, ◌-◌, ◌*◌, ◌/◌, ◌^◌, ◌≡◌, ℤ, pos, negsuc, Bool, true, false, not, ◌||◌, ◌&&◌, ◌==◌, nat_le, nat_lt, if◌then◌else◌, List, [], ◌∷◌, length, codes, slice_index, take, drop, position, Option, Some, None, is_some, option_and_then, option_map, Result, Ok, Err}
 use Rattle.std.specs.Str.{is_utf8, bytes_eq}
 use Rattle.std.specs.Char.{is_ascii_digit}
 use Rattle.serde_json.specs.Data.{Data}
 use Rattle.serde_json.specs.Read.{read}
 use Rattle.serde_json.specs.Find.{get, as_null, as_number, as_u64, as_str}
 use Rattle.jiff_fmt.specs.Temporal.{parse_timestamp}
+use Rattle.hex.specs.Hex.{decode_of}
 use Rattle.acdm_record.specs.Texts.{text_from}
 use Rattle.acdm_milestones.specs.declared.role.Role.{Role}
 use Rattle.acdm_milestones.specs.declared.role.Role.TheVariants.{NetworkManager, AirTrafficControl, AirportOperator, AircraftOperator, GroundHandler}
 use Rattle.acdm_milestones.specs.declared.milestone.Milestone.{Milestone}
 use Rattle.acdm_milestones.specs.declared.milestone.Milestone.TheVariants.{FlightPlanActivated, TwoHoursBeforeEobt, TobtUpdate}
 use Rattle.acdm_milestones.specs.Tables.{milestone_numbered}
+use Rattle.acdm_slots.specs.declared.kind.Kind as kinds
+use Rattle.acdm_slots.specs.declared.kind.Kind.TheVariants.{Tobt, Alert}
 use Rattle.acdm_step.specs.declared.command.Plan.{Plan}
 use Rattle.acdm_step.specs.declared.command.Command.{Command}
-use Rattle.acdm_step.specs.declared.command.Command.TheVariants.{Schedule, Report, Tick, Show, Alerts}
+use Rattle.acdm_step.specs.declared.command.Command.TheVariants.{Schedule, Report, Unload, Tick, Show, Alerts}
+use Rattle.acdm_step.specs.History.{is_load}
 use Rattle.acdm_sessions.specs.declared.fault.Fault.{Fault}
 use Rattle.acdm_sessions.specs.declared.fault.Fault.TheVariants.{Prefix, NoJson, UnknownCommand, Kind, Range, TooLong}
 use Rattle.acdm_sessions.specs.declared.request.LineError.{LineError}
 use Rattle.acdm_sessions.specs.declared.request.LineError.TheVariants as errors
 use Rattle.acdm_sessions.specs.declared.request.Request.{Request}
+use Rattle.acdm_sessions.specs.declared.request.Asked.{Asked}
+use Rattle.acdm_sessions.specs.declared.request.Asked.TheVariants.{Plain, Load}
 
 -- one reading after another, the first fault ending it
 infixl 10 ◌>>=◌
@@ -146,11 +152,15 @@ time_for TwoHoursBeforeEobt d = time_or_null (codes "time") d
 time_for TobtUpdate d = time_or_null (codes "time") d
 time_for _ d = time_field (codes "time") d
 
+abbrev pub most_flight : ℕ
+most_flight = 2 ^ 64 - 1
+
 abbrev pub milestone_of : ℕ → Result Milestone Fault
 milestone_of n = or_fault Range (milestone_numbered n)
 
-abbrev pub most_flight : ℕ
-most_flight = 2 ^ 64 - 1
+-- a milestone by its number under `milestone`
+unfoldable pub milestone_field : Data → Result Milestone Fault
+milestone_field d = number_field (codes "milestone") 0 most_flight d >>= milestone_of
 
 -- the fields of a schedule, the first faulty one deciding
 unfoldable pub schedule_field : Data → Result Command Fault
@@ -173,8 +183,7 @@ plan_for _ d = Ok None
 unfoldable pub report_field : Data → Result Command Fault
 report_field d = do
   flight ← number_field (codes "flight") 1 most_flight d
-  number ← number_field (codes "milestone") 0 most_flight d
-  milestone ← milestone_of number
+  milestone ← milestone_field d
   time ← time_for milestone d
   plan ← plan_for milestone d
   Ok (Report record { flight = flight; milestone = milestone; time = time; plan = plan })
@@ -183,18 +192,58 @@ report_field d = do
 unfoldable pub show_field : Data → Result Command Fault
 show_field d = number_field (codes "flight") 1 most_flight d >>= λ flight. Ok (Show flight)
 
--- the command of this name
-unfoldable pub command_named : List ℕ → Data → Result Command Fault
-command_named name d =
+-- the kind of a program by its name
+abbrev pub kind_named : List ℕ → Option kinds.Kind
+kind_named w = if bytes_eq w (codes "tobt") then Some Tobt else (if bytes_eq w (codes "alert") then Some Alert else None)
+
+unfoldable pub kind_field : Data → Result kinds.Kind Fault
+kind_field d = or_fault Kind (option_and_then as_str (get (codes "kind") d)) >>= λ t. or_fault Range (kind_named t)
+
+-- the bytes of hexadecimal text, with digits in either case
+abbrev pub bytes_read : {E : Type 0} → Result (List ℕ) E → Result (List ℕ) Fault
+bytes_read (Ok bytes) = Ok bytes
+bytes_read (Err e) = Err Range
+
+unfoldable pub program_field : Data → Result (List ℕ) Fault
+program_field d = or_fault Kind (option_and_then as_str (get (codes "program") d)) >>= λ t. bytes_read (decode_of t)
+
+-- the fields of a load
+unfoldable pub load_field : Data → Result Asked Fault
+load_field d = do
+  milestone ← milestone_field d
+  kind ← kind_field d
+  program ← program_field d
+  Ok (Load record { milestone = milestone; kind = kind; program = program })
+
+-- the slot that is to be emptied
+unfoldable pub unload_field : Data → Result Command Fault
+unload_field d = do
+  milestone ← milestone_field d
+  kind ← kind_field d
+  Ok (Unload record { milestone = milestone; kind = kind })
+
+-- the command of this name, where it is not a load
+unfoldable pub plain_named : List ℕ → Data → Result Command Fault
+plain_named name d =
     if bytes_eq name (codes "schedule") then schedule_field d
     else (if bytes_eq name (codes "report") then report_field d
+    else (if bytes_eq name (codes "unload") then unload_field d
     else (if bytes_eq name (codes "tick") then Ok Tick
     else (if bytes_eq name (codes "show") then show_field d
-    else (if bytes_eq name (codes "alerts") then Ok Alerts else Err UnknownCommand))))
+    else (if bytes_eq name (codes "alerts") then Ok Alerts else Err UnknownCommand)))))
+
+-- what the command of this name asks for
+unfoldable pub command_named : List ℕ → Data → Result Asked Fault
+command_named name d = if bytes_eq name (codes "load") then load_field d else plain_named name d >>= λ c. Ok (Plain c)
 
 -- the command under `cmd`; a value that has none is no known command
-unfoldable pub command_of : Data → Result Command Fault
+unfoldable pub command_of : Data → Result Asked Fault
 command_of d = or_fault UnknownCommand (option_and_then as_str (get (codes "cmd") d)) >>= λ name. command_named name d
+
+-- a command that is asked for as it is, is no load
+abbrev pub is_plain : Asked → Bool
+is_plain (Plain c) = not (is_load c)
+is_plain (Load l) = true
 
 -- the value of JSON text, which is UTF-8
 unfoldable pub json_of : List ℕ → Result Data Fault
@@ -210,5 +259,5 @@ meant line = do
   _ ← demand TooLong (nat_le (length line) most_line)
   head ← head_of line
   d ← json_of head.rest
-  command ← command_of d
-  Ok (record { session = head.session; moment = head.moment; role = head.role; command = command })
+  asked ← command_of d
+  Ok (record { session = head.session; moment = head.moment; role = head.role; asked = asked })

@@ -1,11 +1,12 @@
 //! The answer to one line.
-ghost use Rattle.std.specs.Prelude.{◌≡◌, Bool};
-ghost use Rattle.acdm_sessions.specs.Output.{answer_to, desk_after};
+ghost use Rattle.acdm_sessions.specs.Output.{Answers};
 
 use crate::fault::Bad;
 use crate::head::request_of;
+use crate::loading::command_for;
 use crate::request::LineError;
 use acdm_board::{Desk, DeskError, Reply};
+use bpf_helpers::Helpers;
 use std::alloc::Global;
 
 /// What is answered to a line.
@@ -18,23 +19,26 @@ pub enum Answer {
 }
 
 /// Takes one line: the answer to it, and the desk after it.
-pub(crate) fn answer_line(alloc: Global, line: &[u8], desk: &mut Desk) -> Answer
-    ensures { (short : Bool) × (result ≡ answer_to desk.old short line.now)
-        × (desk.new ≡ desk_after desk.old short line.now) }
+pub(crate) fn answer_line<H: Helpers + Drop>(
+    alloc: Global,
+    line: &[u8],
+    desk: &mut Desk<H>,
+) -> Answer
+    ensures { Answers desk.old desk.new line.now result }
 {
     let request = match request_of(alloc, line) {
         Ok(request) => request,
         Err(LineError::Memory) => return Answer::Rejected(Bad::NoMemory),
         Err(LineError::Fault(fault)) => return Answer::Rejected(Bad::Faulty(fault)),
     };
-    match desk.call(
-        request.session,
-        request.role,
-        request.moment,
-        request.command,
-    ) {
+    let command = match command_for(alloc, request.asked, desk.sigs()) {
+        Ok(command) => command,
+        Err(error) => return Answer::Rejected(Bad::from(error)),
+    };
+    match desk.call(request.session, request.role, request.moment, command) {
         Ok(reply) => Answer::Entered(reply),
         Err(DeskError::Memory) => Answer::Rejected(Bad::NoMemory),
         Err(DeskError::Full) => Answer::Rejected(Bad::FullJournal),
+        Err(DeskError::OtherSignatures) => unreachable!(),
     }
 }

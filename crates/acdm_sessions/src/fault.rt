@@ -2,6 +2,8 @@
 ghost use Rattle.std.specs.Prelude.{◌≡◌};
 ghost use Rattle.acdm_sessions.specs.Codes.{fault_code, bad_code};
 
+use crate::program::ProgramError;
+
 /// Why a line asks for nothing: the first reason that applies, in the order of their tests, which
 /// is too long, prefix, JSON, command, and then the fields (this project's profile).
 #[derive(Clone, Copy, Debug, PartialEq, Eq)]
@@ -41,6 +43,9 @@ impl Fault {
 pub enum Bad {
     /// The line asks for nothing.
     Faulty(Fault),
+    /// It asks to load a program, and its bytes encode none (RFC 9669) or one that is not accepted: the number of their
+    /// first fault, 301 to 315, and its slot, counted from 0.
+    Program { code: u16, slot: usize },
     /// 501: there was no memory for the line that was read, or for its entry.
     NoMemory,
     /// 502: the journal is full.
@@ -54,8 +59,22 @@ impl Bad {
     {
         match self {
             Bad::Faulty(fault) => fault.code(),
+            Bad::Program { code, slot: _ } => code,
             Bad::NoMemory => 501,
             Bad::FullJournal => 502,
+        }
+    }
+}
+
+impl From<ProgramError> for Bad {
+    ghost use Rattle.acdm_sessions.specs.Codes.{bad_of};
+
+    ghost from_gives = { λ error bad. bad ≡ bad_of error };
+
+    fn from(error: ProgramError) -> Bad {
+        match error {
+            ProgramError::Memory => Bad::NoMemory,
+            ProgramError::Refused { code, slot } => Bad::Program { code, slot },
         }
     }
 }

@@ -1,14 +1,18 @@
 //! The fields of a command.
-ghost use Rattle.std.specs.Prelude.{◌≡◌, ◌≤◌, IfOk, IsTrue};
+ghost use Rattle.std.specs.Prelude.{◌≡◌, ◌≤◌, true, false, IfOk, IsTrue};
 ghost use Rattle.acdm_step.specs.Facts.{has_its_plan, has_its_time};
+ghost use Rattle.acdm_step.specs.History.{is_load};
 ghost use Rattle.serde_json.specs.View.{view};
-ghost use Rattle.acdm_sessions.specs.Meant.{Gives, GivesView, number_field, text_field, minute_of, time_field, time_or_null, time_for, plan_field, plan_for, milestone_of, schedule_field, report_field, show_field, command_of, json_of};
+ghost use Rattle.acdm_sessions.specs.Meant.{Gives, GivesView, number_field, text_field, minute_of, time_field, time_or_null, time_for, plan_field, plan_for, milestone_of, milestone_field, schedule_field, report_field, show_field, kind_named, kind_field, program_field, load_field, unload_field, plain_named, command_of, is_plain, json_of};
 
 use crate::fault::Fault;
-use crate::request::LineError;
+use crate::program::ProgramBytes;
+use crate::request::{Asked, LineError, LoadRequest};
 use acdm_milestones::Milestone;
 use acdm_record::Text;
-use acdm_step::{Command, FlightNumber, Plan, Report, Schedule};
+use acdm_slots::Kind;
+use acdm_step::{Command, FlightNumber, Plan, Report, Schedule, Unload};
+use hex::FromHexError;
 use jiff::Timestamp;
 use serde_json::Value;
 use std::alloc::Global;
@@ -93,6 +97,14 @@ fn milestone_at(number: u64) -> Result<Milestone, LineError>
     Ok(milestone)
 }
 
+#[tactic(auto, unfolding(crate::specs::Meant::milestone_field))]
+fn milestone_in(value: &Value) -> Result<Milestone, LineError>
+    ensures { Gives result (milestone_field (view value.now)) }
+{
+    let number = number_in(value, "milestone", 0, u64::MAX)?;
+    milestone_at(number)
+}
+
 // A time, or 0 for null.
 #[tactic(auto, unfolding(crate::specs::Meant::time_or_null))]
 fn time_or_null_in(value: &Value, key: &str) -> Result<u32, LineError>
@@ -117,7 +129,8 @@ fn time_of(value: &Value, milestone: Milestone) -> Result<u32, LineError>
 
 #[tactic(auto, unfolding(crate::specs::Meant::schedule_field, crate::specs::Meant::number_field))]
 fn schedule_in(value: &Value) -> Result<Command, LineError>
-    ensures { Gives result (schedule_field (view value.now)) }
+    ensures reads { Gives result (schedule_field (view value.now)) }
+    ensures plain { IfOk result (λ command. is_load command ≡ false) }
 {
     let flight = number_in(value, "flight", 1, u64::MAX)?;
     let plan = plan_in(value)?;
@@ -149,11 +162,11 @@ fn plan_of(value: &Value, milestone: Milestone) -> Result<Option<Plan>, LineErro
 
 #[tactic(auto, unfolding(crate::specs::Meant::report_field))]
 fn report_in(value: &Value) -> Result<Command, LineError>
-    ensures { Gives result (report_field (view value.now)) }
+    ensures reads { Gives result (report_field (view value.now)) }
+    ensures plain { IfOk result (λ command. is_load command ≡ false) }
 {
     let flight = number_in(value, "flight", 1, u64::MAX)?;
-    let number = number_in(value, "milestone", 0, u64::MAX)?;
-    let milestone = milestone_at(number)?;
+    let milestone = milestone_in(value)?;
     let time = time_of(value, milestone)?;
     let plan = plan_of(value, milestone)?;
     Ok(Command::Report(Report::new(flight, milestone, time, plan)))
@@ -161,23 +174,90 @@ fn report_in(value: &Value) -> Result<Command, LineError>
 
 #[tactic(auto, unfolding(crate::specs::Meant::show_field))]
 fn show_in(value: &Value) -> Result<Command, LineError>
-    ensures { Gives result (show_field (view value.now)) }
+    ensures reads { Gives result (show_field (view value.now)) }
+    ensures plain { IfOk result (λ command. is_load command ≡ false) }
 {
     let flight = number_in(value, "flight", 1, u64::MAX)?;
     Ok(Command::Show(FlightNumber::new(flight)))
 }
 
-#[tactic(auto, unfolding(crate::specs::Meant::command_of, crate::specs::Meant::command_named))]
-pub(crate) fn command_in(value: &Value) -> Result<Command, LineError>
-    ensures { Gives result (command_of (view value.now)) }
+fn kind_named_by(name: &str) -> Option<Kind>
+    ensures { result ≡ kind_named name.now }
 {
-    let Some(name) = value.get("cmd").and_then(Value::as_str) else {
-        return Err(LineError::Fault(Fault::UnknownCommand));
+    if name == "tobt" {
+        Some(Kind::Tobt)
+    } else if name == "alert" {
+        Some(Kind::Alert)
+    } else {
+        None
+    }
+}
+
+#[tactic(auto, unfolding(crate::specs::Meant::kind_field))]
+fn kind_in(value: &Value) -> Result<Kind, LineError>
+    ensures { Gives result (kind_field (view value.now)) }
+{
+    let Some(name) = value.get("kind").and_then(Value::as_str) else {
+        return Err(LineError::Fault(Fault::Kind));
     };
+    let Some(kind) = kind_named_by(name) else {
+        return Err(LineError::Fault(Fault::Range));
+    };
+    Ok(kind)
+}
+
+// The bytes of hexadecimal text.
+#[tactic(auto, unfolding(crate::specs::Meant::program_field))]
+fn program_in(alloc: Global, value: &Value) -> Result<ProgramBytes, LineError>
+    ensures { Gives result (program_field (view value.now)) }
+{
+    let Some(digits) = value.get("program").and_then(Value::as_str) else {
+        return Err(LineError::Fault(Fault::Kind));
+    };
+    match hex::decode(alloc, digits) {
+        Ok(bytes) => Ok(ProgramBytes::from(bytes)),
+        Err(FromHexError::OutOfMemory) => Err(LineError::Memory),
+        Err(_) => Err(LineError::Fault(Fault::Range)),
+    }
+}
+
+#[tactic(auto, unfolding(crate::specs::Meant::load_field))]
+fn load_in(alloc: Global, value: &Value) -> Result<Asked, LineError>
+    ensures reads { Gives result (load_field (view value.now)) }
+    ensures plain { IfOk result (λ asked. is_plain asked ≡ true) }
+{
+    let milestone = milestone_in(value)?;
+    let kind = kind_in(value)?;
+    let program = program_in(alloc, value)?;
+    Ok(Asked::Load(LoadRequest {
+        milestone,
+        kind,
+        program,
+    }))
+}
+
+#[tactic(auto, unfolding(crate::specs::Meant::unload_field))]
+fn unload_in(value: &Value) -> Result<Command, LineError>
+    ensures reads { Gives result (unload_field (view value.now)) }
+    ensures plain { IfOk result (λ command. is_load command ≡ false) }
+{
+    let milestone = milestone_in(value)?;
+    let kind = kind_in(value)?;
+    Ok(Command::Unload(Unload { milestone, kind }))
+}
+
+// The command of this name, where it is not a load.
+#[tactic(auto, unfolding(crate::specs::Meant::plain_named))]
+fn plain_in(value: &Value, name: &str) -> Result<Command, LineError>
+    ensures reads { Gives result (plain_named name.now (view value.now)) }
+    ensures plain { IfOk result (λ command. is_load command ≡ false) }
+{
     if name == "schedule" {
         schedule_in(value)
     } else if name == "report" {
         report_in(value)
+    } else if name == "unload" {
+        unload_in(value)
     } else if name == "tick" {
         Ok(Command::Tick)
     } else if name == "show" {
@@ -187,6 +267,21 @@ pub(crate) fn command_in(value: &Value) -> Result<Command, LineError>
     } else {
         Err(LineError::Fault(Fault::UnknownCommand))
     }
+}
+
+#[tactic(auto, unfolding(crate::specs::Meant::command_of, crate::specs::Meant::command_named))]
+pub(crate) fn command_in(alloc: Global, value: &Value) -> Result<Asked, LineError>
+    ensures reads { Gives result (command_of (view value.now)) }
+    ensures plain { IfOk result (λ asked. is_plain asked ≡ true) }
+{
+    let Some(name) = value.get("cmd").and_then(Value::as_str) else {
+        return Err(LineError::Fault(Fault::UnknownCommand));
+    };
+    if name == "load" {
+        return load_in(alloc, value);
+    }
+    let command = plain_in(value, name)?;
+    Ok(Asked::Plain(command))
 }
 
 pub(crate) fn json_in(alloc: Global, bytes: &[u8]) -> Result<Value, LineError>

@@ -1,6 +1,6 @@
 //! The words before the JSON of a line.
-ghost use Rattle.std.specs.Prelude.{◌≡◌, ◌<◌, ◌≤◌, length, position, IfSome, IfOk};
-ghost use Rattle.acdm_sessions.specs.Meant.{Gives, GivesView, is_space, word_at, natural_of, number_word, role_named, head_of, meant};
+ghost use Rattle.std.specs.Prelude.{◌≡◌, ◌<◌, ◌≤◌, length, position, true, IfSome, IfOk};
+ghost use Rattle.acdm_sessions.specs.Meant.{Gives, GivesView, is_space, word_at, natural_of, number_word, role_named, head_of, meant, is_plain};
 
 use crate::fault::Fault;
 use crate::field::{command_in, json_in};
@@ -114,17 +114,18 @@ pub fn request_of(alloc: Global, line: &[u8]) -> Result<Request, LineError>
     ensures reads { Gives result (meant line.now) }
     ensures session { IfOk result (λ r. (1 ≤ r.session) × (r.session ≤ 64)) }
     ensures moment { IfOk result (λ r. 1 ≤ r.moment) }
+    ensures plain { IfOk result (λ r. is_plain r.asked ≡ true) }
 {
     if line.len() > 70_000 {
         return Err(LineError::Fault(Fault::TooLong));
     }
     let head = head_in(line)?;
     let value = json_in(alloc, head.rest)?;
-    let command = command_in(&value)?;
+    let asked = command_in(alloc, &value)?;
     Ok(Request {
         session: head.session,
         moment: head.moment,
         role: head.role,
-        command,
+        asked,
     })
 }

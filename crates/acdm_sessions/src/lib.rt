@@ -8,6 +8,8 @@ mod field;
 mod head;
 mod line;
 mod lines;
+mod loading;
+mod program;
 mod reply;
 mod reply_text;
 mod request;
@@ -19,11 +21,14 @@ pub use answer::Answer;
 pub use counted::Counted;
 pub use fault::{Bad, Fault};
 pub use head::request_of;
-pub use request::{LineError, Request};
+pub use program::{ProgramBytes, ProgramError, read_program};
+pub use request::{Asked, LineError, LoadRequest, Request};
 pub use run_error::RunError;
 pub use stream::run;
 
 #[cfg(test)]
 mod board_tests;
+#[cfg(test)]
+mod program_tests;
 #[cfg(test)]
 mod tests;

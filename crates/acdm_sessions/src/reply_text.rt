@@ -5,7 +5,7 @@ ghost use Rattle.hex.specs.Hex.{encode_lower};
 ghost use Rattle.acdm_record.specs.Fields.{bytes_of};
 ghost use Rattle.acdm_step.specs.declared.outcome.Outcome.TheVariants as outcomes;
 ghost use Rattle.acdm_sessions.specs.declared.answer.Answer.TheVariants.{Rejected};
-ghost use Rattle.acdm_sessions.specs.Output.{alerted_text, next_text, list_head, entry_text, reply_text};
+ghost use Rattle.acdm_sessions.specs.Output.{alerted_text, next_text, list_head, entry_text, bad_text, reply_text};
 
 use crate::fault::Bad;
 use acdm_alerts::names_of;
@@ -152,9 +152,25 @@ pub(crate) fn next(flight: &Alerted) -> ReplyText
     text
 }
 
+// Why a program is not loaded, with the slot of its first fault.
+fn refused_program(code: u16, slot: usize) -> ReplyText
+    ensures { result ≡ bad_text (Bad.Program code slot) }
+{
+    let mut text = ReplyText::new();
+    text.push(b"bad ");
+    text.push_number(u64::from(code));
+    text.push(b" ");
+    text.push_number(slot as u64);
+    text.push(b"\n");
+    text
+}
+
 pub(crate) fn rejected(bad: Bad) -> ReplyText
     ensures { result ≡ reply_text (Rejected bad) }
 {
+    if let Bad::Program { code, slot } = bad {
+        return refused_program(code, slot);
+    }
     let mut text = ReplyText::new();
     text.push(b"bad ");
     text.push_number(u64::from(bad.code()));

@@ -1,6 +1,8 @@
 //! What a line gives.
 use crate::fault::Fault;
-use acdm_milestones::Role;
+use crate::program::ProgramBytes;
+use acdm_milestones::{Milestone, Role};
+use acdm_slots::Kind;
 use acdm_step::Command;
 
 /// Why a line gave no request.
@@ -12,7 +14,24 @@ pub enum LineError {
     Fault(Fault),
 }
 
-/// What a line asks for.
+/// To load the program of these bytes into a slot, in place of what stands there.
+#[derive(Drop)]
+pub struct LoadRequest {
+    pub milestone: Milestone,
+    pub kind: Kind,
+    pub program: ProgramBytes,
+}
+
+/// What a line asks for, before the bytes of a program are read.
+#[derive(Drop)]
+pub enum Asked {
+    /// This command, which is no load.
+    Plain(Command),
+    /// To load a program.
+    Load(LoadRequest),
+}
+
+/// What a line asks for, and who asks.
 #[derive(Drop)]
 pub struct Request {
     /// The session, from 1 to 64.
@@ -22,5 +41,5 @@ pub struct Request {
     /// The role that asks.
     pub role: Role,
     /// What it asks for.
-    pub command: Command,
+    pub asked: Asked,
 }

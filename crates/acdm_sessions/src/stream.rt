@@ -1,10 +1,9 @@
 //! From a reader to a writer.
-ghost use Rattle.std.specs.Prelude.{◌≡◌, ◌+◌, ◌-◌, ◌^◌, ◌<◌, Bool, true, Err, OnOk, OnErr, IfSome, IfErr};
-ghost use Rattle.std.specs.Io.KnownBytes.{Appends, IsAtEnd};
+ghost use Rattle.std.specs.Prelude.{◌≡◌, ◌+◌, ◌-◌, ◌^◌, ◌<◌, true, Err, OnOk, OnErr, IfSome, IfErr};
+ghost use Rattle.std.specs.Io.KnownBytes.{IsAtEnd};
 ghost use Rattle.acdm_sessions.specs.Counted.{faults_after};
-ghost use Rattle.acdm_sessions.specs.Reply.{AppendsPart};
 ghost use Rattle.acdm_sessions.specs.Run.{FailsOrEndless};
-ghost use Rattle.acdm_sessions.specs.Output.{answer_to, desk_after, reply_text, Serves, ServesWhole, ServesPart};
+ghost use Rattle.acdm_sessions.specs.Output.{ServesLine, ServesLinePart, Serves, ServesWhole, ServesPart};
 
 use crate::answer::answer_line;
 use crate::counted::Counted;
@@ -12,22 +11,21 @@ use crate::lines::{Ending, Lines};
 use crate::reply::write_reply;
 use crate::run_error::RunError;
 use acdm_board::Desk;
+use bpf_helpers::Helpers;
 use std::alloc::Global;
 use std::io::{Read, Write};
 
 // Answers one line, and lets its reply go.
-fn serve_line<W: Write>(
+fn serve_line<W: Write, H: Helpers + Drop>(
     alloc: Global,
     line: &[u8],
     writer: &mut Counted<W>,
-    desk: &mut Desk,
+    desk: &mut Desk<H>,
 ) -> Result<(), RunError>
-    ensures ok { OnOk result ((short : Bool) × (desk.new ≡ desk_after desk.old short line.now)
-        × Appends (W.contents writer.old.inner) (W.contents writer.new.inner)
-        (reply_text (answer_to desk.old short line.now))) }
-    ensures part { OnErr result ((short : Bool) × (desk.new ≡ desk_after desk.old short line.now)
-        × AppendsPart (W.contents writer.old.inner) (W.contents writer.new.inner)
-        (reply_text (answer_to desk.old short line.now))) }
+    ensures ok { OnOk result (ServesLine desk.old desk.new line.now
+        (W.contents writer.old.inner) (W.contents writer.new.inner)) }
+    ensures part { OnErr result (ServesLinePart desk.old desk.new line.now
+        (W.contents writer.old.inner) (W.contents writer.new.inner)) }
     ensures well { OnOk result (writer.new.faults ≡ writer.old.faults) }
     ensures fault { OnErr result (writer.new.faults ≡ faults_after true writer.old.faults) }
     ensures kind { IfErr result (λ e. e ≡ RunError.Write) }
@@ -40,18 +38,19 @@ fn serve_line<W: Write>(
 ///
 /// A line is `SESSION MINUTE ROLE JSON`: a session from 1 to 64, a minute since 1970-01-01T00:00Z
 /// from 1 to 4,294,967,295, a role's name, and JSON (RFC 8259). Its reply is `ok N` or `no N CODE`
-/// with the number of its entry, or `bad CODE` where it makes none (this project's profile). Lines
+/// with the number of its entry, or `bad CODE` where it makes none (this project's profile), and
+/// `bad CODE SLOT` where it loads a program that is not accepted under the desk's signatures. Lines
 /// are cut at each line feed, and a last one may lack it. A reply is written and flushed before
 /// more is read. A line of more than 70,000 bytes takes no more memory than one of them.
 ///
 /// `Read` where the reader failed, or where 2^40 reads did not reach its end; `Write` where the
 /// writer failed; `Memory` where there was no room for the buffers that a run begins with, and
 /// then nothing was read.
-pub fn run<R: Read, W: Write>(
+pub fn run<R: Read, W: Write, H: Helpers + Drop>(
     alloc: Global,
     reader: &mut Counted<R>,
     writer: &mut Counted<W>,
-    desk: &mut Desk,
+    desk: &mut Desk<H>,
 ) -> Result<(), RunError>
     requires reads { reader.old.faults < 2 ^ 64 - 1 }
     requires writes { writer.old.faults < 2 ^ 64 - 1 }

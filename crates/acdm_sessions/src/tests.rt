@@ -1,8 +1,11 @@
 //! Streams of lines, with the replies that the profile's worked examples give.
 use crate::{Counted, RunError, run};
 use acdm_board::Desk;
+use bpf_helpers::{Bank, Helpers};
+use std::alloc::Global;
 use std::cell::Cell;
 use std::io::{self, Read, Write};
+use std::process::Abort;
 use std::test::Fail;
 
 // Minute 29000700 is 2025-02-20T09:00Z.
@@ -21,20 +24,40 @@ const LANDED: &str =
     r#"3 29000700 ATC {"cmd":"report","flight":7,"milestone":6,"time":"2025-02-20T09:00:00Z"}
 "#;
 
+/// The replies of a desk to these lines.
+pub(crate) fn replies_of<H: Helpers + Drop>(
+    alloc: Global,
+    parts: &[&str],
+    desk: &mut Desk<H>,
+) -> Result<String, Fail> {
+    let mut text = Vec::new(alloc);
+    for part in parts {
+        text.extend_from_slice(part.as_bytes())?;
+    }
+    let mut reader = Counted::new(text.as_slice());
+    let mut writer = Counted::new(Vec::new(alloc));
+    run(alloc, &mut reader, &mut writer, desk)?;
+    Ok(String::from_utf8(writer.into_inner()).map_err(|_| "replies are no text")?)
+}
+
+fn replies_with<H: Helpers + Drop>(
+    alloc: Global,
+    helpers: H,
+    parts: &[&str],
+    capacity: usize,
+) -> Result<String, Fail> {
+    let mut desk = Desk::new(alloc, helpers, capacity)?;
+    replies_of(alloc, parts, &mut desk)
+}
+
+/// The replies of a desk without helpers to these lines.
 pub(crate) fn replies_to(
     rt: &HostRuntime,
     parts: &[&str],
     capacity: usize,
 ) -> Result<String, Fail> {
-    let mut text = Vec::new(rt.alloc());
-    for part in parts {
-        text.extend_from_slice(part.as_bytes())?;
-    }
-    let mut reader = Counted::new(text.as_slice());
-    let mut writer = Counted::new(Vec::new(rt.alloc()));
-    let mut desk = Desk::new(rt.alloc(), capacity);
-    run(rt.alloc(), &mut reader, &mut writer, &mut desk)?;
-    Ok(String::from_utf8(writer.into_inner()).map_err(|_| "replies are no text")?)
+    let alloc = rt.alloc();
+    replies_with(alloc, Bank::new(alloc)?, parts, capacity)
 }
 
 #[test]
@@ -118,7 +141,7 @@ fn faulty_lines_make_no_entry(rt: HostRuntime) -> Result<(), Fail> {
             "1 29000580 APT {\"cmd\":\"show\",\"flight\":0}\n",
             "bad 104\n",
         ),
-        ("1 29000580 APT {\"cmd\":\"unload\"}\n", "bad 102\n"),
+        ("1 29000580 APT {\"cmd\":\"unload\"}\n", "bad 103\n"),
         (
             "1 29000580 ATC {\"cmd\":\"report\",\"flight\":7,\"milestone\":6,\"time\":\"10:00\"}\n",
             "bad 104\n",
@@ -173,13 +196,16 @@ impl Read for Failing<'_> {
     }
 }
 
-#[test]
-fn a_reader_that_fails_ends_the_run(rt: HostRuntime) {
+fn ends_by_the_reader<H: Helpers + Drop>(
+    rt: &impl Abort,
+    alloc: Global,
+    helpers: H,
+) -> Result<(), Fail> {
     let text = TURN_ROUND.as_bytes();
     let mut reader = Counted::new(Failing { text });
-    let mut writer = Counted::new(Vec::new(rt.alloc()));
-    let mut desk = Desk::new(rt.alloc(), 10);
-    let ended = run(rt.alloc(), &mut reader, &mut writer, &mut desk);
+    let mut writer = Counted::new(Vec::new(alloc));
+    let mut desk = Desk::new(alloc, helpers, 10)?;
+    let ended = run(alloc, &mut reader, &mut writer, &mut desk);
     assert_eq!(rt; ended, Err(RunError::Read));
     assert_eq!(rt; reader.faults(), 1);
     assert_eq!(rt; writer.faults(), 0);
@@ -187,6 +213,13 @@ fn a_reader_that_fails_ends_the_run(rt: HostRuntime) {
         writer.into_inner().as_slice(),
         b"ok 0\nok 1\nok 2\nno 3 206\n".as_slice()
     );
+    Ok(())
+}
+
+#[test]
+fn a_reader_that_fails_ends_the_run(rt: HostRuntime) -> Result<(), Fail> {
+    let alloc = rt.alloc();
+    ends_by_the_reader(&rt, alloc, Bank::new(alloc)?)
 }
 
 /// Takes so many bytes, and then fails.
@@ -209,15 +242,18 @@ impl Write for Narrow {
     }
 }
 
-#[test]
-fn a_writer_that_fails_ends_the_run(rt: HostRuntime) {
+fn ends_by_the_writer<H: Helpers + Drop>(
+    rt: &impl Abort,
+    alloc: Global,
+    helpers: H,
+) -> Result<(), Fail> {
     let mut reader = Counted::new(TURN_ROUND.as_bytes());
     let mut writer = Counted::new(Narrow {
-        taken: Vec::new(rt.alloc()),
+        taken: Vec::new(alloc),
         room: 8,
     });
-    let mut desk = Desk::new(rt.alloc(), 10);
-    let ended = run(rt.alloc(), &mut reader, &mut writer, &mut desk);
+    let mut desk = Desk::new(alloc, helpers, 10)?;
+    let ended = run(alloc, &mut reader, &mut writer, &mut desk);
     assert_eq!(rt; ended, Err(RunError::Write));
     assert_eq!(rt; writer.faults(), 1);
     assert_eq!(rt; reader.faults(), 0);
@@ -225,6 +261,13 @@ fn a_writer_that_fails_ends_the_run(rt: HostRuntime) {
         writer.into_inner().taken.as_slice(),
         b"ok 0\nok ".as_slice()
     );
+    Ok(())
+}
+
+#[test]
+fn a_writer_that_fails_ends_the_run(rt: HostRuntime) -> Result<(), Fail> {
+    let alloc = rt.alloc();
+    ends_by_the_writer(&rt, alloc, Bank::new(alloc)?)
 }
 
 /// Gives a line for each read, and asks that the earlier ones were answered by then.
@@ -267,8 +310,11 @@ impl Write for Prompt<'_> {
     }
 }
 
-#[test]
-fn each_reply_comes_before_the_next_line_is_waited_for(rt: HostRuntime) -> Result<(), Fail> {
+fn answers_promptly<H: Helpers + Drop>(
+    rt: &impl Abort,
+    alloc: Global,
+    helpers: H,
+) -> Result<(), Fail> {
     let answered = Cell::new(0);
     let lines = [LANDED, LANDED, IN_BLOCK];
     let mut reader = Counted::new(Patient {
@@ -280,9 +326,15 @@ fn each_reply_comes_before_the_next_line_is_waited_for(rt: HostRuntime) -> Resul
     let mut writer = Counted::new(Prompt {
         answered: &answered,
     });
-    let mut desk = Desk::new(rt.alloc(), 10);
-    run(rt.alloc(), &mut reader, &mut writer, &mut desk)?;
+    let mut desk = Desk::new(alloc, helpers, 10)?;
+    run(alloc, &mut reader, &mut writer, &mut desk)?;
     assert_eq!(rt; answered.get(), 3);
     assert!(rt; reader.into_inner().waits);
     Ok(())
+}
+
+#[test]
+fn each_reply_comes_before_the_next_line_is_waited_for(rt: HostRuntime) -> Result<(), Fail> {
+    let alloc = rt.alloc();
+    answers_promptly(&rt, alloc, Bank::new(alloc)?)
 }

@@ -3,9 +3,9 @@ use Rattle.std.proofs.Common.{◌≡◌, ◌≢◌, ℕ, suc, ◌+◌, Bool, tru
 use Rattle.std.proofs.lemmas.Bool.{eqb-false}
 use Rattle.std.proofs.lemmas.Bool.Decides.{nat_tests}
 use Rattle.std.specs.List.{list_any, position_or_len}
+use Rattle.acdm_record.specs.Bools.{and_left, and_right}
 use Rattle.acdm_record.specs.Fields.{Fields}
 use Rattle.acdm_step.specs.History.{History, with_flight, created, flights}
-use Rattle.acdm_step.proofs.Records.{and_left, and_right}
 
 abbrev pub is_it : ℕ → ℕ → Bool
 is_it f g = g == f

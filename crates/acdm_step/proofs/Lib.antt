@@ -1,5 +1,7 @@
 pub mod Records
 pub mod Flights
 pub mod Replay
+pub mod Runs
 pub mod Steps
+pub mod Told
 pub mod Rows

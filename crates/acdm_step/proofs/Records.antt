@@ -4,31 +4,26 @@ use Rattle.std.proofs.lemmas.Bool.{eqb-false}
 use Rattle.std.proofs.lemmas.Nat.Bits.{bit_at_or, bit_at-pow_same, bit_at-pow_other, bit_at-zero, bit_at-lt}
 use Rattle.std.specs.Int.{bit_at}
 use Rattle.std.specs.List.{list_any}
+use Rattle.acdm_record.specs.Bools.{and_left, and_right}
 use Rattle.acdm_record.specs.declared.field.Field.{Field}
 use Rattle.acdm_record.specs.declared.field.Field.TheVariants.{Flight, Layout, Reached, Alerts, Tobt, Tsat}
 use Rattle.acdm_record.specs.declared.field.TextField.{TextField}
 use Rattle.acdm_record.specs.declared.field.TextField.TheVariants.{Callsign}
 use Rattle.acdm_record.specs.Fields.{set_number, set_text}
 use Rattle.acdm_record.specs.Assign.{Assignment, number_is, text_is, with_all}
-use Rattle.acdm_alerts.specs.Conditions.{conditions, kept_bits}
-use Rattle.acdm_alerts.specs.Laws.{kept_bits-conditions}
+use Rattle.acdm_alerts.specs.Conditions.{conditions}
+use Rattle.acdm_alerts.specs.Decided.{decided_word}
+use Rattle.acdm_alerts.proofs.DecidedBits.{IsComputed, conditions-computed, zero-computed, kept_bits-decided, with_rejection-decided, with_locals-decided}
 use Rattle.acdm_milestones.specs.declared.milestone.Milestone.{Milestone}
 use Rattle.acdm_milestones.specs.declared.milestone.Milestone.TheVariants.{FlightPlanActivated, TobtUpdate}
 use Rattle.acdm_milestones.specs.Tables.{times_of, marked, has_reached}
+use Rattle.acdm_step.specs.Programs.{Programs, Suggestion, Nothing, Usable, Unusable, Said, said, with_suggestion, with_local_alerts, with_said}
 use Rattle.acdm_step.specs.declared.command.Plan.{Plan}
 use Rattle.acdm_step.specs.declared.command.Command.{Command}
 use Rattle.acdm_step.specs.declared.command.Command.TheVariants.{Schedule, Report}
 use Rattle.acdm_step.specs.declared.entry.Entry.{Entry}
-use Rattle.acdm_step.specs.History.{History, Told, onto, with_command, with_tick, tell, told, planned, assigned_by, bit_of, flight_of, changes_flight, creates, is_of, ticks, is_accepted, record_with, alerts_at, record_from, record_of, has_come_to, created, with_flight, flights, exists}
-use Rattle.acdm_step.specs.Board.{changed, touched}
-
-pub and_left : (a b : Bool) → (a && b) ≡ true → a ≡ true
-and_left true b h = refl
-and_left false b h = h
-
-pub and_right : (a b : Bool) → (a && b) ≡ true → b ≡ true
-and_right true b h = h
-and_right false b h = absurd (cc)
+use Rattle.acdm_step.specs.History.{History, Told, onto, with_command, with_tick, tell, told, planned, assigned_by, bit_of, flight_of, changes_flight, creates, is_of, ticks, is_accepted, record_with, computed_at, alerts_from, record_from, record_of, reported, said_on, with_tobt, with_ninth, rejects, number_or, gives_tobt, reaches, has_come_to, programs_of, created, with_flight, flights, exists}
+use Rattle.acdm_step.specs.Board.{assigned_to, changed, touched}
 
 -- ---- one assignment
 
@@ -65,13 +60,32 @@ with_all-record_with f (text_is u v ∷ qs) ps rs al h =
 
 -- ---- alerts
 
--- a touch computes the alerts of the fields; what is kept of them is clear so far
-touched-record_with : (f : ℕ) (ps : List Assignment) (rs al now : ℕ) → kept_bits al ≡ 0 → touched now (record_with f ps rs al) ≡ record_with f ps rs (conditions (record_with f ps rs 0) now)
-touched-record_with f ps rs al now k = ap (record_with f ps rs) (ap (λ n. n + conditions (record_with f ps rs 0) now) k ∙ zero-add (conditions (record_with f ps rs 0) now))
+computed_at-computed : (f : ℕ) (ps : List Assignment) (rs : ℕ) (touch : Option ℕ) → IsComputed (computed_at f ps rs touch)
+computed_at-computed f ps rs None = zero-computed
+computed_at-computed f ps rs (Some now) = conditions-computed (record_with f ps rs 0) now
 
-kept_none : (f : ℕ) (ps : List Assignment) (rs : ℕ) (touch : Option ℕ) → kept_bits (alerts_at f ps rs touch) ≡ 0
-kept_none f ps rs None = refl
-kept_none f ps rs (Some now) = kept_bits-conditions (record_with f ps rs 0) now
+module _ (f x : ℕ) (computed : IsComputed x) where
+  -- a touch computes the alerts of the fields; what was decided stays
+  touched-record_with : (ps : List Assignment) (rs now : ℕ) (b : Bool) (l : ℕ)
+      → touched now (record_with f ps rs (decided_word b l + x)) ≡ record_with f ps rs (decided_word b l + conditions (record_with f ps rs 0) now)
+  touched-record_with ps rs now b l = ap (λ n. record_with f ps rs (n + conditions (record_with f ps rs 0) now)) (kept_bits-decided x computed b l)
+
+  with_suggestion-record_with : (s : Suggestion) (ps : List Assignment) (rs : ℕ) (b : Bool) (l : ℕ)
+      → with_suggestion s (record_with f ps rs (decided_word b l + x)) ≡ record_with f (with_tobt s ps) (with_ninth s rs) (decided_word (rejects s b) l + x)
+  with_suggestion-record_with Nothing ps rs b l = refl
+  with_suggestion-record_with (Usable tobt) ps rs b l = ap (record_with f (number_is Tobt tobt ∷ ps) (bit_or rs (2 ^ 9))) (with_rejection-decided x computed b l false)
+  with_suggestion-record_with Unusable ps rs b l = ap (record_with f ps rs) (with_rejection-decided x computed b l true)
+
+  with_local_alerts-record_with : (o : Option ℕ) (ps : List Assignment) (rs : ℕ) (b : Bool) (l : ℕ)
+      → with_local_alerts o (record_with f ps rs (decided_word b l + x)) ≡ record_with f ps rs (decided_word b (number_or o l) + x)
+  with_local_alerts-record_with None ps rs b l = refl
+  with_local_alerts-record_with (Some k) ps rs b l = ap (record_with f ps rs) (with_locals-decided x computed b l k)
+
+  with_said-record_with : (s : Said) (ps : List Assignment) (rs : ℕ) (b : Bool) (l : ℕ)
+      → with_said s (record_with f ps rs (decided_word b l + x)) ≡ record_with f (with_tobt s.tobt ps) (with_ninth s.tobt rs) (decided_word (rejects s.tobt b) (number_or s.locals l) + x)
+  with_said-record_with s ps rs b l =
+      ap (with_local_alerts s.locals) (with_suggestion-record_with s.tobt ps rs b l)
+      ∙ with_local_alerts-record_with s.locals (with_tobt s.tobt ps) (with_ninth s.tobt rs) (rejects s.tobt b) l
 
 -- ---- what a command assigns
 
@@ -95,42 +109,58 @@ plain_command (Schedule s) = refl
 plain_command (Report r) = plain-append (times_of r.milestone r.time) (planned r.plan) (plain_times r.milestone r.time) (plain_plan r.plan)
 plain_command _ = refl
 
-changed-record_from : (f : ℕ) (t : Told) (now : ℕ) (c : Command) → changed (record_from f t) now c ≡ record_from f (with_command c now t)
-changed-record_from f t now c =
-    ap (λ r. touched now (marked r (bit_of c))) (with_all-record_with f (assigned_by c) t.assigned t.reached (alerts_at f t.assigned t.reached t.touch) (plain_command c))
-    ∙ touched-record_with f (onto (assigned_by c) t.assigned) (bit_or t.reached (2 ^ bit_of c)) (alerts_at f t.assigned t.reached t.touch) now (kept_none f t.assigned t.reached t.touch)
+-- what a command assigns and reaches
+pub assigned-reported : (f : ℕ) (t : Told) (c : Command) → assigned_to (record_from f t) c ≡ reported f c t
+assigned-reported f t c = ap (λ r. marked r (bit_of c)) (with_all-record_with f (assigned_by c) t.assigned t.reached (alerts_from f t) (plain_command c))
+
+changed-record_from : (ps : Programs) (f : ℕ) (t : Told) (now : ℕ) (c : Command) (answers : List ℕ)
+    → changed ps (record_from f t) now c answers ≡ record_from f (with_command c now (said ps (reported f c t) now (bit_of c) answers) t)
+changed-record_from ps f t now c answers =
+    let s : Said = said ps (reported f c t) now (bit_of c) answers in
+    let x : ℕ = computed_at f t.assigned t.reached t.touch in
+    let is = computed_at-computed f t.assigned t.reached t.touch in
+    ap (λ r. touched now (with_said (said ps r now (bit_of c) answers) r)) (assigned-reported f t c)
+    ∙ ap (touched now) (with_said-record_with f x is s (onto (assigned_by c) t.assigned) (bit_or t.reached (2 ^ bit_of c)) t.rejected t.locals)
+    ∙ touched-record_with f x is (with_tobt s.tobt (onto (assigned_by c) t.assigned)) (with_ninth s.tobt (bit_or t.reached (2 ^ bit_of c))) now (rejects s.tobt t.rejected) (number_or s.locals t.locals)
+
+-- what an entry adds where it is of the flight
+abbrev added : Entry → History → ℕ → Told
+added e J g = with_command e.command e.moment (said_on (programs_of J e.command) e g (told J g)) (told J g)
 
 -- an entry that is no tick, and is refused or of another flight, leaves a record as it is
 pub record_same : (e : Entry) (J : History) (g : ℕ) → is_of g e ≡ false → ticks e ≡ false → record_of (e ∷ J) g ≡ record_of J g
 record_same e J g h k =
-    ap (λ b. record_from g (cond b (with_command e.command e.moment (told J g)) (cond (ticks e) (with_tick e.moment (told J g)) (told J g)))) h
+    ap (λ b. record_from g (cond b (added e J g) (cond (ticks e) (with_tick e.moment (told J g)) (told J g)))) h
     ∙ ap (λ b. record_from g (cond b (with_tick e.moment (told J g)) (told J g))) k
 
 -- an accepted entry changes the record of its flight
-pub record_changed : (e : Entry) (J : History) → is_accepted e.verdict ≡ true → changes_flight e.command ≡ true → record_of (e ∷ J) (flight_of e.command) ≡ changed (record_of J (flight_of e.command)) e.moment e.command
+pub record_changed : (e : Entry) (J : History) → is_accepted e.verdict ≡ true → changes_flight e.command ≡ true
+    → record_of (e ∷ J) (flight_of e.command) ≡ changed (programs_of J e.command) (record_of J (flight_of e.command)) e.moment e.command e.answers
 record_changed e J h k =
     let f : ℕ = flight_of e.command in
     let both : is_of f e ≡ true = ap (λ b. b && (changes_flight e.command && flight_of e.command == f)) h ∙ ap (λ b. b && flight_of e.command == f) k ∙ eq-eqb f f refl in
-    ap (λ b. record_from f (cond b (with_command e.command e.moment (told J f)) (cond (ticks e) (with_tick e.moment (told J f)) (told J f)))) both ∙ sym (changed-record_from f (told J f) e.moment e.command)
+    ap (λ b. record_from f (cond b (added e J f) (cond (ticks e) (with_tick e.moment (told J f)) (told J f)))) both
+    ∙ sym (changed-record_from (programs_of J e.command) f (told J f) e.moment e.command e.answers)
 
 -- a flight that was touched is touched by a tick
 with_tick-record : (f m : ℕ) (t : Told) → is_some t.touch ≡ true → record_from f (with_tick m t) ≡ touched m (record_from f t)
-with_tick-record f m t h = go t.assigned t.reached t.touch h
+with_tick-record f m t h = go t.assigned t.reached t.touch t.rejected t.locals h
   where
-    go : (ps : List Assignment) (rs : ℕ) (touch : Option ℕ) → is_some touch ≡ true → record_with f ps rs (alerts_at f ps rs (option_map (λ n. m) touch)) ≡ touched m (record_with f ps rs (alerts_at f ps rs touch))
-    go ps rs None h = absurd (cc)
-    go ps rs (Some n) h = sym (touched-record_with f ps rs (alerts_at f ps rs (Some n)) m (kept_none f ps rs (Some n)))
+    go : (ps : List Assignment) (rs : ℕ) (touch : Option ℕ) (b : Bool) (l : ℕ) → is_some touch ≡ true
+        → record_with f ps rs (decided_word b l + computed_at f ps rs (option_map (λ n. m) touch)) ≡ touched m (record_with f ps rs (decided_word b l + computed_at f ps rs touch))
+    go ps rs None b l h = absurd (cc)
+    go ps rs (Some n) b l h = sym (touched-record_with f (computed_at f ps rs (Some n)) (computed_at-computed f ps rs (Some n)) ps rs m b l)
 
 pub record_ticked : (e : Entry) (J : History) (g : ℕ) → is_of g e ≡ false → ticks e ≡ true → is_some (told J g).touch ≡ true → record_of (e ∷ J) g ≡ touched e.moment (record_of J g)
 record_ticked e J g h k t =
-    ap (λ b. record_from g (cond b (with_command e.command e.moment (told J g)) (cond (ticks e) (with_tick e.moment (told J g)) (told J g)))) h
+    ap (λ b. record_from g (cond b (added e J g) (cond (ticks e) (with_tick e.moment (told J g)) (told J g)))) h
     ∙ ap (λ b. record_from g (cond b (with_tick e.moment (told J g)) (told J g))) k
     ∙ with_tick-record g e.moment (told J g) t
 
 -- what was touched stays so
-touch_kept : (e : Entry) (f : ℕ) (t : Told) → is_some t.touch ≡ true → is_some (tell e f t).touch ≡ true
-touch_kept e f t h =
-    elim (is_of f e) as (λ b. is_some (cond b (with_command e.command e.moment t) (cond (ticks e) (with_tick e.moment t) t)).touch ≡ true) [
+touch_kept : (ps : Programs) (e : Entry) (f : ℕ) (t : Told) → is_some t.touch ≡ true → is_some (tell ps e f t).touch ≡ true
+touch_kept ps e f t h =
+    elim (is_of f e) as (λ b. is_some (cond b (with_command e.command e.moment (said_on ps e f t) t) (cond (ticks e) (with_tick e.moment t) t)).touch ≡ true) [
       | true ↦ refl
       | false ↦ elim (ticks e) as (λ b. is_some (cond b (with_tick e.moment t) t).touch ≡ true) [
         | true ↦ some_map t.touch h
@@ -168,19 +198,19 @@ pub touched-there : (J : History) (f : ℕ) → exists J f ≡ true → is_some 
 touched-there [] f h = h
 touched-there (e ∷ J) f h =
     elim (has_push f (flights J) (created e) h) [
-      | inl there ↦ touch_kept e f (told J f) (touched-there J f there)
+      | inl there ↦ touch_kept (programs_of J e.command) e f (told J f) (touched-there J f there)
       | inr made ↦ new made
     ]
   where
-    new : created e ≡ Some f → is_some (tell e f (told J f)).touch ≡ true
+    new : created e ≡ Some f → is_some (told (e ∷ J) f).touch ≡ true
     new made =
-        elim (is_accepted e.verdict && creates e.command) as (λ b. (is_accepted e.verdict && creates e.command) ≡ b → cond b (Some (flight_of e.command)) None ≡ Some f → is_some (tell e f (told J f)).touch ≡ true) [
+        elim (is_accepted e.verdict && creates e.command) as (λ b. (is_accepted e.verdict && creates e.command) ≡ b → cond b (Some (flight_of e.command)) None ≡ Some f → is_some (told (e ∷ J) f).touch ≡ true) [
           | true ↦ λ d s.
               let done : is_accepted e.verdict ≡ true = and_left (is_accepted e.verdict) (creates e.command) d in
               let makes : changes_flight e.command ≡ true = creates_changes e.command (and_right (is_accepted e.verdict) (creates e.command) d) in
               let same : flight_of e.command ≡ f = cc in
               let of : is_of f e ≡ true = ap (λ b. b && (changes_flight e.command && flight_of e.command == f)) done ∙ ap (λ b. b && flight_of e.command == f) makes ∙ eq-eqb (flight_of e.command) f same in
-              ap (λ b. is_some (cond b (with_command e.command e.moment (told J f)) (cond (ticks e) (with_tick e.moment (told J f)) (told J f))).touch) of
+              ap (λ b. is_some (cond b (added e J f) (cond (ticks e) (with_tick e.moment (told J f)) (told J f))).touch) of
           | false ↦ λ d s. absurd (cc)
         ] refl made
 
@@ -206,11 +236,31 @@ or_comm true false = refl
 or_comm false true = refl
 or_comm false false = refl
 
+or_left : (a b c : Bool) → ((a || b) || c) ≡ ((b || c) || a)
+or_left true true c = refl
+or_left true false true = refl
+or_left true false false = refl
+or_left false true c = refl
+or_left false false true = refl
+or_left false false false = refl
+
+-- what a suggestion reaches beside
+ninth_bit : (s : Suggestion) (n m : ℕ) → (bit_at (with_ninth s n) m == 1) ≡ ((bit_at n m == 1) || (gives_tobt s && 9 == m))
+ninth_bit (Usable tobt) n m = or_bit n 9 m
+ninth_bit Nothing n m = or_comm false (bit_at n m == 1)
+ninth_bit Unusable n m = or_comm false (bit_at n m == 1)
+
 -- a bit of the reached word is set exactly where an accepted entry of the flight reached it
 pub reached-told : (J : History) (f m : ℕ) → has_reached (record_of J f) m ≡ has_come_to J f m
 reached-told [] f m = ap (λ n. n == 1) (bit_at-zero m)
 reached-told (e ∷ J) f m =
-    elim (is_of f e) as (λ b. (bit_at (cond b (with_command e.command e.moment (told J f)) (cond (ticks e) (with_tick e.moment (told J f)) (told J f))).reached m == 1) ≡ ((b && (bit_of e.command == m)) || has_come_to J f m)) [
-      | true ↦ or_bit (told J f).reached (bit_of e.command) m ∙ or_comm (has_reached (record_of J f) m) (bit_of e.command == m) ∙ ap (λ b. (bit_of e.command == m) || b) (reached-told J f m)
+    let s : Suggestion = (said_on (programs_of J e.command) e f (told J f)).tobt in
+    let ninth : Bool = gives_tobt s && 9 == m in
+    elim (is_of f e) as (λ b. (bit_at (cond b (added e J f) (cond (ticks e) (with_tick e.moment (told J f)) (told J f))).reached m == 1) ≡ ((b && reaches J e f m) || has_come_to J f m)) [
+      | true ↦
+          ninth_bit s (bit_or (told J f).reached (2 ^ bit_of e.command)) m
+          ∙ ap (λ b. b || ninth) (or_bit (told J f).reached (bit_of e.command) m)
+          ∙ or_left (has_reached (record_of J f) m) (bit_of e.command == m) ninth
+          ∙ ap (λ b. (bit_of e.command == m || ninth) || b) (reached-told J f m)
       | false ↦ elim (ticks e) as (λ b. (bit_at (cond b (with_tick e.moment (told J f)) (told J f)).reached m == 1) ≡ has_come_to J f m) [ true ↦ reached-told J f m | false ↦ reached-told J f m ]
     ]

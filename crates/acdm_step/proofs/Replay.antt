@@ -1,5 +1,5 @@
 -- A step on the replay of a legal history is the replay of the longer history.
-use Rattle.std.proofs.Common.{◌≡◌, ◌≢◌, ℕ, eq-eqb, ◌+◌, Bool, true, false, cond, not, ◌&&◌, ◌||◌, ◌==◌, nat_lt, List, [], ◌∷◌, ◌++◌, map, length, get_or, set, Some, None, refl, sym, ap, subst, ◌∙◌, arith, eqb-true, ne_eqb}
+use Rattle.std.proofs.Common.{◌≡◌, ◌≢◌, ◌⊎◌, inl, inr, ℕ, eq-eqb, ◌+◌, Bool, true, false, cond, not, ◌&&◌, ◌||◌, ◌==◌, nat_lt, List, [], ◌∷◌, ◌++◌, map, length, get_or, set, Option, Some, None, is_some, refl, sym, ap, subst, ◌∙◌, arith, eqb-true, ne_eqb}
 use Rattle.std.proofs.lemmas.List.{length-map, map_push, get_or_past}
 use Rattle.std.specs.List.{position_or_len}
 use Rattle.acdm_record.specs.Fields.{Fields, new_record}
@@ -7,15 +7,27 @@ use Rattle.acdm_milestones.specs.declared.role.Role.{Role}
 use Rattle.acdm_milestones.specs.declared.role.Action.TheVariants as actions
 use Rattle.acdm_milestones.specs.declared.refusal.Refusal.TheVariants.{NotOwner, UnknownFlight}
 use Rattle.acdm_milestones.specs.Tables.{number, owns}
+use Rattle.bpf_helpers.specs.Promise.{Promise}
+use Rattle.bpf_helpers.specs.Same.{same_sigs}
+use Rattle.bpf_verifier.specs.Verdict.{Verified}
+use Rattle.bpf_machine.specs.Steps as machine
+use Rattle.acdm_milestones.specs.declared.milestone.Milestone.{Milestone}
+use Rattle.acdm_slots.specs.declared.kind.Kind.{Kind}
+use Rattle.acdm_slots.specs.declared.kind.Kind.TheVariants as kinds
+use Rattle.acdm_slots.specs.Loaded.{Loaded, place}
+use Rattle.acdm_slots.specs.Loaded as loaded
+use Rattle.acdm_slots.proofs.PlaceLemmas.{nothing_in, program_after}
 use Rattle.acdm_step.specs.declared.command.Command.{Command}
-use Rattle.acdm_step.specs.declared.command.Command.TheVariants.{Schedule, Report, Tick, Show}
+use Rattle.acdm_step.specs.declared.command.Command.TheVariants.{Schedule, Report, Load, Unload, Tick, Show}
 use Rattle.acdm_step.specs.declared.outcome.Outcome.TheVariants as outcomes
 use Rattle.acdm_step.specs.declared.entry.Verdict.{Verdict}
 use Rattle.acdm_step.specs.declared.entry.Verdict.TheVariants.{Refused}
 use Rattle.acdm_step.specs.declared.entry.Entry.{Entry}
-use Rattle.acdm_step.specs.History.{History, nothing_told, with_command, with_tick, flight_of, changes_flight, is_tick, is_of, ticks, is_accepted, creates, created, told, record_from, record_of, with_flight, flights, exists, verdict_for, verdict_of, answer, outcome_with, outcome_of, IsLegal, after, is_alerts, needs_memory}
-use Rattle.acdm_step.specs.Board.{changed, touched, place_of, is_there, record_on, put, board_verdict, board_creates, board_answer, board_outcome, board_changed, board_after}
-use Rattle.acdm_step.proofs.Records.{record_same, record_changed, record_ticked, touched-there}
+use Rattle.acdm_step.specs.Programs.{Programs, said_with}
+use Rattle.acdm_step.specs.History.{History, nothing_told, with_command, with_tick, flight_of, bit_of, changes_flight, is_tick, is_load, is_of, ticks, is_accepted, creates, created, told, reported, said_on, record_from, record_of, slot_change, changed_or, program_in, programs_of, size_of, with_slots, slots_of, with_flight, flights, exists, is_ready, verdict_for, verdict_of, answer, outcome_with, outcome_of, left_after, left_by, IsAnswered, IsTrapped, IsLegal, replay, after, is_alerts, needs_memory}
+use Rattle.acdm_step.specs.Board.{changed, touched, place_of, is_there, record_on, put, assigned_to, programs_on, ready_on, left_on, board_verdict, board_creates, board_loads, board_answer, board_outcome, board_changed, board_after}
+use Rattle.acdm_step.specs.Running.{TrapsIn}
+use Rattle.acdm_step.proofs.Records.{assigned-reported, record_same, record_changed, record_ticked, touched-there}
 use Rattle.acdm_step.proofs.Flights.{is_it, has, and_false, found, inside, outside, absent, updated, flights_distinct, grows, has-with_flight}
 
 -- ---- creation
@@ -27,10 +39,10 @@ first_owned false true rest h = refl
 first_owned false false rest h = h
 
 -- a command that is accepted where its flight is not there creates it
-admitted_creates : (c : Command) (count : ℕ) (r : Fields) (role : Role) → changes_flight c ≡ true → is_accepted (verdict_for false count r role c) ≡ true → creates c ≡ true
-admitted_creates (Schedule s) count r role k h = refl
-admitted_creates (Report p) count r role k h = first_owned (owns role (actions.Report p.milestone)) (number p.milestone == 1) _ h
-admitted_creates _ count r role k h = absurd (cc)
+admitted_creates : (c : Command) (count : ℕ) (r : Fields) (ready : Bool) (role : Role) → changes_flight c ≡ true → is_accepted (verdict_for false count r ready role c) ≡ true → creates c ≡ true
+admitted_creates (Schedule s) count r ready role k h = refl
+admitted_creates (Report p) count r ready role k h = first_owned (owns role (actions.Report p.milestone)) (number p.milestone == 1) _ h
+admitted_creates _ count r ready role k h = absurd (cc)
 
 -- what an accepted entry creates
 creates_or_not : (fs : List ℕ) (b : Bool) (f : ℕ) → has f fs ≡ true → with_flight fs (cond b (Some f) None) ≡ fs
@@ -59,17 +71,22 @@ not_all true true false h = refl
 not_all true false c h = refl
 not_all false b c h = refl
 
-module _ (f : ℕ) (e : Entry) (J : History) (legal : e.verdict ≡ verdict_of J e.role e.moment e.command) (gone : has f (with_flight (flights J) (created e)) ≡ false) where
+-- an entry that is accepted is so by the tests
+pub is_right : (sigs : List (ℕ × Promise)) (J : History) (role : Role) (now : ℕ) (c : Command) (v : Verdict) (answers : List ℕ)
+    → IsAnswered sigs J role now c v answers ⊎ IsTrapped sigs J role c v answers → is_accepted v ≡ true → is_accepted (verdict_of sigs J role c) ≡ true
+is_right sigs J role now c v answers (inl h) d = sym (ap is_accepted h.verdict_is) ∙ d
+is_right sigs J role now c v answers (inr h) d = h.accepted
+
+module _ (sigs : List (ℕ × Promise)) (f : ℕ) (e : Entry) (J : History) (right : is_accepted e.verdict ≡ true → is_accepted (verdict_of sigs J e.role e.command) ≡ true) (gone : has f (with_flight (flights J) (created e)) ≡ false) where
   -- an accepted entry of a flight that is not there would have created it
   not_named : is_accepted e.verdict ≡ true → changes_flight e.command ≡ true → (flight_of e.command == f) ≡ true → ⊥
   not_named d k n =
       let same : flight_of e.command ≡ f = eqb-true (flight_of e.command) f n in
       let before : has f (flights J) ≡ false = grows f (flights J) (created e) gone in
       let there : exists J (flight_of e.command) ≡ false = subst (λ g. has g (flights J) ≡ false) (sym same) before in
-      let done : is_accepted (verdict_of J e.role e.moment e.command) ≡ true = sym (ap is_accepted legal) ∙ d in
-      let done' : is_accepted (verdict_for false (length (flights J)) (record_of J (flight_of e.command)) e.role e.command) ≡ true =
-      sym (ap (λ b. is_accepted (verdict_for b (length (flights J)) (record_of J (flight_of e.command)) e.role e.command)) there) ∙ done in
-      let makes = admitted_creates e.command (length (flights J)) (record_of J (flight_of e.command)) e.role k done' in
+      let done' : is_accepted (verdict_for false (length (flights J)) (record_of J (flight_of e.command)) (is_ready sigs J e.command) e.role e.command) ≡ true =
+      sym (ap (λ b. is_accepted (verdict_for b (length (flights J)) (record_of J (flight_of e.command)) (is_ready sigs J e.command) e.role e.command)) there) ∙ right d in
+      let makes = admitted_creates e.command (length (flights J)) (record_of J (flight_of e.command)) (is_ready sigs J e.command) e.role k done' in
       let made : created e ≡ Some f = ap (λ b. cond (b && creates e.command) (Some (flight_of e.command)) None) d ∙ ap (λ b. cond b (Some (flight_of e.command)) None) makes ∙ ap Some same in
       let yes : has f (with_flight (flights J) (created e)) ≡ true = ap (λ o. has f (with_flight (flights J) o)) made ∙ has-with_flight f (flights J) in
       cc
@@ -77,19 +94,69 @@ module _ (f : ℕ) (e : Entry) (J : History) (legal : e.verdict ≡ verdict_of J
   unset : is_of f e ≡ false
   unset = not_all (is_accepted e.verdict) (changes_flight e.command) (flight_of e.command == f) not_named
 
-nothing-told : (f : ℕ) (J : History) → IsLegal J → exists J f ≡ false → told J f ≡ nothing_told
-nothing-told f [] l h = refl
-nothing-told f (e ∷ J) l h =
-    let before = nothing-told f J l.0 (grows f (flights J) (created e) h) in
-    ap (λ b. cond b (with_command e.command e.moment (told J f)) (cond (ticks e) (with_tick e.moment (told J f)) (told J f))) (unset f e J l.2 h)
+nothing-told : (sigs : List (ℕ × Promise)) (f : ℕ) (J : History) → IsLegal sigs J → exists J f ≡ false → told J f ≡ nothing_told
+nothing-told sigs f [] l h = refl
+nothing-told sigs f (e ∷ J) l h =
+    let before = nothing-told sigs f J l.0 (grows f (flights J) (created e) h) in
+    ap (λ b. cond b (with_command e.command e.moment (said_on (programs_of J e.command) e f (told J f)) (told J f)) (cond (ticks e) (with_tick e.moment (told J f)) (told J f)))
+    (unset sigs f e J (is_right sigs J e.role e.moment e.command e.verdict e.answers l.3) h)
     ∙ ap (λ t. cond (ticks e) (with_tick e.moment t) t) before ∙ either (ticks e)
   where
     either : (b : Bool) → cond b (with_tick e.moment nothing_told) nothing_told ≡ nothing_told
     either true = refl
     either false = refl
 
-nothing_set : (f : ℕ) (J : History) → IsLegal J → exists J f ≡ false → record_of J f ≡ new_record f
-nothing_set f J l h = ap (record_from f) (nothing-told f J l h)
+nothing_set : (sigs : List (ℕ × Promise)) (f : ℕ) (J : History) → IsLegal sigs J → exists J f ≡ false → record_of J f ≡ new_record f
+nothing_set sigs f J l h = ap (record_from f) (nothing-told sigs f J l h)
+
+-- ---- the programs in the slots
+
+either_slot : (b : Bool) (now before : Option Verified) → cond b now before ≡ changed_or (cond b (Some now) None) before
+either_slot true now before = refl
+either_slot false now before = refl
+
+slot-with : (m : Milestone) (k : Kind) (c : Command) (l : Loaded) → loaded.program_in (with_slots c l) m k ≡ changed_or (slot_change m k c) (loaded.program_in l m k)
+slot-with m k (Load c) l = program_after l c.milestone m c.kind k (Some c.program) ∙ either_slot (place c.milestone c.kind == place m k) (Some c.program) (loaded.program_in l m k)
+slot-with m k (Unload c) l = program_after l c.milestone m c.kind k None ∙ either_slot (place c.milestone c.kind == place m k) None (loaded.program_in l m k)
+slot-with m k _ l = refl
+
+-- the program that stands in a slot is that of the last load or unload
+pub slot-replay : (sigs : List (ℕ × Promise)) (J : History) (m : Milestone) (k : Kind) → loaded.program_in (slots_of sigs J) m k ≡ program_in J m k
+slot-replay sigs [] m k = nothing_in sigs m k
+slot-replay sigs (e ∷ J) m k =
+    elim (is_accepted e.verdict) as (λ b. loaded.program_in (cond b (with_slots e.command (slots_of sigs J)) (slots_of sigs J)) m k ≡ cond b (changed_or (slot_change m k e.command) (program_in J m k)) (program_in J m k)) [
+      | true ↦ slot-with m k e.command (slots_of sigs J) ∙ ap (changed_or (slot_change m k e.command)) (slot-replay sigs J m k)
+      | false ↦ slot-replay sigs J m k
+    ]
+
+pub with_slots-sigs : (c : Command) (l : Loaded) → (with_slots c l).sigs ≡ l.sigs
+with_slots-sigs (Load c) l = refl
+with_slots-sigs (Unload c) l = refl
+with_slots-sigs _ l = refl
+
+-- the signatures stay
+pub sigs-replay : (sigs : List (ℕ × Promise)) (J : History) → (slots_of sigs J).sigs ≡ sigs
+sigs-replay sigs [] = refl
+sigs-replay sigs (e ∷ J) =
+    elim (is_accepted e.verdict) as (λ b. (cond b (with_slots e.command (slots_of sigs J)) (slots_of sigs J)).sigs ≡ sigs) [
+      | true ↦ with_slots-sigs e.command (slots_of sigs J) ∙ sigs-replay sigs J
+      | false ↦ sigs-replay sigs J
+    ]
+
+pub programs-replay : (sigs : List (ℕ × Promise)) (J : History) (c : Command) → programs_on (slots_of sigs J) c ≡ programs_of J c
+programs-replay sigs J (Report r) =
+    let tobt = slot-replay sigs J r.milestone kinds.Tobt in
+    let alert = slot-replay sigs J r.milestone kinds.Alert in
+    λ i. record { tobt = tobt i; alert = alert i }
+programs-replay sigs J _ = refl
+
+ready-replay : (sigs : List (ℕ × Promise)) (J : History) (c : Command) → ready_on (slots_of sigs J) c ≡ is_ready sigs J c
+ready-replay sigs J (Load c) = ap (same_sigs c.program.sigs) (sigs-replay sigs J)
+ready-replay sigs J (Unload c) = ap is_some (slot-replay sigs J c.milestone c.kind)
+ready-replay sigs J _ = refl
+
+pub room-replay : (sigs : List (ℕ × Promise)) (J : History) (m : Milestone) (k : Kind) → size_of (loaded.program_in (slots_of sigs J) m k) ≡ size_of (program_in J m k)
+room-replay sigs J m k = ap size_of (slot-replay sigs J m k)
 
 -- ---- the records of a history
 
@@ -104,25 +171,45 @@ pub there-replay : (J : History) (f : ℕ) → is_there (records_of J) f ≡ exi
 there-replay J f =
     ap (λ n. nat_lt n (length (records_of J))) (place-replay J f (flights J)) ∙ ap (λ n. nat_lt (position_or_len (is_it f) (flights J)) n) (length-map (flights J) (record_of J)) ∙ inside f (flights J)
 
-pub record_on-replay : (J : History) (f : ℕ) → IsLegal J → record_on (records_of J) f ≡ record_of J f
-record_on-replay J f l =
+pub record_on-replay : (sigs : List (ℕ × Promise)) (J : History) (f : ℕ) → IsLegal sigs J → record_on (records_of J) f ≡ record_of J f
+record_on-replay sigs J f l =
     ap (λ n. get_or (records_of J) n (new_record f)) (place-replay J f (flights J))
     ∙ (elim (exists J f) as (λ b. exists J f ≡ b → get_or (records_of J) (position_or_len (is_it f) (flights J)) (new_record f) ≡ record_of J f) [
       | true ↦ λ e. found f (record_of J) (new_record f) (flights J) e
       | false ↦ λ e.
           let out = outside f (flights J) e in
           let len = length-map (flights J) (record_of J) in
-          get_or_past (records_of J) (position_or_len (is_it f) (flights J)) (new_record f) (omega arith) ∙ sym (nothing_set f J l e)
+          get_or_past (records_of J) (position_or_len (is_it f) (flights J)) (new_record f) (omega arith) ∙ sym (nothing_set sigs f J l e)
     ] refl)
 
-pub verdict-replay : (J : History) (role : Role) (m : ℕ) (c : Command) → IsLegal J → board_verdict (records_of J) role c ≡ verdict_of J role m c
+pub verdict-replay : (sigs : List (ℕ × Promise)) (J : History) (role : Role) (c : Command) → IsLegal sigs J → board_verdict (replay sigs J) role c ≡ verdict_of sigs J role c
 unfolding board_verdict
-verdict-replay J role m c l =
-    ap (λ b. verdict_for b (length (records_of J)) (record_on (records_of J) (flight_of c)) role c) (there-replay J (flight_of c))
-    ∙ ap (λ n. verdict_for (exists J (flight_of c)) n (record_on (records_of J) (flight_of c)) role c) (length-map (flights J) (record_of J))
-    ∙ ap (λ r. verdict_for (exists J (flight_of c)) (length (flights J)) r role c) (record_on-replay J (flight_of c) l)
+verdict-replay sigs J role c l =
+    ap (λ b. verdict_for b (length (records_of J)) (record_on (records_of J) (flight_of c)) (ready_on (slots_of sigs J) c) role c) (there-replay J (flight_of c))
+    ∙ ap (λ n. verdict_for (exists J (flight_of c)) n (record_on (records_of J) (flight_of c)) (ready_on (slots_of sigs J) c) role c) (length-map (flights J) (record_of J))
+    ∙ ap (λ r. verdict_for (exists J (flight_of c)) (length (flights J)) r (ready_on (slots_of sigs J) c) role c) (record_on-replay sigs J (flight_of c) l)
+    ∙ ap (λ r. verdict_for (exists J (flight_of c)) (length (flights J)) (record_of J (flight_of c)) r role c) (ready-replay sigs J c)
 
-module _ (e : Entry) (J : History) (legal : IsLegal J) (right : e.verdict ≡ verdict_of J e.role e.moment e.command) where
+-- what is left of the answers on the board is left after the history
+pub left-replay : (sigs : List (ℕ × Promise)) (J : History) (c : Command) (now : ℕ) (answers : List ℕ) → IsLegal sigs J → left_on (replay sigs J) c now answers ≡ left_by J c now answers
+left-replay sigs J c now answers l =
+    ap (λ ps. left_after (said_with ps (assigned_to (record_on (records_of J) (flight_of c)) c) now (bit_of c) answers)) (programs-replay sigs J c)
+    ∙ ap (λ r. left_after (said_with (programs_of J c) (assigned_to r c) now (bit_of c) answers)) (record_on-replay sigs J (flight_of c) l)
+    ∙ ap (λ r. left_after (said_with (programs_of J c) r now (bit_of c) answers)) (assigned-reported (flight_of c) (told J (flight_of c)) c)
+
+-- and a program that traps on the board traps after it
+pub traps-replay : (sigs : List (ℕ × Promise)) (J : History) (c : Command) (now : ℕ) (log : machine.Told) → IsLegal sigs J
+    → TrapsIn (programs_on (slots_of sigs J) c) (assigned_to (record_on (records_of J) (flight_of c)) c) now (bit_of c) log
+    → TrapsIn (programs_of J c) (reported (flight_of c) c (told J (flight_of c))) now (bit_of c) log
+traps-replay sigs J c now log l h =
+    let ps = programs-replay sigs J c in
+    let r : assigned_to (record_on (records_of J) (flight_of c)) c ≡ reported (flight_of c) c (told J (flight_of c)) =
+    ap (λ r. assigned_to r c) (record_on-replay sigs J (flight_of c) l) ∙ assigned-reported (flight_of c) (told J (flight_of c)) c in
+    subst (λ x. TrapsIn (programs_of J c) x now (bit_of c) log) r (subst (λ p. TrapsIn p (assigned_to (record_on (records_of J) (flight_of c)) c) now (bit_of c) log) ps h)
+
+-- ---- one entry more
+
+module _ (sigs : List (ℕ × Promise)) (e : Entry) (J : History) (legal : IsLegal sigs J) (right : is_accepted e.verdict ≡ true → is_accepted (verdict_of sigs J e.role e.command) ≡ true) where
   same_map : (gs : List ℕ) → is_accepted e.verdict ≡ false → map (record_of (e ∷ J)) gs ≡ map (record_of J) gs
   same_map [] d = refl
   same_map (g ∷ gs) d =
@@ -130,8 +217,8 @@ module _ (e : Entry) (J : History) (legal : IsLegal J) (right : e.verdict ≡ ve
       let rest = same_map gs d in
       λ t. here t ∷ rest t
 
-  refused-replay : is_accepted e.verdict ≡ false → records_of (e ∷ J) ≡ records_of J
-  refused-replay d =
+  refused-records : is_accepted e.verdict ≡ false → records_of (e ∷ J) ≡ records_of J
+  refused-records d =
       let none : created e ≡ None = ap (λ b. cond (b && creates e.command) (Some (flight_of e.command)) None) d in
       let fs : flights (e ∷ J) ≡ flights J = ap (with_flight (flights J)) none in
       ap (map (record_of (e ∷ J))) fs ∙ same_map (flights J) d
@@ -193,16 +280,19 @@ module _ (e : Entry) (J : History) (legal : IsLegal J) (right : e.verdict ≡ ve
 
     added : is_accepted e.verdict ≡ true → exists J (flight_of e.command) ≡ false → flights (e ∷ J) ≡ flights J ++ flight_of e.command ∷ []
     added d t =
-        let done : is_accepted (verdict_for false (length (flights J)) (record_of J (flight_of e.command)) e.role e.command) ≡ true =
-        sym (ap (λ b. is_accepted (verdict_for b (length (flights J)) (record_of J (flight_of e.command)) e.role e.command)) t) ∙ sym (ap is_accepted right) ∙ d in
+        let done : is_accepted (verdict_for false (length (flights J)) (record_of J (flight_of e.command)) (is_ready sigs J e.command) e.role e.command) ≡ true =
+        sym (ap (λ b. is_accepted (verdict_for b (length (flights J)) (record_of J (flight_of e.command)) (is_ready sigs J e.command) e.role e.command)) t) ∙ right d in
         ap (λ b. with_flight (flights J) (cond (b && creates e.command) (Some (flight_of e.command)) None)) d
-        ∙ ap (λ b. with_flight (flights J) (cond b (Some (flight_of e.command)) None)) (admitted_creates e.command (length (flights J)) (record_of J (flight_of e.command)) e.role k done)
+        ∙ ap (λ b. with_flight (flights J) (cond b (Some (flight_of e.command)) None)) (admitted_creates e.command (length (flights J)) (record_of J (flight_of e.command)) (is_ready sigs J e.command) e.role k done)
         ∙ ap (λ b. cond b (flights J) (flights J ++ flight_of e.command ∷ [])) t
 
-    accepted-replay : is_accepted e.verdict ≡ true → put (records_of J) (flight_of e.command) (changed (record_on (records_of J) (flight_of e.command)) e.moment e.command) ≡ records_of (e ∷ J)
+    accepted-replay : is_accepted e.verdict ≡ true
+        → put (records_of J) (flight_of e.command) (changed (programs_on (slots_of sigs J) e.command) (record_on (records_of J) (flight_of e.command)) e.moment e.command e.answers) ≡ records_of (e ∷ J)
     accepted-replay d =
         let f : ℕ = flight_of e.command in
-        let now : changed (record_on (records_of J) f) e.moment e.command ≡ record_of (e ∷ J) f = ap (λ r. changed r e.moment e.command) (record_on-replay J f legal) ∙ sym (record_changed e J d k) in
+        let now : changed (programs_on (slots_of sigs J) e.command) (record_on (records_of J) f) e.moment e.command e.answers ≡ record_of (e ∷ J) f =
+        ap (λ ps. changed ps (record_on (records_of J) f) e.moment e.command e.answers) (programs-replay sigs J e.command)
+        ∙ ap (λ r. changed (programs_of J e.command) r e.moment e.command e.answers) (record_on-replay sigs J f legal) ∙ sym (record_changed e J d k) in
         ap (put (records_of J) f) now ∙
         (elim (exists J f) as (λ b. exists J f ≡ b → put (records_of J) f (record_of (e ∷ J) f) ≡ records_of (e ∷ J)) [
           | true ↦ λ t.
@@ -221,7 +311,7 @@ module _ (e : Entry) (J : History) (legal : IsLegal J) (right : e.verdict ≡ ve
               ∙ ap (map (record_of (e ∷ J))) (sym fs)
         ] refl)
 
-  changed-replay : is_accepted e.verdict ≡ true → board_changed (records_of J) e.moment e.command ≡ records_of (e ∷ J)
+  changed-replay : is_accepted e.verdict ≡ true → board_changed (replay sigs J) e.moment e.command e.answers ≡ records_of (e ∷ J)
   changed-replay d =
       elim (is_tick e.command) as (λ b. is_tick e.command ≡ b → cond b (map (touched e.moment) (records_of J)) (cond (changes_flight e.command) here (records_of J)) ≡ records_of (e ∷ J)) [
         | true ↦ λ k. tick-replay d k
@@ -233,34 +323,55 @@ module _ (e : Entry) (J : History) (legal : IsLegal J) (right : e.verdict ≡ ve
       ] refl
     where
       here : List Fields
-      here = put (records_of J) (flight_of e.command) (changed (record_on (records_of J) (flight_of e.command)) e.moment e.command)
+      here = put (records_of J) (flight_of e.command) (changed (programs_on (slots_of sigs J) e.command) (record_on (records_of J) (flight_of e.command)) e.moment e.command e.answers)
 
-pub step-replay : (J : History) (session : ℕ) (role : Role) (m : ℕ) (c : Command) → IsLegal J → board_after (records_of J) role m c ≡ records_of (after J session role m c)
-unfolding board_after
-step-replay J session role m c l =
-    let e : Entry = record { number = length J; session = session; role = role; moment = m; command = c; verdict = verdict_of J role m c } in
-    ap (λ o. cond (is_accepted o) (board_changed (records_of J) m c) (records_of J)) (verdict-replay J role m c l)
-    ∙ (elim (is_accepted (verdict_of J role m c)) as (λ b. is_accepted (verdict_of J role m c) ≡ b → cond b (board_changed (records_of J) m c) (records_of J) ≡ records_of (e ∷ J)) [
-      | true ↦ λ d. changed-replay e J l refl d
-      | false ↦ λ d. sym (refused-replay e J l refl d)
-    ] refl)
+  -- an accepted entry changes the board, and a refused one leaves it
+  accepted-board : is_accepted e.verdict ≡ true → record { records = board_changed (replay sigs J) e.moment e.command e.answers; slots = with_slots e.command (slots_of sigs J) } ≡ replay sigs (e ∷ J)
+  accepted-board d =
+      let records = changed-replay d in
+      let slots : with_slots e.command (slots_of sigs J) ≡ slots_of sigs (e ∷ J) = sym (ap (λ b. cond b (with_slots e.command (slots_of sigs J)) (slots_of sigs J)) d) in
+      λ i. record { records = records i; slots = slots i }
+
+  refused-board : is_accepted e.verdict ≡ false → replay sigs (e ∷ J) ≡ replay sigs J
+  refused-board d =
+      let records = refused-records d in
+      let slots : slots_of sigs (e ∷ J) ≡ slots_of sigs J = ap (λ b. cond b (with_slots e.command (slots_of sigs J)) (slots_of sigs J)) d in
+      λ i. record { records = records i; slots = slots i }
+
+module _ (sigs : List (ℕ × Promise)) (J : History) (session : ℕ) (role : Role) (now : ℕ) (c : Command) (legal : IsLegal sigs J) where
+  -- a refused command changes no record and no slot
+  pub refused-replay : (v : Verdict) (answers : List ℕ) → is_accepted v ≡ false → replay sigs (after J session role now c v answers) ≡ replay sigs J
+  refused-replay v answers d =
+      let e : Entry = record { number = length J; session = session; role = role; moment = now; command = c; verdict = v; answers = answers } in
+      refused-board sigs e J legal (λ t. absurd (cc)) d
+
+  -- a step on the board with the verdict of the tests
+  pub step-replay : (answers : List ℕ) → board_after (replay sigs J) role now c answers ≡ replay sigs (after J session role now c (verdict_of sigs J role c) answers)
+  unfolding board_after
+  step-replay answers =
+      let e : Entry = record { number = length J; session = session; role = role; moment = now; command = c; verdict = verdict_of sigs J role c; answers = answers } in
+      ap (λ o. cond (is_accepted o) (record { records = board_changed (replay sigs J) now c answers; slots = with_slots c (slots_of sigs J) }) (replay sigs J)) (verdict-replay sigs J role c legal)
+      ∙ (elim (is_accepted (verdict_of sigs J role c)) as (λ b. is_accepted (verdict_of sigs J role c) ≡ b → cond b (record { records = board_changed (replay sigs J) now c answers; slots = with_slots c (slots_of sigs J) }) (replay sigs J) ≡ replay sigs (e ∷ J)) [
+        | true ↦ λ d. accepted-board sigs e J legal (λ t. d) d
+        | false ↦ λ d. sym (refused-board sigs e J legal (λ t. absurd (cc)) d)
+      ] refl)
 
 -- what is answered on the board is answered after the history
-answer-replay : (J : History) (c : Command) → IsLegal J → board_answer (records_of J) c ≡ answer J c
-answer-replay J (Show f) l = ap outcomes.Shown (record_on-replay J f l)
-answer-replay J _ l = refl
+pub answer-replay : (sigs : List (ℕ × Promise)) (J : History) (c : Command) → IsLegal sigs J → board_answer (replay sigs J) c ≡ answer J c
+answer-replay sigs J (Show f) l = ap outcomes.Shown (record_on-replay sigs J f l)
+answer-replay sigs J _ l = refl
 
-pub outcome-replay : (J : History) (role : Role) (m : ℕ) (c : Command) → IsLegal J → board_outcome (records_of J) role c ≡ outcome_of J role m c
+pub outcome-replay : (sigs : List (ℕ × Promise)) (J : History) (role : Role) (c : Command) → IsLegal sigs J → board_outcome (replay sigs J) role c ≡ outcome_of sigs J role c
 unfolding board_outcome
-outcome-replay J role m c l =
-    ap (λ v. outcome_with (board_answer (records_of J) c) v) (verdict-replay J role m c l) ∙ ap (λ o. outcome_with o (verdict_of J role m c)) (answer-replay J c l)
+outcome-replay sigs J role c l =
+    ap (λ v. outcome_with (board_answer (replay sigs J) c) v) (verdict-replay sigs J role c l) ∙ ap (λ o. outcome_with o (verdict_of sigs J role c)) (answer-replay sigs J c l)
 
 -- what needs memory on the board needs it after the history
-pub memory-replay : (J : History) (role : Role) (m : ℕ) (c : Command) (b : List Fields) → IsLegal J → b ≡ records_of J → (is_alerts c || board_creates b role c) ≡ needs_memory J role m c
-memory-replay J role m c b l e =
-    ap (λ rs. is_alerts c || board_creates rs role c) e
-    ∙ ap (λ v. is_alerts c || (is_accepted v && (changes_flight c && not (is_there (records_of J) (flight_of c))))) (verdict-replay J role m c l)
-    ∙ ap (λ t. is_alerts c || (is_accepted (verdict_of J role m c) && (changes_flight c && not t))) (there-replay J (flight_of c))
+pub memory-replay : (sigs : List (ℕ × Promise)) (J : History) (role : Role) (c : Command) → IsLegal sigs J
+    → (is_alerts c || (board_loads (replay sigs J) role c || board_creates (replay sigs J) role c)) ≡ needs_memory sigs J role c
+memory-replay sigs J role c l =
+    ap (λ v. is_alerts c || (is_load c && is_accepted v || (is_accepted v && (changes_flight c && not (is_there (records_of J) (flight_of c)))))) (verdict-replay sigs J role c l)
+    ∙ ap (λ t. is_alerts c || (is_load c && is_accepted (verdict_of sigs J role c) || (is_accepted (verdict_of sigs J role c) && (changes_flight c && not t)))) (there-replay J (flight_of c))
 
 -- the record at a flight's place
 module _ (J : History) (f place : ℕ) (rs : List Fields) (is : rs ≡ records_of J) (at : place ≡ place_of rs f) where

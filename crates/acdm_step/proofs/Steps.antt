@@ -1,16 +1,25 @@
--- What a step on the records is, by what came of the command.
-use Rattle.std.proofs.Common.{◌≡◌, ℕ, ◌<◌, ◌≤◌, Bool, true, false, cond, not, ◌&&◌, nat_lt, List, [], ◌∷◌, ◌++◌, map, length, take, drop, get_or, set, refl, Result, Ok, Err, OnErr, sym, ap, ◌∙◌, arith}
+-- What a step on the board is, by what came of the command.
+use Rattle.std.proofs.Common.{◌≡◌, ℕ, ◌<◌, ◌≤◌, Bool, true, false, cond, not, ◌&&◌, ◌||◌, nat_lt, List, [], ◌∷◌, ◌++◌, map, length, take, drop, get_or, set, Option, Some, is_some, refl, Result, Ok, Err, is_ok, OnOk, OnErr, sym, ap, subst, ◌∙◌, arith, append-nil}
 use Rattle.std.proofs.lemmas.List.{get_or_past, get_or_default, set-get_or, take_at}
 use Rattle.std.proofs.lemmas.Bool.Decides.{nat_tests}
 use Rattle.acdm_record.specs.Fields.{Fields, new_record}
 use Rattle.acdm_milestones.specs.declared.role.Role.{Role}
+use Rattle.acdm_milestones.specs.declared.refusal.Refusal.TheVariants.{Trapped}
+use Rattle.bpf_machine.specs.Steps as machine
+use Rattle.bpf_helpers.specs.Same.{same_sigs}
+use Rattle.acdm_slots.specs.Loaded.{Loaded, program_in}
 use Rattle.acdm_step.specs.declared.command.Command.{Command}
-use Rattle.acdm_step.specs.declared.command.Command.TheVariants.{Schedule, Report, Tick, Show}
+use Rattle.acdm_step.specs.declared.command.Command.TheVariants.{Schedule, Report, Load, Unload, Tick, Show}
 use Rattle.acdm_step.specs.declared.command.Command.TheVariants as commands
+use Rattle.acdm_step.specs.declared.command.Load as command_load
+use Rattle.acdm_step.specs.declared.command.Unload as command_unload
+use Rattle.acdm_step.specs.declared.outcome.Outcome.{Outcome}
 use Rattle.acdm_step.specs.declared.outcome.Outcome.TheVariants as outcomes
 use Rattle.acdm_step.specs.declared.entry.Verdict.{Verdict}
-use Rattle.acdm_step.specs.History.{flight_of, is_accepted, is_tick, changes_flight, verdict_for, tick_verdict, show_verdict, alert_list, outcome_with}
-use Rattle.acdm_step.specs.Board.{changed, touched, place_of, is_there, record_on, put, board_verdict, board_creates, board_outcome, board_changed, board_after}
+use Rattle.acdm_step.specs.declared.entry.Verdict.TheVariants.{Accepted, Refused}
+use Rattle.acdm_step.specs.History.{Board, flight_of, bit_of, is_accepted, is_tick, changes_flight, is_alerts, verdict_for, load_verdict, unload_verdict, tick_verdict, show_verdict, alert_list, outcome_with, with_slots}
+use Rattle.acdm_step.specs.Board.{board_of, assigned_to, touched, place_of, is_there, record_on, put, changed, programs_on, ready_on, left_on, board_verdict, board_creates, board_loads, board_outcome, board_changed, board_after}
+use Rattle.acdm_step.specs.Running.{Gained, ChangesTo, TrapsIn, Comes, answered, trapped}
 
 pub on_err : {T E P : Type 0} (r : Result T E) → P → OnErr r P
 on_err (Ok x) p = tt
@@ -25,134 +34,239 @@ no_lt a b h = grind (arith, nat_tests)
 get_default : (b : List Fields) (d : Fields) (place : ℕ) (r : Fields) → place < length b → r ≡ get_or b place r → get_or b place d ≡ r
 get_default b d place r h is = get_or_default b place d r h ∙ sym is
 
--- a command that is refused leaves the board, and one that is accepted changes it
-left : (b : List Fields) (role : Role) (now : ℕ) (c : Command) (o : Verdict) → board_verdict b role c ≡ o → is_accepted o ≡ false → b ≡ board_after b role now c
-unfolding board_after
-left b role now c o e d = sym (ap (λ v. cond (is_accepted v) (board_changed b now c) b) e ∙ ap (λ v. cond v (board_changed b now c) b) d)
+-- what a result that is known to be one or the other ensures
+pub when_ok : {T E P : Type 0} (r : Result T E) → is_ok r ≡ true → OnOk r P → P
+when_ok (Ok x) h p = p
+when_ok (Err e) h p = absurd (cc)
 
-taken : (b : List Fields) (role : Role) (now : ℕ) (c : Command) (o : Verdict) → is_tick c ≡ false → changes_flight c ≡ true → board_verdict b role c ≡ o → is_accepted o ≡ true
-    → put b (flight_of c) (changed (record_on b (flight_of c)) now c) ≡ board_after b role now c
-unfolding board_after
-taken b role now c o t k e d =
-    let here : List Fields = put b (flight_of c) (changed (record_on b (flight_of c)) now c) in
-    sym (ap (λ v. cond (is_accepted v) (board_changed b now c) b) e ∙ ap (λ v. cond v (board_changed b now c) b) d
-    ∙ ap (λ v. cond v (map (touched now) b) (cond (changes_flight c) here b)) t
-    ∙ ap (λ v. cond v here b) k)
+pub when_err : {T E P : Type 0} (r : Result T E) → is_ok r ≡ false → OnErr r P → P
+when_err (Ok x) h p = absurd (cc)
+when_err (Err e) h p = p
 
--- a question that is accepted leaves the board
-pub asked : (b : List Fields) (role : Role) (now : ℕ) (c : Command) → is_tick c ≡ false → changes_flight c ≡ false → b ≡ board_after b role now c
-unfolding board_after
-asked b role now c t k =
-    let here : List Fields = put b (flight_of c) (changed (record_on b (flight_of c)) now c) in
-    sym (ap (λ v. cond (is_accepted (board_verdict b role c)) v b) (ap (λ v. cond v (map (touched now) b) (cond (changes_flight c) here b)) t ∙ ap (λ v. cond v here b) k) ∙ either (is_accepted (board_verdict b role c)))
-  where
-    either : (v : Bool) → cond v b b ≡ b
-    either true = refl
-    either false = refl
+-- ---- the record at a flight's place
 
--- a tick
-pub tick_outcome_is : (b : List Fields) (role : Role) → outcome_with outcomes.Done (tick_verdict role) ≡ board_outcome b role Tick
-unfolding board_outcome board_verdict
-tick_outcome_is b role = refl
+pub record_there : (b : List Fields) (flight place : ℕ) (r s : Fields) → place ≡ place_of b flight → place < length b → r ≡ get_or b place r → s ≡ r → s ≡ record_on b flight
+record_there b flight place r s at inside is copied = copied ∙ sym (ap (λ n. get_or b n (new_record flight)) (sym at) ∙ get_default b (new_record flight) place r inside is)
 
-pub tick_after : (b : List Fields) (role : Role) (now : ℕ) → cond (is_accepted (tick_verdict role)) (map (touched now) b) b ≡ board_after b role now Tick
-unfolding board_after board_verdict
-tick_after b role now = refl
+pub record_absent : (b : List Fields) (flight place : ℕ) (s : Fields) → place ≡ place_of b flight → length b ≤ place → s ≡ new_record flight → s ≡ record_on b flight
+record_absent b flight place s at outside is = is ∙ sym (ap (λ n. get_or b n (new_record flight)) (sym at) ∙ get_or_past b place (new_record flight) outside)
 
--- a command that changes a flight asks nothing
-pub change_outcome_is : (b : List Fields) (role : Role) (c : Command) (v : Verdict) → changes_flight c ≡ true → v ≡ board_verdict b role c → outcome_with outcomes.Done v ≡ board_outcome b role c
+-- ---- commands by their kind
+
+pub change_no_tick : (c : Command) → changes_flight c ≡ true → is_tick c ≡ false
+change_no_tick (Schedule s) h = refl
+change_no_tick (Report r) h = refl
+change_no_tick _ h = absurd (cc)
+
+change_keeps_slots : (c : Command) (l : Loaded) → changes_flight c ≡ true → with_slots c l ≡ l
+change_keeps_slots (Schedule s) l h = refl
+change_keeps_slots (Report r) l h = refl
+change_keeps_slots _ l h = absurd (cc)
+
+change_is_ready : (c : Command) (l : Loaded) → changes_flight c ≡ true → ready_on l c ≡ true
+change_is_ready (Schedule s) l h = refl
+change_is_ready (Report r) l h = refl
+change_is_ready _ l h = absurd (cc)
+
+change_outcome_is : (b : Board) (role : Role) (c : Command) → changes_flight c ≡ true → outcome_with outcomes.Done (board_verdict b role c) ≡ board_outcome b role c
 unfolding board_outcome
-change_outcome_is b role (Schedule s) v k e = ap (outcome_with outcomes.Done) e
-change_outcome_is b role (Report r) v k e = ap (outcome_with outcomes.Done) e
-change_outcome_is b role _ v k e = absurd (cc)
+change_outcome_is b role (Schedule s) k = refl
+change_outcome_is b role (Report r) k = refl
+change_outcome_is b role _ k = absurd (cc)
 
--- questions
-pub show_outcome_is : (b : List Fields) (role : Role) (f : ℕ) → outcome_with (outcomes.Shown (record_on b f)) (show_verdict (is_there b f)) ≡ board_outcome b role (Show f)
-unfolding board_outcome board_verdict
-show_outcome_is b role f = refl
+accepted_is : (v : Verdict) → is_accepted v ≡ true → outcomes.Done ≡ outcome_with outcomes.Done v
+accepted_is Accepted h = refl
+accepted_is (Refused x) h = absurd (cc)
 
-pub alerts_outcome_is : (b : List Fields) (role : Role) → outcomes.Listed (alert_list b) ≡ board_outcome b role commands.Alerts
-unfolding board_outcome board_verdict
-alerts_outcome_is b role = refl
+-- nothing is left of no answer where no program runs
+none_left : (b : Board) (c : Command) (now : ℕ) → changes_flight c ≡ false → left_on b c now [] ≡ Some []
+none_left b (Schedule s) now h = absurd (cc)
+none_left b (Report r) now h = absurd (cc)
+none_left b _ now h = refl
 
-module _ (b : List Fields) (role : Role) (now : ℕ) (c : Command) (place : ℕ) (at : place ≡ place_of b (flight_of c)) where
-  module _ (r : Fields) (inside : place < length b) (is : r ≡ get_or b place r) where
-    record_there : record_on b (flight_of c) ≡ r
-    record_there = ap (λ n. get_or b n (new_record (flight_of c))) (sym at) ∙ get_default b (new_record (flight_of c)) place r inside is
+nothing_gained : (log : machine.Told) → log.now ≡ log.before → Gained log []
+nothing_gained log e = e ∙ sym (append-nil log.before)
 
-    flag_there : is_there b (flight_of c) ≡ true
-    flag_there = ap (λ n. nat_lt n (length b)) (sym at) ∙ is_lt place (length b) inside
+-- ---- what comes of a command on a board
 
-    verdict_there : board_verdict b role c ≡ verdict_for true (length b) r role c
-    unfolding board_verdict
-    verdict_there =
-        ap (λ t. verdict_for t (length b) (record_on b (flight_of c)) role c) flag_there ∙ ap (λ x. verdict_for true (length b) x role c) record_there
+module _ (b : Board) (role : Role) (now : ℕ) (c : Command) where
+  -- a refused command leaves the board
+  pub left : (answers : List ℕ) → is_accepted (board_verdict b role c) ≡ false → b ≡ board_after b role now c answers
+  unfolding board_after
+  left answers d = sym (ap (λ v. cond v (record { records = board_changed b now c answers; slots = with_slots c b.slots }) b) d)
 
-    put_there : set b place (changed r now c) ≡ put b (flight_of c) (changed (record_on b (flight_of c)) now c)
-    put_there =
-        sym (ap (λ x. put b (flight_of c) (changed x now c)) record_there
-        ∙ ap (λ t. cond t (set b (place_of b (flight_of c)) (changed r now c)) (b ++ changed r now c ∷ [])) flag_there
-        ∙ ap (λ n. set b n (changed r now c)) (sym at))
+  taken : (answers : List ℕ) → is_accepted (board_verdict b role c) ≡ true → record { records = board_changed b now c answers; slots = with_slots c b.slots } ≡ board_after b role now c answers
+  unfolding board_after
+  taken answers d = sym (ap (λ v. cond v (record { records = board_changed b now c answers; slots = with_slots c b.slots }) b) d)
 
-  module _ (outside : length b ≤ place) where
-    flag_absent : is_there b (flight_of c) ≡ false
-    flag_absent = ap (λ n. nat_lt n (length b)) (sym at) ∙ no_lt place (length b) outside
+  module _ (log : machine.Told) (outcome : Outcome) where
+    -- a refused change
+    pub comes_refused : (v : Verdict) → changes_flight c ≡ true → v ≡ board_verdict b role c → is_accepted v ≡ false → log.now ≡ log.before → outcome ≡ outcome_with outcomes.Done v
+        → Comes b role now c log outcome b
+    comes_refused v k e d same is =
+        let no : is_accepted (board_verdict b role c) ≡ false = sym (ap is_accepted e) ∙ d in
+        answered [] (nothing_gained log same) (is ∙ ap (outcome_with outcomes.Done) e ∙ change_outcome_is b role c k) (λ t. absurd (cc)) (λ t. refl) (left [] no)
 
-    record_absent : record_on b (flight_of c) ≡ new_record (flight_of c)
-    record_absent = ap (λ n. get_or b n (new_record (flight_of c))) (sym at) ∙ get_or_past b place (new_record (flight_of c)) outside
+    pub comes_trapped : (v : Verdict) (r : Fields) → v ≡ board_verdict b role c → is_accepted v ≡ true → r ≡ record_on b.records (flight_of c) → outcome ≡ outcomes.Refused Trapped
+        → TrapsIn (programs_on b.slots c) (assigned_to r c) now (bit_of c) log → Comes b role now c log outcome b
+    comes_trapped v r e d is out h =
+        trapped out (sym (ap is_accepted e) ∙ d) (subst (λ x. TrapsIn (programs_on b.slots c) (assigned_to x c) now (bit_of c) log) is h) refl
 
-    verdict_absent : board_verdict b role c ≡ verdict_for false (length b) (new_record (flight_of c)) role c
-    unfolding board_verdict
-    verdict_absent =
-        ap (λ t. verdict_for t (length b) (record_on b (flight_of c)) role c) flag_absent ∙ ap (λ x. verdict_for false (length b) x role c) record_absent
+    -- a change of one record
+    pub comes_changed : (v : Verdict) (r s : Fields) (rs : List Fields) → changes_flight c ≡ true → v ≡ board_verdict b role c → is_accepted v ≡ true → r ≡ record_on b.records (flight_of c)
+        → outcome ≡ outcomes.Done → ChangesTo (programs_on b.slots c) r now c log s → rs ≡ put b.records (flight_of c) s → Comes b role now c log outcome (board_of rs b.slots)
+    comes_changed v r s rs k e d is out h stored =
+        let yes : is_accepted (board_verdict b role c) ≡ true = sym (ap is_accepted e) ∙ d in
+        let h' : ChangesTo (programs_on b.slots c) (record_on b.records (flight_of c)) now c log s = subst (λ x. ChangesTo (programs_on b.slots c) x now c log s) is h in
+        let here : List Fields = put b.records (flight_of c) (changed (programs_on b.slots c) (record_on b.records (flight_of c)) now c h'.0) in
+        let records : rs ≡ board_changed b now c h'.0 =
+        stored ∙ ap (put b.records (flight_of c)) h'.3
+        ∙ sym (ap (λ t. cond t (map (touched now) b.records) (cond (changes_flight c) here b.records)) (change_no_tick c k) ∙ ap (λ t. cond t here b.records) k) in
+        let slots : b.slots ≡ with_slots c b.slots = sym (change_keeps_slots c b.slots k) in
+        answered h'.0 h'.1 (out ∙ accepted_is (board_verdict b role c) yes ∙ change_outcome_is b role c k) (λ t. h'.2) (λ t. absurd (cc))
+        ((λ i. record { records = records i; slots = slots i }) ∙ taken h'.0 yes)
 
-    put_absent : b ++ changed (new_record (flight_of c)) now c ∷ [] ≡ put b (flight_of c) (changed (record_on b (flight_of c)) now c)
-    put_absent =
-        sym (ap (λ x. put b (flight_of c) (changed x now c)) record_absent
-        ∙ ap (λ t. cond t (set b (place_of b (flight_of c)) (changed (new_record (flight_of c)) now c)) (b ++ changed (new_record (flight_of c)) now c ∷ [])) flag_absent)
+    -- what runs no program
+    pub comes_quiet : (new : Board) → changes_flight c ≡ false → log.now ≡ log.before → outcome ≡ board_outcome b role c → new ≡ board_after b role now c [] → Comes b role now c log outcome new
+    comes_quiet new k same is after = answered [] (nothing_gained log same) is (λ t. none_left b c now k) (λ t. refl) after
+
+  -- what changes slots alone, or nothing
+  pub quiet_after : (rs : List Fields) (sl : Loaded) → is_tick c ≡ false → changes_flight c ≡ false → rs ≡ b.records → sl ≡ cond (is_accepted (board_verdict b role c)) (with_slots c b.slots) b.slots
+      → board_of rs sl ≡ board_after b role now c []
+  unfolding board_after
+  quiet_after rs sl t k e f =
+      let same : b.records ≡ board_changed b now c [] =
+      sym (ap (λ v. cond v (map (touched now) b.records) (cond (changes_flight c) here b.records)) t ∙ ap (λ v. cond v here b.records) k) in
+      (λ i. record { records = (e ∙ same) i; slots = f i }) ∙ either (is_accepted (board_verdict b role c)) (board_changed b now c []) same
+    where
+      here : List Fields
+      here = put b.records (flight_of c) (changed (programs_on b.slots c) (record_on b.records (flight_of c)) now c [])
+
+      either : (v : Bool) (rs : List Fields) → b.records ≡ rs
+          → record { records = rs; slots = cond v (with_slots c b.slots) b.slots } ≡ cond v (record { records = rs; slots = with_slots c b.slots }) b
+      either true rs e = refl
+      either false rs e = λ i. record { records = sym e i; slots = b.slots }
+
+same_slots : (v : Bool) (l : Loaded) → l ≡ cond v l l
+same_slots true l = refl
+same_slots false l = refl
+
+-- ---- each command that changes no record of one flight
+
+module _ (b : Board) (role : Role) (now : ℕ) (log : machine.Told) (outcome : Outcome) (same : log.now ≡ log.before) where
+  pub comes_tick : (v : Verdict) (rs : List Fields) → v ≡ tick_verdict role → outcome ≡ outcome_with outcomes.Done v
+      → rs ≡ cond (is_accepted (tick_verdict role)) (map (touched now) b.records) b.records → Comes b role now Tick log outcome (board_of rs b.slots)
+  unfolding board_outcome board_verdict board_after
+  comes_tick v rs e is after =
+      comes_quiet b role now Tick log outcome (board_of rs b.slots) refl same (is ∙ ap (outcome_with outcomes.Done) e) ((λ i. record { records = after i; slots = b.slots }) ∙ either (is_accepted (tick_verdict role)))
+    where
+      either : (t : Bool) → record { records = cond t (map (touched now) b.records) b.records; slots = b.slots } ≡ cond t (record { records = map (touched now) b.records; slots = b.slots }) b
+      either true = refl
+      either false = refl
+
+  -- a question leaves the board
+  asked : (c : Command) → is_tick c ≡ false → changes_flight c ≡ false → with_slots c b.slots ≡ b.slots → outcome ≡ board_outcome b role c → Comes b role now c log outcome b
+  asked c t k w is =
+      comes_quiet b role now c log outcome b k same is
+      (quiet_after b role now c b.records b.slots t k refl (same_slots (is_accepted (board_verdict b role c)) b.slots ∙ ap (λ l. cond (is_accepted (board_verdict b role c)) l b.slots) (sym w)))
+
+  pub comes_show : (f : ℕ) → outcome ≡ outcome_with (outcomes.Shown (record_on b.records f)) (show_verdict (is_there b.records f)) → Comes b role now (Show f) log outcome b
+  unfolding board_outcome board_verdict
+  comes_show f is = asked (Show f) refl refl refl is
+
+  pub comes_alerts : outcome ≡ outcomes.Listed (alert_list b.records) → Comes b role now commands.Alerts log outcome b
+  unfolding board_outcome board_verdict
+  comes_alerts is = asked commands.Alerts refl refl refl is
+
+  -- a load or an unload
+  pub comes_placed : (c : Command) (v : Verdict) (sl : Loaded) → is_tick c ≡ false → changes_flight c ≡ false → v ≡ board_verdict b role c → outcome ≡ outcome_with outcomes.Done v
+      → outcome_with outcomes.Done v ≡ board_outcome b role c → sl ≡ cond (is_accepted (board_verdict b role c)) (with_slots c b.slots) b.slots → Comes b role now c log outcome (board_of b.records sl)
+  comes_placed c v sl t k e is out after =
+      comes_quiet b role now c log outcome (board_of b.records sl) k same (is ∙ out) (quiet_after b role now c b.records sl t k refl after)
+
+  pub comes_loaded : (l : command_load.Load) (v : Verdict) (sl : Loaded) → v ≡ load_verdict (same_sigs l.program.sigs b.slots.sigs) role → outcome ≡ outcome_with outcomes.Done v
+      → sl ≡ cond (is_accepted (load_verdict (same_sigs l.program.sigs b.slots.sigs) role)) (with_slots (Load l) b.slots) b.slots → Comes b role now (Load l) log outcome (board_of b.records sl)
+  unfolding board_outcome board_verdict
+  comes_loaded l v sl e is after = comes_placed (Load l) v sl refl refl e is (ap (outcome_with outcomes.Done) e) after
+
+  pub comes_unloaded : (u : command_unload.Unload) (v : Verdict) (sl : Loaded) → v ≡ unload_verdict (is_some (program_in b.slots u.milestone u.kind)) role → outcome ≡ outcome_with outcomes.Done v
+      → sl ≡ cond (is_accepted (unload_verdict (is_some (program_in b.slots u.milestone u.kind)) role)) (with_slots (Unload u) b.slots) b.slots → Comes b role now (Unload u) log outcome (board_of b.records sl)
+  unfolding board_outcome board_verdict
+  comes_unloaded u v sl e is after = comes_placed (Unload u) v sl refl refl e is (ap (outcome_with outcomes.Done) e) after
+
+-- the same of a board and a command that are equal to these
+pub comes_as : (b other : Board) (role : Role) (now : ℕ) (c same : Command) (log : machine.Told) (outcome : Outcome) (new : Board) → b ≡ other → same ≡ c → Comes b role now c log outcome new → Comes other role now same log outcome new
+comes_as b other role now c same log outcome new e f h = subst (λ x. Comes x role now same log outcome new) e (subst (λ x. Comes b role now x log outcome new) (sym f) h)
+
+-- and of one that stays
+pub comes_left : (b other : Board) (role : Role) (now : ℕ) (c same : Command) (log : machine.Told) (outcome : Outcome) → b ≡ other → same ≡ c → Comes b role now c log outcome b → Comes other role now same log outcome other
+comes_left b other role now c same log outcome e f h = subst (λ x. Comes x role now same log outcome x) e (subst (λ x. Comes b role now x log outcome b) (sym f) h)
+
+-- a load that is taken needs memory
+pub loading : (b : Board) (role : Role) (l : command_load.Load) → is_accepted (load_verdict (same_sigs l.program.sigs b.slots.sigs) role) ≡ true
+    → (is_alerts (Load l) || (board_loads b role (Load l) || board_creates b role (Load l))) ≡ true
+unfolding board_verdict
+loading b role l h = ap (λ t. t || (t && false)) h
 
 -- the record at a flight's place is what is shown of it
 pub shown : (b : List Fields) (f place : ℕ) → place ≡ place_of b f → (r s : Fields) → place < length b → r ≡ get_or b place r → s ≡ r
     → outcomes.Shown s ≡ outcome_with (outcomes.Shown (record_on b f)) (show_verdict (is_there b f))
 shown b f place at r s inside is copied =
     let there : is_there b f ≡ true = ap (λ n. nat_lt n (length b)) (sym at) ∙ is_lt place (length b) inside in
-    let found : record_on b f ≡ r = ap (λ n. get_or b n (new_record f)) (sym at) ∙ get_default b (new_record f) place r inside is in
-    ap outcomes.Shown (copied ∙ sym found) ∙ sym (ap (λ t. outcome_with (outcomes.Shown (record_on b f)) (show_verdict t)) there)
+    ap outcomes.Shown (record_there b f place r s at inside is copied) ∙ sym (ap (λ t. outcome_with (outcomes.Shown (record_on b f)) (show_verdict t)) there)
 
--- the same by what the code knows of each value
-module _ (b bs : List Fields) (role : Role) (now : ℕ) (c : Command) (place flight count : ℕ) (at : place ≡ place_of bs flight) (same : bs ≡ b) (of : flight ≡ flight_of c) (many : count ≡ length b) where
-  here : place ≡ place_of b (flight_of c)
-  here = at ∙ ap (λ x. place_of x flight) same ∙ ap (place_of b) of
+-- ---- what the code knows of a command that changes a flight
 
-  pub verdict_is_there : (r : Fields) (o : Verdict) → place < count → r ≡ get_or b place r → o ≡ verdict_for true count r role c → o ≡ board_verdict b role c
-  verdict_is_there r o inside is e = e ∙ ap (λ n. verdict_for true n r role c) many ∙ sym (verdict_there b role now c place here r (omega arith) is)
+module _ (bs : List Fields) (l : Loaded) (role : Role) (c : Command) (place flight count : ℕ) (at : place ≡ place_of bs flight) (of : flight ≡ flight_of c) (many : count ≡ length bs) (k : changes_flight c ≡ true) where
+  here : place ≡ place_of bs (flight_of c)
+  here = at ∙ ap (place_of bs) of
 
-  pub refused_there : (r : Fields) (o : Verdict) → place < count → r ≡ get_or b place r → o ≡ verdict_for true count r role c → is_accepted o ≡ false → set b place r ≡ board_after b role now c
-  refused_there r o inside is e d = ap (set b place) is ∙ set-get_or b place r ∙ left b role now c o (sym (verdict_is_there r o inside is e)) d
+  pub verdict_is : (r : Fields) (o : Verdict) (t : Bool) → t ≡ nat_lt place count → r ≡ record_on bs flight → o ≡ verdict_for t count r true role c → o ≡ board_verdict (board_of bs l) role c
+  unfolding board_verdict
+  verdict_is r o t test is e =
+      e ∙ ap (λ b. verdict_for b count r true role c) (test ∙ ap (λ n. nat_lt n count) here ∙ ap (λ n. nat_lt (place_of bs (flight_of c)) n) many)
+      ∙ ap (λ n. verdict_for (is_there bs (flight_of c)) n r true role c) many
+      ∙ ap (λ x. verdict_for (is_there bs (flight_of c)) (length bs) x true role c) (is ∙ ap (record_on bs) of)
+      ∙ ap (λ d. verdict_for (is_there bs (flight_of c)) (length bs) (record_on bs (flight_of c)) d role c) (sym (change_is_ready c l k))
 
-  pub accepted_there : (r s : Fields) (o : Verdict) → is_tick c ≡ false → changes_flight c ≡ true → place < count → r ≡ get_or b place r → o ≡ verdict_for true count r role c → is_accepted o ≡ true → s ≡ changed r now c → set b place s ≡ board_after b role now c
-  accepted_there r s o t k inside is e d ch =
-      ap (set b place) ch ∙ put_there b role now c place here r (omega arith) is ∙ taken b role now c o t k (sym (verdict_is_there r o inside is e)) d
+  pub record_is : (r : Fields) → r ≡ record_on bs flight → r ≡ record_on bs (flight_of c)
+  record_is r is = is ∙ ap (record_on bs) of
 
-  pub verdict_is_absent : (r : Fields) (o : Verdict) → count ≤ place → r ≡ new_record flight → o ≡ verdict_for false count r role c → o ≡ board_verdict b role c
-  verdict_is_absent r o outside is e =
-      e ∙ ap (λ n. verdict_for false n r role c) many ∙ ap (λ x. verdict_for false (length b) x role c) (is ∙ ap new_record of) ∙ sym (verdict_absent b role now c place here (omega arith))
+  pub put_there : (s : Fields) (rs : List Fields) → place < count → rs ≡ set bs place s → rs ≡ put bs (flight_of c) s
+  put_there s rs inside is =
+      let there : is_there bs (flight_of c) ≡ true = ap (λ n. nat_lt n (length bs)) (sym here) ∙ is_lt place (length bs) (omega (arith, many)) in
+      is ∙ ap (λ n. set bs n s) here ∙ sym (ap (λ t. cond t (set bs (place_of bs (flight_of c)) s) (bs ++ s ∷ [])) there)
 
-  pub refused_absent : (r : Fields) (o : Verdict) → count ≤ place → r ≡ new_record flight → o ≡ verdict_for false count r role c → is_accepted o ≡ false → b ≡ board_after b role now c
-  refused_absent r o outside is e d = left b role now c o (sym (verdict_is_absent r o outside is e)) d
+  flag_absent : count ≤ place → is_there bs (flight_of c) ≡ false
+  flag_absent outside = ap (λ n. nat_lt n (length bs)) (sym here) ∙ no_lt place (length bs) (omega (arith, many))
 
-  pub accepted_absent : (r s : Fields) (ys : List Fields) (o : Verdict) → is_tick c ≡ false → changes_flight c ≡ true → count ≤ place → r ≡ new_record flight → o ≡ verdict_for false count r role c → is_accepted o ≡ true → s ≡ changed r now c → ys ≡ b ++ s ∷ [] → ys ≡ board_after b role now c
-  accepted_absent r s ys o t k outside is e d ch app =
-      app ∙ ap (λ y. b ++ y ∷ []) (ch ∙ ap (λ y. changed y now c) (is ∙ ap new_record of)) ∙ put_absent b role now c place here (omega arith)
-      ∙ taken b role now c o t k (sym (verdict_is_absent r o outside is e)) d
+  pub put_absent : (s : Fields) (rs : List Fields) → count ≤ place → rs ≡ bs ++ s ∷ [] → rs ≡ put bs (flight_of c) s
+  put_absent s rs outside is = is ∙ sym (ap (λ t. cond t (set bs (place_of bs (flight_of c)) s) (bs ++ s ∷ [])) (flag_absent outside))
 
-  pub creating : (r : Fields) (o : Verdict) → changes_flight c ≡ true → count ≤ place → r ≡ new_record flight → o ≡ verdict_for false count r role c → is_accepted o ≡ true
-      → board_creates b role c ≡ true
-  creating r o k outside is e d =
-      ap (λ v. is_accepted v && (changes_flight c && not (is_there b (flight_of c)))) (sym (verdict_is_absent r o outside is e))
-      ∙ ap (λ v. v && (changes_flight c && not (is_there b (flight_of c)))) d
-      ∙ ap (λ v. v && not (is_there b (flight_of c))) k
-      ∙ ap not (flag_absent b role now c place here (omega arith))
+  pub creating : (o : Verdict) → count ≤ place → o ≡ board_verdict (board_of bs l) role c → is_accepted o ≡ true → board_creates (board_of bs l) role c ≡ true
+  creating o outside e d =
+      ap (λ v. is_accepted v && (changes_flight c && not (is_there bs (flight_of c)))) (sym e)
+      ∙ ap (λ v. v && (changes_flight c && not (is_there bs (flight_of c)))) d
+      ∙ ap (λ v. v && not (is_there bs (flight_of c))) k
+      ∙ ap not (flag_absent outside)
+
+  -- the record, the verdict on it, and the record of the flight after its programs
+  module _ (r : Fields) (o : Verdict) (t : Bool) (test : t ≡ nat_lt place count) (is : r ≡ record_on bs flight) (e : o ≡ verdict_for t count r true role c) (now : ℕ) (log : machine.Told) (outcome : Outcome) where
+    right : o ≡ board_verdict (board_of bs l) role c
+    right = verdict_is r o t test is e
+
+    pub flight_refused : is_accepted o ≡ false → log.now ≡ log.before → outcome ≡ outcome_with outcomes.Done o → Comes (board_of bs l) role now c log outcome (board_of bs l)
+    flight_refused d same out = comes_refused (board_of bs l) role now c log outcome o k right d same out
+
+    pub flight_trapped : is_accepted o ≡ true → outcome ≡ outcomes.Refused Trapped → (rs : List Fields) → rs ≡ bs → TrapsIn (programs_on l c) (assigned_to r c) now (bit_of c) log → Comes (board_of bs l) role now c log outcome (board_of rs l)
+    flight_trapped d out rs same h =
+        subst (λ x. Comes (board_of bs l) role now c log outcome (board_of x l)) (sym same) (comes_trapped (board_of bs l) role now c log outcome o r right d (record_is r is) out h)
+
+    pub flight_changed : is_accepted o ≡ true → outcome ≡ outcomes.Done → (s : Fields) (rs : List Fields) → ChangesTo (programs_on l c) r now c log s → rs ≡ put bs (flight_of c) s → Comes (board_of bs l) role now c log outcome (board_of rs l)
+    flight_changed d out s rs h stored = comes_changed (board_of bs l) role now c log outcome o r s rs k right d (record_is r is) out h stored
+
+    pub flight_created : count ≤ place → is_accepted o ≡ true → board_creates (board_of bs l) role c ≡ true
+    flight_created outside d = creating o outside right d
 
 -- what is written through a whole slice
 pub whole_slice : {X : Type 0} (xs ys : List X) (n : ℕ) → n ≡ length ys → take n (ys ++ drop (length ys) xs) ≡ ys

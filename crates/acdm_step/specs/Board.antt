@@ -1,5 +1,5 @@
--- One step on the records themselves, in order of creation.
-use Rattle.std.specs.Prelude.{ℕ, Bool, not, ◌&&◌, map, ◌==◌, nat_lt, if◌then◌else◌, List, [], ◌∷◌, ◌++◌, length, slice_index_or, slice_set}
+-- One step on the records themselves, in order of creation, and on the slots.
+use Rattle.std.specs.Prelude.{ℕ, Bool, true, not, ◌&&◌, map, ◌==◌, nat_lt, if◌then◌else◌, List, [], ◌∷◌, ◌++◌, length, slice_index_or, slice_set, Option, is_some}
 use Rattle.std.specs.List.{position_or_len}
 use Rattle.acdm_record.specs.declared.field.Field.TheVariants.{Flight, Alerts}
 use Rattle.acdm_record.specs.Fields.{Fields, number_of, set_number, new_record}
@@ -7,13 +7,22 @@ use Rattle.acdm_record.specs.Assign.{with_all}
 use Rattle.acdm_alerts.specs.Conditions.{alert_word}
 use Rattle.acdm_milestones.specs.declared.role.Role.{Role}
 use Rattle.acdm_milestones.specs.Tables.{marked}
+use Rattle.bpf_helpers.specs.Same.{same_sigs}
+use Rattle.acdm_slots.specs.declared.kind.Kind.TheVariants as kinds
+use Rattle.acdm_slots.specs.Loaded.{Loaded}
+use Rattle.acdm_slots.specs.Loaded as slots
 use Rattle.acdm_step.specs.declared.command.Command.{Command}
-use Rattle.acdm_step.specs.declared.command.Command.TheVariants.{Show}
+use Rattle.acdm_step.specs.declared.command.Command.TheVariants.{Report, Load, Unload, Show}
 use Rattle.acdm_step.specs.declared.command.Command.TheVariants as commands
 use Rattle.acdm_step.specs.declared.entry.Verdict.{Verdict}
 use Rattle.acdm_step.specs.declared.outcome.Outcome.{Outcome}
 use Rattle.acdm_step.specs.declared.outcome.Outcome.TheVariants as outcomes
-use Rattle.acdm_step.specs.History.{assigned_by, bit_of, flight_of, is_tick, changes_flight, is_accepted, verdict_for, alert_list, outcome_with}
+use Rattle.acdm_step.specs.Programs.{Programs, no_programs, said, said_with, with_said}
+use Rattle.acdm_step.specs.History.{Board, assigned_by, bit_of, flight_of, is_tick, is_load, changes_flight, is_accepted, verdict_for, alert_list, outcome_with, with_slots, left_after}
+
+-- records and slots together
+abbrev pub board_of : List Fields → Loaded → Board
+board_of records slots = record { records = records; slots = slots }
 
 -- a record with its alerts anew
 abbrev pub touched : ℕ → Fields → Fields
@@ -23,9 +32,9 @@ touched now r = set_number r Alerts (alert_word r now)
 abbrev pub assigned_to : Fields → Command → Fields
 assigned_to r c = marked (with_all r (assigned_by c)) (bit_of c)
 
--- the record of a flight after an accepted command of it
-abbrev pub changed : Fields → ℕ → Command → Fields
-changed r now c = touched now (assigned_to r c)
+-- the record of a flight after an accepted command of it, with what these programs say with these answers
+abbrev pub changed : Programs → Fields → ℕ → Command → List ℕ → Fields
+changed ps r now c answers = touched now (with_said (said ps (assigned_to r c) now (bit_of c) answers) (assigned_to r c))
 
 -- the place of a flight's record, or how many there are
 abbrev pub has_number : ℕ → Fields → Bool
@@ -44,27 +53,46 @@ record_on board f = slice_index_or board (place_of board f) (new_record f)
 abbrev pub put : List Fields → ℕ → Fields → List Fields
 put board f r = if is_there board f then slice_set board (place_of board f) r else board ++ r ∷ []
 
-unfoldable pub board_verdict : List Fields → Role → Command → Verdict
-board_verdict board role c = verdict_for (is_there board (flight_of c)) (length board) (record_on board (flight_of c)) role c
+-- the programs that a command runs
+abbrev pub programs_on : Loaded → Command → Programs
+programs_on l (Report r) = record { tobt = slots.program_in l r.milestone kinds.Tobt; alert = slots.program_in l r.milestone kinds.Alert }
+programs_on l _ = no_programs
+
+-- the last test of a load and of an unload
+abbrev pub ready_on : Loaded → Command → Bool
+ready_on l (Load c) = same_sigs c.program.sigs l.sigs
+ready_on l (Unload c) = is_some (slots.program_in l c.milestone c.kind)
+ready_on l _ = true
+
+unfoldable pub board_verdict : Board → Role → Command → Verdict
+board_verdict b role c = verdict_for (is_there b.records (flight_of c)) (length b.records) (record_on b.records (flight_of c)) (ready_on b.slots c) role c
 
 -- whether a command creates a flight
-abbrev pub board_creates : List Fields → Role → Command → Bool
-board_creates board role c = is_accepted (board_verdict board role c) && (changes_flight c && not (is_there board (flight_of c)))
+abbrev pub board_creates : Board → Role → Command → Bool
+board_creates b role c = is_accepted (board_verdict b role c) && (changes_flight c && not (is_there b.records (flight_of c)))
+
+-- whether it is a load that is taken
+abbrev pub board_loads : Board → Role → Command → Bool
+board_loads b role c = is_load c && is_accepted (board_verdict b role c)
 
 -- what an accepted command is answered
-abbrev pub board_answer : List Fields → Command → Outcome
-board_answer board (Show f) = outcomes.Shown (record_on board f)
-board_answer board commands.Alerts = outcomes.Listed (alert_list board)
-board_answer board _ = outcomes.Done
+abbrev pub board_answer : Board → Command → Outcome
+board_answer b (Show f) = outcomes.Shown (record_on b.records f)
+board_answer b commands.Alerts = outcomes.Listed (alert_list b.records)
+board_answer b _ = outcomes.Done
 
-unfoldable pub board_outcome : List Fields → Role → Command → Outcome
-board_outcome board role c = outcome_with (board_answer board c) (board_verdict board role c)
+unfoldable pub board_outcome : Board → Role → Command → Outcome
+board_outcome b role c = outcome_with (board_answer b c) (board_verdict b role c)
+
+-- the answers that are left of those that an accepted command was given, once its programs have ended
+abbrev pub left_on : Board → Command → ℕ → List ℕ → Option (List ℕ)
+left_on b c now answers = left_after (said_with (programs_on b.slots c) (assigned_to (record_on b.records (flight_of c)) c) now (bit_of c) answers)
 
 -- the records after an accepted command
-abbrev pub board_changed : List Fields → ℕ → Command → List Fields
-board_changed board now c =
-    if is_tick c then map (touched now) board
-    else (if changes_flight c then put board (flight_of c) (changed (record_on board (flight_of c)) now c) else board)
+abbrev pub board_changed : Board → ℕ → Command → List ℕ → List Fields
+board_changed b now c answers =
+    if is_tick c then map (touched now) b.records
+    else (if changes_flight c then put b.records (flight_of c) (changed (programs_on b.slots c) (record_on b.records (flight_of c)) now c answers) else b.records)
 
-unfoldable pub board_after : List Fields → Role → ℕ → Command → List Fields
-board_after board role now c = if is_accepted (board_verdict board role c) then board_changed board now c else board
+unfoldable pub board_after : Board → Role → ℕ → Command → List ℕ → Board
+board_after b role now c answers = if is_accepted (board_verdict b role c) then record { records = board_changed b now c answers; slots = with_slots c b.slots } else b

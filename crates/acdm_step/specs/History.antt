@@ -1,9 +1,9 @@
 -- What the board is after a history of entries (this project's profile). A history is the list of its entries,
 -- the newest first. Each question is asked of the whole history.
-use Rattle.std.specs.Prelude.{ℕ, ◌^◌, ◌≡◌, Bool, true, false, ◌&&◌, ◌||◌, ◌==◌, not, nat_lt, if◌then◌else◌, List, [], ◌∷◌, ◌++◌, map, length, bit_or, Option, Some, None, option_map, Result, Ok, Err}
+use Rattle.std.specs.Prelude.{ℕ, ◌^◌, ◌≡◌, ◌≢◌, ◌+◌, ◌⊎◌, Bool, true, false, ◌&&◌, ◌||◌, ◌==◌, not, nat_lt, if◌then◌else◌, List, [], ◌∷◌, ◌++◌, map, length, bit_or, Option, Some, None, is_some, option_map, Result, Ok, Err}
 use Rattle.std.specs.List.{list_any, flat_map}
 use Rattle.acdm_record.specs.declared.field.Field.{Field}
-use Rattle.acdm_record.specs.declared.field.Field.TheVariants.{Flight, Reached, Alerts, Mttt, Exot, Stand, Layout, Exit, Sobt}
+use Rattle.acdm_record.specs.declared.field.Field.TheVariants.{Flight, Reached, Alerts, Mttt, Exot, Stand, Layout, Exit, Sobt, Tobt}
 use Rattle.acdm_record.specs.declared.field.TextField.{TextField}
 use Rattle.acdm_record.specs.declared.field.TextField.TheVariants.{Callsign, ScheduledType, PlanType, ScheduledRegistration, PlanRegistration, ScheduledDestination, PlanDestination}
 use Rattle.acdm_record.specs.Place.{index_of, text_index_of}
@@ -13,12 +13,21 @@ use Rattle.acdm_milestones.specs.declared.role.Role.{Role}
 use Rattle.acdm_milestones.specs.declared.role.Action.TheVariants as actions
 use Rattle.acdm_milestones.specs.declared.milestone.Milestone.{Milestone}
 use Rattle.acdm_milestones.specs.declared.refusal.Refusal.{Refusal}
-use Rattle.acdm_milestones.specs.declared.refusal.Refusal.TheVariants.{UnknownFlight, NotOwner, AlreadyPlanned, FullBoard}
+use Rattle.acdm_milestones.specs.declared.refusal.Refusal.TheVariants.{UnknownFlight, NotOwner, AlreadyPlanned, FullBoard, EmptySlot, OtherSignatures, Trapped}
 use Rattle.acdm_alerts.specs.Conditions.{conditions}
+use Rattle.acdm_alerts.specs.Decided.{decided_word}
 use Rattle.acdm_milestones.specs.Tables.{number, owns, times_of, has_reached, admission}
+use Rattle.bpf_helpers.specs.Promise.{Promise}
+use Rattle.bpf_helpers.specs.Same.{same_sigs}
+use Rattle.bpf_regstate.specs.States.{Accepts, instruction_count}
+use Rattle.bpf_verifier.specs.Verdict.{Verified}
+use Rattle.acdm_slots.specs.declared.kind.Kind.{Kind}
+use Rattle.acdm_slots.specs.declared.kind.Kind.TheVariants as kinds
+use Rattle.acdm_slots.specs.Loaded.{Loaded, nothing_loaded, place, with_program}
+use Rattle.acdm_step.specs.Programs.{Programs, no_programs, Suggestion, Nothing, Usable, Unusable, Said, said, said_with}
 use Rattle.acdm_step.specs.declared.command.Plan.{Plan}
 use Rattle.acdm_step.specs.declared.command.Command.{Command}
-use Rattle.acdm_step.specs.declared.command.Command.TheVariants.{Schedule, Report, Tick, Show}
+use Rattle.acdm_step.specs.declared.command.Command.TheVariants.{Schedule, Report, Load, Unload, Tick, Show}
 use Rattle.acdm_step.specs.declared.command.Command.TheVariants as commands
 use Rattle.acdm_step.specs.declared.entry.Verdict.{Verdict}
 use Rattle.acdm_step.specs.declared.entry.Verdict.TheVariants.{Accepted, Refused}
@@ -40,8 +49,7 @@ abbrev pub flight_of : Command → ℕ
 flight_of (Schedule s) = s.flight
 flight_of (Report r) = r.flight
 flight_of (Show f) = f
-flight_of Tick = 0
-flight_of commands.Alerts = 0
+flight_of _ = 0
 
 -- whether it changes the record of one flight
 abbrev pub changes_flight : Command → Bool
@@ -52,6 +60,10 @@ changes_flight _ = false
 abbrev pub is_tick : Command → Bool
 is_tick Tick = true
 is_tick _ = false
+
+abbrev pub is_load : Command → Bool
+is_load (Load l) = true
+is_load _ = false
 
 abbrev pub planned : Option Plan → List Assignment
 planned None = []
@@ -95,38 +107,60 @@ ticks e = is_accepted e.verdict && is_tick e.command
 abbrev pub created : Entry → Option ℕ
 created e = if is_accepted e.verdict && creates e.command then Some (flight_of e.command) else None
 
+-- ---- the programs
+
+-- what an accepted command puts into a slot, where it loads or unloads that one
+abbrev pub slot_change : Milestone → Kind → Command → Option (Option Verified)
+slot_change m k (Load l) = if place l.milestone l.kind == place m k then Some (Some l.program) else None
+slot_change m k (Unload u) = if place u.milestone u.kind == place m k then Some None else None
+slot_change m k _ = None
+
+abbrev pub changed_or : Option (Option Verified) → Option Verified → Option Verified
+changed_or None before = before
+changed_or (Some now) before = now
+
+-- the program in a slot: that of the last accepted load or unload of the slot, or none
+abbrev pub program_in : History → Milestone → Kind → Option Verified
+program_in [] m k = None
+program_in (e ∷ J) m k = if is_accepted e.verdict then changed_or (slot_change m k e.command) (program_in J m k) else program_in J m k
+
+-- those that a command runs: a report the two of its milestone, any other command none
+abbrev pub programs_of : History → Command → Programs
+programs_of J (Report r) = record { tobt = program_in J r.milestone kinds.Tobt; alert = program_in J r.milestone kinds.Alert }
+programs_of J _ = no_programs
+
+abbrev pub has_program : Programs → Bool
+has_program ps = is_some ps.tobt || is_some ps.alert
+
+-- how many answers they use at most: the instructions of both
+abbrev pub size_of : Option Verified → ℕ
+size_of None = 0
+size_of (Some p) = instruction_count p.ops
+
+abbrev pub room_of : History → Command → ℕ
+room_of J c = size_of (programs_of J c).tobt + size_of (programs_of J c).alert
+
+-- all slots
+abbrev pub with_slots : Command → Loaded → Loaded
+with_slots (Load l) slots = with_program slots l.milestone l.kind (Some l.program)
+with_slots (Unload u) slots = with_program slots u.milestone u.kind None
+with_slots _ slots = slots
+
+abbrev pub slots_of : List (ℕ × Promise) → History → Loaded
+slots_of sigs [] = nothing_loaded sigs
+slots_of sigs (e ∷ J) = if is_accepted e.verdict then with_slots e.command (slots_of sigs J) else slots_of sigs J
+
 -- ---- what the whole history says of a flight
 
--- all that was assigned, the last first, the bits that were reached, and the moment of its last touch: an accepted
--- schedule or report of it, or an accepted tick after its creation
+-- all that was assigned, the last first, the bits that were reached, the moment of its last touch (an accepted schedule or
+-- report of it, or an accepted tick after its creation), and what programs decided last: whether a TOBT was rejected, and the
+-- local alerts
 pub record Told : Type 0 where
   pub assigned : List Assignment
   pub reached : ℕ
   pub touch : Option ℕ
-
--- new assignments before earlier ones, the last of them first
-abbrev pub onto : List Assignment → List Assignment → List Assignment
-onto [] earlier = earlier
-onto (a ∷ more) earlier = onto more (a ∷ earlier)
-
--- what an accepted command of the flight adds at its moment
-abbrev pub with_command : Command → ℕ → Told → Told
-with_command c now t = record { assigned = onto (assigned_by c) t.assigned; reached = bit_or t.reached (2 ^ bit_of c); touch = Some now }
-
--- a tick touches a flight that was touched before, by its creation
-abbrev pub with_tick : ℕ → Told → Told
-with_tick now t = record t { touch = option_map (λ m. now) t.touch }
-
--- what one entry adds; a refused entry, or one of another flight, adds nothing
-abbrev pub tell : Entry → ℕ → Told → Told
-tell e f t = if is_of f e then with_command e.command e.moment t else (if ticks e then with_tick e.moment t else t)
-
-abbrev pub nothing_told : Told
-nothing_told = record { assigned = []; reached = 0; touch = None }
-
-abbrev pub told : History → ℕ → Told
-told [] f = nothing_told
-told (e ∷ J) f = tell e f (told J f)
+  pub rejected : Bool
+  pub locals : ℕ
 
 -- the value that was assigned last, else 0 or the empty text
 abbrev pub last_number : List Assignment → Field → ℕ
@@ -150,21 +184,90 @@ number_with f assigned reached alerts name = last_number assigned name
 abbrev pub record_with : ℕ → List Assignment → ℕ → ℕ → Fields
 record_with f assigned reached alerts = fields_of (number_with f assigned reached alerts) (last_text assigned)
 
--- its alerts: the conditions at the moment of its last touch
-abbrev pub alerts_at : ℕ → List Assignment → ℕ → Option ℕ → ℕ
-alerts_at f assigned reached None = 0
-alerts_at f assigned reached (Some now) = conditions (record_with f assigned reached 0) now
+-- its alerts: what programs decided, and the conditions at the moment of its last touch
+abbrev pub computed_at : ℕ → List Assignment → ℕ → Option ℕ → ℕ
+computed_at f assigned reached None = 0
+computed_at f assigned reached (Some now) = conditions (record_with f assigned reached 0) now
+
+abbrev pub alerts_from : ℕ → Told → ℕ
+alerts_from f t = decided_word t.rejected t.locals + computed_at f t.assigned t.reached t.touch
 
 abbrev pub record_from : ℕ → Told → Fields
-record_from f t = record_with f t.assigned t.reached (alerts_at f t.assigned t.reached t.touch)
+record_from f t = record_with f t.assigned t.reached (alerts_from f t)
+
+-- new assignments before earlier ones, the last of them first
+abbrev pub onto : List Assignment → List Assignment → List Assignment
+onto [] earlier = earlier
+onto (a ∷ more) earlier = onto more (a ∷ earlier)
+
+-- what a command assigns and reaches, while the alerts are still those before it
+abbrev pub reported : ℕ → Command → Told → Fields
+reported f c t = record_with f (onto (assigned_by c) t.assigned) (bit_or t.reached (2 ^ bit_of c)) (alerts_from f t)
+
+-- what programs say of that
+abbrev pub said_on : Programs → Entry → ℕ → Told → Said
+said_on ps e f t = said ps (reported f e.command t) e.moment (bit_of e.command) e.answers
+
+-- a TOBT that a program gave is assigned too, and reaches milestone 9
+abbrev pub with_tobt : Suggestion → List Assignment → List Assignment
+with_tobt (Usable tobt) assigned = number_is Tobt tobt ∷ assigned
+with_tobt _ assigned = assigned
+
+abbrev pub with_ninth : Suggestion → ℕ → ℕ
+with_ninth (Usable tobt) reached = bit_or reached (2 ^ 9)
+with_ninth _ reached = reached
+
+abbrev pub rejects : Suggestion → Bool → Bool
+rejects Nothing before = before
+rejects (Usable tobt) before = false
+rejects Unusable before = true
+
+abbrev pub number_or : Option ℕ → ℕ → ℕ
+number_or None before = before
+number_or (Some n) before = n
+
+-- what an accepted command of the flight adds at its moment, with what programs said
+abbrev pub with_command : Command → ℕ → Said → Told → Told
+with_command c now s t = record {
+  assigned = with_tobt s.tobt (onto (assigned_by c) t.assigned);
+  reached = with_ninth s.tobt (bit_or t.reached (2 ^ bit_of c));
+  touch = Some now;
+  rejected = rejects s.tobt t.rejected;
+  locals = number_or s.locals t.locals;
+}
+
+-- a tick touches a flight that was touched before, by its creation
+abbrev pub with_tick : ℕ → Told → Told
+with_tick now t = record t { touch = option_map (λ m. now) t.touch }
+
+-- what one entry adds, with the programs that stood when it came; a refused entry, or one of another flight, adds nothing
+abbrev pub tell : Programs → Entry → ℕ → Told → Told
+tell ps e f t = if is_of f e then with_command e.command e.moment (said_on ps e f t) t else (if ticks e then with_tick e.moment t else t)
+
+abbrev pub nothing_told : Told
+nothing_told = record { assigned = []; reached = 0; touch = None; rejected = false; locals = 0 }
+
+abbrev pub told : History → ℕ → Told
+told [] f = nothing_told
+told (e ∷ J) f = tell (programs_of J e.command) e f (told J f)
 
 -- the record of a flight
 abbrev pub record_of : History → ℕ → Fields
 record_of J f = record_from f (told J f)
 
+-- whether a program gave a TOBT
+abbrev pub gives_tobt : Suggestion → Bool
+gives_tobt (Usable tobt) = true
+gives_tobt _ = false
+
+-- the bits that an accepted entry of the flight reached: its own, and 9 where a program gave a TOBT
+abbrev pub reaches : History → Entry → ℕ → ℕ → Bool
+reaches J e f m = bit_of e.command == m || (gives_tobt (said_on (programs_of J e.command) e f (told J f)).tobt && 9 == m)
+
 -- whether an accepted entry of the flight reached this bit: what a bit of the reached word means
 abbrev pub has_come_to : History → ℕ → ℕ → Bool
-has_come_to J f m = list_any (λ e. is_of f e && bit_of e.command == m) J
+has_come_to [] f m = false
+has_come_to (e ∷ J) f m = (is_of f e && reaches J e f m) || has_come_to J f m
 
 -- ---- the flights
 
@@ -208,16 +311,32 @@ tick_verdict role = if owns role actions.Tick then Accepted else Refused NotOwne
 abbrev pub show_verdict : Bool → Verdict
 show_verdict there = if there then Accepted else Refused UnknownFlight
 
-abbrev pub verdict_for : Bool → ℕ → Fields → Role → Command → Verdict
-verdict_for there count r role (Schedule s) = schedule_verdict there count r role
-verdict_for there count r role (Report p) = report_verdict there count r role p.milestone p.time
-verdict_for there count r role Tick = tick_verdict role
-verdict_for there count r role (Show f) = show_verdict there
-verdict_for there count r role commands.Alerts = Accepted
+-- a program may be loaded that was checked against the signatures of the board
+abbrev pub load_verdict : Bool → Role → Verdict
+load_verdict fits role = if not (owns role actions.Load) then Refused NotOwner else (if not fits then Refused OtherSignatures else Accepted)
 
--- the verdict on a command after a history
-abbrev pub verdict_of : History → Role → ℕ → Command → Verdict
-verdict_of J role moment c = verdict_for (exists J (flight_of c)) (length (flights J)) (record_of J (flight_of c)) role c
+abbrev pub unload_verdict : Bool → Role → Verdict
+unload_verdict filled role = if not (owns role actions.Unload) then Refused NotOwner else (if not filled then Refused EmptySlot else Accepted)
+
+-- the last test of a load and of an unload
+abbrev pub is_ready : List (ℕ × Promise) → History → Command → Bool
+is_ready sigs J (Load l) = same_sigs l.program.sigs sigs
+is_ready sigs J (Unload u) = is_some (program_in J u.milestone u.kind)
+is_ready sigs J _ = true
+
+abbrev pub verdict_for : Bool → ℕ → Fields → Bool → Role → Command → Verdict
+verdict_for there count r ready role (Schedule s) = schedule_verdict there count r role
+verdict_for there count r ready role (Report p) = report_verdict there count r role p.milestone p.time
+verdict_for there count r ready role (Load l) = load_verdict ready role
+verdict_for there count r ready role (Unload u) = unload_verdict ready role
+verdict_for there count r ready role Tick = tick_verdict role
+verdict_for there count r ready role (Show f) = show_verdict there
+verdict_for there count r ready role commands.Alerts = Accepted
+
+-- the verdict on a command after a history, on a board with these signatures; a report whose programs trap is refused beside
+-- that (`IsTrapped`)
+abbrev pub verdict_of : List (ℕ × Promise) → History → Role → Command → Verdict
+verdict_of sigs J role c = verdict_for (exists J (flight_of c)) (length (flights J)) (record_of J (flight_of c)) (is_ready sigs J c) role c
 
 -- ---- what comes of a command
 
@@ -239,8 +358,8 @@ outcome_with o Accepted = o
 outcome_with o (Refused x) = outcomes.Refused x
 
 -- what comes of a command after a history
-abbrev pub outcome_of : History → Role → ℕ → Command → Outcome
-outcome_of J role moment c = outcome_with (answer J c) (verdict_of J role moment c)
+abbrev pub outcome_of : List (ℕ × Promise) → History → Role → Command → Outcome
+outcome_of sigs J role c = outcome_with (answer J c) (verdict_of sigs J role c)
 
 -- the verdict that an outcome says
 abbrev pub verdict_in : Outcome → Verdict
@@ -249,29 +368,58 @@ verdict_in _ = Accepted
 
 -- ---- histories that the platform may have
 
-abbrev pub IsLegal : History → Type 0
-IsLegal [] = Unit {0}
-IsLegal (e ∷ J) = IsLegal J × (e.number ≡ length J) × (e.verdict ≡ verdict_of J e.role e.moment e.command)
+-- a program that is loaded was checked against the signatures of the board, and is accepted under them
+abbrev pub IsChecked : List (ℕ × Promise) → Command → Type 0
+IsChecked sigs (Load l) = (l.program.sigs ≡ sigs) × Accepts 128 l.program.ops sigs
+IsChecked sigs _ = Unit {0}
 
--- the board after a history: the records in order of creation
+-- the answers that are left of those that an accepted command was given, once its programs have ended
+abbrev pub left_after : Option (Said × List ℕ) → Option (List ℕ)
+left_after s = option_map (λ x. x.1) s
+
+abbrev pub left_by : History → Command → ℕ → List ℕ → Option (List ℕ)
+left_by J c now answers = left_after (said_with (programs_of J c) (reported (flight_of c) c (told J (flight_of c))) now (bit_of c) answers)
+
+-- the verdict is that of the tests, and the answers are those that the programs of an accepted command use
+pub record IsAnswered (sigs : List (ℕ × Promise)) (J : History) (role : Role) (now : ℕ) (c : Command) (verdict : Verdict) (answers : List ℕ) : Type 0 where
+  pub verdict_is : verdict ≡ verdict_of sigs J role c
+  pub used : is_accepted verdict ≡ true → left_by J c now answers ≡ Some []
+  pub unused : is_accepted verdict ≡ false → answers ≡ []
+
+-- a report that the tests accept is refused where one of its programs trapped
+pub record IsTrapped (sigs : List (ℕ × Promise)) (J : History) (role : Role) (c : Command) (verdict : Verdict) (answers : List ℕ) : Type 0 where
+  pub verdict_is : verdict ≡ Refused Trapped
+  pub accepted : is_accepted (verdict_of sigs J role c) ≡ true
+  pub runs : has_program (programs_of J c) ≡ true
+  pub unused : answers ≡ []
+
+abbrev pub IsLegal : List (ℕ × Promise) → History → Type 0
+IsLegal sigs [] = Unit {0}
+IsLegal sigs (e ∷ J) =
+    IsLegal sigs J × (e.number ≡ length J) × IsChecked sigs e.command
+    × (IsAnswered sigs J e.role e.moment e.command e.verdict e.answers ⊎ IsTrapped sigs J e.role e.command e.verdict e.answers)
+
+-- the board after a history: the records in order of creation, and the programs in the slots
 pub record Board : Type 0 where
   pub records : List Fields
+  pub slots : Loaded
 
-abbrev pub replay : History → Board
-replay J = record { records = map (record_of J) (flights J) }
+abbrev pub replay : List (ℕ × Promise) → History → Board
+replay sigs J = record { records = map (record_of J) (flights J); slots = slots_of sigs J }
 
--- the history with one more command
-abbrev pub after : History → ℕ → Role → ℕ → Command → History
-after J session role moment command = record { number = length J; session = session; role = role; moment = moment; command = command; verdict = verdict_of J role moment command } ∷ J
+-- the history with one more command, with what came of it and the answers of helpers
+abbrev pub after : History → ℕ → Role → ℕ → Command → Verdict → List ℕ → History
+after J session role moment command verdict answers =
+    record { number = length J; session = session; role = role; moment = moment; command = command; verdict = verdict; answers = answers } ∷ J
 
 -- whether a command would create a flight
-abbrev pub would_create : History → Role → ℕ → Command → Bool
-would_create J role moment c = is_accepted (verdict_of J role moment c) && (changes_flight c && not (exists J (flight_of c)))
+abbrev pub would_create : List (ℕ × Promise) → History → Role → Command → Bool
+would_create sigs J role c = is_accepted (verdict_of sigs J role c) && (changes_flight c && not (exists J (flight_of c)))
 
 abbrev pub is_alerts : Command → Bool
 is_alerts commands.Alerts = true
 is_alerts _ = false
 
--- whether a command needs memory: for the record of a new flight, or for a list of alerts
-abbrev pub needs_memory : History → Role → ℕ → Command → Bool
-needs_memory J role moment c = is_alerts c || would_create J role moment c
+-- whether a command needs memory: for the record of a new flight, for a copy of a program, or for a list of alerts
+abbrev pub needs_memory : List (ℕ × Promise) → History → Role → Command → Bool
+needs_memory sigs J role c = is_alerts c || (is_load c && is_accepted (verdict_of sigs J role c) || would_create sigs J role c)

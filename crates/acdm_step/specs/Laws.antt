@@ -1,5 +1,6 @@
 -- What crates above may cite of these definitions.
-use Rattle.std.specs.Prelude.{ℕ, ◌≡◌, refl}
+use Rattle.std.specs.Prelude.{ℕ, ◌≡◌, List, refl}
+use Rattle.bpf_helpers.specs.Promise.{Promise}
 use Rattle.acdm_milestones.specs.declared.role.Role.{Role}
 use Rattle.acdm_step.specs.declared.command.Command.{Command}
 use Rattle.acdm_step.specs.declared.command.Command.TheVariants.{Show}
@@ -15,5 +16,5 @@ says J commands.Alerts Accepted = refl
 says J _ Accepted = refl
 
 -- the verdict that an outcome says is the verdict on the command
-pub verdict_in-outcome_of : (J : History) (role : Role) (m : ℕ) (c : Command) → verdict_in (outcome_of J role m c) ≡ verdict_of J role m c
-verdict_in-outcome_of J role m c = says J c (verdict_of J role m c)
+pub verdict_in-outcome_of : (sigs : List (ℕ × Promise)) (J : History) (role : Role) (c : Command) → verdict_in (outcome_of sigs J role c) ≡ verdict_of sigs J role c
+verdict_in-outcome_of sigs J role c = says J c (verdict_of sigs J role c)

@@ -1,4 +1,6 @@
 pub mod Facts
+pub mod Programs
 pub mod History
 pub mod Board
+pub mod Running
 pub mod Laws

@@ -1,16 +1,23 @@
 //! What a command does to the record of its flight.
-ghost use Rattle.std.specs.Prelude.{◌≡◌, IsTrue};
+ghost use Rattle.std.specs.Prelude.{◌≡◌, ◌+◌, ◌<◌, ◌^◌, true, IsTrue, OnOk, OnErr};
 ghost use Rattle.acdm_record.specs.Assign.{with_all};
-ghost use Rattle.acdm_step.specs.History.{schedule_verdict, report_verdict, tick_verdict, verdict_for, flight_of, changes_flight, planned};
-ghost use Rattle.acdm_step.specs.Board.{assigned_to, changed as after_command, touched};
+ghost use Rattle.acdm_milestones.specs.Tables.{number};
+ghost use Rattle.bpf_machine.specs.Steps.{Told};
+ghost use Rattle.acdm_step.specs.History.{schedule_verdict, report_verdict, tick_verdict, verdict_for, flight_of, bit_of, changes_flight, planned};
+ghost use Rattle.acdm_step.specs.Board.{assigned_to, programs_on, touched};
+ghost use Rattle.acdm_step.specs.Running.{ChangesTo, TrapsIn};
 
 use crate::command::{Command, Plan, Report, Schedule};
 use crate::entry::Verdict;
+use crate::programs::run_programs;
 use acdm_alerts::builtin;
 use acdm_milestones::{
     Action, Milestone, Refusal, Role, admit, has_reached, mark_reached, owns, set_time,
 };
 use acdm_record::{Field, Record, TextField};
+use acdm_slots::Slots;
+use bpf_helpers::Oracle;
+use bpf_machine::Trap;
 
 /// How many flights a board has at most.
 pub const MOST_FLIGHTS: usize = 4096;
@@ -62,25 +69,52 @@ fn set_reported(record: &mut Record, report: &Report)
     mark_reached(record, report.milestone.number());
 }
 
-// Sets what an accepted command assigns to the record of its flight.
-fn assign(record: &mut Record, command: &Command)
-    requires { IsTrue (changes_flight command.now) }
-    ensures { record.new ≡ assigned_to record.old command.now }
+// What an accepted report does to the record of its flight.
+fn change_reported<O: Oracle>(
+    record: &mut Record,
+    slots: &Slots,
+    now: u32,
+    report: &Report,
+    oracle: &mut O,
+) -> Result<(), Trap>
+    requires sigs { O.sigs oracle.old ≡ slots.now.sigs }
+    requires counts { O.refusals oracle.old + 1 < 2 ^ 64 }
+    ensures changed { let log : Told = record { declines = O.declines oracle.old; before = O.log oracle.old; now = O.log oracle.new } in
+        OnOk result (ChangesTo (programs_on slots.now (Command.Report report.now)) record.old now (Command.Report report.now) log record.new) }
+    ensures trapped { let log : Told = record { declines = O.declines oracle.old; before = O.log oracle.old; now = O.log oracle.new } in
+        OnErr result (TrapsIn (programs_on slots.now (Command.Report report.now)) (assigned_to record.old (Command.Report report.now)) now (number report.now.milestone) log) }
 {
-    match command {
-        Command::Schedule(schedule) => set_scheduled(record, schedule),
-        Command::Report(report) => set_reported(record, report),
-        Command::Tick | Command::Show(_) | Command::Alerts => unreachable!(),
-    }
+    set_reported(record, report);
+    run_programs(slots, report.milestone, record, now, oracle)?;
+    touch(record, now);
+    Ok(())
 }
 
-/// What an accepted command does to the record of its flight, at a moment.
-pub(crate) fn change(record: &mut Record, now: u32, command: &Command)
-    requires { IsTrue (changes_flight command.now) }
-    ensures { record.new ≡ after_command record.old now command.now }
+/// What an accepted command does to the record of its flight, at a moment. Where a program of it traps the record is of no use.
+pub(crate) fn change<O: Oracle>(
+    record: &mut Record,
+    slots: &Slots,
+    now: u32,
+    command: &Command,
+    oracle: &mut O,
+) -> Result<(), Trap>
+    requires changes { IsTrue (changes_flight command.now) }
+    requires sigs { O.sigs oracle.old ≡ slots.now.sigs }
+    requires counts { O.refusals oracle.old + 1 < 2 ^ 64 }
+    ensures changed { let log : Told = record { declines = O.declines oracle.old; before = O.log oracle.old; now = O.log oracle.new } in
+        OnOk result (ChangesTo (programs_on slots.now command.now) record.old now command.now log record.new) }
+    ensures trapped { let log : Told = record { declines = O.declines oracle.old; before = O.log oracle.old; now = O.log oracle.new } in
+        OnErr result (TrapsIn (programs_on slots.now command.now) (assigned_to record.old command.now) now (bit_of command.now) log) }
 {
-    assign(record, command);
-    touch(record, now);
+    match command {
+        Command::Report(report) => change_reported(record, slots, now, report, oracle),
+        Command::Schedule(schedule) => {
+            set_scheduled(record, schedule);
+            touch(record, now);
+            Ok(())
+        }
+        _ => unreachable!(),
+    }
 }
 
 fn verdict_on_schedule(record: &Record, is_there: bool, count: usize, role: Role) -> Verdict
@@ -143,14 +177,14 @@ pub(crate) fn verdict(
     command: &Command,
 ) -> Verdict
     requires { IsTrue (changes_flight command.now) }
-    ensures { result ≡ verdict_for is_there count record.now role command.now }
+    ensures { result ≡ verdict_for is_there count record.now true role command.now }
 {
     match command {
         Command::Schedule(_) => verdict_on_schedule(record, is_there, count, role),
         Command::Report(report) => {
             verdict_on_report(record, is_there, count, role, report.milestone, report.time)
         }
-        Command::Tick | Command::Show(_) | Command::Alerts => unreachable!(),
+        _ => unreachable!(),
     }
 }
 
@@ -162,6 +196,6 @@ pub(crate) fn flight_of_command(command: &Command) -> u64
     match command {
         Command::Schedule(schedule) => schedule.flight,
         Command::Report(report) => report.flight,
-        Command::Tick | Command::Show(_) | Command::Alerts => unreachable!(),
+        _ => unreachable!(),
     }
 }

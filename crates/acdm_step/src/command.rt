@@ -4,6 +4,8 @@ ghost use Rattle.acdm_step.specs.Facts.{has_its_plan, has_its_time};
 
 use acdm_milestones::Milestone;
 use acdm_record::Text;
+use acdm_slots::Kind;
+use bpf_verifier::Checked;
 use std::marker::Model;
 
 /// What is planned for a flight.
@@ -143,6 +145,21 @@ impl FlightNumber {
     }
 }
 
+/// Puts a checked program into a slot, in place of what stands there.
+#[derive(Drop)]
+pub struct Load {
+    pub milestone: Milestone,
+    pub kind: Kind,
+    pub program: Checked,
+}
+
+/// Takes the program out of a slot.
+#[derive(Clone, Copy)]
+pub struct Unload {
+    pub milestone: Milestone,
+    pub kind: Kind,
+}
+
 /// What a partner asks for.
 #[derive(Drop)]
 pub enum Command {
@@ -150,6 +167,10 @@ pub enum Command {
     Schedule(Schedule),
     /// To report a milestone.
     Report(Report),
+    /// To load a local program.
+    Load(Load),
+    /// To take one away.
+    Unload(Unload),
     /// To compute the alerts of all flights anew.
     Tick,
     /// To see the record of a flight.

@@ -1,9 +1,11 @@
 //! The journal's entries.
-ghost use Rattle.std.specs.Prelude.{◌≡◌};
+ghost use Rattle.std.specs.Prelude.{◌≡◌, []};
 ghost use Rattle.acdm_step.specs.History.{is_accepted as was_accepted};
 
 use crate::command::Command;
 use acdm_milestones::{Refusal, Role};
+use std::alloc::Global;
+use std::marker::Model;
 
 /// Whether a command was accepted.
 #[derive(Clone, Copy, Debug, PartialEq, Eq)]
@@ -23,7 +25,48 @@ impl Verdict {
     }
 }
 
-/// One command, with the verdict on it. What an accepted question was answered can be told from the entries before.
+/// The answers of helpers that the programs of one command used, the first one first.
+#[derive(Drop)]
+pub struct Answers {
+    items: Vec<u64>,
+}
+
+impl Model for Answers {
+    ghost use Rattle.std.specs.Prelude.{ℕ, List};
+
+    ghost Value = { List ℕ };
+
+    ghost view = { λ a. a.items.items };
+}
+
+impl Answers {
+    /// No answer. It takes no memory.
+    pub fn none(alloc: Global) -> Answers
+        ensures { result ≡ [] }
+    {
+        Answers {
+            items: Vec::new(alloc),
+        }
+    }
+
+    /// The answers.
+    pub fn as_slice(&self) -> &[u64]
+        ensures { result.now ≡ self.now }
+    {
+        self.items.as_slice()
+    }
+}
+
+impl From<Vec<u64>> for Answers {
+    ghost from_gives = { λ items answers. answers ≡ items.items };
+
+    fn from(items: Vec<u64>) -> Answers {
+        Answers { items }
+    }
+}
+
+/// One command, with the verdict on it and the answers that its programs used. What an accepted question was answered can be
+/// told from the entries before.
 ///
 /// The moment is in minutes since 1970-01-01T00:00Z.
 #[derive(Drop)]
@@ -34,4 +77,5 @@ pub struct Entry {
     pub moment: u32,
     pub command: Command,
     pub verdict: Verdict,
+    pub answers: Answers,
 }

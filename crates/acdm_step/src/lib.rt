@@ -5,10 +5,11 @@ mod change;
 mod command;
 mod entry;
 mod outcome;
+mod programs;
 mod state;
 
-pub use command::{Command, FlightNumber, Plan, Report, Schedule};
-pub use entry::{Entry, Verdict};
+pub use command::{Command, FlightNumber, Load, Plan, Report, Schedule, Unload};
+pub use entry::{Answers, Entry, Verdict};
 pub use outcome::{AlertList, Alerted, Outcome};
 pub use state::Core;
 

@@ -51,6 +51,14 @@ impl AlertList {
         Ok(AlertList { items })
     }
 
+    /// A list that equals this one. `Err` only where memory was refused.
+    fn copy(&self) -> Result<AlertList, AllocError>
+        ensures { IfOk result (λ list. list ≡ self.now) }
+    {
+        let items = self.items.clone()?;
+        Ok(AlertList { items })
+    }
+
     /// The flights, each with its alerts.
     pub fn as_slice(&self) -> &[Alerted]
         ensures { result.now ≡ self.now }
@@ -80,6 +88,18 @@ impl Outcome {
         match self {
             Outcome::Refused(refusal) => Verdict::Refused(*refusal),
             Outcome::Done | Outcome::Shown(_) | Outcome::Listed(_) => Verdict::Accepted,
+        }
+    }
+
+    /// An outcome that equals this one. `Err` only where memory was refused, which a list of alerts needs.
+    pub fn copy(&self) -> Result<Outcome, AllocError>
+        ensures { IfOk result (λ outcome. outcome ≡ self.now) }
+    {
+        match self {
+            Outcome::Done => Ok(Outcome::Done),
+            Outcome::Shown(record) => Ok(Outcome::Shown(record.copy())),
+            Outcome::Listed(list) => Ok(Outcome::Listed(list.copy()?)),
+            Outcome::Refused(refusal) => Ok(Outcome::Refused(*refusal)),
         }
     }
 

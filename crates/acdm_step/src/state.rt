@@ -1,16 +1,24 @@
 //! The core: the records of the flights in order of creation.
-ghost use Rattle.std.specs.Prelude.{◌≡◌, ◌==◌, ◌||◌, ◌≤◌, ℕ, [], IsTrue, IfOk, OnErr, OnOk, IfSome, map, if◌then◌else◌, Option, Some, None};
+ghost use Rattle.std.specs.Prelude.{◌≡◌, ◌↔◌, ◌==◌, ◌||◌, ◌≤◌, ◌<◌, ◌+◌, ◌^◌, ◌++◌, ℕ, List, [], IsTrue, IfOk, OnErr, OnOk, IfSome, map, true, if◌then◌else◌, Option, Some, None, is_some};
 ghost use Rattle.std.specs.Option.{option_copied};
 ghost use Rattle.acdm_milestones.specs.Tables.{has_reached};
-ghost use Rattle.acdm_step.specs.History.{History, IsLegal, replay, after, outcome_of, outcome_with, needs_memory, exists, record_of as record_in, has_come_to, is_accepted, changes_flight, tick_verdict, show_verdict, is_alerts};
-ghost use Rattle.acdm_step.specs.Board.{touched, place_of, is_there, record_on, board_creates, board_verdict, board_outcome, board_after};
+ghost use Rattle.bpf_helpers.specs.Promise.{Promise};
+ghost use Rattle.bpf_helpers.specs.Same.{same_sigs};
+ghost use Rattle.bpf_machine.specs.Steps.{Told};
+ghost use Rattle.acdm_slots.specs.Loaded.{program_in};
+ghost use Rattle.acdm_step.specs.History.{History, IsLegal, replay, after, outcome_with, verdict_in, needs_memory, exists, record_of as record_in, has_come_to, is_accepted, changes_flight, load_verdict, unload_verdict, tick_verdict, show_verdict, is_alerts, with_slots, room_of, size_of};
+ghost use Rattle.acdm_step.specs.Board.{board_of, touched, place_of, is_there, record_on, board_creates, board_loads};
+ghost use Rattle.acdm_step.specs.Running.{Comes, ComesOf};
 
 use crate::change::{change, flight_of_command, touch, verdict, verdict_on_tick};
-use crate::command::Command;
+use crate::command::{Command, Load, Unload};
 use crate::entry::Verdict;
 use crate::outcome::{AlertList, Outcome};
-use acdm_milestones::{Refusal, Role};
+use crate::programs::size_in;
+use acdm_milestones::{Action, Refusal, Role, owns};
 use acdm_record::{Field, Record};
+use acdm_slots::{Kind, Slots};
+use bpf_helpers::{Oracle, Sigs};
 use std::alloc::{AllocError, Global};
 use std::marker::Model;
 
@@ -48,59 +56,101 @@ fn tick(records: &mut [Record], role: Role, now: u32) -> Verdict
     result
 }
 
-// A step on the record of one flight. Room for a new one is made before anything changes.
-fn step_flight(
-    records: &mut Vec<Record>,
-    role: Role,
-    now: u32,
-    command: &Command,
-) -> Result<Verdict, AllocError>
-    requires { IsTrue (changes_flight command.now) }
-    ensures verdict { IfOk result (λ verdict. verdict ≡ board_verdict records.old.items role command.now) }
-    ensures records { OnOk result (records.new.items ≡ board_after records.old.items role now command.now) }
-    ensures err { OnErr result (records.new.items ≡ records.old.items) }
-    ensures creating { OnErr result (IsTrue (board_creates records.old.items role command.now)) }
+// The record at a flight's place, or the one that it begins with.
+fn record_at(records: &[Record], place: usize, flight: u64) -> Record
+    requires { place ≡ place_of records.now flight }
+    ensures { result ≡ record_on records.now flight }
 {
-    let flight = flight_of_command(command);
-    let place = place_in(records.as_slice(), flight);
-    let count = records.len();
-    if place < count {
-        let record = &mut records[place];
-        let result = verdict(record, true, count, role, command);
-        if !result.is_accepted() {
-            return Ok(result);
-        }
-        change(record, now, command);
-        return Ok(result);
+    if place < records.len() {
+        records[place].copy()
+    } else {
+        Record::new(flight)
     }
-    let mut record = Record::new(flight);
-    let result = verdict(&record, false, count, role, command);
-    if !result.is_accepted() {
-        return Ok(result);
-    }
-    records.reserve(1)?;
-    change(&mut record, now, command);
-    if records.push(record).is_err() {
-        unreachable!();
-    }
-    Ok(result)
 }
 
-// The same, with what comes of it.
-fn change_one(
+// A step on the record of one flight. Room for a new one is made before its programs run, and nothing has changed before they
+// have ended.
+fn step_flight<O: Oracle>(
     records: &mut Vec<Record>,
+    slots: &Slots,
+    oracle: &mut O,
     role: Role,
     now: u32,
     command: &Command,
 ) -> Result<Outcome, AllocError>
-    requires { IsTrue (changes_flight command.now) }
-    ensures outcome { IfOk result (λ outcome. outcome ≡ board_outcome records.old.items role command.now) }
-    ensures records { OnOk result (records.new.items ≡ board_after records.old.items role now command.now) }
+    requires changes { IsTrue (changes_flight command.now) }
+    requires sigs { O.sigs oracle.old ≡ slots.now.sigs }
+    requires counts { O.refusals oracle.old + 1 < 2 ^ 64 }
+    ensures comes { let log : Told = record { declines = O.declines oracle.old; before = O.log oracle.old; now = O.log oracle.new } in
+        IfOk result (λ outcome. Comes (board_of records.old.items slots.now) role now command.now log outcome (board_of records.new.items slots.now)) }
     ensures err { OnErr result (records.new.items ≡ records.old.items) }
-    ensures creating { OnErr result (IsTrue (board_creates records.old.items role command.now)) }
+    ensures creating { OnErr result (IsTrue (board_creates (board_of records.old.items slots.now) role command.now)) }
 {
-    let verdict = step_flight(records, role, now, command)?;
-    Ok(Outcome::of(verdict))
+    let flight = flight_of_command(command);
+    let place = place_in(records.as_slice(), flight);
+    let count = records.len();
+    let mut record = record_at(records.as_slice(), place, flight);
+    let verdict = verdict(&record, place < count, count, role, command);
+    if !verdict.is_accepted() {
+        return Ok(Outcome::of(verdict));
+    }
+    if place < count {
+        if change(&mut record, slots, now, command, oracle).is_err() {
+            return Ok(Outcome::Refused(Refusal::Trapped));
+        }
+        records[place] = record;
+        return Ok(Outcome::Done);
+    }
+    records.reserve(1)?;
+    if change(&mut record, slots, now, command, oracle).is_err() {
+        return Ok(Outcome::Refused(Refusal::Trapped));
+    }
+    if records.push(record).is_err() {
+        unreachable!();
+    }
+    Ok(Outcome::Done)
+}
+
+// Whether a program was checked against the signatures of the board.
+fn is_checked_here(slots: &Slots, load: &Load) -> bool
+    ensures test { result ≡ same_sigs load.now.program.sigs slots.now.sigs }
+    ensures same { IsTrue result ↔ (load.now.program.sigs ≡ slots.now.sigs) }
+{
+    load.program.sigs().is_same(slots.sigs())
+}
+
+// Puts a copy of a program into its slot.
+fn load_program(slots: &mut Slots, role: Role, load: &Load) -> Result<Verdict, AllocError>
+    ensures verdict { IfOk result (λ verdict. verdict ≡ load_verdict (same_sigs load.now.program.sigs slots.old.sigs) role) }
+    ensures slots { OnOk result (slots.new ≡ (if is_accepted (load_verdict (same_sigs load.now.program.sigs slots.old.sigs) role) then with_slots (Command.Load load.now) slots.old else slots.old)) }
+    ensures err { OnErr result (slots.new ≡ slots.old) }
+    ensures loading { OnErr result (IsTrue (is_accepted (load_verdict (same_sigs load.now.program.sigs slots.old.sigs) role))) }
+{
+    if !owns(role, Action::Load) {
+        return Ok(Verdict::Refused(Refusal::NotOwner));
+    }
+    if !is_checked_here(slots, load) {
+        return Ok(Verdict::Refused(Refusal::OtherSignatures));
+    }
+    let program = load.program.copy()?;
+    if slots.load(load.milestone, load.kind, program).is_err() {
+        unreachable!();
+    }
+    Ok(Verdict::Accepted)
+}
+
+// Takes the program out of a slot.
+fn unload_program(slots: &mut Slots, role: Role, unload: &Unload) -> Verdict
+    ensures verdict { result ≡ unload_verdict (is_some (program_in slots.old unload.now.milestone unload.now.kind)) role }
+    ensures slots { slots.new ≡ (if is_accepted (unload_verdict (is_some (program_in slots.old unload.now.milestone unload.now.kind)) role) then with_slots (Command.Unload unload.now) slots.old else slots.old) }
+{
+    if !owns(role, Action::Unload) {
+        return Verdict::Refused(Refusal::NotOwner);
+    }
+    if slots.unload(unload.milestone, unload.kind).is_err() {
+        return Verdict::Refused(Refusal::EmptySlot);
+    }
+    Verdict::Accepted
 }
 
 // The record of a flight, as it is answered.
@@ -115,34 +165,11 @@ fn show(records: &[Record], flight: u64) -> Outcome
     }
 }
 
-// A step on the records.
-fn step(
-    records: &mut Vec<Record>,
-    role: Role,
-    now: u32,
-    command: &Command,
-) -> Result<Outcome, AllocError>
-    ensures outcome { IfOk result (λ outcome. outcome ≡ board_outcome records.old.items role command.now) }
-    ensures records { OnOk result (records.new.items ≡ board_after records.old.items role now command.now) }
-    ensures err { OnErr result (records.new.items ≡ records.old.items) }
-    ensures memory { OnErr result (IsTrue (is_alerts command.now || board_creates records.old.items role command.now)) }
-{
-    match command {
-        Command::Schedule(_) => change_one(records, role, now, command),
-        Command::Report(_) => change_one(records, role, now, command),
-        Command::Tick => Ok(Outcome::of(tick(records.as_mut_slice(), role, now))),
-        Command::Show(flight) => Ok(show(records.as_slice(), flight.get())),
-        Command::Alerts => {
-            let list = AlertList::of(*records.allocator(), records.as_slice())?;
-            Ok(Outcome::Listed(list))
-        }
-    }
-}
-
-/// The board of a history: the record of each flight, in order of creation.
+/// The board of a history: the record of each flight, in order of creation, and the programs in the slots.
 #[derive(Drop)]
 pub struct Core {
     records: Vec<Record>,
+    slots: Slots,
 }
 
 impl Model for Core {
@@ -150,25 +177,35 @@ impl Model for Core {
 
     ghost Value = { Board };
 
-    ghost view = { λ c. record { records = c.records.items } };
+    ghost view = { λ c. record { records = c.records.items; slots = c.slots } };
 }
 
 impl Core {
-    /// The board of the empty history. It takes no memory.
-    pub fn new(alloc: Global) -> Core
-        ensures { result ≡ replay [] }
+    /// The board of the empty history, for programs that were checked against these signatures. `Err` only where memory was
+    /// refused.
+    pub fn new(alloc: Global, sigs: Sigs) -> Result<Core, AllocError>
+        ensures { IfOk result (λ core. core ≡ replay sigs []) }
     {
-        Core {
+        let slots = Slots::new(alloc, sigs)?;
+        Ok(Core {
             records: Vec::new(alloc),
-        }
+            slots,
+        })
+    }
+
+    /// The signatures against which programs must have been checked.
+    pub fn sigs(&self) -> &Sigs
+        ensures { result.now ≡ self.now.slots.sigs }
+    {
+        self.slots.sigs()
     }
 
     /// The record of a flight, `None` where it is not on the board.
     pub fn record_of(&self, flight: u64) -> Option<&Record>
-        ensures record { (J : History) → self.now ≡ replay J →
+        ensures record { (sigs : List (ℕ × Promise)) (J : History) → self.now ≡ replay sigs J →
             option_copied result ≡ (if exists J flight then Some (record_in J flight) else None) }
         // A bit of the reached word is set exactly where an accepted entry reached it.
-        ensures reached { (J : History) → self.now ≡ replay J →
+        ensures reached { (sigs : List (ℕ × Promise)) (J : History) → self.now ≡ replay sigs J →
             IfSome result (λ r. (bit : ℕ) → has_reached r.now bit ≡ has_come_to J flight bit) }
     {
         let records = self.records.as_slice();
@@ -180,24 +217,100 @@ impl Core {
         }
     }
 
-    /// What comes of a command at a moment (minutes since 1970-01-01T00:00Z), and the board after it.
-    ///
-    /// `Err` only where memory was refused, which is asked for where a flight would be created, and for a list of alerts,
-    /// before anything changes.
-    pub fn apply(
+    /// How many answers of helpers the programs of a command use at most: for a report the instructions of both of its
+    /// milestone's programs, else 0.
+    pub fn room(&self, command: &Command) -> u64
+        ensures { (sigs : List (ℕ × Promise)) (J : History) → self.now ≡ replay sigs J → result ≡ room_of J command.now }
+    {
+        match command {
+            Command::Report(report) => {
+                size_in(&self.slots, report.milestone, Kind::Tobt)
+                    + size_in(&self.slots, report.milestone, Kind::Alert)
+            }
+            _ => 0,
+        }
+    }
+
+    // A step on the board.
+    fn step<O: Oracle>(
         &mut self,
+        oracle: &mut O,
+        role: Role,
+        now: u32,
+        command: &Command,
+    ) -> Result<Outcome, AllocError>
+        requires sigs { O.sigs oracle.old ≡ self.old.slots.sigs }
+        requires counts { O.refusals oracle.old + 1 < 2 ^ 64 }
+        ensures comes { let log : Told = record { declines = O.declines oracle.old; before = O.log oracle.old; now = O.log oracle.new } in
+            IfOk result (λ outcome. Comes self.old role now command.now log outcome self.new) }
+        ensures err { OnErr result (self.new ≡ self.old) }
+        ensures memory { OnErr result (IsTrue (is_alerts command.now || (board_loads self.old role command.now || board_creates self.old role command.now))) }
+    {
+        match command {
+            Command::Schedule(_) => step_flight(
+                &mut self.records,
+                &self.slots,
+                oracle,
+                role,
+                now,
+                command,
+            ),
+            Command::Report(_) => step_flight(
+                &mut self.records,
+                &self.slots,
+                oracle,
+                role,
+                now,
+                command,
+            ),
+            Command::Load(load) => {
+                let verdict = load_program(&mut self.slots, role, load)?;
+                Ok(Outcome::of(verdict))
+            }
+            Command::Unload(unload) => Ok(Outcome::of(unload_program(
+                &mut self.slots,
+                role,
+                unload,
+            ))),
+            Command::Tick => Ok(Outcome::of(tick(self.records.as_mut_slice(), role, now))),
+            Command::Show(flight) => Ok(show(self.records.as_slice(), flight.get())),
+            Command::Alerts => {
+                let list = AlertList::of(*self.records.allocator(), self.records.as_slice())?;
+                Ok(Outcome::Listed(list))
+            }
+        }
+    }
+
+    /// What comes of a command at a moment (minutes since 1970-01-01T00:00Z), and the board after it. Helpers that its programs
+    /// call are answered by the oracle.
+    ///
+    /// Where a program traps, the report is refused as `Trapped` and nothing has changed. `Err` only where memory was refused,
+    /// which is asked for where a flight would be created, for a load and for a list of alerts, before any program runs and
+    /// anything changes.
+    pub fn apply<O: Oracle>(
+        &mut self,
+        oracle: &mut O,
         role: Role,
         moment: u32,
         command: &Command,
     ) -> Result<Outcome, AllocError>
-        ensures outcome { IfOk result (λ outcome. (J : History) → IsLegal J → self.old ≡ replay J →
-            outcome ≡ outcome_of J role moment command.now) }
-        ensures board { OnOk result ((J : History) (session : ℕ) → IsLegal J → self.old ≡ replay J →
-            self.new ≡ replay (after J session role moment command.now)) }
+        // The oracle answers by the signatures of the board, and may still count one more call without an answer.
+        requires sigs { O.sigs oracle.old ≡ self.old.slots.sigs }
+        requires counts { O.refusals oracle.old + 1 < 2 ^ 64 }
+
+        // The answers meant are those that the oracle gave in the call, by which its log has grown.
+        ensures outcome { let log : Told = record { declines = O.declines oracle.old; before = O.log oracle.old; now = O.log oracle.new } in
+            IfOk result (λ outcome. (sigs : List (ℕ × Promise)) (J : History) → IsLegal sigs J → self.old ≡ replay sigs J →
+            ComesOf sigs J role moment command.now log outcome) }
+        ensures board { IfOk result (λ outcome. (sigs : List (ℕ × Promise)) (J : History) (session : ℕ) (answers : List ℕ) →
+            IsLegal sigs J → self.old ≡ replay sigs J →
+            (is_accepted (verdict_in outcome) ≡ true → O.log oracle.new ≡ O.log oracle.old ++ answers) →
+            self.new ≡ replay sigs (after J session role moment command.now (verdict_in outcome) answers)) }
+        ensures sigs { self.new.slots.sigs ≡ self.old.slots.sigs }
         ensures err { OnErr result (self.new ≡ self.old) }
-        ensures memory { OnErr result ((J : History) → IsLegal J → self.old ≡ replay J →
-            IsTrue (needs_memory J role moment command.now)) }
+        ensures memory { OnErr result ((sigs : List (ℕ × Promise)) (J : History) → IsLegal sigs J → self.old ≡ replay sigs J →
+            IsTrue (needs_memory sigs J role command.now)) }
     {
-        step(&mut self.records, role, moment, command)
+        self.step(oracle, role, moment, command)
     }
 }

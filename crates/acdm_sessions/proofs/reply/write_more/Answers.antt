@@ -1,4 +1,4 @@
-use Rattle.std.proofs.Common.{◌≡◌, ◌∷◌, ◌++◌, ap, ◌∙◌}
+use Rattle.std.proofs.Common.{◌++◌, ap, ◌∙◌}
 use Rattle.std.specs.List.{flat_map}
 use Rattle.acdm_sessions.specs.Output.{next_text}
 use Rattle.acdm_sessions.proofs.Writing.{Appends-both, piece-part, piece-whole, on_err}

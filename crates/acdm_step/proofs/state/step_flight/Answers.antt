@@ -1,60 +1,59 @@
-use Rattle.std.proofs.Common.{◌≡◌, true, not, is_ok, refl, ap, sym, ◌∙◌}
-use Rattle.acdm_step.proofs.Replay.{change_no_tick}
-use Rattle.acdm_step.proofs.Steps.{verdict_is_there, refused_there, accepted_there, verdict_is_absent, refused_absent, accepted_absent, creating, on_err}
+use Rattle.std.proofs.Common.{◌≡◌, true, not, is_ok, nat_lt, refl, ap, sym, ◌∙◌}
+use Rattle.acdm_step.specs.declared.outcome.Outcome.TheVariants as outcomes
+use Rattle.acdm_milestones.specs.declared.refusal.Refusal.TheVariants.{Trapped}
+use Rattle.acdm_step.specs.Board.{place_of, record_on}
+use Rattle.acdm_step.proofs.Steps.{flight_refused, flight_trapped, flight_changed, flight_created, put_there, put_absent, when_ok, when_err, on_err}
 use Rattle.acdm_step.proofs.state.step_flight.Goals as goal
 
-pub returns-then-not-is_accepted-clause-verdict : goal.returns-then-not-is_accepted-clause-verdict
-returns-then-not-is_accepted-clause-verdict c =
-    verdict_is_there c.args.records.now.items c.as_slice.result.now c.args.role c.args.now c.args.command.now c.place_in-place.result c.flight_of_command-flight.result c.len-count.result
-    c.place_in-place.ensures c.as_slice.ensures.value c.flight_of_command-flight.ensures (c.len-count.ensures ∙ c.args.records.now.ok.0)
-    c.index_mut-record.result.now c.verdict-result.result c.if-place-count.true c.index_mut-record.ensures.value c.verdict-result.ensures
+pub returns-then-not-is_accepted-clause-comes : goal.returns-then-not-is_accepted-clause-comes
+returns-then-not-is_accepted-clause-comes g c =
+    flight_refused c.args.records.now.items c.args.slots.now c.args.role c.args.command.now c.place_in-place.result c.flight_of_command-flight.result c.len-count.result
+    (c.place_in-place.ensures ∙ ap (λ x. place_of x c.flight_of_command-flight.result) c.as_slice.ensures.value) c.flight_of_command-flight.ensures (c.len-count.ensures ∙ c.args.records.now.ok.0) c.requires.changes
+    c.record_at-record.result c.verdict-verdict.result (nat_lt c.place_in-place.result c.len-count.result) refl
+    (c.record_at-record.ensures ∙ ap (λ x. record_on x c.flight_of_command-flight.result) c.as_slice-2.ensures.value) c.verdict-verdict.ensures c.args.now (record { declines = g.O.Oracle.declines c.args.oracle.now; before = g.O.Oracle.log c.args.oracle.now; now = g.O.Oracle.log c.args.oracle.now }) c.of.result
+    (sym c.is_accepted.ensures ∙ c.if-not-is_accepted.true) refl c.of.ensures
 
-pub returns-then-not-is_accepted-clause-records : goal.returns-then-not-is_accepted-clause-records
-returns-then-not-is_accepted-clause-records c =
-    refused_there c.args.records.now.items c.as_slice.result.now c.args.role c.args.now c.args.command.now c.place_in-place.result c.flight_of_command-flight.result c.len-count.result
-    c.place_in-place.ensures c.as_slice.ensures.value c.flight_of_command-flight.ensures (c.len-count.ensures ∙ c.args.records.now.ok.0)
-    c.index_mut-record.result.now c.verdict-result.result c.if-place-count.true c.index_mut-record.ensures.value c.verdict-result.ensures (sym c.is_accepted.ensures ∙ c.if-not-is_accepted.true)
+pub returns-then-is_err-clause-comes : goal.returns-then-is_err-clause-comes
+returns-then-is_err-clause-comes g c =
+    flight_trapped c.args.records.now.items c.args.slots.now c.args.role c.args.command.now c.place_in-place.result c.flight_of_command-flight.result c.len-count.result
+    (c.place_in-place.ensures ∙ ap (λ x. place_of x c.flight_of_command-flight.result) c.as_slice.ensures.value) c.flight_of_command-flight.ensures (c.len-count.ensures ∙ c.args.records.now.ok.0) c.requires.changes
+    c.record_at-record.result c.verdict-verdict.result (nat_lt c.place_in-place.result c.len-count.result) refl
+    (c.record_at-record.ensures ∙ ap (λ x. record_on x c.flight_of_command-flight.result) c.as_slice-2.ensures.value) c.verdict-verdict.ensures c.args.now (record { declines = g.O.Oracle.declines c.args.oracle.now; before = g.O.Oracle.log c.args.oracle.now; now = g.O.Oracle.log c.change.new.oracle }) (outcomes.Refused Trapped)
+    (sym c.is_accepted.ensures ∙ c.if-not-is_accepted.false) refl c.args.records.now.items refl (when_err c.change.result (c.is_err.ensures.negation ∙ ap not c.if-is_err.true) c.change.ensures.trapped)
 
-pub returns-then-place-count-clause-verdict : goal.returns-then-place-count-clause-verdict
-returns-then-place-count-clause-verdict c =
-    verdict_is_there c.args.records.now.items c.as_slice.result.now c.args.role c.args.now c.args.command.now c.place_in-place.result c.flight_of_command-flight.result c.len-count.result
-    c.place_in-place.ensures c.as_slice.ensures.value c.flight_of_command-flight.ensures (c.len-count.ensures ∙ c.args.records.now.ok.0)
-    c.index_mut-record.result.now c.verdict-result.result c.if-place-count.true c.index_mut-record.ensures.value c.verdict-result.ensures
-
-pub returns-then-place-count-clause-records : goal.returns-then-place-count-clause-records
-returns-then-place-count-clause-records c =
-    accepted_there c.args.records.now.items c.as_slice.result.now c.args.role c.args.now c.args.command.now c.place_in-place.result c.flight_of_command-flight.result c.len-count.result
-    c.place_in-place.ensures c.as_slice.ensures.value c.flight_of_command-flight.ensures (c.len-count.ensures ∙ c.args.records.now.ok.0)
-    c.index_mut-record.result.now c.change.new.record c.verdict-result.result (change_no_tick c.args.command.now c.requires) c.requires c.if-place-count.true c.index_mut-record.ensures.value c.verdict-result.ensures (sym c.is_accepted.ensures ∙ c.if-not-is_accepted.false) c.change.ensures
-
-pub returns-then-not-is_accepted-2-clause-verdict : goal.returns-then-not-is_accepted-2-clause-verdict
-returns-then-not-is_accepted-2-clause-verdict c =
-    verdict_is_absent c.args.records.now.items c.as_slice.result.now c.args.role c.args.now c.args.command.now c.place_in-place.result c.flight_of_command-flight.result c.len-count.result
-    c.place_in-place.ensures c.as_slice.ensures.value c.flight_of_command-flight.ensures (c.len-count.ensures ∙ c.args.records.now.ok.0)
-    c.new-record.result c.verdict-result-2.result c.if-place-count.false c.new-record.ensures c.verdict-result-2.ensures
-
-pub returns-then-not-is_accepted-2-clause-records : goal.returns-then-not-is_accepted-2-clause-records
-returns-then-not-is_accepted-2-clause-records c =
-    refused_absent c.args.records.now.items c.as_slice.result.now c.args.role c.args.now c.args.command.now c.place_in-place.result c.flight_of_command-flight.result c.len-count.result
-    c.place_in-place.ensures c.as_slice.ensures.value c.flight_of_command-flight.ensures (c.len-count.ensures ∙ c.args.records.now.ok.0)
-    c.new-record.result c.verdict-result-2.result c.if-place-count.false c.new-record.ensures c.verdict-result-2.ensures (sym c.is_accepted-2.ensures ∙ c.if-not-is_accepted-2.true)
+pub returns-then-place-count-clause-comes : goal.returns-then-place-count-clause-comes
+returns-then-place-count-clause-comes g c =
+    flight_changed c.args.records.now.items c.args.slots.now c.args.role c.args.command.now c.place_in-place.result c.flight_of_command-flight.result c.len-count.result
+    (c.place_in-place.ensures ∙ ap (λ x. place_of x c.flight_of_command-flight.result) c.as_slice.ensures.value) c.flight_of_command-flight.ensures (c.len-count.ensures ∙ c.args.records.now.ok.0) c.requires.changes
+    c.record_at-record.result c.verdict-verdict.result (nat_lt c.place_in-place.result c.len-count.result) refl
+    (c.record_at-record.ensures ∙ ap (λ x. record_on x c.flight_of_command-flight.result) c.as_slice-2.ensures.value) c.verdict-verdict.ensures c.args.now (record { declines = g.O.Oracle.declines c.args.oracle.now; before = g.O.Oracle.log c.args.oracle.now; now = g.O.Oracle.log c.change.new.oracle }) outcomes.Done
+    (sym c.is_accepted.ensures ∙ c.if-not-is_accepted.false) refl c.change.new.record _ (when_ok c.change.result (c.is_err.ensures.negation ∙ ap not c.if-is_err.false) c.change.ensures.changed)
+    (put_there c.args.records.now.items c.args.slots.now c.args.role c.args.command.now c.place_in-place.result c.flight_of_command-flight.result c.len-count.result
+    (c.place_in-place.ensures ∙ ap (λ x. place_of x c.flight_of_command-flight.result) c.as_slice.ensures.value) c.flight_of_command-flight.ensures (c.len-count.ensures ∙ c.args.records.now.ok.0) c.requires.changes c.change.new.record _ c.if-place-count.true refl)
 
 pub returns-in_err-reserve-clause-creating : goal.returns-in_err-reserve-clause-creating
-returns-in_err-reserve-clause-creating c =
+returns-in_err-reserve-clause-creating g c =
     on_err c.from_residual.result
-    (creating c.args.records.now.items c.as_slice.result.now c.args.role c.args.now c.args.command.now c.place_in-place.result c.flight_of_command-flight.result c.len-count.result
-    c.place_in-place.ensures c.as_slice.ensures.value c.flight_of_command-flight.ensures (c.len-count.ensures ∙ c.args.records.now.ok.0)
-    c.new-record.result c.verdict-result-2.result c.requires c.if-place-count.false c.new-record.ensures c.verdict-result-2.ensures (sym c.is_accepted-2.ensures ∙ c.if-not-is_accepted-2.false))
+    (flight_created c.args.records.now.items c.args.slots.now c.args.role c.args.command.now c.place_in-place.result c.flight_of_command-flight.result c.len-count.result
+    (c.place_in-place.ensures ∙ ap (λ x. place_of x c.flight_of_command-flight.result) c.as_slice.ensures.value) c.flight_of_command-flight.ensures (c.len-count.ensures ∙ c.args.records.now.ok.0) c.requires.changes
+    c.record_at-record.result c.verdict-verdict.result (nat_lt c.place_in-place.result c.len-count.result) refl
+    (c.record_at-record.ensures ∙ ap (λ x. record_on x c.flight_of_command-flight.result) c.as_slice-2.ensures.value) c.verdict-verdict.ensures c.args.now (record { declines = g.O.Oracle.declines c.args.oracle.now; before = g.O.Oracle.log c.args.oracle.now; now = g.O.Oracle.log c.args.oracle.now }) outcomes.Done c.if-place-count.false (sym c.is_accepted.ensures ∙ c.if-not-is_accepted.false))
 
-pub returns-clause-verdict : goal.returns-clause-verdict
-returns-clause-verdict c =
-    verdict_is_absent c.args.records.now.items c.as_slice.result.now c.args.role c.args.now c.args.command.now c.place_in-place.result c.flight_of_command-flight.result c.len-count.result
-    c.place_in-place.ensures c.as_slice.ensures.value c.flight_of_command-flight.ensures (c.len-count.ensures ∙ c.args.records.now.ok.0)
-    c.new-record.result c.verdict-result-2.result c.if-place-count.false c.new-record.ensures c.verdict-result-2.ensures
+pub returns-then-is_err-2-clause-comes : goal.returns-then-is_err-2-clause-comes
+returns-then-is_err-2-clause-comes g c =
+    flight_trapped c.args.records.now.items c.args.slots.now c.args.role c.args.command.now c.place_in-place.result c.flight_of_command-flight.result c.len-count.result
+    (c.place_in-place.ensures ∙ ap (λ x. place_of x c.flight_of_command-flight.result) c.as_slice.ensures.value) c.flight_of_command-flight.ensures (c.len-count.ensures ∙ c.args.records.now.ok.0) c.requires.changes
+    c.record_at-record.result c.verdict-verdict.result (nat_lt c.place_in-place.result c.len-count.result) refl
+    (c.record_at-record.ensures ∙ ap (λ x. record_on x c.flight_of_command-flight.result) c.as_slice-2.ensures.value) c.verdict-verdict.ensures c.args.now (record { declines = g.O.Oracle.declines c.args.oracle.now; before = g.O.Oracle.log c.args.oracle.now; now = g.O.Oracle.log c.change-2.new.oracle }) (outcomes.Refused Trapped)
+    (sym c.is_accepted.ensures ∙ c.if-not-is_accepted.false) refl c.reserve.new.self.items (rw c.reserve.ensures.items refl) (when_err c.change-2.result (c.is_err-2.ensures.negation ∙ ap not c.if-is_err-2.true) c.change-2.ensures.trapped)
 
-pub returns-clause-records : goal.returns-clause-records
-returns-clause-records c =
-    let okay : is_ok c.push.result ≡ true = c.is_err.ensures.negation ∙ ap not c.if-is_err.false in
-    accepted_absent c.args.records.now.items c.as_slice.result.now c.args.role c.args.now c.args.command.now c.place_in-place.result c.flight_of_command-flight.result c.len-count.result
-    c.place_in-place.ensures c.as_slice.ensures.value c.flight_of_command-flight.ensures (c.len-count.ensures ∙ c.args.records.now.ok.0)
-    c.new-record.result c.change-2.new.record c.push.new.self.items c.verdict-result-2.result (change_no_tick c.args.command.now c.requires) c.requires c.if-place-count.false c.new-record.ensures c.verdict-result-2.ensures (sym c.is_accepted-2.ensures ∙ c.if-not-is_accepted-2.false) c.change-2.ensures (rw (c.push.ensures.items, okay, c.reserve.ensures.items) refl)
+pub returns-clause-comes : goal.returns-clause-comes
+returns-clause-comes g c =
+    let okay : is_ok c.push.result ≡ true = c.is_err-3.ensures.negation ∙ ap not c.if-is_err-3.false in
+    flight_changed c.args.records.now.items c.args.slots.now c.args.role c.args.command.now c.place_in-place.result c.flight_of_command-flight.result c.len-count.result
+    (c.place_in-place.ensures ∙ ap (λ x. place_of x c.flight_of_command-flight.result) c.as_slice.ensures.value) c.flight_of_command-flight.ensures (c.len-count.ensures ∙ c.args.records.now.ok.0) c.requires.changes
+    c.record_at-record.result c.verdict-verdict.result (nat_lt c.place_in-place.result c.len-count.result) refl
+    (c.record_at-record.ensures ∙ ap (λ x. record_on x c.flight_of_command-flight.result) c.as_slice-2.ensures.value) c.verdict-verdict.ensures c.args.now (record { declines = g.O.Oracle.declines c.args.oracle.now; before = g.O.Oracle.log c.args.oracle.now; now = g.O.Oracle.log c.change-2.new.oracle }) outcomes.Done
+    (sym c.is_accepted.ensures ∙ c.if-not-is_accepted.false) refl c.change-2.new.record c.push.new.self.items (when_ok c.change-2.result (c.is_err-2.ensures.negation ∙ ap not c.if-is_err-2.false) c.change-2.ensures.changed)
+    (put_absent c.args.records.now.items c.args.slots.now c.args.role c.args.command.now c.place_in-place.result c.flight_of_command-flight.result c.len-count.result
+    (c.place_in-place.ensures ∙ ap (λ x. place_of x c.flight_of_command-flight.result) c.as_slice.ensures.value) c.flight_of_command-flight.ensures (c.len-count.ensures ∙ c.args.records.now.ok.0) c.requires.changes c.change-2.new.record c.push.new.self.items c.if-place-count.false (rw (c.push.ensures.items, okay, c.reserve.ensures.items) refl))

@@ -1,0 +1,25 @@
+//! Why a desk takes no command.
+ghost use Rattle.std.specs.Prelude.{◌≡◌};
+
+use std::alloc::AllocError;
+
+/// Why a desk took no command. Nothing has changed then.
+#[derive(Clone, Copy, Debug, PartialEq, Eq)]
+pub enum DeskError {
+    /// 502: the journal has as many entries as it takes.
+    Full,
+    /// 322: the program of a load was checked against other signatures than those of the desk's helpers.
+    OtherSignatures,
+    /// 501: memory was refused.
+    Memory,
+}
+
+impl From<AllocError> for DeskError {
+    ghost use Rattle.acdm_board.specs.declared.error.DeskError.TheVariants.{Memory};
+
+    ghost from_gives = { λ _ e. e ≡ Memory };
+
+    fn from(_error: AllocError) -> DeskError {
+        DeskError::Memory
+    }
+}

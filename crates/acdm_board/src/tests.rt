@@ -1,0 +1,157 @@
+//! A helper that is asked through the desk, and what its entry keeps.
+ghost use Rattle.std.specs.Prelude.{◌≡◌, ◌+◌, ◌<◌, ◌^◌, IfOk};
+ghost use Rattle.bpf_helpers.specs.Known.{sum};
+
+use crate::{Desk, DeskError};
+use acdm_milestones::{Milestone, Role};
+use acdm_record::{Field, Text};
+use acdm_slots::Kind;
+use acdm_step::{Command, Load, Plan, Report, Schedule, Verdict};
+use bpf_decode::decode;
+use bpf_helpers::{Bank, Code, Helper, Helpers, Range, Signature, Sigs};
+use bpf_verifier::verify;
+use std::alloc::Global;
+use std::process::Abort;
+use std::test::Fail;
+
+// 2025-02-20T09:00Z and 10:00Z.
+const NINE: u32 = 29_000_700;
+
+const TEN: u32 = 29_000_760;
+
+// r1 = the moment, r2 = 5, helper 3, exit.
+const FIVE_LATER: [u8; 32] = [
+    0xbf, 0x31, 0, 0, 0, 0, 0, 0, 0xb7, 0x02, 0, 0, 5, 0, 0, 0, 0x85, 0, 0, 0, 3, 0, 0, 0, 0x95, 0,
+    0, 0, 0, 0, 0, 0,
+];
+
+fn sum_signature(alloc: Global) -> Result<Signature, Fail>
+    ensures { IfOk result (λ signature. signature ≡ sum) }
+{
+    let args = vec![in alloc;
+        Range {
+            lo: 0,
+            hi: 4_294_967_295
+        },
+        Range { lo: 0, hi: 10_000 },
+    ]?;
+    let answer = Range {
+        lo: 0,
+        hi: 4_294_977_295,
+    };
+    Ok(Signature::new(args, answer, Vec::new(alloc)).unwrap())
+}
+
+fn plan() -> Result<Plan, Fail> {
+    Ok(Plan {
+        callsign: Text::from_bytes(b"DLH7").ok_or("a callsign")?,
+        aircraft: Text::from_bytes(b"A320").ok_or("a type")?,
+        registration: Text::from_bytes(b"DAIBC").ok_or("a registration")?,
+        destination: Text::from_bytes(b"EDDM").ok_or("a destination")?,
+    })
+}
+
+fn scheduled() -> Result<Command, Fail> {
+    Ok(Command::Schedule(Schedule::new(7, plan()?, TEN, 40, 5, 10, 12)))
+}
+
+fn planned() -> Result<Command, Fail> {
+    Ok(Command::Report(Report::new(7, Milestone::FlightPlanActivated, TEN, Some(plan()?))))
+}
+
+fn at_nine(milestone: Milestone) -> Result<Command, Fail> {
+    if matches!(milestone, Milestone::FlightPlanActivated) {
+        return Err("no plan".into());
+    }
+    Ok(Command::Report(Report::new(7, milestone, NINE, None)))
+}
+
+// A load of these bytes, checked against these signatures.
+fn loaded(alloc: Global, bytes: &[u8], sigs: &Sigs) -> Result<Command, Fail> {
+    let program = decode(alloc, bytes).map_err(|_| "no program")?;
+    let program = verify(alloc, program, sigs).map_err(|_| "not accepted")?;
+    Ok(Command::Load(Load {
+        milestone: Milestone::InBlock,
+        kind: Kind::Tobt,
+        program,
+    }))
+}
+
+fn no_sigs(alloc: Global) -> Result<Sigs, Fail> {
+    let bank = Bank::new(alloc)?;
+    Ok(bank.sigs()?)
+}
+
+// The TOBT of flight 7 is five minutes after its in-block report, as helper 3 says it.
+fn five_minutes_later<H: Helpers + Drop>(
+    rt: &impl Abort,
+    alloc: Global,
+    helpers: H,
+) -> Result<(), Fail> {
+    let mut desk = Desk::new(alloc, helpers, 6)?;
+    let load = loaded(alloc, &FIVE_LATER, desk.sigs())?;
+    desk.call(1, Role::AirportOperator, NINE, load)
+        .map_err(|_| "refused")?;
+    desk.call(1, Role::AirportOperator, NINE, scheduled()?)
+        .map_err(|_| "refused")?;
+    desk.call(2, Role::NetworkManager, NINE, planned()?)
+        .map_err(|_| "refused")?;
+    desk.call(
+        3,
+        Role::AirTrafficControl,
+        NINE,
+        at_nine(Milestone::Landed)?,
+    )
+    .map_err(|_| "refused")?;
+    let reply = desk
+        .call(1, Role::AirportOperator, NINE, at_nine(Milestone::InBlock)?)
+        .map_err(|_| "refused")?;
+    assert_eq!(rt; reply.number, 4);
+    assert_eq!(rt; reply.outcome.verdict(), Verdict::Accepted);
+    let record = desk.core().record_of(7).ok_or("no flight")?;
+    assert_eq!(rt; record.get(Field::Tobt), 29_000_705);
+    assert_eq!(rt; desk.len(), 5);
+    let entry = desk.entry(4).ok_or("no entry")?;
+    assert_eq!(rt; entry.number, 4);
+    assert_eq!(rt; entry.answers.as_slice().len(), 1);
+    assert_eq!(rt; entry.answers.as_slice()[0], 29_000_705);
+    assert!(rt; desk.entry(5).is_none());
+    let empty = no_sigs(alloc)?;
+    let foreign = loaded(alloc, &NOTHING, &empty)?;
+    assert_eq!(rt;
+        desk.call(1, Role::AirportOperator, NINE, foreign).err(),
+        Some(DeskError::OtherSignatures)
+    );
+    assert_eq!(rt; desk.len(), 5);
+    desk.call(1, Role::AirportOperator, NINE, Command::Tick)
+        .map_err(|_| "refused")?;
+    assert_eq!(rt;
+        desk.call(1, Role::AirportOperator, NINE, Command::Tick)
+            .err(),
+        Some(DeskError::Full)
+    );
+    Ok(())
+}
+
+#[test]
+fn a_helper_is_asked_through_the_desk(rt: HostRuntime) -> Result<(), Fail> {
+    let alloc = rt.alloc();
+    let minutes: Code = Box::new(
+        alloc,
+        |a: u64, b: u64, _c: u64, _d: u64, _e: u64| -> u64
+            requires { a + b < 2 ^ 64 }
+            ensures { result ≡ a + b }
+        { a + b },
+    )?;
+    let mut bank = Bank::new(alloc)?;
+    if bank
+        .add(Helper::new(3, sum_signature(alloc)?, minutes))
+        .is_err()
+    {
+        return Err("not added".into());
+    }
+    five_minutes_later(&rt, alloc, bank)
+}
+
+// r0 = 0, exit.
+const NOTHING: [u8; 16] = [0xb7, 0, 0, 0, 0, 0, 0, 0, 0x95, 0, 0, 0, 0, 0, 0, 0];

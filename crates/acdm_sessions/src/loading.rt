@@ -1,0 +1,33 @@
+//! From what a line asks for to a command.
+ghost use Rattle.std.specs.Prelude.{◌≡◌, true, false, IfOk};
+ghost use Rattle.acdm_board.specs.Desk.{is_foreign};
+ghost use Rattle.acdm_sessions.specs.Meant.{is_plain};
+ghost use Rattle.acdm_sessions.specs.Output.{Completes};
+
+use crate::program::{ProgramError, read_program};
+use crate::request::Asked;
+use acdm_step::{Command, Load};
+use bpf_helpers::Sigs;
+use std::alloc::Global;
+
+/// The command that is asked for, with the program that the bytes of a load encode.
+pub(crate) fn command_for(alloc: Global, asked: Asked, sigs: &Sigs) -> Result<Command, ProgramError>
+    requires { is_plain asked ≡ true }
+    ensures reads { Completes sigs.now asked result }
+    ensures checked { IfOk result (λ command. is_foreign sigs.now command ≡ false) }
+{
+    match asked {
+        Asked::Plain(command) => Ok(command),
+        Asked::Load(load) => {
+            let program = match read_program(alloc, load.program.as_slice(), sigs) {
+                Ok(program) => program,
+                Err(error) => return Err(error),
+            };
+            Ok(Command::Load(Load {
+                milestone: load.milestone,
+                kind: load.kind,
+                program,
+            }))
+        }
+    }
+}

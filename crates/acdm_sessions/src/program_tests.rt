@@ -1,0 +1,291 @@
+//! Programs on the board, by the profile's worked examples.
+//!
+//! Minute 29000580 is 2025-02-20T07:00Z, 29000700 is 09:00Z, and 29000760 is 10:00Z of that day.
+ghost use Rattle.std.specs.Prelude.{◌≡◌, ◌+◌, ◌^◌, ◌<◌, IfOk};
+ghost use Rattle.bpf_helpers.specs.Known.{sum, taxi, taxi_from};
+
+use crate::tests::{replies_of, replies_to};
+use acdm_board::Desk;
+use acdm_record::Field;
+use bpf_helpers::{Bank, Code, Helper, Helpers, Range, Signature};
+use std::alloc::Global;
+use std::process::Abort;
+use std::test::Fail;
+
+// Suggests the minute before the moment.
+const PAST_TARGET: &str =
+    r#"1 29000700 APT {"cmd":"load","milestone":7,"kind":"tobt","program":"bf3000000000000007000000ffffffff9500000000000000"}
+"#;
+
+// Suggests the moment.
+const PRESENT_TARGET: &str =
+    r#"1 29000700 APT {"cmd":"load","milestone":7,"kind":"tobt","program":"bf300000000000009500000000000000"}
+"#;
+
+// Suggests a time one day after the moment, the latest that is usable.
+const LATEST_TARGET: &str =
+    r#"1 29000700 APT {"cmd":"load","milestone":7,"kind":"tobt","program":"bf3000000000000007000000a00500009500000000000000"}
+"#;
+
+// Suggests the minute after that.
+const LATER_TARGET: &str =
+    r#"1 29000700 APT {"cmd":"load","milestone":7,"kind":"tobt","program":"bf3000000000000007000000a10500009500000000000000"}
+"#;
+
+// Suggests five minutes after the moment, which helper 3 adds up.
+const SUMMED_TARGET: &str =
+    r#"1 29000700 APT {"cmd":"load","milestone":7,"kind":"tobt","program":"bf31000000000000b70200000500000085000000030000009500000000000000"}
+"#;
+
+// Flight 7 is scheduled, planned, lands and comes on the block.
+const ARRIVAL: &str =
+    r#"1 29000700 APT {"cmd":"schedule","flight":7,"callsign":"DLH7","type":"A320","reg":"DAIBC","dest":"EDDM","sobt":"2025-02-20T10:00:00Z","mttt":40,"exit":5,"exot":10,"stand":12}
+2 29000700 NM {"cmd":"report","flight":7,"milestone":1,"time":"2025-02-20T10:00:00Z","callsign":"DLH7","type":"A320","reg":"DAIBC","dest":"EDDM"}
+3 29000700 ATC {"cmd":"report","flight":7,"milestone":6,"time":"2025-02-20T09:00:00Z"}
+"#;
+
+const IN_BLOCK: &str =
+    r#"1 29000700 APT {"cmd":"report","flight":7,"milestone":7,"time":"2025-02-20T09:00:00Z"}
+1 29000700 APT {"cmd":"alerts"}
+"#;
+
+/// What a stream leads to: its replies, the TOBT of flight 7, and the answers of helpers in an entry.
+struct Expected<'a> {
+    replies: &'a str,
+    tobt: u64,
+    entry: u64,
+    answers: &'a [u64],
+}
+
+fn tobt_on<H: Helpers + Drop>(desk: &Desk<H>) -> Option<u64> {
+    let record = desk.core().record_of(7)?;
+    Some(record.get(Field::Tobt))
+}
+
+fn has_answers<H: Helpers + Drop>(desk: &Desk<H>, number: u64, answers: &[u64]) -> bool {
+    match desk.entry(number) {
+        Some(entry) => entry.answers.as_slice() == answers,
+        None => false,
+    }
+}
+
+fn leads_to<H: Helpers + Drop>(
+    rt: &impl Abort,
+    alloc: Global,
+    helpers: H,
+    parts: &[&str],
+    expected: &Expected<'_>,
+) -> Result<(), Fail> {
+    let mut desk = Desk::new(alloc, helpers, 100)?;
+    let replies = replies_of(alloc, parts, &mut desk)?;
+    assert_eq!(rt; replies.as_str(), expected.replies);
+    assert_eq!(rt; tobt_on(&desk), Some(expected.tobt));
+    assert!(rt; has_answers(&desk, expected.entry, expected.answers));
+    Ok(())
+}
+
+#[test]
+fn a_past_target_is_rejected(rt: HostRuntime) -> Result<(), Fail> {
+    let alloc = rt.alloc();
+    leads_to(
+        &rt,
+        alloc,
+        Bank::new(alloc)?,
+        &[PAST_TARGET, ARRIVAL, IN_BLOCK],
+        &Expected {
+            replies: "ok 0\nok 1\nok 2\nok 3\nok 4\nalerts 5 7:CDM14\n",
+            tobt: 0,
+            entry: 4,
+            answers: &[],
+        },
+    )
+}
+
+#[test]
+fn a_present_target_is_taken(rt: HostRuntime) -> Result<(), Fail> {
+    let alloc = rt.alloc();
+    leads_to(
+        &rt,
+        alloc,
+        Bank::new(alloc)?,
+        &[PAST_TARGET, ARRIVAL, IN_BLOCK, PRESENT_TARGET, IN_BLOCK],
+        &Expected {
+            replies: "ok 0\nok 1\nok 2\nok 3\nok 4\nalerts 5 7:CDM14\nok 6\nok 7\nalerts 8 7:CDM08,CDM09,CDM07a\n",
+            tobt: 29_000_700,
+            entry: 7,
+            answers: &[],
+        },
+    )
+}
+
+#[test]
+fn the_latest_target_is_a_day_ahead(rt: HostRuntime) -> Result<(), Fail> {
+    let alloc = rt.alloc();
+    leads_to(
+        &rt,
+        alloc,
+        Bank::new(alloc)?,
+        &[LATEST_TARGET, ARRIVAL, IN_BLOCK],
+        &Expected {
+            replies: "ok 0\nok 1\nok 2\nok 3\nok 4\nalerts 5 7:CDM08\n",
+            tobt: 29_002_140,
+            entry: 4,
+            answers: &[],
+        },
+    )
+}
+
+#[test]
+fn a_later_target_is_rejected(rt: HostRuntime) -> Result<(), Fail> {
+    let alloc = rt.alloc();
+    leads_to(
+        &rt,
+        alloc,
+        Bank::new(alloc)?,
+        &[LATER_TARGET, ARRIVAL, IN_BLOCK],
+        &Expected {
+            replies: "ok 0\nok 1\nok 2\nok 3\nok 4\nalerts 5 7:CDM14\n",
+            tobt: 0,
+            entry: 4,
+            answers: &[],
+        },
+    )
+}
+
+fn sum_signature(alloc: Global) -> Result<Signature, Fail>
+    ensures { IfOk result (λ signature. signature ≡ sum) }
+{
+    let args = vec![in alloc;
+        Range {
+            lo: 0,
+            hi: 4_294_967_295
+        },
+        Range { lo: 0, hi: 10_000 },
+    ]?;
+    let answer = Range {
+        lo: 0,
+        hi: 4_294_977_295,
+    };
+    Ok(Signature::new(args, answer, Vec::new(alloc)).ok_or("helper 3")?)
+}
+
+#[test]
+fn a_helper_adds_up_a_target(rt: HostRuntime) -> Result<(), Fail> {
+    let alloc = rt.alloc();
+    let code: Code = Box::new(
+        alloc,
+        |a: u64, b: u64, _c: u64, _d: u64, _e: u64| -> u64
+            requires { a + b < 2 ^ 64 }
+            ensures { result ≡ a + b }
+        { a + b },
+    )?;
+    let mut bank = Bank::new(alloc)?;
+    bank.add(Helper::new(3, sum_signature(alloc)?, code))
+        .map_err(|refused| refused.fault)?;
+    leads_to(
+        &rt,
+        alloc,
+        bank,
+        &[SUMMED_TARGET, ARRIVAL, IN_BLOCK],
+        &Expected {
+            replies: "ok 0\nok 1\nok 2\nok 3\nok 4\nalerts 5 7:CDM08,CDM09,CDM07a\n",
+            tobt: 29_000_705,
+            entry: 4,
+            answers: &[29_000_705],
+        },
+    )
+}
+
+fn taxi_signature(alloc: Global) -> Result<Signature, Fail>
+    ensures { IfOk result (λ signature. signature ≡ taxi) }
+{
+    let args = vec![in alloc; Range { lo: 0, hi: 999 }]?;
+    let table = vec![in alloc; (12, 10), (120, 15), (900, 20)]?;
+    Ok(Signature::new(args, Range { lo: 1, hi: 60 }, table).ok_or("helper 2")?)
+}
+
+// The local alerts of a target are the taxi time from the stand, which helper 2 knows.
+const TAXI_ALERTS: &str =
+    r#"1 29000580 APT {"cmd":"load","milestone":9,"kind":"alert","program":"69113c000000000057010000ff01000085000000020000009500000000000000"}
+1 29000580 APT {"cmd":"schedule","flight":7,"callsign":"DLH7","type":"A320","reg":"DAIBC","dest":"EDDM","sobt":"2025-02-20T10:00:00Z","mttt":40,"exit":5,"exot":10,"stand":12}
+2 29000580 NM {"cmd":"report","flight":7,"milestone":1,"time":"2025-02-20T10:00:00Z","callsign":"DLH7","type":"A320","reg":"DAIBC","dest":"EDDM"}
+5 29000580 GH {"cmd":"report","flight":7,"milestone":9,"time":"2025-02-20T10:00:00Z"}
+1 29000580 APT {"cmd":"alerts"}
+1 29000580 APT {"cmd":"unload","milestone":9,"kind":"alert"}
+5 29000580 GH {"cmd":"report","flight":7,"milestone":9,"time":"2025-02-20T10:00:00Z"}
+1 29000580 APT {"cmd":"alerts"}
+"#;
+
+#[test]
+fn local_alerts_stay_when_their_program_is_gone(rt: HostRuntime) -> Result<(), Fail> {
+    let alloc = rt.alloc();
+    let code: Code = Box::new(
+        alloc,
+        |stand: u64, _b: u64, _c: u64, _d: u64, _e: u64| -> u64
+            ensures { result ≡ taxi_from stand }
+        {
+            if stand < 100 {
+                10
+            } else if stand < 500 {
+                15
+            } else {
+                20
+            }
+        },
+    )?;
+    let mut bank = Bank::new(alloc)?;
+    bank.add(Helper::new(2, taxi_signature(alloc)?, code))
+        .map_err(|refused| refused.fault)?;
+    leads_to(
+        &rt,
+        alloc,
+        bank,
+        &[TAXI_ALERTS],
+        &Expected {
+            replies: "ok 0\nok 1\nok 2\nok 3\nalerts 4 7:LOC01,LOC03\nok 5\nok 6\nalerts 7 7:LOC01,LOC03\n",
+            tobt: 29_000_760,
+            entry: 3,
+            answers: &[10],
+        },
+    )
+}
+
+#[test]
+fn an_empty_slot_is_told(rt: HostRuntime) -> Result<(), Fail> {
+    let unload = r#"1 29000580 APT {"cmd":"unload","milestone":9,"kind":"alert"}
+"#;
+    assert_eq!(rt; replies_to(&rt, &[unload], 10)?.as_str(), "no 0 321\n");
+    Ok(())
+}
+
+#[test]
+fn programs_that_are_refused_make_no_entry(rt: HostRuntime) -> Result<(), Fail> {
+    for (program, reply) in [
+        ("\"9500000000000000\"", "bad 308 0\n"),
+        ("\"\"", "bad 301 0\n"),
+        ("\"950000000000000095000000\"", "bad 301 0\n"),
+        ("\"0500FFFF000000009500000000000000\"", "bad 306 0\n"),
+        (
+            "\"1504010001000000b7000000050000009500000000000000\"",
+            "bad 308 2\n",
+        ),
+        ("\"1800000001000000\"", "bad 315 0\n"),
+        ("\"9500010000000000\"", "bad 304 0\n"),
+        ("\"85000000020000009500000000000000\"", "bad 312 0\n"),
+        ("\"zz\"", "bad 104\n"),
+        ("\"950\"", "bad 104\n"),
+        ("95", "bad 103\n"),
+    ] {
+        let replies = replies_to(
+            &rt,
+            &[
+                "1 29000580 APT {\"cmd\":\"load\",\"milestone\":7,\"kind\":\"tobt\",\"program\":",
+                program,
+                "}\n",
+            ],
+            1,
+        )?;
+        assert_eq!(rt; replies.as_str(), reply, "for {program}");
+    }
+    Ok(())
+}

@@ -1,0 +1,159 @@
+//! The local programs of a report (this project's profile).
+ghost use Rattle.std.specs.Prelude.{◌≡◌, ◌+◌, ◌<◌, ◌≤◌, ◌^◌, length, OnOk, OnErr, IfOk, if◌then◌else◌, option_map};
+ghost use Rattle.acdm_milestones.specs.Tables.{number};
+ghost use Rattle.acdm_slots.specs.Loaded.{program_in};
+ghost use Rattle.bpf_machine.specs.Steps.{Told};
+ghost use Rattle.acdm_step.specs.Programs.{Programs, is_usable as may_be_set, rejecting, suggestion, with_suggestion, local_alerts, with_local_alerts};
+ghost use Rattle.bpf_regstate.specs.States.{instruction_count};
+ghost use Rattle.acdm_step.specs.History.{size_of};
+ghost use Rattle.acdm_step.specs.Running.{EndsAt, TrapsAt, EndsIn, TrapsIn};
+
+use acdm_alerts::AlertSet;
+use acdm_milestones::{Milestone, mark_reached};
+use acdm_record::{Field, Record};
+use acdm_slots::{Kind, Slots};
+use bpf_decode::Op;
+use bpf_helpers::Oracle;
+use bpf_machine::{Trap, run_tested};
+
+/// The bit of milestone 9 in the reached word.
+const TOBT_UPDATE: u32 = 9;
+
+/// How far ahead of the moment a program may set TOBT, in minutes.
+const FARTHEST: u64 = 1440;
+
+// Runs the program in a slot, if there is one.
+fn run_slot<O: Oracle>(
+    slots: &Slots,
+    milestone: Milestone,
+    kind: Kind,
+    record: &Record,
+    now: u32,
+    oracle: &mut O,
+) -> Result<Option<u64>, Trap>
+    requires sigs { O.sigs oracle.old ≡ slots.now.sigs }
+    requires counts { O.refusals oracle.old + 1 < 2 ^ 64 }
+    ensures ended { let log : Told = record { declines = O.declines oracle.old; before = O.log oracle.old; now = O.log oracle.new } in
+        IfOk result (EndsAt (program_in slots.now milestone kind) record.now now (number milestone) log) }
+    ensures trapped { let log : Told = record { declines = O.declines oracle.old; before = O.log oracle.old; now = O.log oracle.new } in
+        OnErr result (TrapsAt (program_in slots.now milestone kind) record.now now (number milestone) log) }
+    ensures counted { OnOk result (O.refusals oracle.new ≡ O.refusals oracle.old) }
+    ensures same_sigs { O.sigs oracle.new ≡ O.sigs oracle.old }
+    ensures same_rule { O.declines oracle.new ≡ O.declines oracle.old }
+{
+    let Some(checked) = slots.get(milestone, kind) else {
+        return Ok(None);
+    };
+    let ended = run_tested(
+        checked.program(),
+        checked.sigs(),
+        record.bytes(),
+        now,
+        milestone,
+        oracle,
+    )?;
+    Ok(Some(ended.r0))
+}
+
+// Sets or clears CDM14, no automatic TOBT.
+fn set_rejected(record: &mut Record, rejected: bool)
+    ensures { record.new ≡ rejecting rejected record.old }
+{
+    AlertSet::of(record).with_rejection(rejected).store(record);
+}
+
+// Whether a time is a TOBT that a program may set.
+fn is_usable(record: &Record, now: u32, time: u64) -> bool
+    ensures { result ≡ may_be_set record.now now time }
+{
+    let moment = u64::from(now);
+    moment <= time
+        && time <= moment + FARTHEST
+        && time <= u64::from(u32::MAX)
+        && record.get(Field::Asat) == 0
+}
+
+// Does to a record what r0 of its TOBT program means.
+fn suggest(record: &mut Record, now: u32, r0: Option<u64>)
+    ensures { record.new ≡ with_suggestion (suggestion record.old now r0) record.old }
+{
+    let Some(time) = r0 else {
+        return;
+    };
+    if time == 0 {
+        return;
+    }
+    if !is_usable(record, now, time) {
+        set_rejected(record, true);
+        return;
+    }
+    record.set(Field::Tobt, time);
+    mark_reached(record, TOBT_UPDATE);
+    set_rejected(record, false);
+}
+
+// Does to a record what r0 of its alert program means.
+fn decide_locals(record: &mut Record, r0: Option<u64>)
+    ensures { record.new ≡ with_local_alerts (local_alerts r0) record.old }
+{
+    let Some(word) = r0 else {
+        return;
+    };
+    AlertSet::of(record)
+        .with_locals((word % 65536) as u16)
+        .store(record);
+}
+
+/// Runs the two programs of a reported milestone on the record of its flight: the TOBT program, and the alert program on what
+/// came of it. Where one of them traps the record is of no use.
+pub(crate) fn run_programs<O: Oracle>(
+    slots: &Slots,
+    milestone: Milestone,
+    record: &mut Record,
+    now: u32,
+    oracle: &mut O,
+) -> Result<(), Trap>
+    requires sigs { O.sigs oracle.old ≡ slots.now.sigs }
+    requires counts { O.refusals oracle.old + 1 < 2 ^ 64 }
+    ensures ended { let log : Told = record { declines = O.declines oracle.old; before = O.log oracle.old; now = O.log oracle.new } in
+        OnOk result (EndsIn (record { tobt = program_in slots.now milestone Kind.Tobt; alert = program_in slots.now milestone Kind.Alert })
+        record.old now (number milestone) log record.new) }
+    ensures trapped { let log : Told = record { declines = O.declines oracle.old; before = O.log oracle.old; now = O.log oracle.new } in
+        OnErr result (TrapsIn (record { tobt = program_in slots.now milestone Kind.Tobt; alert = program_in slots.now milestone Kind.Alert })
+        record.old now (number milestone) log) }
+    ensures same_sigs { O.sigs oracle.new ≡ O.sigs oracle.old }
+    ensures same_rule { O.declines oracle.new ≡ O.declines oracle.old }
+{
+    let tobt = run_slot(slots, milestone, Kind::Tobt, record, now, oracle)?;
+    suggest(record, now, tobt);
+    let locals = run_slot(slots, milestone, Kind::Alert, record, now, oracle)?;
+    decide_locals(record, locals);
+    Ok(())
+}
+
+// How many instructions there are in these slots of a program; a wide load is one, and takes two.
+fn count(ops: &[Op]) -> u64
+    ensures value { result ≡ instruction_count ops.now }
+    ensures few { result ≤ length ops.now }
+{
+    let mut counted = 0u64;
+    let mut rest = ops;
+    while let Some((op, more)) = rest.split_first() {
+        if !matches!(op, Op::Tail) {
+            counted += 1;
+        }
+        rest = more;
+    }
+    counted
+}
+
+/// How many instructions the program in a slot has, 0 where there is none.
+pub(crate) fn size_in(slots: &Slots, milestone: Milestone, kind: Kind) -> u64
+    ensures value { result ≡ size_of (program_in slots.now milestone kind) }
+    ensures few { result ≤ 4096 }
+{
+    match slots.get(milestone, kind) {
+        Some(checked) => count(checked.program().ops()),
+        None => 0,
+    }
+}
