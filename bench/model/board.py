@@ -7,7 +7,8 @@
 The second form compares, and names the first line where the replies differ. Nothing here is taken from the
 Rattle sources. Two readers are narrower than those of `acdm`: times are read in the forms
 `2025-02-20T10:00:00Z`, with a fraction of a second or an offset as `+01:00`, and JSON is what Python's `json`
-reads, less what `serde_json` refuses.
+reads, less what `serde_json` refuses. Programs are judged and run by `programs.py`. Left out are `bad 501`, since
+memory is always there, and sessions that are served at once.
 """
 
 import argparse
@@ -17,20 +18,23 @@ import sys
 from dataclasses import dataclass, field
 from datetime import datetime, timedelta, timezone
 
+import programs
+
 LONGEST_LINE = 70_000
 DEEPEST = 127
 MOST_FLIGHTS = 4096
 MOST_MINUTES = 2**32 - 1
 LAST_INSTANT = 4_223_370_120  # the last minute that `jiff` reads, 9999-12-30T22:00Z
+DAY = 1440
 ROLES = ("NM", "ATC", "APT", "AO", "GH")
 
 
 class Bad(Exception):
-    """The line makes no entry: `bad CODE`."""
+    """The line makes no entry: `bad CODE`, or `bad CODE SLOT` for a program that is refused."""
 
-    def __init__(self, code):
+    def __init__(self, code, slot=None):
         super().__init__(code)
-        self.code = code
+        self.reply = f"bad {code}" if slot is None else f"bad {code} {slot}"
 
 
 class Refused(Exception):
@@ -177,9 +181,41 @@ def read_report(fields):
     return flight, milestone, minute, identity(fields) if milestone == 1 else None
 
 
+def kind_of(fields):
+    kind = fields.get("kind")
+    if not isinstance(kind, str):
+        raise Bad(103)
+    if kind not in ("tobt", "alert"):
+        raise Bad(104)
+    return kind
+
+
+def digits(fields, key):
+    value = fields.get(key)
+    if not isinstance(value, str):
+        raise Bad(103)
+    if not re.fullmatch(r"([0-9A-Fa-f]{2})*", value):
+        raise Bad(104)
+    return bytes.fromhex(value)
+
+
+def read_slot(fields):
+    return number(fields, "milestone", 1, 16), kind_of(fields)
+
+
+def read_load(fields):
+    place = read_slot(fields)
+    try:
+        return *place, programs.accepted(digits(fields, "program"))
+    except programs.Fault as fault:
+        raise Bad(fault.code, fault.slot) from None
+
+
 COMMANDS = {
     "schedule": read_schedule,
     "report": read_report,
+    "load": read_load,
+    "unload": read_slot,
     "tick": lambda fields: (),
     "show": lambda fields: (flight_of(fields),),
     "alerts": lambda fields: (),
@@ -266,22 +302,26 @@ class Flight:
     def mark(self, milestone):
         self.reached |= 1 << milestone
 
-    def digits(self):
-        """The 128 bytes of the record, as hexadecimal digits."""
+    def record(self):
+        """The 128 bytes of the record."""
         parts = [self.number.to_bytes(8, "little"), self.callsign.ljust(8, b"\0")]
         for key, width in (("type", 4), ("reg", 8), ("dest", 4)):
             parts += [self.scheduled[key].ljust(width, b"\0"), self.plan[key].ljust(width, b"\0")]
         widths = ((self.reached, 4), (self.alerts, 4), (self.mttt, 2), (self.exot, 2), (self.stand, 2), (1, 1), (self.exit, 1))
         parts += [value.to_bytes(width, "little") for value, width in widths]
         parts += [self.times[name].to_bytes(4, "little") for name in TIMES]
-        return b"".join(parts).hex()
+        return b"".join(parts)
 
 
 # --- alerts
 
 
+NOT_POSSIBLE = 1 << 14
+LOCAL = 0xFFFF << 16
+
+
 def alerts_of(flight, now):
-    """The alert word at a moment: bit k is CDM k, bit 15 is CDM07a."""
+    """The alert word at a moment: bit k is CDM k, bit 15 is CDM07a. CDM14 and the local alerts stay."""
     times = flight.times
     sobt, eobt, tobt, tsat = times["sobt"], times["eobt"], times["tobt"], times["tsat"]
     asbt, asat, aobt = times["asbt"], times["asat"], times["aobt"]
@@ -306,22 +346,24 @@ def alerts_of(flight, now):
         13: flight.has(0) and not flight.has(1) and now + 180 >= sobt,
         15: ready is not None and tobt and ready > tobt,
     }
-    return sum(1 << bit for bit, holds in conditions.items() if holds)
+    return sum(1 << bit for bit, holds in conditions.items() if holds) | flight.alerts & (NOT_POSSIBLE | LOCAL)
 
 
 def names_of(word):
     names = [f"CDM{bit:02}" for bit in range(1, 15) if word >> bit & 1]
-    return names + (["CDM07a"] if word >> 15 & 1 else [])
+    names += ["CDM07a"] if word >> 15 & 1 else []
+    return names + [f"LOC{bit:02}" for bit in range(16) if word >> (16 + bit) & 1]
 
 
 # --- the board
 
 
 class Board:
-    """The flights in order of creation, and how many commands were taken."""
+    """The flights in order of creation, the programs by milestone and kind, and how many commands were taken."""
 
     def __init__(self, capacity):
         self.flights = {}
+        self.programs = {}
         self.length = 0
         self.capacity = capacity
 
@@ -332,7 +374,7 @@ class Board:
             if self.length == self.capacity:
                 raise Bad(502)
         except Bad as bad:
-            return f"bad {bad.code}"
+            return bad.reply
         entry = self.length
         self.length += 1
         try:
@@ -391,7 +433,45 @@ class Board:
             flight.callsign = plan["callsign"]
             flight.plan = {key: plan[key] for key in ("type", "reg", "dest")}
         flight.mark(milestone)
+        self.ask_target(flight, moment, milestone)
+        self.ask_alerts(flight, moment, milestone)
         return self.touch(flight, moment)
+
+    def ask_target(self, flight, moment, milestone):
+        """Runs the TOBT program of a milestone, if there is one."""
+        answer = self.answer("tobt", flight, moment, milestone)
+        if not answer:
+            return
+        if moment <= answer <= moment + DAY and answer <= MOST_MINUTES and not flight.times["asat"]:
+            flight.times["tobt"] = answer
+            flight.mark(9)
+            flight.alerts &= ~NOT_POSSIBLE
+        else:
+            flight.alerts |= NOT_POSSIBLE
+
+    def ask_alerts(self, flight, moment, milestone):
+        """Runs the alert program of a milestone, if there is one."""
+        answer = self.answer("alert", flight, moment, milestone)
+        if answer is not None:
+            flight.alerts = flight.alerts & ~LOCAL | (answer & 0xFFFF) << 16
+
+    def answer(self, kind, flight, moment, milestone):
+        program = self.programs.get((milestone, kind))
+        return None if program is None else programs.run(program, flight.record(), moment, milestone).r0
+
+    def load(self, role, moment, milestone, kind, program):
+        if role != "APT":
+            raise Refused(201)
+        self.programs[milestone, kind] = program
+        return "ok", ""
+
+    def unload(self, role, moment, milestone, kind):
+        if role != "APT":
+            raise Refused(201)
+        if (milestone, kind) not in self.programs:
+            raise Refused(321)
+        del self.programs[milestone, kind]
+        return "ok", ""
 
     def tick(self, role, moment):
         if role != "APT":
@@ -401,7 +481,7 @@ class Board:
         return "ok", ""
 
     def show(self, role, moment, number):
-        return "rec", f" {self.known(number).digits()}"
+        return "rec", f" {self.known(number).record().hex()}"
 
     def alerts(self, role, moment):
         raised = [flight for flight in self.flights.values() if flight.alerts]

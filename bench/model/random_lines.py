@@ -3,8 +3,8 @@
 
     python3 bench/model/random_lines.py [--lines N] [--seed S] > lines
 
-Commands, senders, fields and times are drawn by chance, near enough to the rules that about half are accepted. Some
-lines have a fault. The same words give the same lines.
+Commands, senders, fields, times and programs are drawn by chance, near enough to the rules that about half are
+accepted. Some lines have a fault. The same words give the same lines.
 """
 
 import argparse
@@ -13,11 +13,14 @@ import random
 import sys
 from datetime import datetime, timedelta, timezone
 
+from random_programs import Programs
+
 OWNERS = {1: "NM", 2: "NM", 3: "NM", 7: "APT", 8: "GH", 9: "GH", 11: "AO", 12: "AO"}
 ROLES = ("NM", "ATC", "APT", "AO", "GH")
 EPOCH = datetime(1970, 1, 1, tzinfo=timezone.utc)
 START = 29_000_580
 FLIGHT_LINES = 60
+MINUTES = ("00000000", "05000000", "a0050000", "ffffffff")
 
 
 class Lines:
@@ -25,13 +28,15 @@ class Lines:
 
     def __init__(self, seed):
         self.chance = random.Random(seed)
+        self.programs = Programs(self.chance)
         self.moment = START
         self.flight = 1
 
     def line(self):
         self.moment += self.chance.choice((-3, 0, 0, 1, 1, 2, 6))
         self.flight += self.chance.random() < 1 / FLIGHT_LINES
-        role, command = self.chance.choices((self.report, self.schedule, self.question), (12, 1, 4))[0]()
+        draws = (self.report, self.schedule, self.question, self.load, self.unload)
+        role, command = self.chance.choices(draws, (24, 2, 8, 3, 1))[0]()
         if self.chance.random() < 0.03:
             role = self.chance.choice(ROLES)
         if self.chance.random() < 0.05:
@@ -75,6 +80,19 @@ class Lines:
         return self.chance.choice(
             (("APT", {"cmd": "tick"}), (role, {"cmd": "alerts"}), (role, {"cmd": "show", "flight": self.some_flight()}))
         )
+
+    def slot(self):
+        milestone = self.chance.choice((1, 6, 7, 9, 9, 10, 12, 14))
+        return {"milestone": milestone, "kind": self.chance.choice(("tobt", "alert"))}
+
+    def load(self):
+        """A program by chance, or one whose answer is a target near the moment."""
+        near = f"bf3000000000000007000000{self.chance.choice(MINUTES)}9500000000000000"
+        program = near if self.chance.random() < 0.3 else self.programs.program().hex()
+        return "APT", {"cmd": "load", **self.slot(), "program": program}
+
+    def unload(self):
+        return "APT", {"cmd": "unload", **self.slot()}
 
     def spoil(self, command):
         """One key goes, gets another value, or stands under a name that nobody asks for."""

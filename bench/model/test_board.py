@@ -3,8 +3,9 @@
 
 import json
 import unittest
+from pathlib import Path
 
-from board import Board, Flight, alerts_of, names_of
+from board import Board, Flight, alerts_of, names_of, replies
 
 SCHEDULE = {
     "cmd": "schedule", "flight": 7, "callsign": "DLH7", "type": "A320", "reg": "DAIBC", "dest": "EDDM",
@@ -14,6 +15,7 @@ PLAN = {
     "cmd": "report", "flight": 7, "milestone": 1, "time": "2025-02-20T10:00:00Z",
     "callsign": "DLH7", "type": "A320", "reg": "DAIBC", "dest": "EDDM",
 }  # fmt: skip
+EXAMPLES = Path(__file__).resolve().parents[2] / "examples"
 ALERTS, TICK, SHOW = {"cmd": "alerts"}, {"cmd": "tick"}, {"cmd": "show", "flight": 7}
 START = [("APT", SCHEDULE), ("NM", PLAN)]
 RECORD = (
@@ -22,9 +24,27 @@ RECORD = (
 )
 
 
+EXIT = "9500000000000000"
+NOW, BEFORE_NOW = "bf30000000000000" + EXIT, "bf3000000000000007000000ffffffff" + EXIT
+IN_A_DAY, AFTER_A_DAY = ("bf3000000000000007000000" + more + EXIT for more in ("a0050000", "a1050000"))
+IN_FIVE_MINUTES = "bf31000000000000b7020000050000008500000003000000" + EXIT
+TAXI_TIME = "69113c000000000057010000ff0100008500000002000000" + EXIT
+
+
+def load(milestone, kind, program):
+    return {"cmd": "load", "milestone": milestone, "kind": kind, "program": program}
+
+
+def unload(milestone, kind):
+    return {"cmd": "unload", "milestone": milestone, "kind": kind}
+
+
 def report(milestone, time, flight=7):
     instant = None if time is None else f"2025-02-20T{time}:00Z"
     return {"cmd": "report", "flight": flight, "milestone": milestone, "time": instant}
+
+
+ARRIVAL = [("ATC", report(6, "09:00")), ("APT", report(7, "09:00"))]
 
 
 class Replies(unittest.TestCase):
@@ -71,6 +91,12 @@ class Replies(unittest.TestCase):
         replies = [board.reply(f"1 {moment} APT {json.dumps(command)}".encode()) for moment, command in lines]
         self.assertEqual(replies, ["ok 0", "alerts 1 -", "ok 2", "alerts 3 7:CDM13"])
 
+    def test_the_shipped_streams(self):
+        for lines in EXAMPLES.glob("*.txt"):
+            given = lines.read_bytes().splitlines(keepends=True)
+            found = [reply + "\n" for reply in replies(given, 100_000)]
+            self.assertEqual(found, lines.with_suffix(".out").read_text().splitlines(keepends=True), lines.name)
+
     def test_sums_do_not_wrap(self):
         flight = Flight(0, reached=2)
         flight.times["tobt"] = 2**32 - 1
@@ -78,6 +104,81 @@ class Replies(unittest.TestCase):
 
     def test_a_full_journal(self):
         self.assertEqual(self.replies(START, capacity=1), ["ok 0", "bad 502"])
+
+    def in_block(self, program):
+        """The replies to a load for milestone 7, an in-block report at 09:00, and questions about it."""
+        commands = [("APT", load(7, "tobt", program)), *START, *ARRIVAL, ("APT", ALERTS), ("APT", SHOW)]
+        return self.replies(commands, 29_000_700)
+
+    def test_the_targets_that_are_usable(self):
+        rows = (
+            (BEFORE_NOW, "7:CDM14", 0),
+            (NOW, "7:CDM08,CDM09,CDM07a", 29_000_700),
+            (IN_A_DAY, "7:CDM08", 29_002_140),
+            (AFTER_A_DAY, "7:CDM14", 0),
+            (IN_FIVE_MINUTES, "7:CDM08,CDM09,CDM07a", 29_000_705),
+        )
+        for program, alerts, target in rows:
+            replies = self.in_block(program)
+            self.assertEqual(replies[:6], ["ok 0", "ok 1", "ok 2", "ok 3", "ok 4", f"alerts 5 {alerts}"])
+            record = bytes.fromhex(replies[6].split()[2])
+            self.assertEqual(int.from_bytes(record[96:100], "little"), target)
+            self.assertEqual(record[49] >> 1 & 1, int(target > 0))
+
+    def test_a_program_in_the_place_of_another(self):
+        commands = [("APT", load(7, "tobt", BEFORE_NOW)), *START, *ARRIVAL, ("APT", ALERTS)]
+        commands += [("APT", load(7, "tobt", NOW)), ("APT", report(7, "09:00")), ("APT", ALERTS)]
+        expected = ["alerts 5 7:CDM14", "ok 6", "ok 7", "alerts 8 7:CDM08,CDM09,CDM07a"]
+        self.assertEqual(self.replies(commands, 29_000_700)[5:], expected)
+
+    def test_no_answer_changes_nothing(self):
+        self.assertEqual(self.in_block("b700000000000000" + EXIT)[5], "alerts 5 -")
+
+    def test_a_target_after_start_up_is_approved(self):
+        times = ((9, "10:00"), (10, "10:00"), (13, "10:00"), (14, "10:00"))
+        commands = [*START, *(("GH" if milestone == 9 else "ATC", report(milestone, time)) for milestone, time in times)]
+        commands += [("APT", load(12, "tobt", NOW)), ("GH", report(12, "10:00")), ("APT", ALERTS), ("APT", SHOW)]
+        replies = self.replies(commands)
+        self.assertEqual(replies[-2], "alerts 8 7:CDM14")
+        self.assertEqual(replies[-1].split()[2][192:200], "3884ba01")
+
+    def test_local_alerts(self):
+        commands = [("APT", load(9, "alert", TAXI_TIME)), *START, ("GH", report(9, "10:00")), ("APT", ALERTS)]
+        expected = ["ok 0", "ok 1", "ok 2", "ok 3", "alerts 4 7:LOC01,LOC03"]
+        self.assertEqual(self.replies(commands), expected)
+        commands += [("APT", unload(9, "alert")), ("GH", report(9, "10:00")), ("APT", ALERTS)]
+        self.assertEqual(self.replies(commands), expected + ["ok 5", "ok 6", "alerts 7 7:LOC01,LOC03"])
+
+    def test_the_alert_program_sees_the_target(self):
+        shows_tobt = "6110600000000000" + EXIT
+        commands = [("APT", load(9, "alert", shows_tobt)), ("APT", load(9, "tobt", IN_FIVE_MINUTES)), *START]
+        replies = self.replies(commands + [("GH", report(9, "10:00")), ("APT", SHOW)])
+        record = bytes.fromhex(replies[-1].split()[2])
+        self.assertEqual(int.from_bytes(record[96:100], "little"), 29_000_585)
+        self.assertEqual(int.from_bytes(record[54:56], "little"), 29_000_585 % 65_536)
+
+    def test_slots_belong_to_the_airport(self):
+        removed = unload(9, "alert")
+        commands = [("APT", removed), ("NM", removed), ("NM", load(9, "alert", NOW)), ("APT", removed)]
+        self.assertEqual(self.replies(commands), ["no 0 321", "no 1 201", "no 2 201", "no 3 321"])
+
+    def test_programs_that_make_no_entry(self):
+        rows = (
+            (load(7, "tobt", EXIT), "bad 308 0"),
+            (load(7, "tobt", ""), "bad 301 0"),
+            (load(7, "tobt", "95"), "bad 301 0"),
+            (load(7, "tobt", "9"), "bad 104"),
+            (load(7, "tobt", "9g"), "bad 104"),
+            (load(7, "tobt", 9), "bad 103"),
+            (load(7, "other", "9"), "bad 104"),
+            (load(0, "tobt", EXIT), "bad 104"),
+            ({"cmd": "load", "milestone": 7, "program": EXIT}, "bad 103"),
+            ({"cmd": "unload", "milestone": 7}, "bad 103"),
+        )
+        for command, expected in rows:
+            self.assertEqual(self.replies([("APT", command)]), [expected])
+        self.assertEqual(self.replies([("NM", load(7, "tobt", EXIT))], capacity=0), ["bad 308 0"])
+        self.assertEqual(self.replies([("APT", load(7, "tobt", NOW.upper()))]), ["ok 0"])
 
     def test_lines_that_make_no_entry(self):
         rows = (

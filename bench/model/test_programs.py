@@ -1,0 +1,203 @@
+#!/usr/bin/env python3
+"""Worked programs with the verdicts and answers that the rules give by hand: `python3 bench/model/test_programs.py`."""
+
+import unittest
+from pathlib import Path
+
+from board import Flight
+from programs import Fault, accepted, decode, run, verify
+
+EXIT = "9500000000000000"
+ZERO = "b700000000000000"
+EXAMPLES = Path(__file__).resolve().parents[2] / "examples" / "rules"
+
+
+def flight(kind=b"A320", stand=12, **times):
+    """The flight of the worked lines: scheduled and planned, MTTT 40, EXIT 5, EXOT 10, stand 12; or another."""
+    made = Flight(7, b"DLH7", reached=3, mttt=40, exot=10, stand=stand, exit=5)
+    made.scheduled = made.plan = {"type": kind, "reg": b"DAIBC", "dest": b"EDDM"}
+    made.times.update({"sobt": 29_000_760, "eobt": 29_000_760, **times})
+    return made.record()
+
+
+def verdict(digits):
+    try:
+        return f"accepted {len(accepted(bytes.fromhex(digits)))}"
+    except Fault as fault:
+        return f"{fault.code} {fault.slot}"
+
+
+def ended(digits, milestone=1, now=29_000_700):
+    found = run(accepted(bytes.fromhex(digits)), flight(), now, milestone)
+    return found.r0, found.steps
+
+
+class Encoding(unittest.TestCase):
+    def test_first_faults_of_bytes(self):
+        rows = (
+            ("", "301 0"),
+            ("00" * 12, "301 0"),
+            ("b700000000000000" * 4097, "302 0"),
+            ("ff00000000000000", "303 0"),
+            ("9500010000000000", "304 0"),
+            ("b70b000000000000", "305 0"),
+            ("1800000001000000", "315 0"),
+            ("1800000001000000" "0100000000000000", "304 1"),
+            ("180b000001000000", "305 0"),
+            ("b7b0000000000000", "304 0"),
+            (ZERO + "c300000000000000" + EXIT, "303 1"),
+            (ZERO + "df00000040000000" + EXIT, "303 1"),
+            (ZERO + "9f00000000000000" + EXIT, "accepted 3"),
+            (ZERO + "bf00200000000000" + EXIT, "accepted 3"),
+            (ZERO + "bc00200000000000" + EXIT, "304 1"),
+        )
+        for digits, expected in rows:
+            self.assertEqual(verdict(digits), expected, digits[:64])
+
+    def test_a_wide_load_is_one_instruction_of_two_slots(self):
+        program = decode(bytes.fromhex("1801000001000000" "0000000002000000" + ZERO + EXIT))
+        self.assertEqual((program[0].kind, program[0].tail, program[0].imm, program[1]), ("wide", 2, 1, None))
+
+
+class Verdicts(unittest.TestCase):
+    def test_jumps_ends_and_registers(self):
+        rows = (
+            (ZERO + EXIT, "accepted 2"),
+            (EXIT, "308 0"),
+            (ZERO * 4095 + EXIT, "accepted 4096"),
+            ("0500000000000000" * 4095 + EXIT, "308 4095"),
+            ("0500ffff00000000" + EXIT, "306 0"),
+            (ZERO + "0500010000000000" "1801000001000000" "0000000000000000" + EXIT, "306 1"),
+            (ZERO + "0500030000000000" "1801000001000000" "0000000000000000" + EXIT, "306 1"),
+            (ZERO + "0500020000000000" "1801000001000000" "0000000000000000" + EXIT, "accepted 5"),
+            (ZERO, "307 0"),
+            ("1800000001000000" "0000000000000000", "307 0"),
+            ("1504010001000000" "b700000005000000" + EXIT, "308 2"),
+            ("b700000009000000" "1504010001000000" "b700000005000000" + EXIT, "accepted 4"),
+            ("070a0000f8ffffff" + EXIT, "314 0"),
+            (ZERO + "0500010000000000" "b70a000000000000" + EXIT, "314 2"),
+            (ZERO + "0500010000000000" "bf60000000000000" + EXIT, "accepted 4"),
+        )
+        for digits, expected in rows:
+            self.assertEqual(verdict(digits), expected, digits[:64])
+
+    def test_memory(self):
+        bounded = "71153f0000000000" "250503007c000000" "0f51000000000000" "7110000000000000" + EXIT + ZERO + EXIT
+        rows = (
+            ("61107c0000000000" + EXIT, "accepted 2"),
+            ("61107d0000000000" + EXIT, "309 0"),
+            (bounded, "accepted 7"),
+            (bounded.replace("7c000000", "7f000000"), "accepted 7"),
+            (bounded.replace("7c000000", "80000000"), "309 3"),
+            (bounded.replace("7c000000", "ff000000"), "309 3"),
+            ("bfa1000000000000" "07010000f8ffffff" "7a01000000000000" + ZERO + EXIT, "accepted 5"),
+            ("79a0f8ff00000000" + EXIT, "310 0"),
+            ("7a01000000000000" + EXIT, "311 0"),
+            ("7915400000000000" "0f51000000000000" "7110000000000000" + EXIT, "309 2"),
+            ("620af8ff01000000" "79a0f8ff00000000" + EXIT, "310 1"),
+            ("1504010001000000" "720affff05000000" "71a0ffff00000000" + EXIT, "310 2"),
+            ("1504020001000000" "bfa1000000000000" "07010000f8ffffff" "7110000000000000" + EXIT, "309 3"),
+            ("7b1af8ff00000000" "b701000000000000" "79a1f8ff00000000" "71103f0000000000" + EXIT, "309 3"),
+        )
+        for digits, expected in rows:
+            self.assertEqual(verdict(digits), expected, digits[:64])
+
+    def test_narrowing_and_helpers(self):
+        masked = "69113c0000000000" "57010000ff010000" "8500000002000000" + EXIT
+        rows = (
+            ("2d22010000000000" "b700000007000000" + EXIT, "308 2"),
+            ("5502010080000000" "b700000007000000" + EXIT, "accepted 3"),
+            ("2502010080000000" + ZERO + EXIT, "accepted 3"),
+            ("69113c0000000000" "8500000002000000" + EXIT, "313 1"),
+            (masked, "accepted 4"),
+            (masked.replace("ff010000", "ff030000"), "313 2"),
+            ("8500000004000000" + EXIT, "312 0"),
+            ("8500000003000000" + EXIT, "313 0"),
+            ("b701000005000000" "8500000002000000" "bf10000000000000" + EXIT, "308 2"),
+        )
+        for digits, expected in rows:
+            self.assertEqual(verdict(digits), expected, digits[:64])
+
+    def test_the_shipped_rules(self):
+        for source in EXAMPLES.glob("*.hex"):
+            listing = source.with_suffix(".lst").read_text().splitlines()
+            found = verdict(source.read_text())
+            self.assertEqual(found if found.startswith("accepted") else f"refused {found}", listing[-1], source.name)
+
+
+class Runs(unittest.TestCase):
+    def test_worked_runs(self):
+        rows = (
+            (ZERO + EXIT, (0, 2)),
+            (ZERO * 4095 + EXIT, (0, 4096)),
+            ("b700000009000000" "1504010001000000" "b700000005000000" + EXIT, (9, 3)),
+            ("71153f0000000000" "250503007c000000" "0f51000000000000" "7110000000000000" + EXIT + ZERO + EXIT, (0, 5)),
+            ("69113c0000000000" "57010000ff010000" "8500000002000000" + EXIT, (10, 4)),
+            ("b700000007000000" "b702000000000000" "3f20000000000000" + EXIT, (0, 4)),
+            ("1800000007000000" "0000000001000000" "b702000000000000" "9c20000000000000" + EXIT, (7, 4)),
+            ("1800000000000000" "0000000000000080" "37000100ffffffff" + EXIT, (2**63, 3)),
+            ("720affff05000000" "71a0ffff00000000" + EXIT, (5, 3)),
+            ("7a0af8ff01000000" "79a0f8ff00000000" + EXIT, (1, 3)),
+            ("5502010080000000" "b700000007000000" + EXIT, (7, 3)),
+            (ZERO + "0500010000000000" "bf60000000000000" + EXIT, (0, 3)),
+        )
+        for digits, expected in rows:
+            self.assertEqual(ended(digits), expected, digits[:64])
+        by_milestone = "b700000009000000" "1504010001000000" "b700000005000000" + EXIT
+        self.assertEqual(ended(by_milestone, milestone=7), (5, 4))
+        sum_of_minutes = "bf31000000000000" "b702000005000000" "8500000003000000" + EXIT
+        self.assertEqual(ended(sum_of_minutes, now=7), (12, 4))
+
+    def shipped(self, name, record, now=29_000_700):
+        program = accepted(bytes.fromhex((EXAMPLES / f"{name}.hex").read_text()))
+        return run(program, record, now, 7).r0
+
+    def test_the_target_after_a_turn_round(self):
+        rows = (
+            ({"aibt": 29_000_700}, 29_000_760),
+            ({"aibt": 29_000_720}, 29_000_765),
+            ({"aibt": 29_000_700, "kind": b"A388"}, 29_000_820),
+            ({"aibt": 29_000_720, "kind": b"E190"}, 29_000_780),
+            ({"aibt": 29_000_100, "eobt": 0}, 29_000_700),
+            ({"aibt": 29_000_700, "tobt": 29_000_770}, 0),
+            ({}, 0),
+        )
+        for given, expected in rows:
+            self.assertEqual(self.shipped("turn-round", flight(**given)), expected, given)
+
+    def test_the_alerts_of_a_far_stand(self):
+        slot = {"tobt": 29_000_760, "ctot": 29_000_775}
+        rows = (
+            ({}, 0),
+            ({"stand": 900}, 1),
+            ({"stand": 500}, 1),
+            ({"stand": 499}, 0),
+            ({"stand": 1000}, 0),
+            ({"stand": 0, **slot}, 0),
+            ({"stand": 12, **slot}, 0),
+            ({"stand": 120, **slot}, 0),
+            ({"stand": 120, **slot, "tobt": 29_000_761}, 2),
+            ({"stand": 900, **slot}, 3),
+            ({"stand": 900, **slot, "ctot": 0}, 1),
+        )
+        for given, expected in rows:
+            self.assertEqual(self.shipped("far-stand", flight(**given)), expected, given)
+
+    def test_signed_arithmetic(self):
+        negative = "b7000000f9ffffff"  # mov64 r0, -7
+        rows = (
+            (negative + "3700010002000000" + EXIT, 2**64 - 3),
+            (negative + "9700010002000000" + EXIT, 2**64 - 1),
+            (negative + "3400010002000000" + EXIT, 2**32 - 3),
+            (negative + "c700000001000000" + EXIT, 2**64 - 4),
+            (negative + "8400000000000000" + EXIT, 7),
+            (negative + "bf00080000000000" + EXIT, 2**64 - 7),
+            (negative + "dc00000010000000" + EXIT, 0xF9FF),
+            (negative + "d400000010000000" + EXIT, 0xFFF9),
+        )
+        for digits, expected in rows:
+            self.assertEqual(ended(digits)[0], expected, digits)
+
+
+if __name__ == "__main__":
+    unittest.main()
