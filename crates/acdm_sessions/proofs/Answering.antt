@@ -18,7 +18,7 @@ use Rattle.acdm_sessions.specs.Codes.{bad_of}
 use Rattle.acdm_sessions.specs.Meant.{Gives, meant}
 use Rattle.acdm_sessions.specs.Output.{LineTold, nothing_told, IsReadingFor, IsReadingOf, IsRight, Completes, is_full, answer_command, desk_command, answer_meant, desk_meant, Answers}
 
--- what is told of a reading's fault
+-- what a reader says of a fault
 pub fault_read : (line : List ℕ) (e : LineError) (f : Fault) → e ≡ errors.Fault f → Gives {X = Request} (Err e) (meant line) → meant line ≡ Err f
 fault_read line e f is g = subst (λ v. Gives {X = Request} (Err v) (meant line)) is g
 

@@ -31,8 +31,8 @@ use Rattle.acdm_sessions.specs.Reply.{AppendsPart}
 use Rattle.acdm_sessions.specs.Reading.{Reading, IsReading}
 use Rattle.acdm_sessions.specs.Meant.{meant}
 
--- What the world tells of a line: whether memory was refused for it, how the bytes of its program are read, whether a program of
--- its report trapped, and the answers that helpers gave.
+-- What is told of a line beside its bytes: whether memory was refused for it, how the bytes of its program are read, whether a
+-- program of its report trapped, and the answers that helpers gave.
 pub record LineTold : Type 0 where
   pub short : Bool
   pub program : Reading
