@@ -29,6 +29,11 @@ impl Failure {
 }
 
 impl From<RunError> for Failure {
+    ghost use Rattle.std.specs.Prelude.{◌≡◌};
+    ghost use Rattle.acdm.specs.Failures.{failure_of};
+
+    ghost from_gives = { λ error failure. failure ≡ failure_of error };
+
     fn from(error: RunError) -> Failure {
         match error {
             RunError::Read => Failure::Read,
@@ -39,12 +44,22 @@ impl From<RunError> for Failure {
 }
 
 impl From<AllocError> for Failure {
+    ghost use Rattle.std.specs.Prelude.{◌≡◌};
+    ghost use Rattle.acdm.specs.declared.failure.Failure.TheVariants.{Memory};
+
+    ghost from_gives = { λ _ failure. failure ≡ Memory };
+
     fn from(_error: AllocError) -> Failure {
         Failure::Memory
     }
 }
 
 impl<T: Drop> From<AllocFailed<T>> for Failure {
+    ghost use Rattle.std.specs.Prelude.{◌≡◌};
+    ghost use Rattle.acdm.specs.declared.failure.Failure.TheVariants.{Memory};
+
+    ghost from_gives = { λ _ failure. failure ≡ Memory };
+
     fn from(_failed: AllocFailed<T>) -> Failure {
         Failure::Memory
     }
