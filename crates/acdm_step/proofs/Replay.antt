@@ -23,7 +23,7 @@ use Rattle.acdm_step.specs.declared.outcome.Outcome.TheVariants as outcomes
 use Rattle.acdm_step.specs.declared.entry.Verdict.{Verdict}
 use Rattle.acdm_step.specs.declared.entry.Verdict.TheVariants.{Refused}
 use Rattle.acdm_step.specs.declared.entry.Entry.{Entry}
-use Rattle.acdm_step.specs.Programs.{Programs, said_with}
+use Rattle.acdm_step.specs.Programs.{said_with}
 use Rattle.acdm_step.specs.History.{History, nothing_told, with_command, with_tick, flight_of, bit_of, changes_flight, is_tick, is_load, is_of, ticks, is_accepted, creates, created, told, reported, said_on, record_from, record_of, slot_change, changed_or, program_in, programs_of, size_of, with_slots, slots_of, with_flight, flights, exists, is_ready, verdict_for, verdict_of, answer, outcome_with, outcome_of, left_after, left_by, IsAnswered, IsTrapped, IsLegal, replay, after, is_alerts, needs_memory}
 use Rattle.acdm_step.specs.Board.{changed, touched, place_of, is_there, record_on, put, assigned_to, programs_on, ready_on, left_on, board_verdict, board_creates, board_loads, board_answer, board_outcome, board_changed, board_after}
 use Rattle.acdm_step.specs.Running.{TrapsIn}

@@ -1,5 +1,5 @@
 -- Runs of the programs of a report, one after the other, and what they leave of the answers.
-use Rattle.std.proofs.Common.{◌≡◌, ℕ, Bool, List, [], ◌∷◌, ◌++◌, Option, Some, None, option_map, option_and_then, refl, sym, ap, subst, ◌∙◌, append_assoc, append-nil}
+use Rattle.std.proofs.Common.{◌≡◌, ℕ, Bool, List, [], ◌++◌, Option, Some, option_map, option_and_then, refl, sym, ap, subst, ◌∙◌, append_assoc, append-nil}
 use Rattle.acdm_record.specs.Fields.{Fields, bytes_of}
 use Rattle.bpf_decode.specs.declared.op.Op.{Op}
 use Rattle.bpf_helpers.specs.Promise.{Promise}
@@ -13,10 +13,10 @@ use Rattle.acdm_slots.specs.Loaded.{Loaded}
 use Rattle.acdm_step.specs.declared.command.Command.{Command}
 use Rattle.acdm_step.specs.declared.command.Command.TheVariants.{Schedule}
 use Rattle.acdm_step.specs.Facts.{ScheduleFacts}
-use Rattle.acdm_step.specs.Programs.{Programs, Said, suggestion, with_suggestion, local_alerts, with_local_alerts, r0_of, said_then, said_with, what_is_said, with_said}
+use Rattle.acdm_step.specs.Programs.{Programs, suggestion, with_suggestion, local_alerts, with_local_alerts, r0_of, said_then, said_with, what_is_said, with_said}
 use Rattle.acdm_step.specs.History.{bit_of, left_after}
-use Rattle.acdm_step.specs.Board.{assigned_to, touched, changed, programs_on}
-use Rattle.acdm_step.specs.Running.{Gained, EndsAt, TrapsAt, EndsIn, TrapsIn, first, second, ChangesTo}
+use Rattle.acdm_step.specs.Board.{assigned_to, touched, programs_on}
+use Rattle.acdm_step.specs.Running.{EndsAt, TrapsAt, EndsIn, TrapsIn, second, ChangesTo}
 
 -- the program that stands in a slot has run to its end
 pub ends_at : (p : Option Verified) (v : Verified) (r : Fields) (now m : ℕ) (log : Told) (ended : Ended) (ops : List Op) (sigs : List (ℕ × Promise)) (bytes : List ℕ)

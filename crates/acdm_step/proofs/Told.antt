@@ -1,17 +1,13 @@
 -- What comes of a command on the board of a history is what comes of it after the history.
-use Rattle.std.proofs.Common.{◌≡◌, ℕ, Bool, true, false, cond, List, [], ◌++◌, Result, Ok, Err, IfOk, OnErr, refl, sym, ap, subst, ◌∙◌}
+use Rattle.std.proofs.Common.{◌≡◌, ℕ, Bool, true, false, cond, List, Result, Ok, Err, IfOk, OnErr, refl, sym, ap, subst, ◌∙◌}
 use Rattle.std.proofs.lemmas.List.{append_cancel_left}
 use Rattle.acdm_milestones.specs.declared.role.Role.{Role}
-use Rattle.acdm_milestones.specs.declared.refusal.Refusal.TheVariants.{Trapped}
 use Rattle.bpf_helpers.specs.Promise.{Promise}
 use Rattle.bpf_machine.specs.Steps as machine
 use Rattle.acdm_step.specs.declared.command.Command.{Command}
 use Rattle.acdm_step.specs.declared.outcome.Outcome.{Outcome}
-use Rattle.acdm_step.specs.declared.outcome.Outcome.TheVariants as outcomes
-use Rattle.acdm_step.specs.declared.entry.Verdict.{Verdict}
-use Rattle.acdm_step.specs.declared.entry.Verdict.TheVariants.{Refused}
-use Rattle.acdm_step.specs.History.{History, Board, IsLegal, replay, after, is_accepted, verdict_of, outcome_of, verdict_in, left_by, with_slots}
-use Rattle.acdm_step.specs.Board.{board_verdict, board_outcome, board_changed, board_after}
+use Rattle.acdm_step.specs.History.{History, Board, IsLegal, replay, after, is_accepted, verdict_of, verdict_in, with_slots}
+use Rattle.acdm_step.specs.Board.{board_verdict, board_changed, board_after}
 use Rattle.acdm_step.specs.Laws.{verdict_in-outcome_of}
 use Rattle.acdm_step.specs.Running.{Gained, Comes, answered, trapped, ComesOf, answered_so, trapped_so}
 use Rattle.acdm_step.proofs.Replay.{verdict-replay, outcome-replay, left-replay, traps-replay, with_slots-sigs, refused-replay, step-replay}

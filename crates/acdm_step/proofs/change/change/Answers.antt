@@ -1,4 +1,4 @@
-use Rattle.std.proofs.Common.{◌≡◌, refl}
+use Rattle.std.proofs.Common.{refl}
 use Rattle.acdm_step.proofs.Runs.{changes_scheduled}
 use Rattle.acdm_step.proofs.change.change.Goals as goal
 

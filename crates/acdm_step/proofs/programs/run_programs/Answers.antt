@@ -1,4 +1,3 @@
-use Rattle.std.proofs.Common.{◌≡◌}
 use Rattle.acdm_step.proofs.Runs.{traps_second, ends_in}
 use Rattle.acdm_step.proofs.Steps.{on_err}
 use Rattle.acdm_step.proofs.programs.run_programs.Goals as goal

@@ -1,4 +1,3 @@
-use Rattle.std.proofs.Common.{◌≡◌, Some}
 use Rattle.acdm_step.proofs.Runs.{ends_at}
 use Rattle.acdm_step.proofs.programs.run_slot.Goals as goal
 

@@ -1,4 +1,4 @@
-use Rattle.std.proofs.Common.{◌≡◌, ap, ◌∙◌}
+use Rattle.std.proofs.Common.{ap, ◌∙◌}
 use Rattle.bpf_helpers.specs.Same.{same_sigs}
 use Rattle.bpf_helpers.proofs.SameSigs.{is_same_sigs}
 use Rattle.acdm_step.proofs.state.is_checked_here.Goals as goal
