@@ -5,6 +5,7 @@ use Rattle.acdm_milestones.specs.declared.role.Role.{Role}
 use Rattle.acdm_milestones.specs.declared.refusal.Refusal.TheVariants.{Trapped}
 use Rattle.acdm_record.specs.Fields.{Fields}
 use Rattle.bpf_helpers.specs.Promise.{Promise}
+use Rattle.bpf_helpers.specs.Oracles.{is_full}
 use Rattle.bpf_machine.specs.Steps as machine
 use Rattle.acdm_step.specs.declared.command.Command.{Command}
 use Rattle.acdm_step.specs.declared.entry.Entry.{Entry}
@@ -12,7 +13,7 @@ use Rattle.acdm_step.specs.declared.entry.Verdict.{Verdict}
 use Rattle.acdm_step.specs.declared.outcome.Outcome.{Outcome}
 use Rattle.acdm_step.specs.declared.outcome.Outcome.TheVariants as outcomes
 use Rattle.acdm_step.specs.Programs.{Programs}
-use Rattle.acdm_step.specs.History.{History, Board, IsChecked, IsLegal, IsAnswered, IsTrapped, replay, after, has_program, programs_of, left_by, is_accepted, verdict_of, outcome_of, verdict_in}
+use Rattle.acdm_step.specs.History.{History, Board, IsChecked, IsLegal, IsAnswered, IsTrapped, replay, after, has_program, flight_of, bit_of, told, reported, programs_of, room_of, left_by, is_accepted, verdict_of, outcome_of, verdict_in}
 use Rattle.acdm_step.specs.Laws.{verdict_in-outcome_of}
 use Rattle.acdm_step.specs.Running.{TrapsIn, first, second, ComesOf, answered_so, trapped_so}
 use Rattle.acdm_step.proofs.Replay.{sigs-replay}
@@ -28,7 +29,7 @@ some_program ps r now m log (second between r0 ends h) = ap (λ p. is_some ps.to
     either false = refl
 
 module _ (old new : Board) (xs ys : List Entry) (capacity n session moment : ℕ) (role : Role) (c : Command) (outcome : Outcome) (v : Verdict) (answers : List ℕ) (log : machine.Told)
-    (keeps : Keeps old xs capacity) (checked : IsChecked old.slots.sigs c) (begins : log.before ≡ [])
+    (keeps : Keeps old xs capacity) (checked : IsChecked old.slots.sigs c) (begins : log.before ≡ []) (rule : log.declines ≡ (λ given helper arguments. is_full (room_of (reverse xs) c) given))
     (number : n ≡ length xs) (verdict : v ≡ verdict_in outcome)
     (accepted : is_accepted (verdict_in outcome) ≡ true → answers ≡ log.now) (refused : is_accepted (verdict_in outcome) ≡ false → answers ≡ [])
     (pushed : ys ≡ xs ++ record { number = n; session = session; role = role; moment = moment; command = c; verdict = v; answers = answers } ∷ [])
@@ -74,6 +75,13 @@ module _ (old new : Board) (xs ys : List Entry) (capacity n session moment : ℕ
         fits = omega arith;
       }
 
+  trapped_with : TrapsIn (programs_of (reverse xs) c) (reported (flight_of c) c (told (reverse xs) (flight_of c))) moment (bit_of c) log
+      → TrapsIn (programs_of (reverse xs) c) (reported (flight_of c) c (told (reverse xs) (flight_of c))) moment (bit_of c)
+      (record { declines = λ given helper arguments. is_full (room_of (reverse xs) c) given; before = []; now = log.now })
+  trapped_with h =
+      subst (λ d. TrapsIn (programs_of (reverse xs) c) (reported (flight_of c) c (told (reverse xs) (flight_of c))) moment (bit_of c) (record { declines = d; before = []; now = log.now })) rule
+      (subst (λ b. TrapsIn (programs_of (reverse xs) c) (reported (flight_of c) c (told (reverse xs) (flight_of c))) moment (bit_of c) (record { declines = log.declines; before = b; now = log.now })) begins h)
+
   -- the desk before and after
   enters_by : ComesOf old.slots.sigs (reverse xs) role moment c log outcome
       → Enters (record { history = reverse xs; capacity = capacity; sigs = old.slots.sigs }) session role moment c (record { history = reverse ys; capacity = capacity; sigs = new.slots.sigs }) outcome
@@ -81,6 +89,7 @@ module _ (old new : Board) (xs ys : List Entry) (capacity n session moment : ℕ
       record {
         trapped = false;
         answers = answers;
+        why = λ t. absurd (cc);
         entry = let longer = history-pushed ∙ ap (λ o. after (reverse xs) session role moment c (verdict_in o) answers) is in λ i. record { history = longer i; capacity = capacity; sigs = same_sigs i };
         outcome_is = is;
       }
@@ -88,6 +97,7 @@ module _ (old new : Board) (xs ys : List Entry) (capacity n session moment : ℕ
       record {
         trapped = true;
         answers = answers;
+        why = λ t. (log.now, trapped_with h);
         entry = let longer = history-pushed ∙ ap (λ o. after (reverse xs) session role moment c (verdict_in o) answers) is in λ i. record { history = longer i; capacity = capacity; sigs = same_sigs i };
         outcome_is = is;
       }

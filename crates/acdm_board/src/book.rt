@@ -3,7 +3,7 @@ ghost use Rattle.std.specs.Prelude.{◌≡◌, ◌<◌, ◌≤◌, [], true, fal
 ghost use Rattle.std.specs.Option.{option_copied};
 ghost use Rattle.bpf_helpers.specs.Same.{same_sigs};
 ghost use Rattle.bpf_regstate.specs.States.{Accepts};
-ghost use Rattle.acdm_step.specs.History.{IsChecked, IsLegal, replay, is_accepted, verdict_in};
+ghost use Rattle.acdm_step.specs.History.{IsChecked, IsLegal, replay, room_of, is_accepted, verdict_in};
 ghost use Rattle.acdm_board.specs.Desk.{DeskView, Enters, is_foreign as has_other_sigs};
 
 use acdm_milestones::Role;
@@ -125,7 +125,8 @@ impl Book {
         is_foreign(command, self.sigs())
     }
 
-    /// Makes the next entry of a command, whose programs ask this oracle, and tells what came of it. `Err` only where memory was
+    /// Makes the next entry of a command, whose programs ask this oracle, which has room for all of their answers, and tells what came
+    /// of it. `Err` only where memory was
     /// refused; nothing has changed then.
     pub(crate) fn enter<H: Helpers>(
         &mut self,
@@ -135,7 +136,8 @@ impl Book {
         moment: u32,
         command: Command,
     ) -> Result<Outcome, AllocError>
-        requires room { length self.old.history < self.old.capacity }
+        requires place { length self.old.history < self.old.capacity }
+        requires room { live.room ≡ room_of self.old.history command }
         requires checked { IsChecked self.old.sigs command }
         requires sigs { live.sigs ≡ self.old.sigs }
         requires log { live.log ≡ [] }

@@ -1,6 +1,6 @@
 use Rattle.std.proofs.Common.{◌≡◌, ◌<◌, [], ◌∷◌, ◌++◌, length, reverse, true, not, is_ok, refl, ap, sym, subst, ◌∙◌}
 use Rattle.bpf_helpers.specs.Oracles.{is_full}
-use Rattle.acdm_step.specs.History.{IsChecked}
+use Rattle.acdm_step.specs.History.{IsChecked, room_of}
 use Rattle.acdm_board.specs.Desk.{DeskView}
 use Rattle.acdm_board.proofs.Longer.{keeps-pushed, enters}
 use Rattle.acdm_board.proofs.book.Book.enter.Goals as goal
@@ -11,10 +11,11 @@ invariant_of-self-2 g c =
     c.in_ok-outcome.outcome c.verdict.result c.answers_of-answers.result
     (record { declines = λ log helper arguments. is_full c.args.live.room log; before = c.args.live.log; now = c.apply.new.oracle.log })
     c.self.invariant (subst (λ (d : DeskView). IsChecked d.sigs c.args.command) (sym c.self.view_is) c.requires.checked) c.requires.log
+    (ap (λ n. λ log helper arguments. is_full n log) (subst (λ (d : DeskView). c.args.live.room ≡ room_of d.history c.args.command) (sym c.self.view_is) c.requires.room))
     (c.len.ensures ∙ c.reserve.ensures.len ∙ c.self.inside.journal.ok.0) c.verdict.ensures c.answers_of-answers.ensures.accepted c.answers_of-answers.ensures.refused (rw (c.push.ensures.items, c.is_err.ensures.negation ∙ ap not c.if-is_err.false, c.reserve.ensures.items) refl)
     (c.in_ok-outcome.ensures.outcome c.self.inside.core.slots.sigs (reverse c.self.inside.journal.items) c.self.invariant.legal c.self.invariant.replays)
     (λ us given. c.in_ok-outcome.ensures.board c.self.inside.core.slots.sigs (reverse c.self.inside.journal.items) c.args.session us c.self.invariant.legal c.self.invariant.replays given)
-    (subst (λ (d : DeskView). length d.history < d.capacity) (sym c.self.view_is) c.requires.room)
+    (subst (λ (d : DeskView). length d.history < d.capacity) (sym c.self.view_is) c.requires.place)
 
 pub returns-clause-enters : goal.returns-clause-enters
 returns-clause-enters g c =
@@ -22,6 +23,7 @@ returns-clause-enters g c =
     c.in_ok-outcome.outcome c.verdict.result c.answers_of-answers.result
     (record { declines = λ log helper arguments. is_full c.args.live.room log; before = c.args.live.log; now = c.apply.new.oracle.log })
     c.self.invariant (subst (λ (d : DeskView). IsChecked d.sigs c.args.command) (sym c.self.view_is) c.requires.checked) c.requires.log
+    (ap (λ n. λ log helper arguments. is_full n log) (subst (λ (d : DeskView). c.args.live.room ≡ room_of d.history c.args.command) (sym c.self.view_is) c.requires.room))
     (c.len.ensures ∙ c.reserve.ensures.len ∙ c.self.inside.journal.ok.0) c.verdict.ensures c.answers_of-answers.ensures.accepted c.answers_of-answers.ensures.refused (rw (c.push.ensures.items, c.is_err.ensures.negation ∙ ap not c.if-is_err.false, c.reserve.ensures.items) refl)
     (c.in_ok-outcome.ensures.outcome c.self.inside.core.slots.sigs (reverse c.self.inside.journal.items) c.self.invariant.legal c.self.invariant.replays)
     (λ us given. c.in_ok-outcome.ensures.board c.self.inside.core.slots.sigs (reverse c.self.inside.journal.items) c.args.session us c.self.invariant.legal c.self.invariant.replays given)
