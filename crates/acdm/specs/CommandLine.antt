@@ -1,8 +1,11 @@
 -- What the words of a command line ask for, as `clap` reads them.
-use Rattle.std.specs.Prelude.{ℕ, ◌≡◌, ◌≤◌, true, List, [], ◌∷◌, codes, Option, Some, None, option_and_then, if◌then◌else◌}
+use Rattle.std.specs.Prelude.{ℕ, ◌≡◌, ◌≤◌, ◌⊎◌, true, List, [], ◌∷◌, codes, Option, Some, None, option_and_then, if◌then◌else◌}
 use Rattle.std.specs.Str.{bytes_eq}
 use Rattle.std.specs.Str.Parse.{IsNumeral, digits_value, without_leading_plus}
 use Rattle.clap.specs.Words.{App, Row, Rule, Text, first_of, new_app, new_rule, subcommand_of, with_rule, with_subcommand}
+use Rattle.clap.specs.Takes.{takes}
+use Rattle.clap.specs.declared.error.kind.ErrorKind.{ErrorKind}
+use Rattle.clap.specs.declared.error.kind.ErrorKind.TheVariants.{OutOfMemory}
 use Rattle.acdm.specs.declared.command_line.Line.{Line}
 use Rattle.acdm.specs.declared.command_line.Line.TheVariants.{Run, Verify}
 
@@ -34,12 +37,34 @@ value_in name id found = option_and_then (λ p. if bytes_eq p.0 name then first_
 abbrev pub value_of : List ℕ → List ℕ → List Text → Option Text
 value_of name id words = value_in name id (subcommand_of program words)
 
--- a decimal number, as Rust reads one
-abbrev pub Names : Text → ℕ → Type 0
-Names text n = IsNumeral 10 (without_leading_plus text) × (digits_value 10 (without_leading_plus text) ≡ n)
+-- the number that a text names, as Rust reads one
+abbrev pub number_of : Text → ℕ
+number_of text = digits_value 10 (without_leading_plus text)
 
--- the words ask for `run` with the journal that they name, which is in its range, or for `verify` of their file
+-- a text names a number from 1 to 1,000,000
+abbrev pub IsJournal : Text → Type 0
+IsJournal text =
+    IsNumeral 10 (without_leading_plus text) × (1 ≤ number_of text) × (number_of text ≤ 1000000)
+
+-- the words ask for `run` with this text for its journal, or for `verify` of this file
+abbrev pub RunsWith : List Text → Text → Type 0
+RunsWith words text = value_of (codes "run") (codes "journal") words ≡ Some text
+
+abbrev pub Verifies : List Text → Text → Type 0
+Verifies words file = value_of (codes "verify") (codes "file") words ≡ Some file
+
+-- the words ask for `run` with the journal that they name, or for `verify` of their file
 abbrev pub AsksFor : List Text → Line → Type 0
 AsksFor words (Run journal) =
-    (text : Text) × (value_of (codes "run") (codes "journal") words ≡ Some text) × Names text journal × (1 ≤ journal) × (journal ≤ 1000000)
-AsksFor words (Verify file) = value_of (codes "verify") (codes "file") words ≡ Some file.now
+    (text : Text) × RunsWith words text × IsJournal text × (journal ≡ number_of text)
+AsksFor words (Verify file) = Verifies words file.now
+
+-- `clap` takes the words, and they ask for one of the two
+pub record IsRight (words : List Text) : Type 0 where
+  pub taken : takes program words ≡ true
+  pub asks : ((text : Text) × RunsWith words text × IsJournal text)
+      ⊎ ((file : Text) × Verifies words file)
+
+-- right words are refused only where there is no memory
+abbrev pub Refuses : List Text → ErrorKind → Type 0
+Refuses words kind = IsRight words → kind ≡ OutOfMemory

@@ -1,3 +1,5 @@
 pub mod CommandLine
 pub mod Helpers
 pub mod Failures
+pub mod Served
+pub mod Verdicts

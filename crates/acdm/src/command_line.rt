@@ -1,8 +1,11 @@
 //! The command line.
-ghost use Rattle.std.specs.Prelude.{◌≡◌, ◌≤◌, false, IfOk, IfSome, map, codes, option_map};
+ghost use Rattle.std.specs.Prelude.{◌≡◌, false, IfOk, IfErr, map, codes, option_map};
+ghost use Rattle.std.specs.Option.{SomeIff};
+ghost use Rattle.clap.specs.Values.{kind_of};
 ghost use Rattle.clap.specs.Words.{app_of, subcommand_rows_of};
 ghost use Rattle.clap.specs.declared.builder.Command.TheViews.{out-Command as fields_of};
-ghost use Rattle.acdm.specs.CommandLine.{program as the_program, run_app, verify_app, value_in, Names, AsksFor};
+ghost use Rattle.acdm.specs.CommandLine.{program as the_program, run_app, verify_app, value_in};
+ghost use Rattle.acdm.specs.CommandLine.{number_of, IsJournal, AsksFor, Refuses};
 
 use clap::error::ErrorKind;
 use clap::{Arg, ArgMatches, Command, Error};
@@ -60,7 +63,7 @@ fn program<'a>(alloc: Global) -> Result<Command<'a>, AllocError>
 
 // The number of entries that a text names, from 1 to 1,000,000.
 fn entries_in(text: &str) -> Option<usize>
-    ensures { IfSome result (λ n. Names text.now n × (1 ≤ n) × (n ≤ 1000000)) }
+    ensures { SomeIff result (IsJournal text.now) (number_of text.now) }
 {
     match text.parse::<usize>() {
         Ok(entries) if 1 <= entries && entries <= MOST_ENTRIES => Some(entries),
@@ -70,7 +73,8 @@ fn entries_in(text: &str) -> Option<usize>
 
 // The value of an argument of the subcommand of this name.
 fn value<'a>(matches: &ArgMatches<'a>, name: &str, id: &str) -> Option<&'a str>
-    ensures { option_map (λ s. s.now) result ≡ value_in name.now id.now (subcommand_rows_of matches.now) }
+    ensures { option_map (λ s. s.now) result
+        ≡ value_in name.now id.now (subcommand_rows_of matches.now) }
 {
     let (found, inner) = matches.subcommand()?;
     if found != name {
@@ -81,10 +85,12 @@ fn value<'a>(matches: &ArgMatches<'a>, name: &str, id: &str) -> Option<&'a str>
 
 /// What these words ask for; the first is the program's name.
 ///
-/// The journal is what `--journal` says, else 100,000. Words that name no such command are refused by `clap`,
-/// and so is a journal outside 1 to 1,000,000. A request for help counts as a refusal.
+/// The journal is what `--journal` says, else 100,000. Words that name no such command are refused by
+/// `clap`, and so is a journal outside 1 to 1,000,000. A request for help counts as a refusal.
 pub fn parse<'a>(alloc: Global, words: &'a [&'a str]) -> Result<Line<'a>, Error>
-    ensures { IfOk result (AsksFor (map (λ w. w.now) words.entry.now)) }
+    ensures asks { IfOk result (AsksFor (map (λ w. w.now) words.entry.now)) }
+    ensures refuses { IfErr result (λ error.
+        Refuses (map (λ w. w.now) words.entry.now) (kind_of error)) }
 {
     let mut command = program(alloc)?;
     let matches = command.try_get_matches_from_mut(words)?;

@@ -2,6 +2,7 @@
 #![tactic(auto)]
 
 mod command_line;
+mod commands;
 mod failure;
 mod helpers;
 mod serving;
@@ -9,28 +10,21 @@ mod serving;
 mod tests;
 mod verifying;
 
-use command_line::{Line, parse};
-use failure::Failure;
-use serving::run_on;
-use std::fs::File;
+use commands::complete;
 use std::process::ExitCode;
 use std::{env, io};
-use verifying::verify_on;
 
 fn main(rt: HostRuntime) -> io::Result<ExitCode> {
     let alloc = rt.alloc();
     let words: Vec<String> = env::args(&rt)?.collect(alloc)?;
     let words: Vec<&str> = words.iter().map(|word| word.as_str()).collect(alloc)?;
-    let status = match parse(alloc, words.as_slice()) {
-        Ok(Line::Run { journal }) => run_on(alloc, journal, rt.stdin(), rt.stdout(), rt.stderr()),
-        Ok(Line::Verify { file }) => match File::open(&rt, file) {
-            Ok(file) => verify_on(alloc, file, rt.stdout(), rt.stderr()),
-            Err(_) => Failure::Read.complain(rt.stderr()),
-        },
-        Err(error) => {
-            eprint!(rt; "{error}")?;
-            2
-        }
-    };
+    let status = complete(
+        alloc,
+        &rt,
+        words.as_slice(),
+        rt.stdin(),
+        rt.stdout(),
+        rt.stderr(),
+    );
     Ok(ExitCode::from(status))
 }

@@ -1,4 +1,7 @@
 //! The command `run`, over the reader and the writers that it is handed.
+ghost use Rattle.std.specs.Prelude.{◌≡◌, ◌-◌, ◌^◌, ◌<◌, OnOk};
+ghost use Rattle.acdm.specs.Served.{ServesFromEmpty};
+
 use crate::failure::Failure;
 use crate::helpers::{bank_of, minutes_later, taxi_minutes, turn_round_minutes};
 use acdm_board::Desk;
@@ -7,8 +10,8 @@ use bpf_helpers::{Code, Helpers};
 use std::alloc::Global;
 use std::io::{Read, Write};
 
-/// Answers the lines of a reader on a writer, with room for so many entries in the journal. Local programs may call the known
-/// helpers.
+/// Answers the lines of a reader on a writer, with room for so many entries in the journal. Local
+/// programs may call the known helpers.
 ///
 /// The status is 0 where the input was read to its end, else 2, with a line on the errors' writer.
 pub fn run_on<R: Read + Drop, W: Write + Drop, E: Write + Drop>(
@@ -47,7 +50,24 @@ fn serve_with<H: Helpers + Drop, R: Read + Drop, W: Write + Drop>(
 ) -> Result<(), Failure> {
     let mut reader = Counted::new(reader);
     let mut writer = Counted::new(writer);
+    serve_counted(alloc, helpers, journal, &mut reader, &mut writer)
+}
+
+// Serves a desk that is empty at first, and has room for so many entries.
+fn serve_counted<H: Helpers + Drop, R: Read, W: Write>(
+    alloc: Global,
+    helpers: H,
+    journal: usize,
+    reader: &mut Counted<R>,
+    writer: &mut Counted<W>,
+) -> Result<(), Failure>
+    requires reads { reader.old.faults < 2 ^ 64 - 1 }
+    requires writes { writer.old.faults < 2 ^ 64 - 1 }
+    ensures { OnOk result (ServesFromEmpty (H.entries helpers) journal
+        (R.remaining reader.old.inner) (R.remaining reader.new.inner)
+        (W.contents writer.old.inner) (W.contents writer.new.inner)) }
+{
     let mut desk = Desk::new(alloc, helpers, journal)?;
-    run(alloc, &mut reader, &mut writer, &mut desk)?;
+    run(alloc, reader, writer, &mut desk)?;
     Ok(())
 }

@@ -1,11 +1,13 @@
 //! Command lines, and the statuses and lines of the commands.
 use crate::command_line::{Line, parse};
+use crate::commands::complete;
 use crate::serving::run_on;
 use crate::verifying::verify_on;
 use acdm_board::Desk;
 use acdm_sessions::{Counted, run};
 use bpf_helpers::{Bank, Helpers};
 use std::alloc::Global;
+use std::fs::Files;
 use std::io::{self, Read, Write};
 use std::process::Abort;
 use std::test::Fail;
@@ -25,6 +27,9 @@ fn a_journal_is_read_or_the_usual_one(rt: HostRuntime) -> Result<(), Fail> {
     for (words, journal) in [
         (["acdm", "run"].as_slice(), 100_000),
         (["acdm", "run", "--journal", "1"].as_slice(), 1),
+        (["acdm", "run", "--journal", "2"].as_slice(), 2),
+        (["acdm", "run", "--journal", "70000"].as_slice(), 70_000),
+        (["acdm", "run", "--journal", "999999"].as_slice(), 999_999),
         (["acdm", "run", "--journal=1000000"].as_slice(), 1_000_000),
     ] {
         let line = parse(alloc, words).map_err(|_| "a command line is refused")?;
@@ -86,6 +91,89 @@ fn a_run_ends_with_its_status(rt: HostRuntime) -> Result<(), Fail> {
     let status = run_on(alloc, 10, SCHEDULE.as_bytes(), Broken, &mut errors);
     assert_eq!(rt; status, 2);
     assert_eq!(rt; errors.as_slice(), b"acdm: write failed\n".as_slice());
+    Ok(())
+}
+
+const TICK: &str = "1 29000580 APT {\"cmd\":\"tick\"}\n";
+
+// What the program writes and answers for these words and this input.
+fn completes<F: Files>(
+    rt: &impl Abort,
+    alloc: Global,
+    files: &F,
+    words: &[&str],
+    input: &str,
+    expected: (u8, &str, &str),
+) -> Result<(), Fail> {
+    let mut output = Vec::new(alloc);
+    let mut errors = Vec::new(alloc);
+    let status = complete(
+        alloc,
+        files,
+        words,
+        input.as_bytes(),
+        &mut output,
+        &mut errors,
+    );
+    let (wanted, replies, complaint) = expected;
+    assert_eq!(rt; status, wanted);
+    assert_eq!(rt; output.as_slice(), replies.as_bytes());
+    assert_eq!(rt; errors.as_slice(), complaint.as_bytes());
+    Ok(())
+}
+
+#[test]
+fn a_journal_takes_just_as_many_entries_as_it_says(rt: HostRuntime) -> Result<(), Fail> {
+    let alloc = rt.alloc();
+    let mut ticks = String::new(alloc);
+    for _ in 0..5 {
+        ticks.push_str(TICK)?;
+    }
+    completes(
+        &rt,
+        rt.alloc(),
+        &rt,
+        &["acdm", "run", "--journal", "4"],
+        ticks.as_str(),
+        (0, "ok 0\nok 1\nok 2\nok 3\nbad 502\n", ""),
+    )?;
+    completes(
+        &rt,
+        rt.alloc(),
+        &rt,
+        &["acdm", "run"],
+        ticks.as_str(),
+        (0, "ok 0\nok 1\nok 2\nok 3\nok 4\n", ""),
+    )
+}
+
+#[test]
+fn words_and_files_that_fail_are_told_as_errors(rt: HostRuntime) -> Result<(), Fail> {
+    completes(
+        &rt,
+        rt.alloc(),
+        &rt,
+        &["acdm", "verify", "no-such-folder/no-such-file"],
+        TICK,
+        (2, "", "acdm: read failed\n"),
+    )?;
+    let alloc = rt.alloc();
+    let mut output = Vec::new(alloc);
+    let mut errors = Vec::new(alloc);
+    let words = ["acdm", "walk"];
+    let status = complete(
+        alloc,
+        &rt,
+        words.as_slice(),
+        TICK.as_bytes(),
+        &mut output,
+        &mut errors,
+    );
+    assert_eq!(rt; status, 2);
+    assert!(rt; output.is_empty());
+    assert!(rt; !errors.is_empty());
+    let status = complete(alloc, &rt, words.as_slice(), Broken, Broken, Broken);
+    assert_eq!(rt; status, 2);
     Ok(())
 }
 
@@ -290,6 +378,27 @@ fn verify_tells_what_failed(rt: HostRuntime) -> Result<(), Fail> {
     let exit = [0x95, 0, 0, 0, 0, 0, 0, 0];
     assert_eq!(rt; verify_on(alloc, exit.as_slice(), Broken, &mut errors), 2);
     assert_eq!(rt; errors.as_slice(), b"acdm: write failed\n".as_slice());
+    Ok(())
+}
+
+/// Has no memory at each read.
+#[derive(Drop)]
+struct Short;
+
+impl Read for Short {
+    fn read(&mut self, _buf: &mut [u8]) -> io::Result<usize> {
+        Err(io::Error::from(io::ErrorKind::OutOfMemory))
+    }
+}
+
+#[test]
+fn want_of_memory_is_no_verdict(rt: HostRuntime) -> Result<(), Fail> {
+    let alloc = rt.alloc();
+    let mut errors = Vec::new(alloc);
+    let mut text = Vec::new(alloc);
+    assert_eq!(rt; verify_on(alloc, Short, &mut text, &mut errors), 2);
+    assert!(rt; text.is_empty());
+    assert_eq!(rt; errors.as_slice(), b"acdm: no memory\n".as_slice());
     Ok(())
 }
 

@@ -13,10 +13,10 @@ pub record IsComputed (x : ℕ) : Type 0 where
   pub low_is_low : low < 16384
   pub is_bit : fifteenth ≤ 1
 
-pub conditions-computed : (r : Fields) (now : ℕ) → IsComputed (conditions r now)
-conditions-computed r now =
+pub conditions-computed : (r : Fields) (moment : ℕ) → IsComputed (conditions r moment)
+conditions-computed r moment =
     let p = plan_is r in
-    let t = time_is r now in
+    let t = time_is r moment in
     record { low = 2 * p.0 + 128 * t.0; fifteenth = t.1; is_sum = omega (arith, p.1, t.2); low_is_low = omega (arith, p.2, t.3); is_bit = t.4 }
 
 pub zero-computed : IsComputed 0

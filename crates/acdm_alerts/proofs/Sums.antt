@@ -5,20 +5,20 @@ use Rattle.acdm_record.specs.Fields.{Fields}
 use Rattle.acdm_alerts.specs.Conditions.{plan_conditions, time_conditions, kept_bits}
 use Rattle.acdm_alerts.specs.Laws.{plan_is, time_is}
 
-pub word_fits : (r : Fields) (now w : ℕ) → w < 4294967296 → kept_bits w + plan_conditions r + time_conditions r now < 4294967296
-word_fits r now w h =
+pub word_fits : (r : Fields) (moment w : ℕ) → w < 4294967296 → kept_bits w + plan_conditions r + time_conditions r moment < 4294967296
+word_fits r moment w h =
     let p = plan_is r in
-    let t = time_is r now in
-    sums w p.0 t.0 t.1 (plan_conditions r) (time_conditions r now) h p.2 t.3 t.4 p.1 t.2
+    let t = time_is r moment in
+    sums w p.0 t.0 t.1 (plan_conditions r) (time_conditions r moment) h p.2 t.3 t.4 p.1 t.2
   where
     sums : (w p s t x y : ℕ) → w < 4294967296 → p ≤ 31 → s ≤ 127 → t ≤ 1 → x ≡ 2 * p → y ≡ 128 * s + 32768 * t → kept_bits w + x + y < 4294967296
     sums w p s t x y h pl sl tl xe ye = omega arith
 
-pub word_allowed : (r : Fields) (now w : ℕ) → (bit_at (kept_bits w + plan_conditions r + time_conditions r now) 0 == 0 && bit_at (kept_bits w + plan_conditions r + time_conditions r now) 6 == 0) ≡ true
-word_allowed r now w =
+pub word_allowed : (r : Fields) (moment w : ℕ) → (bit_at (kept_bits w + plan_conditions r + time_conditions r moment) 0 == 0 && bit_at (kept_bits w + plan_conditions r + time_conditions r moment) 6 == 0) ≡ true
+word_allowed r moment w =
     let p = plan_is r in
-    let t = time_is r now in
-    sums (w / 65536) (w / 16384 % 2) p.0 t.0 t.1 (plan_conditions r) (time_conditions r now) p.2 p.1 t.2
+    let t = time_is r moment in
+    sums (w / 65536) (w / 16384 % 2) p.0 t.0 t.1 (plan_conditions r) (time_conditions r moment) p.2 p.1 t.2
   where
     zero_zero : (m n : ℕ) → m ≡ 0 → n ≡ 0 → (m == 0 && n == 0) ≡ true
     zero_zero m n a b = ap₂ (λ m n. m == 0 && n == 0) a b

@@ -39,7 +39,7 @@ no_airport_slot r = has_reached r 1 && not (has_reached r 0)
 
 -- CDM09: boarding not started
 abbrev pub boarding_not_started : Fields → ℕ → Bool
-boarding_not_started r now = is_set r Tobt && (not (is_set r Asbt) && (not (is_set r Aobt) && nat_le (number_of r Tobt) (now + 10)))
+boarding_not_started r moment = is_set r Tobt && (not (is_set r Asbt) && (not (is_set r Aobt) && nat_le (number_of r Tobt) (moment + 10)))
 
 -- CDM10: TOBT rejected or deleted
 abbrev pub tobt_deleted : Fields → Bool
@@ -47,11 +47,11 @@ tobt_deleted r = has_reached r 9 && not (is_set r Tobt)
 
 -- CDM11: not compliant with TOBT or TSAT
 abbrev pub tsat_passed : Fields → ℕ → Bool
-tsat_passed r now = is_set r Tsat && (not (is_set r Asat) && nat_lt (number_of r Tsat + 5) now)
+tsat_passed r moment = is_set r Tsat && (not (is_set r Asat) && nat_lt (number_of r Tsat + 5) moment)
 
 -- CDM13: no flight plan
 abbrev pub no_flight_plan : Fields → ℕ → Bool
-no_flight_plan r now = has_reached r 0 && (not (has_reached r 1) && nat_le (number_of r Sobt) (now + 180))
+no_flight_plan r moment = has_reached r 0 && (not (has_reached r 1) && nat_le (number_of r Sobt) (moment + 180))
 
 -- the bit of an alert, where it holds
 abbrev pub bit_if : Bool → ℕ → ℕ
@@ -64,12 +64,12 @@ plan_conditions r =
     + bit_if (texts_differ r ScheduledRegistration PlanRegistration) 4 + bit_if (texts_differ r ScheduledDestination PlanDestination) 5
 
 abbrev pub time_conditions : Fields → ℕ → ℕ
-time_conditions r now =
-    bit_if (turns_after r Eobt) 7 + bit_if (differ_by 15 r Tobt Eobt) 8 + bit_if (boarding_not_started r now) 9 + bit_if (tobt_deleted r) 10
-    + bit_if (tsat_passed r now) 11 + bit_if (differ_by 5 r Asat Tsat) 12 + bit_if (no_flight_plan r now) 13 + bit_if (turns_after r Tobt) 15
+time_conditions r moment =
+    bit_if (turns_after r Eobt) 7 + bit_if (differ_by 15 r Tobt Eobt) 8 + bit_if (boarding_not_started r moment) 9 + bit_if (tobt_deleted r) 10
+    + bit_if (tsat_passed r moment) 11 + bit_if (differ_by 5 r Asat Tsat) 12 + bit_if (no_flight_plan r moment) 13 + bit_if (turns_after r Tobt) 15
 
 abbrev pub conditions : Fields → ℕ → ℕ
-conditions r now = plan_conditions r + time_conditions r now
+conditions r moment = plan_conditions r + time_conditions r moment
 
 -- what only local programs set and clear: bit 14 (CDM14) and the bits from 16 on
 abbrev pub kept_bits : ℕ → ℕ
@@ -77,4 +77,4 @@ kept_bits word = word / 65536 * 65536 + word / 16384 % 2 * 16384
 
 -- the alert word of a record at a moment
 abbrev pub alert_word : Fields → ℕ → ℕ
-alert_word r now = kept_bits (number_of r Alerts) + conditions r now
+alert_word r moment = kept_bits (number_of r Alerts) + conditions r moment

@@ -59,15 +59,15 @@ time_sum a b c d e f g h =
 pub plan_is : (r : Fields) → (p : ℕ) × (plan_conditions r ≡ 2 * p) × (p ≤ 31)
 plan_is r = plan_sum _ _ _ _ _
 
-pub time_is : (r : Fields) (now : ℕ) → (s : ℕ) × (t : ℕ) × (time_conditions r now ≡ 128 * s + 32768 * t) × (s ≤ 127) × (t ≤ 1)
-time_is r now = time_sum _ _ _ _ _ _ _ _
+pub time_is : (r : Fields) (moment : ℕ) → (s : ℕ) × (t : ℕ) × (time_conditions r moment ≡ 128 * s + 32768 * t) × (s ≤ 127) × (t ≤ 1)
+time_is r moment = time_sum _ _ _ _ _ _ _ _
 
 -- what is computed has none of the bits that are kept
-pub kept_bits-conditions : (r : Fields) (now : ℕ) → kept_bits (conditions r now) ≡ 0
-kept_bits-conditions r now =
+pub kept_bits-conditions : (r : Fields) (moment : ℕ) → kept_bits (conditions r moment) ≡ 0
+kept_bits-conditions r moment =
     let p = plan_is r in
-    let t = time_is r now in
-    none p.0 t.0 t.1 (plan_conditions r) (time_conditions r now) p.1 t.2 p.2 t.3 t.4
+    let t = time_is r moment in
+    none p.0 t.0 t.1 (plan_conditions r) (time_conditions r moment) p.1 t.2 p.2 t.3 t.4
   where
     none : (p s t x y : ℕ) → x ≡ 2 * p → y ≡ 128 * s + 32768 * t → p ≤ 31 → s ≤ 127 → t ≤ 1 → kept_bits (x + y) ≡ 0
     none p s t x y xe ye pl sl tl = omega arith

@@ -72,14 +72,14 @@ fn no_airport_slot(record: &Record) -> bool
     has_reached(record, 1) && !has_reached(record, 0)
 }
 
-fn boarding_not_started(record: &Record, now: u32) -> bool
-    ensures { result ≡ is_not_boarding record.now now }
+fn boarding_not_started(record: &Record, moment: u32) -> bool
+    ensures { result ≡ is_not_boarding record.now moment }
 {
     let tobt = record.get(Field::Tobt);
     tobt != 0
         && !is_set(record, Field::Asbt)
         && !is_set(record, Field::Aobt)
-        && u64::from(now) + 10 >= tobt
+        && u64::from(moment) + 10 >= tobt
 }
 
 fn tobt_deleted(record: &Record) -> bool
@@ -88,18 +88,18 @@ fn tobt_deleted(record: &Record) -> bool
     has_reached(record, 9) && !is_set(record, Field::Tobt)
 }
 
-fn tsat_passed(record: &Record, now: u32) -> bool
-    ensures { result ≡ is_past_tsat record.now now }
+fn tsat_passed(record: &Record, moment: u32) -> bool
+    ensures { result ≡ is_past_tsat record.now moment }
 {
     let tsat = record.get(Field::Tsat);
-    tsat != 0 && !is_set(record, Field::Asat) && u64::from(now) > tsat + 5
+    tsat != 0 && !is_set(record, Field::Asat) && u64::from(moment) > tsat + 5
 }
 
-fn no_flight_plan(record: &Record, now: u32) -> bool
-    ensures { result ≡ lacks_plan record.now now }
+fn no_flight_plan(record: &Record, moment: u32) -> bool
+    ensures { result ≡ lacks_plan record.now moment }
 {
     let sobt = record.get(Field::Sobt);
-    has_reached(record, 0) && !has_reached(record, 1) && u64::from(now) + 180 >= sobt
+    has_reached(record, 0) && !has_reached(record, 1) && u64::from(moment) + 180 >= sobt
 }
 
 // The bit of an alert, where it holds.
@@ -132,16 +132,16 @@ fn plan_conditions(record: &Record) -> u32
         + bit_if(destinations, 5)
 }
 
-fn time_conditions(record: &Record, now: u32) -> u32
-    ensures { result ≡ time_alerts record.now now }
+fn time_conditions(record: &Record, moment: u32) -> u32
+    ensures { result ≡ time_alerts record.now moment }
 {
     bit_if(turns_after(record, Field::Eobt), 7)
         + bit_if(differ_by(15, record, Field::Tobt, Field::Eobt), 8)
-        + bit_if(boarding_not_started(record, now), 9)
+        + bit_if(boarding_not_started(record, moment), 9)
         + bit_if(tobt_deleted(record), 10)
-        + bit_if(tsat_passed(record, now), 11)
+        + bit_if(tsat_passed(record, moment), 11)
         + bit_if(differ_by(5, record, Field::Asat, Field::Tsat), 12)
-        + bit_if(no_flight_plan(record, now), 13)
+        + bit_if(no_flight_plan(record, moment), 13)
         + bit_if(turns_after(record, Field::Tobt), 15)
 }
 
@@ -154,9 +154,9 @@ fn kept_bits(word: u32) -> u32
 
 /// The alerts of a record at a moment, in minutes since 1970-01-01T00:00Z: the built-in alerts anew, while CDM14 and the
 /// local alerts stay as they are in the record. Sums never wrap.
-pub fn builtin(record: &Record, now: u32) -> AlertSet
-    ensures { result ≡ alert_word record.now now }
+pub fn builtin(record: &Record, moment: u32) -> AlertSet
+    ensures { result ≡ alert_word record.now moment }
 {
     let word = kept_bits(AlertSet::of(record).word());
-    AlertSet::from_word(word + plan_conditions(record) + time_conditions(record, now))
+    AlertSet::from_word(word + plan_conditions(record) + time_conditions(record, moment))
 }

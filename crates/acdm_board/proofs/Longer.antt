@@ -1,63 +1,77 @@
 -- A journal with one more entry.
-use Rattle.std.proofs.Common.{◌≡◌, ℕ, ◌+◌, ◌<◌, ◌⊎◌, inl, inr, Bool, true, false, ◌||◌, List, [], ◌∷◌, ◌++◌, length, reverse, Option, Some, is_some, refl, sym, ap, subst, ◌∙◌, arith}
+use Rattle.std.proofs.Common.{◌≡◌, ℕ, ◌+◌, ◌<◌, Bool, true, false, nat_le, List, [], ◌∷◌, ◌++◌, length, reverse, refl, sym, ap, subst, ◌∙◌, arith}
+use Rattle.std.proofs.lemmas.Bool.Decides.{nat_tests}
 use Rattle.std.proofs.lemmas.List.{reverse-append, length-reverse, length-append}
 use Rattle.acdm_milestones.specs.declared.role.Role.{Role}
-use Rattle.acdm_milestones.specs.declared.refusal.Refusal.TheVariants.{Trapped}
 use Rattle.acdm_record.specs.Fields.{Fields}
 use Rattle.bpf_helpers.specs.Promise.{Promise}
-use Rattle.bpf_helpers.specs.Oracles.{is_full}
-use Rattle.bpf_machine.specs.Steps as machine
+use Rattle.bpf_helpers.specs.Oracles.{OracleView, is_full}
 use Rattle.acdm_step.specs.declared.command.Command.{Command}
 use Rattle.acdm_step.specs.declared.entry.Entry.{Entry}
 use Rattle.acdm_step.specs.declared.entry.Verdict.{Verdict}
 use Rattle.acdm_step.specs.declared.outcome.Outcome.{Outcome}
-use Rattle.acdm_step.specs.declared.outcome.Outcome.TheVariants as outcomes
 use Rattle.acdm_step.specs.Programs.{Programs}
-use Rattle.acdm_step.specs.History.{History, Board, IsChecked, IsLegal, IsAnswered, IsTrapped, replay, after, has_program, flight_of, bit_of, told, reported, programs_of, room_of, left_by, is_accepted, verdict_of, outcome_of, verdict_in}
+use Rattle.acdm_step.specs.History.{History, Board, IsChecked, IsInRange, IsLegal, IsAnswered, replay, after, flight_of, bit_of, told, reported, programs_of, room_of, left_by, is_accepted, verdict_of, outcome_of, verdict_in}
 use Rattle.acdm_step.specs.Laws.{verdict_in-outcome_of}
-use Rattle.acdm_step.specs.Running.{TrapsIn, first, second, ComesOf, answered_so, trapped_so}
+use Rattle.acdm_step.specs.Running.{AsksIn, first, second, ComesOf, answered_so, unanswered_so}
 use Rattle.acdm_step.proofs.Replay.{sigs-replay}
+use Rattle.acdm_step.proofs.Runs.{asked_few}
+use Rattle.acdm_step.proofs.Saying.{ran_left}
 use Rattle.acdm_board.specs.Desk.{DeskView, Keeps, Enters}
 
--- programs that trap are there
-some_program : (ps : Programs) (r : Fields) (now m : ℕ) (log : machine.Told) → TrapsIn ps r now m log → has_program ps ≡ true
-some_program ps r now m log (first h) = ap (λ p. is_some p || is_some ps.alert) h.2
-some_program ps r now m log (second between r0 ends h) = ap (λ p. is_some ps.tobt || is_some p) h.2 ∙ either (is_some ps.tobt)
-  where
-    either : (b : Bool) → (b || true) ≡ true
-    either true = refl
-    either false = refl
+-- helpers with room for so many answers decline only where so many were given
+declined_full : (ps : Programs) (r : Fields) (moment m room : ℕ) (from to : OracleView) → from.declines ≡ (λ given helper arguments. is_full room given)
+    → AsksIn ps r moment m from to → is_full room to.log ≡ true
+declined_full ps r moment m room from to rule (first h) = subst (λ d. d to.log h.2.1 h.2.2 ≡ true) rule h.2.5
+declined_full ps r moment m room from to rule (second between r0 same ends h) =
+    subst (λ d. d to.log h.2.1 h.2.2 ≡ true) (same.declines ∙ rule) h.2.5
 
-module _ (old new : Board) (xs ys : List Entry) (capacity n session moment : ℕ) (role : Role) (c : Command) (outcome : Outcome) (v : Verdict) (answers : List ℕ) (log : machine.Told)
-    (keeps : Keeps old xs capacity) (checked : IsChecked old.slots.sigs c) (begins : log.before ≡ []) (rule : log.declines ≡ (λ given helper arguments. is_full (room_of (reverse xs) c) given))
+too_few : (room given : ℕ) → nat_le room given ≡ true → given < room → ⊥
+too_few room given full few = absurd (grind (arith, nat_tests))
+
+module _ (old new : Board) (xs ys : List Entry) (capacity n session moment : ℕ) (role : Role) (c : Command) (outcome : Outcome) (v : Verdict) (answers : List ℕ) (from to : OracleView)
+    (keeps : Keeps old xs capacity) (checked : IsChecked old.slots.sigs c) (range : IsInRange session moment)
+    (begins : from.log ≡ []) (rule : from.declines ≡ (λ given helper arguments. is_full (room_of (reverse xs) c) given))
     (number : n ≡ length xs) (verdict : v ≡ verdict_in outcome)
-    (accepted : is_accepted (verdict_in outcome) ≡ true → answers ≡ log.now) (refused : is_accepted (verdict_in outcome) ≡ false → answers ≡ [])
+    (accepted : is_accepted (verdict_in outcome) ≡ true → answers ≡ to.log) (refused : is_accepted (verdict_in outcome) ≡ false → answers ≡ [])
     (pushed : ys ≡ xs ++ record { number = n; session = session; role = role; moment = moment; command = c; verdict = v; answers = answers } ∷ [])
-    (comes : ComesOf old.slots.sigs (reverse xs) role moment c log outcome)
-    (board : (us : List ℕ) → (is_accepted (verdict_in outcome) ≡ true → log.now ≡ log.before ++ us) → new ≡ replay old.slots.sigs (after (reverse xs) session role moment c (verdict_in outcome) us)) where
+    (comes : ComesOf old.slots.sigs (reverse xs) role moment c from to outcome)
+    (board : (us : List ℕ) → (is_accepted (verdict_in outcome) ≡ true → to.log ≡ from.log ++ us) → new ≡ replay old.slots.sigs (after (reverse xs) session role moment c (verdict_in outcome) us)) where
+  -- with so much room no question is left without an answer
+  answered_all : AsksIn (programs_of (reverse xs) c) (reported (flight_of c) c (told (reverse xs) (flight_of c))) moment (bit_of c) from to → ⊥
+  answered_all h =
+      let few = asked_few (programs_of (reverse xs) c) (reported (flight_of c) c (told (reverse xs) (flight_of c))) moment (bit_of c) from to h in
+      let none : length from.log ≡ 0 = ap length begins in
+      too_few (room_of (reverse xs) c) (length to.log)
+      (declined_full (programs_of (reverse xs) c) (reported (flight_of c) c (told (reverse xs) (flight_of c))) moment (bit_of c) (room_of (reverse xs) c) from to rule h)
+      (omega (arith, few, none))
+
+  -- so what comes of the command is what the tests say
+  outcome_here : ComesOf old.slots.sigs (reverse xs) role moment c from to outcome → outcome ≡ outcome_of old.slots.sigs (reverse xs) role c
+  outcome_here (answered_so used gained counts is ran none) = is
+  outcome_here (unanswered_so is d h) = absurd (answered_all h)
+
+  verdict_here : verdict_in outcome ≡ verdict_of old.slots.sigs (reverse xs) role c
+  verdict_here = ap verdict_in (outcome_here comes) ∙ verdict_in-outcome_of old.slots.sigs (reverse xs) role c
+
   history-pushed : reverse ys ≡ after (reverse xs) session role moment c (verdict_in outcome) answers
   history-pushed =
       let place : n ≡ length (reverse xs) = number ∙ sym (length-reverse xs) in
       ap reverse pushed ∙ reverse-append xs (record { number = n; session = session; role = role; moment = moment; command = c; verdict = v; answers = answers } ∷ [])
       ∙ (λ i. record { number = place i; session = session; role = role; moment = moment; command = c; verdict = verdict i; answers = answers } ∷ reverse xs)
 
-  right : ComesOf old.slots.sigs (reverse xs) role moment c log outcome
-      → IsAnswered old.slots.sigs (reverse xs) role moment c (verdict_in outcome) answers ⊎ IsTrapped old.slots.sigs (reverse xs) role c (verdict_in outcome) answers
-  right (answered_so used gained is left none) =
-      let same : verdict_in outcome ≡ verdict_of old.slots.sigs (reverse xs) role c = ap verdict_in is ∙ verdict_in-outcome_of old.slots.sigs (reverse xs) role c in
-      let all : log.now ≡ used = gained ∙ ap (λ l. l ++ used) begins in
-      inl record {
-        verdict_is = same;
-        used = λ d. ap (left_by (reverse xs) c moment) (accepted d ∙ all) ∙ left (sym (ap is_accepted same) ∙ d);
+  right : ComesOf old.slots.sigs (reverse xs) role moment c from to outcome → IsAnswered old.slots.sigs (reverse xs) role moment c (verdict_in outcome) answers
+  right (answered_so used gained counts is ran none) =
+      let all : to.log ≡ used = gained ∙ ap (λ l. l ++ used) begins in
+      let r = reported (flight_of c) c (told (reverse xs) (flight_of c)) in
+      record {
+        verdict_is = verdict_here;
+        used = λ d.
+            ap (λ us. left_by (reverse xs) c moment us) (accepted d ∙ all)
+            ∙ ran_left (programs_of (reverse xs) c) r moment (bit_of c) used (ran (sym (ap is_accepted verdict_here) ∙ d));
         unused = refused;
       }
-  right (trapped_so is d h) =
-      inr record {
-        verdict_is = ap verdict_in is;
-        accepted = d;
-        runs = some_program (programs_of (reverse xs) c) _ _ _ log h;
-        unused = refused (ap (λ o. is_accepted (verdict_in o)) is);
-      }
+  right (unanswered_so is d h) = absurd (answered_all h)
 
   stands : new ≡ replay old.slots.sigs (after (reverse xs) session role moment c (verdict_in outcome) answers)
   stands = board answers (λ d. sym (ap (λ l. l ++ answers) begins ∙ accepted d))
@@ -71,37 +85,19 @@ module _ (old new : Board) (xs ys : List Entry) (capacity n session moment : ℕ
       let longer : length ys ≡ length xs + 1 = ap length pushed ∙ length-append xs _ in
       record {
         replays = stands ∙ ap (λ s. replay s (after (reverse xs) session role moment c (verdict_in outcome) answers)) (sym same_sigs) ∙ ap (replay new.slots.sigs) (sym history-pushed);
-        legal = subst (λ s. IsLegal s (reverse ys)) (sym same_sigs) (subst (IsLegal old.slots.sigs) (sym history-pushed) (keeps.legal, refl, checked, right comes));
+        legal = subst (λ s. IsLegal s (reverse ys)) (sym same_sigs) (subst (IsLegal old.slots.sigs) (sym history-pushed) (keeps.legal, refl, range, checked, right comes));
         fits = omega arith;
       }
 
-  trapped_with : TrapsIn (programs_of (reverse xs) c) (reported (flight_of c) c (told (reverse xs) (flight_of c))) moment (bit_of c) log
-      → TrapsIn (programs_of (reverse xs) c) (reported (flight_of c) c (told (reverse xs) (flight_of c))) moment (bit_of c)
-      (record { declines = λ given helper arguments. is_full (room_of (reverse xs) c) given; before = []; now = log.now })
-  trapped_with h =
-      subst (λ d. TrapsIn (programs_of (reverse xs) c) (reported (flight_of c) c (told (reverse xs) (flight_of c))) moment (bit_of c) (record { declines = d; before = []; now = log.now })) rule
-      (subst (λ b. TrapsIn (programs_of (reverse xs) c) (reported (flight_of c) c (told (reverse xs) (flight_of c))) moment (bit_of c) (record { declines = log.declines; before = b; now = log.now })) begins h)
-
   -- the desk before and after
-  enters_by : ComesOf old.slots.sigs (reverse xs) role moment c log outcome
-      → Enters (record { history = reverse xs; capacity = capacity; sigs = old.slots.sigs }) session role moment c (record { history = reverse ys; capacity = capacity; sigs = new.slots.sigs }) outcome
-  enters_by (answered_so used gained is left none) =
+  enters_here : Enters (record { history = reverse xs; capacity = capacity; sigs = old.slots.sigs }) session role moment c (record { history = reverse ys; capacity = capacity; sigs = new.slots.sigs }) outcome
+  enters_here =
       record {
-        trapped = false;
         answers = answers;
-        why = λ t. absurd (cc);
-        entry = let longer = history-pushed ∙ ap (λ o. after (reverse xs) session role moment c (verdict_in o) answers) is in λ i. record { history = longer i; capacity = capacity; sigs = same_sigs i };
-        outcome_is = is;
-      }
-  enters_by (trapped_so is d h) =
-      record {
-        trapped = true;
-        answers = answers;
-        why = λ t. (log.now, trapped_with h);
-        entry = let longer = history-pushed ∙ ap (λ o. after (reverse xs) session role moment c (verdict_in o) answers) is in λ i. record { history = longer i; capacity = capacity; sigs = same_sigs i };
-        outcome_is = is;
+        entry = let longer = history-pushed ∙ ap (λ o. after (reverse xs) session role moment c o answers) verdict_here in λ i. record { history = longer i; capacity = capacity; sigs = same_sigs i };
+        outcome_is = outcome_here comes;
       }
 
   pub enters : (d : DeskView) → record { history = reverse xs; capacity = capacity; sigs = old.slots.sigs } ≡ d
       → Enters d session role moment c (record { history = reverse ys; capacity = capacity; sigs = new.slots.sigs }) outcome
-  enters d e = subst (λ x. Enters x session role moment c (record { history = reverse ys; capacity = capacity; sigs = new.slots.sigs }) outcome) e (enters_by comes)
+  enters d e = subst (λ x. Enters x session role moment c (record { history = reverse ys; capacity = capacity; sigs = new.slots.sigs }) outcome) e enters_here

@@ -51,7 +51,7 @@ fn is_checked_against(program: &Checked, sigs: &Sigs) -> bool
     program.sigs().is_same(sigs)
 }
 
-/// The answers that the programs of an accepted command used; a refused one used none.
+/// The answers that the programs of an accepted command used, in no more room than they need; a refused one used none.
 fn answers_of<H: Helpers>(alloc: Global, live: Live<'_, H>, outcome: &Outcome) -> Answers
     ensures accepted { is_accepted (verdict_in outcome.now) ≡ true → result ≡ live.entry.log }
     ensures refused { is_accepted (verdict_in outcome.now) ≡ false → result ≡ [] }
@@ -59,7 +59,9 @@ fn answers_of<H: Helpers>(alloc: Global, live: Live<'_, H>, outcome: &Outcome) -
     if !outcome.verdict().is_accepted() {
         return Answers::none(alloc);
     }
-    Answers::from(live.into_answers())
+    let mut answers = live.into_answers();
+    answers.shrink_to_fit();
+    Answers::from(answers)
 }
 
 impl Book {
@@ -137,6 +139,9 @@ impl Book {
         command: Command,
     ) -> Result<Outcome, AllocError>
         requires place { length self.old.history < self.old.capacity }
+        requires session_given { 1 ≤ session }
+        requires few_sessions { session ≤ 64 }
+        requires moment_given { 1 ≤ moment }
         requires room { live.room ≡ room_of self.old.history command }
         requires checked { IsChecked self.old.sigs command }
         requires sigs { live.sigs ≡ self.old.sigs }

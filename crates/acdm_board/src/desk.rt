@@ -77,8 +77,8 @@ impl<H: Helpers + Drop> Desk<H> {
         self.book.entry(number)
     }
 
-    /// One event: a command of a session at a moment (minutes since 1970-01-01T00:00Z) becomes the next entry, with what came of
-    /// it and the answers that its programs used.
+    /// One event: a command of a session, from 1 to 64, at a moment (minutes since 1970-01-01T00:00Z, from 1) becomes the next
+    /// entry, with what came of it and the answers that its programs used.
     ///
     /// `Full` where the journal is full, which is tested first; `OtherSignatures` where the program of a load was checked against
     /// other signatures than those of the desk; `Memory` where memory was refused. Nothing has changed then.
@@ -89,6 +89,9 @@ impl<H: Helpers + Drop> Desk<H> {
         moment: u32,
         command: Command,
     ) -> Result<Reply, DeskError>
+        requires session_given { 1 ≤ session }
+        requires few_sessions { session ≤ 64 }
+        requires moment_given { 1 ≤ moment }
         ensures entry { IfOk result (λ reply. Enters self.old session role moment command self.new reply.outcome) }
         ensures number { IfOk result (λ reply. reply.number ≡ length self.old.history) }
         ensures full { (result ≡ Err DeskError.Full) ↔ (length self.old.history ≡ self.old.capacity) }

@@ -1,5 +1,6 @@
 //! Why a desk takes no command.
 ghost use Rattle.std.specs.Prelude.{◌≡◌};
+ghost use Rattle.acdm_board.specs.Codes.{error_code};
 
 use std::alloc::AllocError;
 
@@ -12,6 +13,19 @@ pub enum DeskError {
     OtherSignatures,
     /// 501: memory was refused.
     Memory,
+}
+
+impl DeskError {
+    /// The number of this error in replies.
+    pub fn code(self) -> u16
+        ensures { result ≡ error_code self }
+    {
+        match self {
+            DeskError::Full => 502,
+            DeskError::OtherSignatures => 322,
+            DeskError::Memory => 501,
+        }
+    }
 }
 
 impl From<AllocError> for DeskError {

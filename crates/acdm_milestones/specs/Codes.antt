@@ -1,7 +1,7 @@
 -- The numbers of refusals in replies.
 use Rattle.std.specs.Prelude.{ℕ}
 use Rattle.acdm_milestones.specs.declared.refusal.Refusal.{Refusal}
-use Rattle.acdm_milestones.specs.declared.refusal.Refusal.TheVariants.{NotOwner, UnknownFlight, MissingMilestone, Barred, NotSet, TimeOrder, AlreadyPlanned, FullBoard, EmptySlot, OtherSignatures, Trapped}
+use Rattle.acdm_milestones.specs.declared.refusal.Refusal.TheVariants.{NotOwner, UnknownFlight, MissingMilestone, Barred, NotSet, TimeOrder, AlreadyPlanned, FullBoard, EmptySlot, OtherSignatures, Unanswered}
 
 abbrev pub refusal_code : Refusal → ℕ
 refusal_code NotOwner = 201
@@ -14,4 +14,4 @@ refusal_code AlreadyPlanned = 207
 refusal_code FullBoard = 503
 refusal_code EmptySlot = 321
 refusal_code OtherSignatures = 322
-refusal_code Trapped = 599
+refusal_code Unanswered = 599

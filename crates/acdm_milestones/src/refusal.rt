@@ -25,8 +25,8 @@ pub enum Refusal {
     EmptySlot,
     /// 322: the program was checked against other signatures than the board's.
     OtherSignatures,
-    /// 599: a program of the report trapped.
-    Trapped,
+    /// 599, which no reply has: an oracle left a question of the report's programs without an answer.
+    Unanswered,
 }
 
 impl Refusal {
@@ -45,7 +45,7 @@ impl Refusal {
             Refusal::FullBoard => 503,
             Refusal::EmptySlot => 321,
             Refusal::OtherSignatures => 322,
-            Refusal::Trapped => 599,
+            Refusal::Unanswered => 599,
         }
     }
 }

@@ -228,3 +228,66 @@ fn numbers_outside_the_table_are_no_milestones(rt: HostRuntime) {
     assert!(rt; !has_reached(&Record::new(7), 0));
     assert_eq!(rt; Refusal::FullBoard.code(), 503);
 }
+
+// Whether NM, ATC, APT, AO and GH report each milestone, from 1 on.
+const REPORTERS: [[bool; 5]; 16] = [
+    [true, false, false, false, false],
+    [true, false, false, false, false],
+    [true, false, false, false, false],
+    [false, true, false, false, false],
+    [false, true, false, false, false],
+    [false, true, false, false, false],
+    [false, false, true, false, false],
+    [false, false, false, false, true],
+    [false, false, false, true, true],
+    [false, true, false, false, false],
+    [false, false, false, true, true],
+    [false, false, false, true, true],
+    [false, true, false, false, false],
+    [false, true, false, false, false],
+    [false, true, true, false, false],
+    [false, true, false, false, false],
+];
+
+#[test]
+fn each_milestone_has_its_reporters_and_no_others(rt: HostRuntime) {
+    for (place, reporters) in REPORTERS.iter().enumerate() {
+        let number = place as u64 + 1;
+        let milestone = Milestone::from_number(number).expect(&rt, "a number of the table");
+        let [nm, atc, apt, ao, gh] = *reporters;
+        assert_eq!(rt; owns(NM, Action::Report(milestone)), nm, "{number}");
+        assert_eq!(rt; owns(ATC, Action::Report(milestone)), atc, "{number}");
+        assert_eq!(rt; owns(APT, Action::Report(milestone)), apt, "{number}");
+        assert_eq!(rt; owns(AO, Action::Report(milestone)), ao, "{number}");
+        assert_eq!(rt; owns(GH, Action::Report(milestone)), gh, "{number}");
+    }
+}
+
+#[test]
+fn each_time_is_set_in_its_field(rt: HostRuntime) {
+    let fields = [
+        Field::Eobt,
+        Field::Ctot,
+        Field::Otot,
+        Field::Eldt,
+        Field::Eldt,
+        Field::Aldt,
+        Field::Aibt,
+        Field::Acgt,
+        Field::Tobt,
+        Field::Tsat,
+        Field::Asbt,
+        Field::Ardt,
+        Field::Asrt,
+        Field::Asat,
+        Field::Aobt,
+        Field::Atot,
+    ];
+    for (place, field) in fields.iter().enumerate() {
+        let number = place as u64 + 1;
+        let milestone = Milestone::from_number(number).expect(&rt, "a number of the table");
+        let mut record = Record::new(7);
+        set_time(&mut record, milestone, 29_000_700);
+        assert_eq!(rt; record.get(*field), 29_000_700, "{number}");
+    }
+}

@@ -11,7 +11,7 @@ pub(crate) fn is_printable(bytes: &[u8]) -> bool
     bytes.iter().all(|byte| 33 <= *byte && *byte <= 126)
 }
 
-/// A text of at most N bytes, each from 0x21 to 0x7E.
+/// A text of 1 to N bytes, each from 0x21 to 0x7E.
 #[derive(Drop)]
 pub struct Text<const N: usize> {
     bytes: [u8; N],
@@ -26,7 +26,7 @@ impl<const N: usize> Model for Text<N> {
 
     ghost view = { λ t. take t.len t.bytes };
 
-    ghost invariant = { λ t. (t.len ≤ N) × IsTrue (is_text (take t.len t.bytes)) };
+    ghost invariant = { λ t. (1 ≤ t.len) × (t.len ≤ N) × IsTrue (is_text (take t.len t.bytes)) };
 }
 
 impl<const N: usize> Text<N> {
@@ -49,6 +49,7 @@ impl<const N: usize> Text<N> {
     pub fn as_bytes(&self) -> &[u8]
         ensures same { result.now ≡ self.now }
         ensures printable { IsTrue (is_text self.now) }
+        ensures some { 1 ≤ length self.now }
         ensures short { length self.now ≤ N }
     {
         &self.bytes[..self.len]

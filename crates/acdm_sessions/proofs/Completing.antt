@@ -1,5 +1,5 @@
 -- The command that a line asks for, once the bytes of its program are read.
-use Rattle.std.proofs.Common.{◌≡◌, ℕ, List, false, not, Ok, Err, refl, sym, ap, subst}
+use Rattle.std.proofs.Common.{◌≡◌, ℕ, List, false, not, Result, Ok, Err, refl, sym, ap, subst}
 use Rattle.bpf_helpers.specs.Promise.{Promise}
 use Rattle.bpf_helpers.specs.Same.{same_sigs}
 use Rattle.bpf_helpers.proofs.SameSigs.{same_sigs-decides}
@@ -14,19 +14,37 @@ use Rattle.acdm_sessions.specs.declared.request.Asked.TheVariants.{Plain, Load}
 use Rattle.acdm_sessions.specs.Reading.{GivesReading}
 use Rattle.acdm_sessions.specs.Output.{Completes}
 
-pub completes_plain : (sigs : List (ℕ × Promise)) (asked : Asked) (c : Command) → asked ≡ Plain c → Completes sigs asked (Ok c)
-completes_plain sigs asked c e = subst (λ a. Completes sigs a (Ok c)) (sym e) (Err (0, 0), tt, refl)
+pub completes_plain : (sigs : List (ℕ × Promise)) (asked : Asked) (c : Command)
+    → asked ≡ Plain c → Completes sigs asked (Ok c)
+completes_plain sigs asked c e =
+    subst (λ a. Completes sigs a (Ok c)) (sym e)
+    (record { reading = Err (0, 0); right = tt; command_is = refl })
 
-module _ (sigs : List (ℕ × Promise)) (asked : Asked) (l : LoadRequest) (bytes : List ℕ) (is : asked ≡ Load l) (same : bytes ≡ l.program) where
-  pub completes_load : (v : Verified) → GivesReading sigs bytes (Ok v) → Completes sigs asked (Ok (commands.Load record { milestone = l.milestone; kind = l.kind; program = v }))
+module _ (sigs : List (ℕ × Promise)) (asked : Asked) (l : LoadRequest) (bytes : List ℕ)
+    (is : asked ≡ Load l) (same : bytes ≡ l.program) where
+  loaded : Verified → Command
+  loaded v = commands.Load record { milestone = l.milestone; kind = l.kind; program = v }
+
+  pub completes_load : (v : Verified) → GivesReading sigs bytes (Ok v)
+      → Completes sigs asked
+      (Ok (commands.Load record { milestone = l.milestone; kind = l.kind; program = v }))
+  unfolding loaded
   completes_load v r =
-      subst (λ a. Completes sigs a (Ok (commands.Load record { milestone = l.milestone; kind = l.kind; program = v }))) (sym is)
-      (Ok v, subst (λ bs. GivesReading sigs bs (Ok v)) same r, refl)
+      subst (λ a. Completes sigs a (Ok (loaded v))) (sym is) (record {
+        reading = Ok v;
+        right = subst (λ bs. GivesReading sigs bs (Ok v)) same r;
+        command_is = refl;
+      })
 
-  pub completes_refused : (e : ProgramError) → GivesReading sigs bytes (Err e) → Completes sigs asked (Err e)
+  pub completes_refused : (e : ProgramError) → GivesReading sigs bytes (Err e)
+      → Completes sigs asked (Err e)
   completes_refused Memory r = tt
   completes_refused (Refused code slot) r =
-      subst (λ a. Completes sigs a (Err (Refused code slot))) (sym is) (Err (code, slot), subst (λ bs. GivesReading sigs bs (Err (Refused code slot))) same r, refl)
+      subst (λ a. Completes sigs a (Err (Refused code slot))) (sym is) (record {
+        reading = Err (code, slot);
+        right = subst (λ bs. GivesReading sigs bs (Err (Refused code slot))) same r;
+        command_is = refl;
+      })
 
 pub same_is_no_other : (a b : List (ℕ × Promise)) → a ≡ b → not (same_sigs a b) ≡ false
 same_is_no_other a b e = ap not ((same_sigs-decides a b).1 e)

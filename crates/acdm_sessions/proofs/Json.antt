@@ -9,7 +9,9 @@ use Rattle.acdm_sessions.specs.Meant.{json_of, or_fault}
 
 pub json_ok : (bs : List ℕ) (d : Data) → IsUtf8 bs → read bs ≡ Some d → json_of bs ≡ Ok d
 unfolding json_of
-json_ok bs d u e = ap (λ b. cond b (or_fault NoJson (read bs)) (Err NoJson)) (is_utf8-from_IsUtf8 bs u) ∙ ap (or_fault NoJson) e
+json_ok bs d u e =
+    ap (λ b. cond b (or_fault NoJson (read bs)) (Err NoJson)) (is_utf8-from_IsUtf8 bs u)
+    ∙ ap (or_fault NoJson) e
 
 pub json_bad : (bs : List ℕ) → (IsUtf8 bs → read bs ≡ None) → json_of bs ≡ Err NoJson
 unfolding json_of

@@ -9,7 +9,8 @@ take-take-append (suc n) [] ys = refl
 take-take-append (suc n) (x ∷ xs) ys = ap (λ l. x ∷ l) (take-take-append n xs ys)
 
 -- as many of the new bytes as there is room for
-pub take-append-room : (n : ℕ) (xs ys : List ℕ) → length xs ≤ n → take n (xs ++ ys) ≡ xs ++ take (min (n - length xs) (length ys)) ys
+pub take-append-room : (n : ℕ) (xs ys : List ℕ) → length xs ≤ n
+    → take n (xs ++ ys) ≡ xs ++ take (min (n - length xs) (length ys)) ys
 take-append-room n [] ys h = let e : n - 0 ≡ n = omega arith in rw (e, take_min) refl
 take-append-room zero (x ∷ xs) ys h = absurd (omega arith)
 take-append-room (suc n) (x ∷ xs) ys h =

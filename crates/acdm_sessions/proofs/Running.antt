@@ -1,173 +1,285 @@
 -- What a run has served at any time of the text that it reads.
-use Rattle.std.proofs.Common.{◌≡◌, ℕ, ◌<◌, ◌≤◌, List, [], ◌∷◌, ◌++◌, length, Option, Some, None, IfSome, Result, Ok, Err, OnOk, OnErr, refl, sym, ap, subst, ◌∙◌, arith, append_assoc, append-nil}
-use Rattle.std.specs.Io.KnownBytes.{Appends, prepend_known}
+use Rattle.std.proofs.Common.{◌≡◌, ℕ, ◌+◌, ◌-◌, ◌^◌, ◌<◌, ◌≤◌, ◌⊎◌, true, List, [], ◌∷◌, ◌++◌, length}
+use Rattle.std.proofs.Common.{Option, refl, sym, ap, subst, ◌∙◌, arith, append_assoc, append-nil}
+use Rattle.std.proofs.Common.{length-append, inl, inr}
+use Rattle.std.proofs.lemmas.Bool.{lt-ltb}
+use Rattle.std.specs.Io.KnownBytes.{Appends, Consumes, IsAtEnd}
 use Rattle.acdm_board.specs.Desk.{DeskView}
 use Rattle.acdm_sessions.specs.declared.lines.Ending.{Ending}
 use Rattle.acdm_sessions.specs.declared.lines.Ending.TheVariants.{LineFeed, Input}
-use Rattle.acdm_sessions.specs.Lines.{IsLine, IsWhole, lines_of, kept, TakesLine, TakesRest, TakesPart, EachReadGave}
+use Rattle.acdm_sessions.specs.declared.lines.Lines.{Lines}
+use Rattle.acdm_sessions.specs.declared.run_error.RunError.{RunError}
+use Rattle.acdm_sessions.specs.Counted.{Watched, faults_after}
+use Rattle.acdm_sessions.specs.Lines.{IsLine, IsWhole, lines_of, kept}
+use Rattle.acdm_sessions.specs.NextLine.{TakesLine, TakesRest, TakesPart}
 use Rattle.acdm_sessions.specs.Reply.{AppendsPart}
-use Rattle.acdm_sessions.specs.Output.{LineTold, IsRight, AreRight, answer_to, desk_after, reply_text, ServesLine, ServesLinePart, replies, desk_after_all, Serves, ServesWhole, ServesPart}
+use Rattle.acdm_sessions.specs.Output.{Supply, IsRight, answer_to, desk_after, desk_after_all}
+use Rattle.acdm_sessions.specs.Output.{reply_text, ServesLine, ServesLinePart, Serves}
+use Rattle.acdm_sessions.specs.Run.{FailsOrEndless, ServesAll, ServesWhole, ServesPart}
 use Rattle.acdm_sessions.proofs.Feeds.{lines_of-line, lines_of-rest}
 use Rattle.acdm_sessions.proofs.Writing.{Appends-none}
-use Rattle.acdm_sessions.proofs.Serving.{lines_of-whole, IsWhole-line, IsWhole-append, desk-kept, answer-kept, right-kept, Served, served_more, served_partly, desk_of, right_of}
+use Rattle.acdm_sessions.proofs.Serving.{lines_of-whole, IsWhole-line, IsWhole-append, desk-kept}
+use Rattle.acdm_sessions.proofs.Serving.{answer-kept, right-kept, Served, served_more}
+use Rattle.acdm_sessions.proofs.Taking.{Consumes-none, Consumes-both}
 
--- of a known text whole lines were taken, and all of them served
-abbrev pub Sofar : Option (List ℕ) → Option (List ℕ) → DeskView → DeskView → Option (List ℕ) → Option (List ℕ) → Type 0
-Sofar None left before now old new = Unit {0}
-Sofar (Some text) None before now old new = ⊥
-Sofar (Some text) (Some rest) before now old new = (whole : List ℕ) × (told : List LineTold) × IsWhole whole × (text ≡ whole ++ rest) × Served told (lines_of whole) before now old new
+-- The reader gave whole lines and what is held, all of the lines are served, and each read so far
+-- gave something.
+pub record Sofar (start left : Option (List ℕ)) (held : List ℕ) (reads : ℕ)
+    (before after : DeskView) (old new : Option (List ℕ)) : Type 0 where
+  pub text : List ℕ
+  pub whole : List ℕ
+  pub supplies : List Supply
+  pub consumed : Consumes start left text
+  pub gave : 2 ^ 40 ≤ length text + reads
+  pub is_whole : IsWhole whole
+  pub split : text ≡ whole ++ held
+  pub served : Served supplies (lines_of whole) before after old new
 
-pub sofar-begins : (known : Option (List ℕ)) (d : DeskView) (w : Option (List ℕ)) → Sofar known (prepend_known [] known) d d w w
-sofar-begins None d w = tt
-sofar-begins (Some text) d w = ([], [], tt, refl, record { aligned = refl; right = tt; desk = refl; wrote = Appends-none w })
+pub sofar-begins : (known : Option (List ℕ)) (d : DeskView) (w : Option (List ℕ))
+    → Sofar known known [] 1099511627776 d d w w
+sofar-begins known d w = record {
+  text = [];
+  whole = [];
+  supplies = [];
+  consumed = Consumes-none known;
+  gave = omega arith;
+  is_whole = tt;
+  split = refl;
+  served = record { aligned = refl; right = tt; desk = refl; wrote = Appends-none w };
+}
 
 -- what was kept of a line serves as the line does
-line_to : (d now : DeskView) (mid new : Option (List ℕ)) (bytes line : List ℕ) → bytes ≡ kept line → ServesLine d now bytes mid new → ServesLine d now line mid new
-line_to d now mid new bytes line same s = record {
-  told = s.told;
-  right = right-kept d.sigs s.told line (subst (λ bs. IsRight d.sigs s.told bs) same s.right);
-  desk_is = s.desk_is ∙ ap (desk_after d s.told) same ∙ desk-kept d s.told line;
-  wrote = subst (λ a. Appends mid new (reply_text a)) (ap (answer_to d s.told) same ∙ answer-kept d s.told line) s.wrote;
-}
+line_to : (d after : DeskView) (old new : Option (List ℕ)) (bytes line : List ℕ)
+    → bytes ≡ kept line → ServesLine d after bytes old new → ServesLine d after line old new
+line_to d after old new bytes line same s =
+    let answer = ap (answer_to d s.supply) same ∙ answer-kept d s.supply line in
+    record {
+      supply = s.supply;
+      right = right-kept d.sigs s.supply line
+          (subst (λ bs. IsRight d.sigs s.supply bs) same s.right);
+      desk_is = s.desk_is ∙ ap (desk_after d s.supply) same ∙ desk-kept d s.supply line;
+      wrote = subst (λ a. Appends old new (reply_text a)) answer s.wrote;
+    }
 
-part_to : (d now : DeskView) (mid new : Option (List ℕ)) (bytes line : List ℕ) → bytes ≡ kept line → ServesLinePart d now bytes mid new → ServesLinePart d now line mid new
-part_to d now mid new bytes line same s = record {
-  told = s.told;
-  right = right-kept d.sigs s.told line (subst (λ bs. IsRight d.sigs s.told bs) same s.right);
-  desk_is = s.desk_is ∙ ap (desk_after d s.told) same ∙ desk-kept d s.told line;
-  wrote = subst (λ a. AppendsPart mid new (reply_text a)) (ap (answer_to d s.told) same ∙ answer-kept d s.told line) s.wrote;
-}
+part_to : (d after : DeskView) (old new : Option (List ℕ)) (bytes line : List ℕ)
+    → bytes ≡ kept line → ServesLinePart d after bytes old new
+    → ServesLinePart d after line old new
+part_to d after old new bytes line same s =
+    let answer = ap (answer_to d s.supply) same ∙ answer-kept d s.supply line in
+    record {
+      supply = s.supply;
+      right = right-kept d.sigs s.supply line
+          (subst (λ bs. IsRight d.sigs s.supply bs) same s.right);
+      desk_is = s.desk_is ∙ ap (desk_after d s.supply) same ∙ desk-kept d s.supply line;
+      wrote = subst (λ a. AppendsPart old new (reply_text a)) answer s.wrote;
+    }
 
-lines_with : (whole line : List ℕ) → IsWhole whole → IsLine line → lines_of (whole ++ (line ++ 10 ∷ [])) ≡ lines_of whole ++ line ∷ []
-lines_with whole line w l = lines_of-whole whole (line ++ 10 ∷ []) w ∙ ap (λ ls. lines_of whole ++ ls) (lines_of-line line [] l)
+lines_with : (whole line : List ℕ) → IsWhole whole → IsLine line
+    → lines_of (whole ++ (line ++ 10 ∷ [])) ≡ lines_of whole ++ line ∷ []
+lines_with whole line w l =
+    lines_of-whole whole (line ++ 10 ∷ []) w
+    ∙ ap (λ ls. lines_of whole ++ ls) (lines_of-line line [] l)
 
 -- a line with its line feed is taken off the rest of the text
-text_with : (text whole mid line rest : List ℕ) → text ≡ whole ++ mid → mid ≡ line ++ 10 ∷ rest → text ≡ (whole ++ (line ++ 10 ∷ [])) ++ rest
-text_with text whole mid line rest e f =
-    e ∙ ap (λ l. whole ++ l) (f ∙ sym (append_assoc line (10 ∷ []) rest)) ∙ sym (append_assoc whole (line ++ 10 ∷ []) rest)
-
--- one more line is served
-pub sofar-line : (a b c : Option (List ℕ)) (before d now : DeskView) (old mid new : Option (List ℕ)) (bytes : List ℕ)
-    → Sofar a b before d old mid → TakesLine b c bytes → ServesLine d now bytes mid new → Sofar a c before now old new
-sofar-line None b c before d now old mid new bytes h t s = tt
-sofar-line (Some text) None c before d now old mid new bytes h t s = absurd h
-sofar-line (Some text) (Some left) None before d now old mid new bytes h t s = absurd t
-sofar-line (Some text) (Some left) (Some rest) before d now old mid new bytes h t s =
-    let line : ServesLine d now t.0 mid new = line_to d now mid new bytes t.0 t.3 s in (
-      h.0 ++ (t.0 ++ 10 ∷ []),
-      h.1 ++ line.told ∷ [],
-      IsWhole-append h.0 (t.0 ++ 10 ∷ []) h.2 (IsWhole-line t.0),
-      text_with text h.0 left t.0 rest h.3 t.2,
-      subst (λ ls. Served (h.1 ++ line.told ∷ []) ls before now old new) (sym (lines_with h.0 t.0 h.2 t.1)) (served_more h.1 (lines_of h.0) before d now old mid new t.0 h.4 line),
-    )
+text_with : (whole line rest : List ℕ)
+    → whole ++ (line ++ 10 ∷ rest) ≡ (whole ++ (line ++ 10 ∷ [])) ++ rest
+text_with whole line rest =
+    ap (λ l. whole ++ l) (sym (append_assoc line (10 ∷ []) rest))
+    ∙ sym (append_assoc whole (line ++ 10 ∷ []) rest)
 
 -- the lines of a text that ends with the rest of a line
-lines_to_end : (text whole left : List ℕ) → IsWhole whole → text ≡ whole ++ left → (b : ℕ) (bs : List ℕ) → left ≡ b ∷ bs → IsLine left → lines_of text ≡ lines_of whole ++ left ∷ []
-lines_to_end text whole left w e b bs f l =
-    ap lines_of e ∙ lines_of-whole whole left w
-    ∙ ap (λ ls. lines_of whole ++ ls) (ap lines_of f ∙ lines_of-rest b bs (subst IsLine f l) ∙ ap (λ v. v ∷ []) (sym f))
+lines_to_end : (whole rest : List ℕ) → IsWhole whole → IsLine rest → 0 < length rest
+    → lines_of (whole ++ rest) ≡ lines_of whole ++ rest ∷ []
+lines_to_end whole [] w l some = absurd (omega arith)
+lines_to_end whole (b ∷ bs) w l some =
+    lines_of-whole whole (b ∷ bs) w ∙ ap (λ ls. lines_of whole ++ ls) (lines_of-rest b bs l)
 
--- the text has ended with a line feed, or was empty
-pub sofar-ends : (a b c : Option (List ℕ)) (before d : DeskView) (old mid : Option (List ℕ)) (bytes : List ℕ)
-    → Sofar a b before d old mid → TakesRest b c bytes → length bytes ≡ 0 → IfSome a (λ text. Serves text before d old mid)
-sofar-ends None b c before d old mid bytes h t e = tt
-sofar-ends (Some text) None c before d old mid bytes h t e = absurd h
-sofar-ends (Some text) (Some left) None before d old mid bytes h t e = absurd t
-sofar-ends (Some text) (Some []) (Some rest) before d old mid bytes h t e =
-    let all : lines_of h.0 ≡ lines_of text = ap lines_of (sym (h.3 ∙ append-nil h.0)) in
-    (h.1, subst (AreRight before.sigs h.1) all h.4.right, h.4.desk ∙ ap (desk_after_all before h.1) all, subst (λ ls. Appends old mid (replies before h.1 ls)) all h.4.wrote)
-sofar-ends (Some text) (Some (b ∷ bs)) (Some rest) before d old mid bytes h t e = absurd (omega (arith, ap length t.2))
+rest-alone : (rest : List ℕ) → IsLine rest → 0 < length rest → lines_of rest ≡ rest ∷ []
+rest-alone [] l some = absurd (omega arith)
+rest-alone (b ∷ bs) l some = lines_of-rest b bs l
 
--- the rest of the text is one line more
-pub sofar-rest : (a b c : Option (List ℕ)) (before d now : DeskView) (old mid new : Option (List ℕ)) (bytes : List ℕ)
-    → Sofar a b before d old mid → TakesRest b c bytes → 0 < length bytes → ServesLine d now bytes mid new
-    → IfSome a (λ text. Serves text before now old new)
-sofar-rest None b c before d now old mid new bytes h t some s = tt
-sofar-rest (Some text) None c before d now old mid new bytes h t some s = absurd h
-sofar-rest (Some text) (Some left) None before d now old mid new bytes h t some s = absurd t
-sofar-rest (Some text) (Some []) (Some rest) before d now old mid new bytes h t some s = absurd (omega (arith, ap length t.2))
-sofar-rest (Some text) (Some (b ∷ bs)) (Some rest) before d now old mid new bytes h t some s =
-    let all : lines_of h.0 ++ (b ∷ bs) ∷ [] ≡ lines_of text = sym (lines_to_end text h.0 (b ∷ bs) h.2 h.3 b bs refl t.0) in
-    let line : ServesLine d now (b ∷ bs) mid new = line_to d now mid new bytes (b ∷ bs) t.2 s in
-    let told : List LineTold = h.1 ++ line.told ∷ [] in
-    let more = served_more h.1 (lines_of h.0) before d now old mid new (b ∷ bs) h.4 line in
-    (told, subst (AreRight before.sigs told) all more.right, more.desk ∙ ap (desk_after_all before told) all, subst (λ ls. Appends old new (replies before told ls)) all more.wrote)
+kept-empty : (bs : List ℕ) → length (kept bs) ≡ 0 → bs ≡ []
+kept-empty [] h = refl
+kept-empty (b ∷ bs) h = absurd (omega arith)
 
--- the same of what a last call ensures
-pub ends-rest : {T E : Type 0} (r : Result T E) (a b c : Option (List ℕ)) (before d now : DeskView) (old mid new : Option (List ℕ)) (bytes : List ℕ)
-    → Sofar a b before d old mid → TakesRest b c bytes → 0 < length bytes → OnOk r (ServesLine d now bytes mid new) → OnOk r (IfSome a (λ text. Serves text before now old new))
-ends-rest (Ok x) a b c before d now old mid new bytes h t some s = sofar-rest a b c before d now old mid new bytes h t some s
-ends-rest (Err e) a b c before d now old mid new bytes h t some s = tt
+kept-some : (bs : List ℕ) → 0 < length (kept bs) → 0 < length bs
+kept-some [] h = absurd (omega arith)
+kept-some (b ∷ bs) h = omega arith
 
--- a read failed: the whole lines before it are served
-pub sofar-part : (a b known : Option (List ℕ)) (before d : DeskView) (old mid : Option (List ℕ)) (bytes : List ℕ)
-    → Sofar a b before d old mid → TakesPart b (prepend_known [] known) bytes → ServesWhole a known before d old mid
-sofar-part None b known before d old mid bytes h t = tt
-sofar-part (Some text) None known before d old mid bytes h t = absurd h
-sofar-part (Some text) (Some left) None before d old mid bytes h t = absurd t
-sofar-part (Some text) (Some left) (Some rest) before d old mid bytes h t =
-    (h.0, t.0, h.2, t.1, h.3 ∙ ap (λ l. h.0 ++ l) t.2 ∙ sym (append_assoc h.0 t.0 rest), (h.1, h.4.right, h.4.desk, h.4.wrote))
+faults-more : (n : ℕ) → n < 2 ^ 64 - 1 → faults_after true n ≡ n + 1
+faults-more n h = rw (lt-ltb n (2 ^ 64 - 1) h) refl
 
--- the lines of a first part of the text made their entries, and a part of the last reply is written
-partly_served : (text seen rest : List ℕ) (told : List LineTold) (ls : List (List ℕ)) (before d now : DeskView) (old mid new : Option (List ℕ)) (line : List ℕ)
-    → Served told ls before d old mid → ServesLinePart d now line mid new → ls ++ line ∷ [] ≡ lines_of seen → text ≡ seen ++ rest → ServesPart text before now old new
-partly_served text seen rest told ls before d now old mid new line h s all e =
-    let more : List LineTold = told ++ s.told ∷ [] in (
-      seen,
-      rest,
-      more,
-      e,
-      subst (AreRight before.sigs more) all (right_of told ls before d old mid s.told line h s.right),
-      desk_of told ls before d now old mid s.told line h s.desk_is ∙ ap (desk_after_all before more) all,
-      subst (λ ls. AppendsPart old new (replies before more ls)) all (served_partly told ls before d old mid new s.told line h s.wrote),
-    )
+-- what was served is so for a text of these lines
+serves_as : (ss : List Supply) (text : List ℕ) (ls : List (List ℕ)) (before after : DeskView)
+    (old new : Option (List ℕ)) → ls ≡ lines_of text → Served ss ls before after old new
+    → Serves text before after old new
+serves_as ss text ls before after old new all h =
+    let moved = subst (λ v. Served ss v before after old new) all h in
+    record {
+      supplies = ss;
+      right = moved.right;
+      desk_is = moved.desk;
+      wrote = moved.wrote;
+    }
 
--- a write failed: the line in hand made its entry, and a part of its reply is written
-pub partly-line : (a b c : Option (List ℕ)) (before d now : DeskView) (old mid new : Option (List ℕ)) (bytes : List ℕ)
-    → Sofar a b before d old mid → TakesLine b c bytes → ServesLinePart d now bytes mid new → IfSome a (λ text. ServesPart text before now old new)
-partly-line None b c before d now old mid new bytes h t s = tt
-partly-line (Some text) None c before d now old mid new bytes h t s = absurd h
-partly-line (Some text) (Some left) None before d now old mid new bytes h t s = absurd t
-partly-line (Some text) (Some left) (Some rest) before d now old mid new bytes h t s =
-    partly_served text (h.0 ++ (t.0 ++ 10 ∷ [])) rest h.1 (lines_of h.0) before d now old mid new t.0 h.4 (part_to d now mid new bytes t.0 t.3 s)
-    (sym (lines_with h.0 t.0 h.2 t.1)) (text_with text h.0 left t.0 rest h.3 t.2)
+module _ {R : Type 0} (remaining : R → Option (List ℕ)) (r0 r1 r2 : Watched R) (l1 l2 : Lines)
+    (before d : DeskView) (old mid : Option (List ℕ))
+    (so_far : Sofar (remaining r0.inner) (remaining r1.inner) l1.window l1.reads_left
+    before d old mid)
+  where
+    -- all that was read, with what was read for one more line
+    consumed_more : (more : List ℕ) → Consumes (remaining r1.inner) (remaining r2.inner) more
+        → Consumes (remaining r0.inner) (remaining r2.inner) (so_far.whole ++ (l1.window ++ more))
+    consumed_more more c =
+        let both = Consumes-both (remaining r0.inner) (remaining r1.inner) (remaining r2.inner)
+        so_far.text more so_far.consumed c in
+        subst (Consumes (remaining r0.inner) (remaining r2.inner))
+        (ap (λ l. l ++ more) so_far.split ∙ append_assoc so_far.whole l1.window more) both
 
-pub partly-rest : (a b c : Option (List ℕ)) (before d now : DeskView) (old mid new : Option (List ℕ)) (bytes : List ℕ)
-    → Sofar a b before d old mid → TakesRest b c bytes → 0 < length bytes → ServesLinePart d now bytes mid new → IfSome a (λ text. ServesPart text before now old new)
-partly-rest None b c before d now old mid new bytes h t some s = tt
-partly-rest (Some text) None c before d now old mid new bytes h t some s = absurd h
-partly-rest (Some text) (Some left) None before d now old mid new bytes h t some s = absurd t
-partly-rest (Some text) (Some []) (Some rest) before d now old mid new bytes h t some s = absurd (omega (arith, ap length t.2))
-partly-rest (Some text) (Some (b ∷ bs)) (Some rest) before d now old mid new bytes h t some s =
-    partly_served text text [] h.1 (lines_of h.0) before d now old mid new (b ∷ bs) h.4 (part_to d now mid new bytes (b ∷ bs) t.2 s)
-    (sym (lines_to_end text h.0 (b ∷ bs) h.2 h.3 b bs refl t.0)) (sym (append-nil text))
+    -- so much was read with it
+    gave_more : (more : List ℕ) (left : ℕ) → l1.reads_left ≤ length more + left
+        → 2 ^ 40 ≤ length (so_far.whole ++ (l1.window ++ more)) + left
+    gave_more more left g =
+        let so : 2 ^ 40 ≤ length so_far.text + l1.reads_left = so_far.gave in
+        let split : length so_far.text ≡ length so_far.whole + length l1.window =
+        ap length so_far.split ∙ length-append so_far.whole l1.window in
+        let all : length (so_far.whole ++ (l1.window ++ more))
+        ≡ length so_far.whole + (length l1.window + length more) =
+        length-append so_far.whole (l1.window ++ more)
+        ∙ ap (λ n. length so_far.whole + n) (length-append l1.window more) in
+        omega arith
 
--- ---- reads
+    -- one more line is served
+    pub sofar-line : (after : DeskView) (new : Option (List ℕ))
+        → TakesLine remaining r1 r2 l1 l2 → ServesLine d after l2.line mid new
+        → Sofar (remaining r0.inner) (remaining r2.inner) l2.window l2.reads_left
+        before after old new
+    sofar-line after new t s =
+        let line : ServesLine d after t.line mid new =
+        line_to d after mid new l2.line t.line t.bytes_are s in
+        let whole : List ℕ = so_far.whole ++ (t.line ++ 10 ∷ []) in
+        let ss : List Supply = so_far.supplies ++ line.supply ∷ [] in
+        let lines = lines_with so_far.whole t.line so_far.is_whole t.is_line in
+        let more = served_more so_far.supplies (lines_of so_far.whole) before d after old mid new
+        t.line so_far.served line in
+        record {
+          text = so_far.whole ++ (l1.window ++ t.text);
+          whole = whole;
+          supplies = ss;
+          consumed = consumed_more t.text t.consumed;
+          gave = gave_more t.text l2.reads_left t.gave;
+          is_whole = IsWhole-append so_far.whole (t.line ++ 10 ∷ []) so_far.is_whole
+              (IsWhole-line t.line);
+          split = ap (λ l. so_far.whole ++ l) t.split ∙ text_with so_far.whole t.line l2.window;
+          served = subst (λ ls. Served ss ls before after old new) (sym lines) more;
+        }
 
-pub gave-none : (known : Option (List ℕ)) (n : ℕ) → EachReadGave known known n n
-gave-none None n = tt
-gave-none (Some text) n = omega arith
+    -- its reply could not be written
+    pub part-line : (after : DeskView) (new : Option (List ℕ)) → TakesLine remaining r1 r2 l1 l2
+        → ServesLinePart d after l2.line mid new
+        → ServesPart (remaining r0.inner) (remaining r2.inner) before after old new
+    part-line after new t s = record {
+      whole = so_far.whole;
+      line = t.line;
+      later = 10 ∷ l2.window;
+      others = lines_of l2.window;
+      is_whole = so_far.is_whole;
+      is_next = lines_of-line t.line l2.window t.is_line;
+      consumed = subst
+          (λ l. Consumes (remaining r0.inner) (remaining r2.inner) (so_far.whole ++ l)) t.split
+          (consumed_more t.text t.consumed);
+      middle = d;
+      between = mid;
+      served = serves_as so_far.supplies so_far.whole (lines_of so_far.whole) before d old mid refl
+          so_far.served;
+      in_hand = part_to d after mid new l2.line t.line t.bytes_are s;
+    }
 
-pub gave-both : (a b c : Option (List ℕ)) (n m k : ℕ) → EachReadGave a b n m → EachReadGave b c m k → EachReadGave a c n k
-gave-both None b c n m k p q = tt
-gave-both (Some x) None c n m k p q = absurd p
-gave-both (Some x) (Some y) None n m k p q = absurd q
-gave-both (Some x) (Some y) (Some z) n m k p q = omega arith
+    -- no line more could be read
+    pub sofar-part : (error : RunError) → TakesPart remaining r1 r2 l1 l2 error
+        → r1.faults ≡ r0.faults → r0.faults < 2 ^ 64 - 1
+        → ServesWhole (remaining r0.inner) (remaining r2.inner) r0.faults r2.faults before d old mid
+    sofar-part error t well room = record {
+      whole = so_far.whole;
+      part = l1.window ++ t.text;
+      is_whole = so_far.is_whole;
+      is_part = t.is_line;
+      consumed = consumed_more t.text t.consumed;
+      why = why t.why;
+      served = serves_as so_far.supplies so_far.whole (lines_of so_far.whole) before d old mid refl
+          so_far.served;
+    }
+      where
+        why : (r2.faults ≡ faults_after true r1.faults)
+            ⊎ ((r2.faults ≡ r1.faults) × (l1.reads_left ≤ length t.text))
+            → FailsOrEndless r0.faults r2.faults (so_far.whole ++ (l1.window ++ t.text))
+        why (inl e) = inl (e ∙ ap (faults_after true) well ∙ faults-more r0.faults room)
+        why (inr few) =
+            let most : l1.reads_left ≤ length t.text = few.1 in
+            let all = gave_more t.text 0 (omega arith) in
+            inr (few.0 ∙ well, omega (arith, all))
 
--- no read was left, so the text was as long as there were reads
-pub gave-all : (a b : Option (List ℕ)) (n left : ℕ) → EachReadGave a b n left → left ≡ 0 → IfSome a (λ text. n ≤ length text)
-gave-all None b n left p e = tt
-gave-all (Some x) None n left p e = absurd p
-gave-all (Some x) (Some y) n left p e = omega arith
+    -- the text has ended with a line feed, or was empty
+    pub sofar-ends : TakesRest remaining r1 r2 l1 l2 → length l2.line ≡ 0
+        → ServesAll (remaining r0.inner) (remaining r2.inner) before d old mid
+    sofar-ends t empty =
+        let none : l1.window ++ t.text ≡ [] =
+        kept-empty (l1.window ++ t.text) (ap length (sym t.bytes_are) ∙ empty) in
+        record {
+          text = so_far.whole;
+          consumed = subst (Consumes (remaining r0.inner) (remaining r2.inner))
+              (ap (λ l. so_far.whole ++ l) none ∙ append-nil so_far.whole)
+              (consumed_more t.text t.consumed);
+          ended = t.ended;
+          served = serves_as so_far.supplies so_far.whole (lines_of so_far.whole) before d old mid
+              refl so_far.served;
+        }
+
+    -- the text has ended with the rest of a line, which is served
+    pub sofar-rest : (after : DeskView) (new : Option (List ℕ)) → TakesRest remaining r1 r2 l1 l2
+        → 0 < length l2.line → ServesLine d after l2.line mid new
+        → ServesAll (remaining r0.inner) (remaining r2.inner) before after old new
+    sofar-rest after new t some s =
+        let rest : List ℕ = l1.window ++ t.text in
+        let there : 0 < length rest = kept-some rest (subst (λ l. 0 < length l) t.bytes_are some) in
+        let line : ServesLine d after rest mid new =
+        line_to d after mid new l2.line rest t.bytes_are s in
+        let ss : List Supply = so_far.supplies ++ line.supply ∷ [] in
+        let more = served_more so_far.supplies (lines_of so_far.whole) before d after old mid new
+        rest so_far.served line in
+        let lines = lines_to_end so_far.whole rest so_far.is_whole t.is_line there in
+        record {
+          text = so_far.whole ++ rest;
+          consumed = consumed_more t.text t.consumed;
+          ended = t.ended;
+          served = serves_as ss (so_far.whole ++ rest) (lines_of so_far.whole ++ rest ∷ []) before
+              after old new (sym lines) more;
+        }
+
+    -- its reply could not be written
+    pub part-rest : (after : DeskView) (new : Option (List ℕ)) → TakesRest remaining r1 r2 l1 l2
+        → 0 < length l2.line → ServesLinePart d after l2.line mid new
+        → ServesPart (remaining r0.inner) (remaining r2.inner) before after old new
+    part-rest after new t some s =
+        let rest : List ℕ = l1.window ++ t.text in
+        let there : 0 < length rest = kept-some rest (subst (λ l. 0 < length l) t.bytes_are some) in
+        record {
+          whole = so_far.whole;
+          line = rest;
+          later = [];
+          others = [];
+          is_whole = so_far.is_whole;
+          is_next = ap lines_of (append-nil rest) ∙ rest-alone rest t.is_line there;
+          consumed = subst
+              (λ l. Consumes (remaining r0.inner) (remaining r2.inner) (so_far.whole ++ l))
+              (sym (append-nil rest)) (consumed_more t.text t.consumed);
+          middle = d;
+          between = mid;
+          served = serves_as so_far.supplies so_far.whole (lines_of so_far.whole) before d old mid
+              refl so_far.served;
+          in_hand = part_to d after mid new l2.line rest t.bytes_are s;
+        }
 
 pub input-from_not_line_feed : (e : Ending) → (e ≡ LineFeed → ⊥) → e ≡ Input
 input-from_not_line_feed LineFeed h = absurd (h refl)
 input-from_not_line_feed Input h = refl
-
--- what a last call ensures, where its `Result` is returned as it is
-pub OnOk-weaker : {T E : Type 0} (r : Result T E) (P Q : Type 0) → (P → Q) → OnOk r P → OnOk r Q
-OnOk-weaker (Ok x) P Q f p = f p
-OnOk-weaker (Err e) P Q f p = tt
-
-pub OnErr-at_err : {T E : Type 0} (r : Result T E) (e : E) (P : Type 0) → r ≡ Err e → OnErr r P → P
-OnErr-at_err r e P h p = rw h at p

@@ -1,68 +1,126 @@
 -- How a line is taken from a text that is read piece by piece.
-use Rattle.std.proofs.Common.{◌≡◌, ℕ, ◌+◌, ◌-◌, ◌<◌, List, [], ◌∷◌, ◌++◌, length, Option, Some, None, refl, sym, ap, subst, ◌∙◌, arith, append_assoc, append-nil, length-append}
-use Rattle.std.specs.Io.KnownBytes.{prepend_known, Consumes, IsAtEnd, Keeps}
-use Rattle.acdm_sessions.specs.Lines.{IsLine, kept, TakesLine, TakesRest, TakesPart, EachReadGave}
+use Rattle.std.proofs.Common.{◌≡◌, ℕ, ◌+◌, ◌-◌, ◌<◌, ◌≤◌, List, [], ◌∷◌, ◌++◌, length, Option}
+use Rattle.std.proofs.Common.{Some, None, refl, sym, ap, subst, ◌∙◌, arith, append_assoc, append-nil}
+use Rattle.std.proofs.Common.{length-append}
+use Rattle.std.specs.Io.KnownBytes.{Consumes, Keeps}
+use Rattle.acdm_sessions.specs.Lines.{IsLine, kept}
 use Rattle.acdm_sessions.proofs.Kept.{take-take-append}
 use Rattle.acdm_sessions.proofs.Feeds.{IsLine-append}
 
--- nothing was taken yet
-pub part-begins : (known : Option (List ℕ)) → TakesPart known known []
-part-begins None = tt
-part-begins (Some text) = ([], tt, refl, refl)
+-- ---- what a reader gave
 
-kept-grows : (bytes part more : List ℕ) → bytes ≡ kept part → kept (bytes ++ more) ≡ kept (part ++ more)
+pub Consumes-none : (known : Option (List ℕ)) → Consumes known known []
+Consumes-none None = tt
+Consumes-none (Some text) = refl
+
+pub Consumes-both : (a b c : Option (List ℕ)) (xs ys : List ℕ)
+    → Consumes a b xs → Consumes b c ys → Consumes a c (xs ++ ys)
+Consumes-both None b c xs ys p q = tt
+Consumes-both (Some s) None c xs ys p q = absurd p
+Consumes-both (Some s) (Some t) None xs ys p q = absurd q
+Consumes-both (Some s) (Some t) (Some u) xs ys p q =
+    p ∙ ap (λ l. xs ++ l) q ∙ sym (append_assoc xs ys u)
+
+pub Consumes-kept : (a b c : Option (List ℕ)) (xs : List ℕ)
+    → Consumes a b xs → Keeps b c → Consumes a c xs
+Consumes-kept None b c xs p q = tt
+Consumes-kept (Some s) None c xs p q = absurd p
+Consumes-kept (Some s) (Some t) None xs p q = absurd q
+Consumes-kept (Some s) (Some t) (Some u) xs p q = p ∙ ap (λ l. xs ++ l) (sym q)
+
+-- ---- part of a line
+
+-- What was held at first and what was read since are part of a line and what is held now. So many
+-- bytes of the part are kept, and each read since gave something.
+pub record Taking (start left : Option (List ℕ)) (held_first held bytes : List ℕ)
+    (reads_first reads : ℕ) : Type 0 where
+  pub text : List ℕ
+  pub part : List ℕ
+  pub consumed : Consumes start left text
+  pub gave : reads_first ≤ length text + reads
+  pub is_line : IsLine part
+  pub split : held_first ++ text ≡ part ++ held
+  pub bytes_are : bytes ≡ kept part
+
+pub taking-begins : (known : Option (List ℕ)) (held : List ℕ) (reads : ℕ)
+    → Taking known known held held [] reads reads
+taking-begins known held reads = record {
+  text = [];
+  part = [];
+  consumed = Consumes-none known;
+  gave = omega arith;
+  is_line = tt;
+  split = append-nil held;
+  bytes_are = refl;
+}
+
+kept-grows : (bytes part more : List ℕ) → bytes ≡ kept part
+    → kept (bytes ++ more) ≡ kept (part ++ more)
 kept-grows bytes part more e = ap (λ l. kept (l ++ more)) e ∙ take-take-append 70001 part more
 
--- all that is held belongs to the line
-pub part-grows : (old known : Option (List ℕ)) (held bytes : List ℕ) → IsLine held → TakesPart old (prepend_known held known) bytes → TakesPart old (prepend_known [] known) (kept (bytes ++ held))
-part-grows None known held bytes whole t = tt
-part-grows (Some text) None held bytes whole t = absurd t
-part-grows (Some text) (Some rest) held bytes whole t =
-    (t.0 ++ held, IsLine-append t.0 held t.1 whole, t.2 ∙ sym (append_assoc t.0 held rest), kept-grows bytes t.0 held t.3)
+module _ (start left : Option (List ℕ)) (held_first held bytes : List ℕ)
+    (reads_first reads : ℕ) where
+  -- all that is held belongs to the line
+  pub taking-all : (held' bytes' : List ℕ)
+      → IsLine held × (held' ≡ []) × (bytes' ≡ kept (bytes ++ held))
+      → Taking start left held_first held bytes reads_first reads
+      → Taking start left held_first held' bytes' reads_first reads
+  taking-all held' bytes' all t = record {
+    text = t.text;
+    part = t.part ++ held;
+    consumed = t.consumed;
+    gave = t.gave;
+    is_line = IsLine-append t.part held t.is_line all.0;
+    split = t.split ∙ sym (append-nil (t.part ++ held))
+        ∙ ap (λ l. (t.part ++ held) ++ l) (sym all.1);
+    bytes_are = all.2 ∙ kept-grows bytes t.part held t.bytes_are;
+  }
 
--- the same where the new values are told by equations
-pub part-taken : (old known : Option (List ℕ)) (held bytes held' bytes' : List ℕ) → IsLine held × (held' ≡ []) × (bytes' ≡ kept (bytes ++ held))
-    → TakesPart old (prepend_known held known) bytes → TakesPart old (prepend_known [] known) bytes'
-part-taken old known held bytes held' bytes' all t = rw (all.2) (part-grows old known held bytes all.0 t)
+  -- a line feed is held: the text that was read, and the line
+  pub line-split : (end later : List ℕ) → held ≡ end ++ 10 ∷ later
+      → (t : Taking start left held_first held bytes reads_first reads)
+      → held_first ++ t.text ≡ (t.part ++ end) ++ 10 ∷ later
+  line-split end later e t =
+      t.split ∙ ap (λ l. t.part ++ l) e ∙ sym (append_assoc t.part end (10 ∷ later))
 
--- a read brings bytes of the text into what is held
-pub part-filled : (old known new : Option (List ℕ)) (held bytes : List ℕ) → Consumes known new held → TakesPart old (prepend_known [] known) bytes → TakesPart old (prepend_known held new) bytes
-part-filled None known new held bytes c t = tt
-part-filled (Some text) None new held bytes c t = absurd t
-part-filled (Some text) (Some rest) None held bytes c t = absurd c
-part-filled (Some text) (Some rest) (Some later) held bytes c t = (t.0, t.1, t.2 ∙ ap (λ l. t.0 ++ l) c, t.3)
+  pub line-kept : (end : List ℕ) (t : Taking start left held_first held bytes reads_first reads)
+      → kept (bytes ++ end) ≡ kept (t.part ++ end)
+  line-kept end t = kept-grows bytes t.part end t.bytes_are
 
--- a read that failed brings none
-pub part-kept : (old known new : Option (List ℕ)) (bytes : List ℕ) → Keeps known new → TakesPart old (prepend_known [] known) bytes → TakesPart old (prepend_known [] new) bytes
-part-kept None known new bytes k t = tt
-part-kept (Some text) None new bytes k t = absurd t
-part-kept (Some text) (Some rest) None bytes k t = absurd k
-part-kept (Some text) (Some rest) (Some later) bytes k t = (t.0, t.1, t.2 ∙ ap (λ l. t.0 ++ l) (sym k), t.3)
+module _ (start left : Option (List ℕ)) (held_first bytes : List ℕ) (reads_first reads : ℕ) where
+  -- nothing is held: all that was read belongs to the line
+  pub all-read : (t : Taking start left held_first [] bytes reads_first reads)
+      → held_first ++ t.text ≡ t.part
+  all-read t = t.split ∙ append-nil t.part
 
--- the text has ended
-pub rest-taken : (old known : Option (List ℕ)) (bytes : List ℕ) → IsAtEnd known → TakesPart old (prepend_known [] known) bytes → TakesRest old (prepend_known [] known) bytes
-rest-taken None known bytes e t = tt
-rest-taken (Some text) None bytes e t = absurd t
-rest-taken (Some text) (Some rest) bytes e t =
-    let whole : text ≡ t.0 = t.2 ∙ ap (λ l. t.0 ++ l) e ∙ append-nil t.0 in
-    (subst IsLine (sym whole) t.1, e, t.3 ∙ ap kept (sym whole))
+  -- a read brings bytes
+  pub taking-filled : (left' : Option (List ℕ)) (more : List ℕ) → Consumes left left' more
+      → 0 < length more → 0 < reads → Taking start left held_first [] bytes reads_first reads
+      → Taking start left' held_first more bytes reads_first (reads - 1)
+  taking-filled left' more c some there t =
+      let long : length (t.text ++ more) ≡ length t.text + length more =
+      length-append t.text more in
+      let gave : reads_first ≤ length t.text + reads = t.gave in
+      record {
+        text = t.text ++ more;
+        part = t.part;
+        consumed = Consumes-both start left left' t.text more t.consumed c;
+        gave = omega arith;
+        is_line = t.is_line;
+        split = sym (append_assoc held_first t.text more) ∙ ap (λ l. l ++ more) (all-read t);
+        bytes_are = t.bytes_are;
+      }
 
--- a line feed is held
-pub line-taken : (old known : Option (List ℕ)) (held end later bytes : List ℕ) → IsLine end → held ≡ end ++ 10 ∷ later → TakesPart old (prepend_known held known) bytes → TakesLine old (prepend_known later known) (kept (bytes ++ end))
-line-taken None known held end later bytes whole e t = tt
-line-taken (Some text) None held end later bytes whole e t = absurd t
-line-taken (Some text) (Some rest) held end later bytes whole e t = (
-  t.0 ++ end,
-  IsLine-append t.0 end t.1 whole,
-  t.2 ∙ ap (λ l. t.0 ++ (l ++ rest)) e ∙ ap (λ l. t.0 ++ l) (append_assoc end (10 ∷ later) rest) ∙ sym (append_assoc t.0 end (10 ∷ (later ++ rest))),
-  kept-grows bytes t.0 end t.3,
-)
+  pub part-read : (t : Taking start left held_first [] bytes reads_first reads)
+      → IsLine (held_first ++ t.text)
+  part-read t = subst IsLine (sym (all-read t)) t.is_line
 
--- one more read gave something
-pub gave-more : (old known new : Option (List ℕ)) (held : List ℕ) (before after : ℕ) → Consumes known new held → 0 < length held → 0 < after → EachReadGave old known before after → EachReadGave old new before (after - 1)
-gave-more None known new held before after c some left g = tt
-gave-more (Some text) None new held before after c some left g = absurd g
-gave-more (Some text) (Some rest) None held before after c some left g = absurd c
-gave-more (Some text) (Some rest) (Some later) held before after c some left g =
-    let all : length rest ≡ length held + length later = ap length c ∙ length-append held later in
-    omega arith
+  pub kept-read : (t : Taking start left held_first [] bytes reads_first reads)
+      → bytes ≡ kept (held_first ++ t.text)
+  kept-read t = t.bytes_are ∙ ap kept (sym (all-read t))
+
+pub Consumes-end : (a b c : Option (List ℕ)) (xs ys : List ℕ)
+    → Consumes a b xs → Consumes b c ys → ys ≡ [] → Consumes a c xs
+Consumes-end a b c xs ys p q none =
+    let all : Consumes a c (xs ++ ys) = Consumes-both a b c xs ys p q in
+    subst (Consumes a c) (ap (λ l. xs ++ l) none ∙ append-nil xs) all

@@ -1,5 +1,6 @@
--- The lines of a text, and the taking of the first of them.
-use Rattle.std.specs.Prelude.{ℕ, ◌+◌, ◌*◌, ◌≤◌, ◌≡◌, ◌==◌, if◌then◌else◌, Bool, false, List, [], ◌∷◌, ◌++◌, length, take, Option, Some, None, ⊤}
+-- The lines of a text.
+use Rattle.std.specs.Prelude.{ℕ, ◌+◌, ◌*◌, ◌≡◌, ◌==◌, if◌then◌else◌, Bool, false, ⊤}
+use Rattle.std.specs.Prelude.{List, [], ◌∷◌, length, take}
 
 abbrev pub is_line_feed : ℕ → Bool
 is_line_feed b = b == 10
@@ -32,30 +33,6 @@ most_held = 65536
 -- what is kept of a line: one byte more than the longest line has
 abbrev pub kept : List ℕ → List ℕ
 kept line = take 70001 line
-
--- a known text is a line, its line feed and the new text; this is kept of the line
-abbrev pub TakesLine : Option (List ℕ) → Option (List ℕ) → List ℕ → Type 0
-TakesLine None new bytes = ⊤
-TakesLine (Some text) None bytes = ⊥
-TakesLine (Some text) (Some rest) bytes = (line : List ℕ) × IsLine line × (text ≡ line ++ 10 ∷ rest) × (bytes ≡ kept line)
-
--- a known text is the rest of a line, and then it has ended; this is kept of the line
-abbrev pub TakesRest : Option (List ℕ) → Option (List ℕ) → List ℕ → Type 0
-TakesRest None new bytes = ⊤
-TakesRest (Some text) None bytes = ⊥
-TakesRest (Some text) (Some rest) bytes = IsLine text × (rest ≡ []) × (bytes ≡ kept text)
-
--- a known text is part of a line and the new text; this is kept of the part
-abbrev pub TakesPart : Option (List ℕ) → Option (List ℕ) → List ℕ → Type 0
-TakesPart None new bytes = ⊤
-TakesPart (Some text) None bytes = ⊥
-TakesPart (Some text) (Some rest) bytes = (part : List ℕ) × IsLine part × (text ≡ part ++ rest) × (bytes ≡ kept part)
-
--- each of the reads between gave at least one byte: so many were left before, so many after
-abbrev pub EachReadGave : Option (List ℕ) → Option (List ℕ) → ℕ → ℕ → Type 0
-EachReadGave None new before after = ⊤
-EachReadGave (Some text) None before after = ⊥
-EachReadGave (Some text) (Some rest) before after = before + length rest ≤ length text + after
 
 -- what falls with each line: the reads that are left, and then the bytes that are held
 abbrev pub weight : ℕ → List ℕ → ℕ

@@ -1,4 +1,5 @@
--- What the bytes of a program mean under the signatures of helpers (RFC 9669; the numbers of faults are this project's profile).
+-- What the bytes of a program mean under the signatures of helpers (RFC 9669; the numbers of faults
+-- are this project's profile).
 use Rattle.std.specs.Prelude.{◌≡◌, ℕ, List, Result, Ok, Err, ◌⊎◌}
 use Rattle.bpf_decode.specs.declared.op.Op.{Op}
 use Rattle.bpf_decode.specs.Encoding.{Encodes, FirstFault}
@@ -24,7 +25,8 @@ pub record HasFault (sigs : List (ℕ × Promise)) (bytes : List ℕ) (code slot
   pub encoded : Encodes bytes ops
   pub fault : IsFirstFault 128 ops sigs slot code
 
--- the bytes are read so: as a program that is accepted, or with the first fault of the bytes or of the program that they encode
+-- the bytes are read so: as a program that is accepted, or with the first fault of the bytes or of
+-- the program that they encode
 abbrev pub IsReading : List (ℕ × Promise) → List ℕ → Reading → Type 0
 IsReading sigs bytes (Ok v) = IsProgramOf sigs bytes v
 IsReading sigs bytes (Err f) = FirstFault bytes f.0 f.1 ⊎ HasFault sigs bytes f.0 f.1

@@ -1,6 +1,75 @@
--- How a run ends.
-use Rattle.std.specs.Prelude.{ℕ, ◌≡◌, ◌+◌, ◌^◌, ◌≤◌, ◌⊎◌, List, length, Option, IfSome}
+-- How a run ends, and what stands then.
+use Rattle.std.specs.Prelude.{ℕ, ◌≡◌, ◌+◌, ◌^◌, ◌≤◌, ◌⊎◌, true, false, List, ◌∷◌, ◌++◌, length, Option}
+use Rattle.std.specs.Prelude.{Result, Ok, Err}
+use Rattle.std.specs.Io.KnownBytes.{Consumes, IsAtEnd}
+use Rattle.acdm_board.specs.Desk.{DeskView}
+use Rattle.acdm_sessions.specs.declared.run_error.RunError.{RunError}
+use Rattle.acdm_sessions.specs.declared.run_error.RunError.TheVariants.{Write}
+use Rattle.acdm_sessions.specs.Counted.{Watched, faults_after}
+use Rattle.acdm_sessions.specs.Lines.{IsLine, IsWhole, lines_of}
+use Rattle.acdm_sessions.specs.Output.{ServesLine, ServesLinePart, Serves}
 
--- a fault more is counted, or the known text was so long that every read there may be gave a part of it
-abbrev pub FailsOrEndless : ℕ → ℕ → Option (List ℕ) → Type 0
-FailsOrEndless before after known = (after ≡ before + 1) ⊎ IfSome known (λ text. 2 ^ 40 ≤ length text)
+-- a line was answered, and no byte of its reply waits for a flush
+pub record Answered {W : Type 0} (contents : W → Option (List ℕ)) (old new : Watched W)
+    (before after : DeskView) (line : List ℕ) : Type 0 where
+  pub serves : ServesLine before after line (contents old.inner) (contents new.inner)
+  pub well : new.faults ≡ old.faults
+  pub flushed : new.waits ≡ false
+
+-- the writer failed once more, after a first part of the reply to a line
+pub record AnsweredInPart {W : Type 0} (contents : W → Option (List ℕ)) (old new : Watched W)
+    (before after : DeskView) (line : List ℕ) (error : RunError) : Type 0 where
+  pub serves : ServesLinePart before after line (contents old.inner) (contents new.inner)
+  pub fault : new.faults ≡ faults_after true old.faults
+  pub kind : error ≡ Write
+
+-- what comes of answering a line
+abbrev pub AnswersLine : {W T : Type 0} → (W → Option (List ℕ)) → Watched W → Watched W → DeskView
+    → DeskView → List ℕ → Result T RunError → Type 0
+AnswersLine contents old new before after line (Ok x) =
+    Answered contents old new before after line
+AnswersLine contents old new before after line (Err e) =
+    AnsweredInPart contents old new before after line e
+
+-- The reader gave a text and has ended, and the lines of that text were answered. Where it was
+-- known what the reader has left, the text is all of that (`Consumes`, `IsAtEnd`).
+pub record ServesAll (left left_after : Option (List ℕ)) (before after : DeskView)
+    (old new : Option (List ℕ)) : Type 0 where
+  pub text : List ℕ
+  pub consumed : Consumes left left_after text
+  pub ended : IsAtEnd left_after
+  pub served : Serves text before after old new
+
+-- a reader failed once more, or not, but gave so much that each of 2^40 reads gave a part of it
+abbrev pub FailsOrEndless : ℕ → ℕ → List ℕ → Type 0
+FailsOrEndless before after text =
+    (after ≡ before + 1) ⊎ ((after ≡ before) × (2 ^ 40 ≤ length text))
+
+-- No more could be read: the reader gave whole lines and a part of one, and then failed or was
+-- endless. The whole lines were answered, and nothing was entered for the part.
+pub record ServesWhole (left left_after : Option (List ℕ)) (faults later_faults : ℕ)
+    (before after : DeskView) (old new : Option (List ℕ)) : Type 0 where
+  pub whole : List ℕ
+  pub part : List ℕ
+  pub is_whole : IsWhole whole
+  pub is_part : IsLine part
+  pub consumed : Consumes left left_after (whole ++ part)
+  pub why : FailsOrEndless faults later_faults (whole ++ part)
+  pub served : Serves whole before after old new
+
+-- A reply could not be written: the reader gave whole lines, a line, and what follows it. The whole
+-- lines were answered. The entry of the line stands where it makes one, and a first part of its
+-- reply was written. Of the other lines nothing was entered.
+pub record ServesPart (left left_after : Option (List ℕ)) (before after : DeskView)
+    (old new : Option (List ℕ)) : Type 0 where
+  pub whole : List ℕ
+  pub line : List ℕ
+  pub later : List ℕ
+  pub others : List (List ℕ)
+  pub is_whole : IsWhole whole
+  pub is_next : lines_of (line ++ later) ≡ line ∷ others
+  pub consumed : Consumes left left_after (whole ++ (line ++ later))
+  pub middle : DeskView
+  pub between : Option (List ℕ)
+  pub served : Serves whole before middle old between
+  pub in_hand : ServesLinePart middle after line between new

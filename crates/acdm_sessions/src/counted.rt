@@ -1,18 +1,20 @@
 //! A reader or writer with a count of its faults.
-ghost use Rattle.std.specs.Prelude.{◌≡◌, true, is_err};
+ghost use Rattle.std.specs.Prelude.{◌≡◌, true, false, is_err};
 ghost use Rattle.std.specs.Io.{ReadsAtMost, WritesAtMost};
 ghost use Rattle.std.specs.Io.KnownBytes.{ReadConsumes, WriteAppends, Keeps};
 ghost use Rattle.acdm_sessions.specs.Counted.{Watched, faults_after, write_failed};
+ghost use Rattle.acdm_sessions.specs.Counted.{waits_after, waits_flushed};
 
 use std::io::{self, Read, Write};
 use std::marker::Model;
 
-/// A reader or a writer, and how often it failed. A fault is any error, and a write that takes
-/// none of some bytes.
+/// A reader or a writer, how often it failed, and whether bytes that it took may wait for a flush. A
+/// fault is any error, and a write that takes none of some bytes.
 #[derive(Drop)]
 pub struct Counted<T> {
     inner: T,
     faults: u64,
+    waits: bool,
 }
 
 impl<T> Model for Counted<T> {
@@ -20,15 +22,19 @@ impl<T> Model for Counted<T> {
 
     ghost Value = { Watched T };
 
-    ghost view = { λ c. record { inner = c.inner; faults = c.faults } };
+    ghost view = { λ c. record { inner = c.inner; faults = c.faults; waits = c.waits } };
 }
 
 impl<T> Counted<T> {
     /// A reader or a writer that has not failed yet.
     pub fn new(inner: T) -> Counted<T>
-        ensures { result ≡ record { inner = inner; faults = 0 } }
+        ensures { result ≡ record { inner = inner; faults = 0; waits = false } }
     {
-        Counted { inner, faults: 0 }
+        Counted {
+            inner,
+            faults: 0,
+            waits: false,
+        }
     }
 
     /// How often it failed.
@@ -36,6 +42,14 @@ impl<T> Counted<T> {
         ensures { result ≡ self.now.faults }
     {
         self.faults
+    }
+
+    /// Whether bytes that it took may wait for a flush.
+    pub fn waits(&self) -> bool
+        ensures { result ≡ self.now.waits }
+    {
+        let Counted { waits, .. } = self;
+        *waits
     }
 
     // Counts one fault more.
@@ -50,7 +64,7 @@ impl<T> Counted<T> {
     pub fn into_inner(self) -> T
         ensures { result ≡ self.inner }
     {
-        let Counted { inner, faults: _ } = self;
+        let Counted { inner, .. } = self;
         inner
     }
 }
@@ -63,6 +77,7 @@ impl<R: Read> Read for Counted<R> {
         ensures bytes { ReadConsumes (R.remaining self.old.inner) (R.remaining self.new.inner)
             result buf.new }
         ensures faults { self.new.faults ≡ faults_after (is_err result) self.old.faults }
+        ensures waits { self.new.waits ≡ self.old.waits }
     {
         let result = self.inner.read(buf);
         if result.is_err() {
@@ -81,10 +96,14 @@ impl<W: Write> Write for Counted<W> {
             result buf.now }
         ensures faults { self.new.faults ≡
             faults_after (write_failed result buf.now) self.old.faults }
+        ensures waits { self.new.waits ≡ waits_after result self.old.waits }
     {
         let result = self.inner.write(buf);
         let failed = match &result {
-            Ok(taken) => *taken == 0 && !buf.is_empty(),
+            Ok(taken) => {
+                self.waits = self.waits || *taken > 0;
+                *taken == 0 && !buf.is_empty()
+            }
             Err(_) => true,
         };
         if failed {
@@ -96,10 +115,13 @@ impl<W: Write> Write for Counted<W> {
     fn flush(&mut self) -> io::Result<()>
         ensures bytes { Keeps (W.contents self.old.inner) (W.contents self.new.inner) }
         ensures faults { self.new.faults ≡ faults_after (is_err result) self.old.faults }
+        ensures waits { self.new.waits ≡ waits_flushed result self.old.waits }
     {
         let result = self.inner.flush();
         if result.is_err() {
             self.note_fault();
+        } else {
+            self.waits = false;
         }
         result
     }

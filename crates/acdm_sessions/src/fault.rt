@@ -43,8 +43,8 @@ impl Fault {
 pub enum Bad {
     /// The line asks for nothing.
     Faulty(Fault),
-    /// It asks to load a program, and its bytes encode none (RFC 9669) or one that is not accepted: the number of their
-    /// first fault, 301 to 315, and its slot, counted from 0.
+    /// It asks to load a program, and its bytes encode none (RFC 9669) or one that is not accepted:
+    /// the number of their first fault, 301 to 315, and its slot, counted from 0.
     Program { code: u16, slot: usize },
     /// 501: there was no memory for the line that was read, or for its entry.
     NoMemory,

@@ -27,6 +27,8 @@ pub use run_error::RunError;
 pub use stream::run;
 
 #[cfg(test)]
+mod ample_tests;
+#[cfg(test)]
 mod board_tests;
 #[cfg(test)]
 mod program_tests;

@@ -1,8 +1,7 @@
 //! One line after another.
-ghost use Rattle.std.specs.Prelude.{◌≡◌, ℕ, ◌<◌, ◌⊎◌, true, false, List, [], ◌∷◌, ◌++◌, OnOk, OnErr, IfOk, IfErr};
-ghost use Rattle.std.specs.Io.KnownBytes.{prepend_known, IsAtEnd};
-ghost use Rattle.acdm_sessions.specs.Counted.{faults_after};
-ghost use Rattle.acdm_sessions.specs.Lines.{IsLine, kept, TakesLine, TakesRest, TakesPart, EachReadGave, weight};
+ghost use Rattle.std.specs.Prelude.{◌≡◌, ℕ, ◌<◌, true, false, List, [], ◌∷◌, ◌++◌, IfOk};
+ghost use Rattle.acdm_sessions.specs.Lines.{IsLine, kept, weight};
+ghost use Rattle.acdm_sessions.specs.NextLine.{Takes};
 
 use crate::counted::Counted;
 use crate::line::Line;
@@ -69,26 +68,9 @@ impl Lines {
 
     /// Takes the next line, and says what ended it. It reads only where no whole line is held.
     pub(crate) fn next<R: Read>(&mut self, reader: &mut Counted<R>) -> Result<Ending, RunError>
-        ensures line { result ≡ Ok Ending.LineFeed → TakesLine
-            (prepend_known self.old.window (R.remaining reader.old.inner))
-            (prepend_known self.new.window (R.remaining reader.new.inner)) self.new.line }
-        ensures rest { result ≡ Ok Ending.Input → TakesRest
-            (prepend_known self.old.window (R.remaining reader.old.inner))
-            (prepend_known self.new.window (R.remaining reader.new.inner)) self.new.line }
-        ensures end { result ≡ Ok Ending.Input → IsAtEnd (R.remaining reader.new.inner) }
-        ensures part { OnErr result (TakesPart
-            (prepend_known self.old.window (R.remaining reader.old.inner))
-            (prepend_known self.new.window (R.remaining reader.new.inner)) self.new.line) }
-        ensures none { OnErr result (self.new.window ≡ []) }
-        ensures ok { OnOk result (reader.new.faults ≡ reader.old.faults) }
-        ensures kind { IfErr result (λ e. e ≡ RunError.Read) }
-        ensures fault { OnErr result ((reader.new.faults ≡ faults_after true reader.old.faults)
-            ⊎ ((self.new.reads_left ≡ 0) × EachReadGave (R.remaining reader.old.inner)
-            (R.remaining reader.new.inner) self.old.reads_left self.new.reads_left)) }
-        ensures reads { result ≡ Ok Ending.LineFeed → EachReadGave (R.remaining reader.old.inner)
-            (R.remaining reader.new.inner) self.old.reads_left self.new.reads_left }
-        ensures progress { result ≡ Ok Ending.LineFeed →
-            weight self.new.reads_left self.new.window < weight self.old.reads_left self.old.window }
+        ensures takes { Takes R.remaining reader.old reader.new self.old self.new result }
+        ensures progress { result ≡ Ok Ending.LineFeed → weight self.new.reads_left self.new.window
+            < weight self.old.reads_left self.old.window }
     {
         self.line.clear();
         while !self.take_held() {

@@ -44,17 +44,19 @@ impl From<Vec<u8>> for ProgramBytes {
 pub enum ProgramError {
     /// There was no memory to read them.
     Memory,
-    /// They encode no program (RFC 9669), or one that is not accepted: the number of their first fault, 301 to 315,
-    /// and its slot, counted from 0.
+    /// They encode no program (RFC 9669), or one that is not accepted: the number of their first
+    /// fault, 301 to 315, and its slot, counted from 0.
     Refused { code: u16, slot: usize },
 }
 
-/// The program that the bytes encode, if no slot of it has a fault under these signatures, or else the first fault.
+/// The program that the bytes encode, if no slot of it has a fault under these signatures, or else
+/// the first fault.
 pub fn read_program(alloc: Global, bytes: &[u8], sigs: &Sigs) -> Result<Checked, ProgramError>
     ensures reads { GivesReading sigs.now bytes.now result }
 
     // There is no other reading.
-    ensures only { (reading : Reading) → IsReading sigs.now bytes.now reading → AnswersReading reading result }
+    ensures only { (reading : Reading) → IsReading sigs.now bytes.now reading
+        → AnswersReading reading result }
 {
     program_of(alloc, bytes, sigs)
 }

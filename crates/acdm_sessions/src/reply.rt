@@ -1,9 +1,7 @@
 //! The reply to a line, as it is written.
-ghost use Rattle.std.specs.Prelude.{◌≡◌, ◌+◌, ◌≤◌, ◌++◌, [], ◌∷◌, length, true, codes, OnOk, OnErr, IfErr};
+ghost use Rattle.std.specs.Prelude.{◌≡◌, false, OnOk};
 ghost use Rattle.std.specs.List.{flat_map};
-ghost use Rattle.std.specs.Io.KnownBytes.{Appends};
-ghost use Rattle.acdm_sessions.specs.Counted.{faults_after};
-ghost use Rattle.acdm_sessions.specs.Reply.{AppendsPart};
+ghost use Rattle.acdm_sessions.specs.Reply.{Writes};
 ghost use Rattle.acdm_sessions.specs.Output.{next_text, list_text, entry_text, reply_text};
 ghost use Rattle.acdm_step.specs.declared.outcome.Outcome.TheVariants.{Listed};
 
@@ -17,13 +15,7 @@ use std::io::Write;
 
 /// Writes all these bytes.
 fn write_whole<W: Write>(writer: &mut Counted<W>, bytes: &[u8]) -> Result<(), RunError>
-    ensures ok { OnOk result (Appends (W.contents writer.old.inner) (W.contents writer.new.inner)
-        bytes.now) }
-    ensures well { OnOk result (writer.new.faults ≡ writer.old.faults) }
-    ensures part { OnErr result (AppendsPart (W.contents writer.old.inner)
-        (W.contents writer.new.inner) bytes.now) }
-    ensures fault { OnErr result (writer.new.faults ≡ faults_after true writer.old.faults) }
-    ensures kind { IfErr result (λ e. e ≡ RunError.Write) }
+    ensures { Writes W.contents writer.old writer.new bytes.now result }
 {
     let mut at = 0;
     while at < bytes.len() {
@@ -37,13 +29,7 @@ fn write_whole<W: Write>(writer: &mut Counted<W>, bytes: &[u8]) -> Result<(), Ru
 
 // Writes flights with their alerts after a first one.
 fn write_more<W: Write>(writer: &mut Counted<W>, flights: &[Alerted]) -> Result<(), RunError>
-    ensures ok { OnOk result (Appends (W.contents writer.old.inner) (W.contents writer.new.inner)
-        (flat_map next_text flights.now)) }
-    ensures well { OnOk result (writer.new.faults ≡ writer.old.faults) }
-    ensures part { OnErr result (AppendsPart (W.contents writer.old.inner)
-        (W.contents writer.new.inner) (flat_map next_text flights.now)) }
-    ensures fault { OnErr result (writer.new.faults ≡ faults_after true writer.old.faults) }
-    ensures kind { IfErr result (λ e. e ≡ RunError.Write) }
+    ensures { Writes W.contents writer.old writer.new (flat_map next_text flights.now) result }
 {
     let mut rest = flights;
     while let Some((flight, more)) = rest.split_first() {
@@ -55,13 +41,7 @@ fn write_more<W: Write>(writer: &mut Counted<W>, flights: &[Alerted]) -> Result<
 
 // Writes flights with their alerts.
 fn write_flights<W: Write>(writer: &mut Counted<W>, flights: &[Alerted]) -> Result<(), RunError>
-    ensures ok { OnOk result (Appends (W.contents writer.old.inner) (W.contents writer.new.inner)
-        (list_text flights.now)) }
-    ensures well { OnOk result (writer.new.faults ≡ writer.old.faults) }
-    ensures part { OnErr result (AppendsPart (W.contents writer.old.inner)
-        (W.contents writer.new.inner) (list_text flights.now)) }
-    ensures fault { OnErr result (writer.new.faults ≡ faults_after true writer.old.faults) }
-    ensures kind { IfErr result (λ e. e ≡ RunError.Write) }
+    ensures { Writes W.contents writer.old writer.new (list_text flights.now) result }
 {
     let Some((first, more)) = flights.split_first() else {
         return write_whole(writer, b"-");
@@ -76,13 +56,8 @@ fn write_list<W: Write>(
     number: u64,
     flights: &[Alerted],
 ) -> Result<(), RunError>
-    ensures ok { OnOk result (Appends (W.contents writer.old.inner) (W.contents writer.new.inner)
-        (entry_text number (Listed flights.now))) }
-    ensures well { OnOk result (writer.new.faults ≡ writer.old.faults) }
-    ensures part { OnErr result (AppendsPart (W.contents writer.old.inner)
-        (W.contents writer.new.inner) (entry_text number (Listed flights.now))) }
-    ensures fault { OnErr result (writer.new.faults ≡ faults_after true writer.old.faults) }
-    ensures kind { IfErr result (λ e. e ≡ RunError.Write) }
+    ensures { Writes W.contents writer.old writer.new
+        (entry_text number (Listed flights.now)) result }
 {
     write_whole(writer, head(number).as_slice())?;
     write_flights(writer, flights)?;
@@ -90,13 +65,8 @@ fn write_list<W: Write>(
 }
 
 fn write_entered<W: Write>(writer: &mut Counted<W>, reply: &Reply) -> Result<(), RunError>
-    ensures ok { OnOk result (Appends (W.contents writer.old.inner) (W.contents writer.new.inner)
-        (entry_text reply.now.number reply.now.outcome)) }
-    ensures well { OnOk result (writer.new.faults ≡ writer.old.faults) }
-    ensures part { OnErr result (AppendsPart (W.contents writer.old.inner)
-        (W.contents writer.new.inner) (entry_text reply.now.number reply.now.outcome)) }
-    ensures fault { OnErr result (writer.new.faults ≡ faults_after true writer.old.faults) }
-    ensures kind { IfErr result (λ e. e ≡ RunError.Write) }
+    ensures { Writes W.contents writer.old writer.new
+        (entry_text reply.now.number reply.now.outcome) result }
 {
     match &reply.outcome {
         Outcome::Done => write_whole(writer, done(reply.number).as_slice()),
@@ -110,13 +80,7 @@ fn write_entered<W: Write>(writer: &mut Counted<W>, reply: &Reply) -> Result<(),
 }
 
 fn write_answer<W: Write>(writer: &mut Counted<W>, answer: &Answer) -> Result<(), RunError>
-    ensures ok { OnOk result (Appends (W.contents writer.old.inner) (W.contents writer.new.inner)
-        (reply_text answer.now)) }
-    ensures well { OnOk result (writer.new.faults ≡ writer.old.faults) }
-    ensures part { OnErr result (AppendsPart (W.contents writer.old.inner)
-        (W.contents writer.new.inner) (reply_text answer.now)) }
-    ensures fault { OnErr result (writer.new.faults ≡ faults_after true writer.old.faults) }
-    ensures kind { IfErr result (λ e. e ≡ RunError.Write) }
+    ensures { Writes W.contents writer.old writer.new (reply_text answer.now) result }
 {
     match answer {
         Answer::Entered(reply) => write_entered(writer, reply),
@@ -129,13 +93,8 @@ pub(crate) fn write_reply<W: Write>(
     writer: &mut Counted<W>,
     answer: &Answer,
 ) -> Result<(), RunError>
-    ensures ok { OnOk result (Appends (W.contents writer.old.inner) (W.contents writer.new.inner)
-        (reply_text answer.now)) }
-    ensures well { OnOk result (writer.new.faults ≡ writer.old.faults) }
-    ensures part { OnErr result (AppendsPart (W.contents writer.old.inner)
-        (W.contents writer.new.inner) (reply_text answer.now)) }
-    ensures fault { OnErr result (writer.new.faults ≡ faults_after true writer.old.faults) }
-    ensures kind { IfErr result (λ e. e ≡ RunError.Write) }
+    ensures writes { Writes W.contents writer.old writer.new (reply_text answer.now) result }
+    ensures flushed { OnOk result (writer.new.waits ≡ false) }
 {
     write_answer(writer, answer)?;
     match writer.flush() {

@@ -16,7 +16,8 @@ use arrayvec::ArrayVec;
 use itoa::Buffer;
 use std::marker::Model;
 
-/// A text on its way to a writer, so that it is one write: a reply, or a part of one. It takes no memory.
+/// A text on its way to a writer, so that it is one write: a reply, or a part of one. It takes no
+/// memory.
 #[derive(Drop)]
 pub(crate) struct ReplyText {
     bytes: ArrayVec<u8, 320>,

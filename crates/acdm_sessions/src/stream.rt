@@ -1,9 +1,6 @@
 //! From a reader to a writer.
-ghost use Rattle.std.specs.Prelude.{◌≡◌, ◌+◌, ◌-◌, ◌^◌, ◌<◌, true, Err, OnOk, OnErr, IfSome, IfErr};
-ghost use Rattle.std.specs.Io.KnownBytes.{IsAtEnd};
-ghost use Rattle.acdm_sessions.specs.Counted.{faults_after};
-ghost use Rattle.acdm_sessions.specs.Run.{FailsOrEndless};
-ghost use Rattle.acdm_sessions.specs.Output.{ServesLine, ServesLinePart, Serves, ServesWhole, ServesPart};
+ghost use Rattle.std.specs.Prelude.{◌≡◌, ◌+◌, ◌-◌, ◌^◌, ◌<◌, false, Err, OnOk};
+ghost use Rattle.acdm_sessions.specs.Run.{AnswersLine, ServesAll, ServesWhole, ServesPart};
 
 use crate::answer::answer_line;
 use crate::counted::Counted;
@@ -22,16 +19,11 @@ fn serve_line<W: Write, H: Helpers + Drop>(
     writer: &mut Counted<W>,
     desk: &mut Desk<H>,
 ) -> Result<(), RunError>
-    ensures ok { OnOk result (ServesLine desk.old desk.new line.now
-        (W.contents writer.old.inner) (W.contents writer.new.inner)) }
-    ensures part { OnErr result (ServesLinePart desk.old desk.new line.now
-        (W.contents writer.old.inner) (W.contents writer.new.inner)) }
-    ensures well { OnOk result (writer.new.faults ≡ writer.old.faults) }
-    ensures fault { OnErr result (writer.new.faults ≡ faults_after true writer.old.faults) }
-    ensures kind { IfErr result (λ e. e ≡ RunError.Write) }
+    ensures { AnswersLine W.contents writer.old writer.new desk.old desk.new line.now result }
 {
     let answer = answer_line(alloc, line, desk);
-    write_reply(writer, &answer)
+    write_reply(writer, &answer)?;
+    Ok(())
 }
 
 /// Answers each line that is read, at once, until the input ends.
@@ -55,23 +47,28 @@ pub fn run<R: Read, W: Write, H: Helpers + Drop>(
     requires reads { reader.old.faults < 2 ^ 64 - 1 }
     requires writes { writer.old.faults < 2 ^ 64 - 1 }
 
-    // Where neither fails, all that the reader had left was read, and its output was written.
-    ensures output { OnOk result (IfSome (R.remaining reader.old.inner) (λ text.
-        Serves text desk.old desk.new (W.contents writer.old.inner) (W.contents writer.new.inner))) }
-    ensures ended { OnOk result (IsAtEnd (R.remaining reader.new.inner)) }
+    // Where neither fails, all that the reader gave was answered, and it has ended.
+    ensures output { OnOk result (ServesAll
+        (R.remaining reader.old.inner) (R.remaining reader.new.inner) desk.old desk.new
+        (W.contents writer.old.inner) (W.contents writer.new.inner)) }
     ensures read_well { OnOk result (reader.new.faults ≡ reader.old.faults) }
     ensures wrote_well { OnOk result (writer.new.faults ≡ writer.old.faults) }
+    ensures flushed { OnOk result (writer.old.waits ≡ false → writer.new.waits ≡ false) }
 
-    // When each error comes, and what stands then.
-    ensures read { result ≡ Err RunError.Read →
-        FailsOrEndless reader.old.faults reader.new.faults (R.remaining reader.old.inner) }
-    ensures read_in_part { result ≡ Err RunError.Read →
-        ServesWhole (R.remaining reader.old.inner) (R.remaining reader.new.inner) desk.old desk.new
+    // When no more could be read, and what stands then.
+    ensures read { result ≡ Err RunError.Read → ServesWhole
+        (R.remaining reader.old.inner) (R.remaining reader.new.inner)
+        reader.old.faults reader.new.faults desk.old desk.new
         (W.contents writer.old.inner) (W.contents writer.new.inner) }
+    ensures read_alone { result ≡ Err RunError.Read → writer.new.faults ≡ writer.old.faults }
+
+    // When a reply could not be written, and what stands then.
     ensures write { result ≡ Err RunError.Write → writer.new.faults ≡ writer.old.faults + 1 }
-    ensures written_in_part { result ≡ Err RunError.Write → IfSome (R.remaining reader.old.inner)
-        (λ text. ServesPart text desk.old desk.new
-        (W.contents writer.old.inner) (W.contents writer.new.inner)) }
+    ensures write_alone { result ≡ Err RunError.Write → reader.new.faults ≡ reader.old.faults }
+    ensures written_in_part { result ≡ Err RunError.Write → ServesPart
+        (R.remaining reader.old.inner) (R.remaining reader.new.inner) desk.old desk.new
+        (W.contents writer.old.inner) (W.contents writer.new.inner) }
+
     ensures memory { result ≡ Err RunError.Memory →
         (reader.new ≡ reader.old) × (writer.new ≡ writer.old) × (desk.new ≡ desk.old) }
 {
@@ -84,5 +81,6 @@ pub fn run<R: Read, W: Write, H: Helpers + Drop>(
     if lines.line.as_slice().is_empty() {
         return Ok(());
     }
-    serve_line(alloc, lines.line.as_slice(), writer, desk)
+    serve_line(alloc, lines.line.as_slice(), writer, desk)?;
+    Ok(())
 }

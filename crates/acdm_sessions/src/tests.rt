@@ -316,7 +316,7 @@ fn answers_promptly<H: Helpers + Drop>(
     helpers: H,
 ) -> Result<(), Fail> {
     let answered = Cell::new(0);
-    let lines = [LANDED, LANDED, IN_BLOCK];
+    let lines = [LANDED, "1 1 APT {}\n", LANDED, "\n", IN_BLOCK];
     let mut reader = Counted::new(Patient {
         lines: &lines,
         asked: 0,
@@ -328,7 +328,8 @@ fn answers_promptly<H: Helpers + Drop>(
     });
     let mut desk = Desk::new(alloc, helpers, 10)?;
     run(alloc, &mut reader, &mut writer, &mut desk)?;
-    assert_eq!(rt; answered.get(), 3);
+    assert_eq!(rt; answered.get(), 5);
+    assert!(rt; !writer.waits());
     assert!(rt; reader.into_inner().waits);
     Ok(())
 }

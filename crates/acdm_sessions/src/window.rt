@@ -1,8 +1,7 @@
 //! What was read and not yet taken.
-ghost use Rattle.std.specs.Prelude.{◌≡◌, ◌+◌, ◌-◌, ◌<◌, ◌≤◌, [], true, length, drop, position, OnOk, OnErr, IfOk, IfErr, IfSome};
-ghost use Rattle.std.specs.Io.KnownBytes.{Consumes, IsAtEnd, Keeps};
-ghost use Rattle.acdm_sessions.specs.Counted.{faults_after};
+ghost use Rattle.std.specs.Prelude.{◌≡◌, ◌<◌, ◌≤◌, [], length, drop, position, IfOk, IfSome};
 ghost use Rattle.acdm_sessions.specs.Lines.{is_line_feed, most_held};
+ghost use Rattle.acdm_sessions.specs.NextLine.{Fills};
 
 use crate::counted::Counted;
 use crate::run_error::RunError;
@@ -79,15 +78,7 @@ impl Window {
 
     /// Reads once, in place of what is held. Nothing is held afterwards where the input has ended.
     pub(crate) fn fill<R: Read>(&mut self, reader: &mut Counted<R>) -> Result<(), RunError>
-        ensures bytes { OnOk result (Consumes (R.remaining reader.old.inner)
-            (R.remaining reader.new.inner) self.new) }
-        ensures end { OnOk result (self.new ≡ [] → IsAtEnd (R.remaining reader.new.inner)) }
-        ensures err { OnErr result (Keeps (R.remaining reader.old.inner)
-            (R.remaining reader.new.inner)) }
-        ensures ok { OnOk result (reader.new.faults ≡ reader.old.faults) }
-        ensures fault { OnErr result (reader.new.faults ≡ faults_after true reader.old.faults) }
-        ensures kind { IfErr result (λ e. e ≡ RunError.Read) }
-        ensures none { OnErr result (self.new ≡ []) }
+        ensures fills { Fills R.remaining reader.old reader.new self.new result }
         ensures fits { length self.new ≤ most_held }
     {
         self.start = 0;

@@ -62,13 +62,13 @@ with_all-record_with f (text_is u v ∷ qs) ps rs al h =
 
 computed_at-computed : (f : ℕ) (ps : List Assignment) (rs : ℕ) (touch : Option ℕ) → IsComputed (computed_at f ps rs touch)
 computed_at-computed f ps rs None = zero-computed
-computed_at-computed f ps rs (Some now) = conditions-computed (record_with f ps rs 0) now
+computed_at-computed f ps rs (Some moment) = conditions-computed (record_with f ps rs 0) moment
 
 module _ (f x : ℕ) (computed : IsComputed x) where
   -- a touch computes the alerts of the fields; what was decided stays
-  touched-record_with : (ps : List Assignment) (rs now : ℕ) (b : Bool) (l : ℕ)
-      → touched now (record_with f ps rs (decided_word b l + x)) ≡ record_with f ps rs (decided_word b l + conditions (record_with f ps rs 0) now)
-  touched-record_with ps rs now b l = ap (λ n. record_with f ps rs (n + conditions (record_with f ps rs 0) now)) (kept_bits-decided x computed b l)
+  touched-record_with : (ps : List Assignment) (rs moment : ℕ) (b : Bool) (l : ℕ)
+      → touched moment (record_with f ps rs (decided_word b l + x)) ≡ record_with f ps rs (decided_word b l + conditions (record_with f ps rs 0) moment)
+  touched-record_with ps rs moment b l = ap (λ n. record_with f ps rs (n + conditions (record_with f ps rs 0) moment)) (kept_bits-decided x computed b l)
 
   with_suggestion-record_with : (s : Suggestion) (ps : List Assignment) (rs : ℕ) (b : Bool) (l : ℕ)
       → with_suggestion s (record_with f ps rs (decided_word b l + x)) ≡ record_with f (with_tobt s ps) (with_ninth s rs) (decided_word (rejects s b) l + x)
@@ -113,15 +113,15 @@ plain_command _ = refl
 pub assigned-reported : (f : ℕ) (t : Told) (c : Command) → assigned_to (record_from f t) c ≡ reported f c t
 assigned-reported f t c = ap (λ r. marked r (bit_of c)) (with_all-record_with f (assigned_by c) t.assigned t.reached (alerts_from f t) (plain_command c))
 
-changed-record_from : (ps : Programs) (f : ℕ) (t : Told) (now : ℕ) (c : Command) (answers : List ℕ)
-    → changed ps (record_from f t) now c answers ≡ record_from f (with_command c now (said ps (reported f c t) now (bit_of c) answers) t)
-changed-record_from ps f t now c answers =
-    let s : Said = said ps (reported f c t) now (bit_of c) answers in
+changed-record_from : (ps : Programs) (f : ℕ) (t : Told) (moment : ℕ) (c : Command) (answers : List ℕ)
+    → changed ps (record_from f t) moment c answers ≡ record_from f (with_command c moment (said ps (reported f c t) moment (bit_of c) answers) t)
+changed-record_from ps f t moment c answers =
+    let s : Said = said ps (reported f c t) moment (bit_of c) answers in
     let x : ℕ = computed_at f t.assigned t.reached t.touch in
     let is = computed_at-computed f t.assigned t.reached t.touch in
-    ap (λ r. touched now (with_said (said ps r now (bit_of c) answers) r)) (assigned-reported f t c)
-    ∙ ap (touched now) (with_said-record_with f x is s (onto (assigned_by c) t.assigned) (bit_or t.reached (2 ^ bit_of c)) t.rejected t.locals)
-    ∙ touched-record_with f x is (with_tobt s.tobt (onto (assigned_by c) t.assigned)) (with_ninth s.tobt (bit_or t.reached (2 ^ bit_of c))) now (rejects s.tobt t.rejected) (number_or s.locals t.locals)
+    ap (λ r. touched moment (with_said (said ps r moment (bit_of c) answers) r)) (assigned-reported f t c)
+    ∙ ap (touched moment) (with_said-record_with f x is s (onto (assigned_by c) t.assigned) (bit_or t.reached (2 ^ bit_of c)) t.rejected t.locals)
+    ∙ touched-record_with f x is (with_tobt s.tobt (onto (assigned_by c) t.assigned)) (with_ninth s.tobt (bit_or t.reached (2 ^ bit_of c))) moment (rejects s.tobt t.rejected) (number_or s.locals t.locals)
 
 -- what an entry adds where it is of the flight
 abbrev added : Entry → History → ℕ → Told

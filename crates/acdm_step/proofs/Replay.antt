@@ -1,5 +1,5 @@
 -- A step on the replay of a legal history is the replay of the longer history.
-use Rattle.std.proofs.Common.{◌≡◌, ◌≢◌, ◌⊎◌, inl, inr, ℕ, eq-eqb, ◌+◌, Bool, true, false, cond, not, ◌&&◌, ◌||◌, ◌==◌, nat_lt, List, [], ◌∷◌, ◌++◌, map, length, get_or, set, Option, Some, None, is_some, refl, sym, ap, subst, ◌∙◌, arith, eqb-true, ne_eqb}
+use Rattle.std.proofs.Common.{◌≡◌, ◌≢◌, ℕ, eq-eqb, ◌+◌, Bool, true, false, cond, not, ◌&&◌, ◌||◌, ◌==◌, nat_lt, List, [], ◌∷◌, ◌++◌, map, length, get_or, set, Option, Some, None, is_some, refl, sym, ap, subst, ◌∙◌, arith, eqb-true, ne_eqb}
 use Rattle.std.proofs.lemmas.List.{length-map, map_push, get_or_past}
 use Rattle.std.specs.List.{position_or_len}
 use Rattle.acdm_record.specs.Fields.{Fields, new_record}
@@ -10,7 +10,7 @@ use Rattle.acdm_milestones.specs.Tables.{number, owns}
 use Rattle.bpf_helpers.specs.Promise.{Promise}
 use Rattle.bpf_helpers.specs.Same.{same_sigs}
 use Rattle.bpf_verifier.specs.Verdict.{Verified}
-use Rattle.bpf_machine.specs.Steps as machine
+use Rattle.bpf_helpers.specs.Oracles.{OracleView}
 use Rattle.acdm_milestones.specs.declared.milestone.Milestone.{Milestone}
 use Rattle.acdm_slots.specs.declared.kind.Kind.{Kind}
 use Rattle.acdm_slots.specs.declared.kind.Kind.TheVariants as kinds
@@ -23,10 +23,10 @@ use Rattle.acdm_step.specs.declared.outcome.Outcome.TheVariants as outcomes
 use Rattle.acdm_step.specs.declared.entry.Verdict.{Verdict}
 use Rattle.acdm_step.specs.declared.entry.Verdict.TheVariants.{Refused}
 use Rattle.acdm_step.specs.declared.entry.Entry.{Entry}
-use Rattle.acdm_step.specs.Programs.{said_with}
-use Rattle.acdm_step.specs.History.{History, nothing_told, with_command, with_tick, flight_of, bit_of, changes_flight, is_tick, is_load, is_of, ticks, is_accepted, creates, created, told, reported, said_on, record_from, record_of, slot_change, changed_or, program_in, programs_of, size_of, with_slots, slots_of, with_flight, flights, exists, is_ready, verdict_for, verdict_of, answer, outcome_with, outcome_of, left_after, left_by, IsAnswered, IsTrapped, IsLegal, replay, after, is_alerts, needs_memory}
-use Rattle.acdm_step.specs.Board.{changed, touched, place_of, is_there, record_on, put, assigned_to, programs_on, ready_on, left_on, board_verdict, board_creates, board_loads, board_answer, board_outcome, board_changed, board_after}
-use Rattle.acdm_step.specs.Running.{TrapsIn}
+use Rattle.acdm_step.specs.History.{History, nothing_told, with_command, with_tick, flight_of, bit_of, changes_flight, is_tick, is_load, is_of, ticks, is_accepted, creates, created, told, reported, said_on, record_from, record_of, slot_change, changed_or, program_in, programs_of, size_of, with_slots, slots_of, with_flight, flights, exists, is_ready, verdict_for, verdict_of, answer, outcome_with, outcome_of, IsAnswered, IsLegal, replay, after, is_alerts, needs_memory}
+use Rattle.acdm_step.specs.Board.{changed, touched, place_of, is_there, record_on, put, assigned_to, programs_on, ready_on, board_verdict, board_creates, board_loads, board_answer, board_outcome, board_changed, board_after}
+use Rattle.acdm_step.specs.Ran.{Ran}
+use Rattle.acdm_step.specs.Running.{AsksIn}
 use Rattle.acdm_step.proofs.Records.{assigned-reported, record_same, record_changed, record_ticked, touched-there}
 use Rattle.acdm_step.proofs.Flights.{is_it, has, and_false, found, inside, outside, absent, updated, flights_distinct, grows, has-with_flight}
 
@@ -72,10 +72,9 @@ not_all true false c h = refl
 not_all false b c h = refl
 
 -- an entry that is accepted is so by the tests
-pub is_right : (sigs : List (ℕ × Promise)) (J : History) (role : Role) (now : ℕ) (c : Command) (v : Verdict) (answers : List ℕ)
-    → IsAnswered sigs J role now c v answers ⊎ IsTrapped sigs J role c v answers → is_accepted v ≡ true → is_accepted (verdict_of sigs J role c) ≡ true
-is_right sigs J role now c v answers (inl h) d = sym (ap is_accepted h.verdict_is) ∙ d
-is_right sigs J role now c v answers (inr h) d = h.accepted
+pub is_right : (sigs : List (ℕ × Promise)) (J : History) (role : Role) (moment : ℕ) (c : Command) (v : Verdict) (answers : List ℕ)
+    → IsAnswered sigs J role moment c v answers → is_accepted v ≡ true → is_accepted (verdict_of sigs J role c) ≡ true
+is_right sigs J role moment c v answers h d = sym (ap is_accepted h.verdict_is) ∙ d
 
 module _ (sigs : List (ℕ × Promise)) (f : ℕ) (e : Entry) (J : History) (right : is_accepted e.verdict ≡ true → is_accepted (verdict_of sigs J e.role e.command) ≡ true) (gone : has f (with_flight (flights J) (created e)) ≡ false) where
   -- an accepted entry of a flight that is not there would have created it
@@ -99,7 +98,7 @@ nothing-told sigs f [] l h = refl
 nothing-told sigs f (e ∷ J) l h =
     let before = nothing-told sigs f J l.0 (grows f (flights J) (created e) h) in
     ap (λ b. cond b (with_command e.command e.moment (said_on (programs_of J e.command) e f (told J f)) (told J f)) (cond (ticks e) (with_tick e.moment (told J f)) (told J f)))
-    (unset sigs f e J (is_right sigs J e.role e.moment e.command e.verdict e.answers l.3) h)
+    (unset sigs f e J (is_right sigs J e.role e.moment e.command e.verdict e.answers l.4) h)
     ∙ ap (λ t. cond (ticks e) (with_tick e.moment t) t) before ∙ either (ticks e)
   where
     either : (b : Bool) → cond b (with_tick e.moment nothing_told) nothing_told ≡ nothing_told
@@ -111,9 +110,9 @@ nothing_set sigs f J l h = ap (record_from f) (nothing-told sigs f J l h)
 
 -- ---- the programs in the slots
 
-either_slot : (b : Bool) (now before : Option Verified) → cond b now before ≡ changed_or (cond b (Some now) None) before
-either_slot true now before = refl
-either_slot false now before = refl
+either_slot : (b : Bool) (after before : Option Verified) → cond b after before ≡ changed_or (cond b (Some after) None) before
+either_slot true after before = refl
+either_slot false after before = refl
 
 slot-with : (m : Milestone) (k : Kind) (c : Command) (l : Loaded) → loaded.program_in (with_slots c l) m k ≡ changed_or (slot_change m k c) (loaded.program_in l m k)
 slot-with m k (Load c) l = program_after l c.milestone m c.kind k (Some c.program) ∙ either_slot (place c.milestone c.kind == place m k) (Some c.program) (loaded.program_in l m k)
@@ -190,22 +189,27 @@ verdict-replay sigs J role c l =
     ∙ ap (λ r. verdict_for (exists J (flight_of c)) (length (flights J)) r (ready_on (slots_of sigs J) c) role c) (record_on-replay sigs J (flight_of c) l)
     ∙ ap (λ r. verdict_for (exists J (flight_of c)) (length (flights J)) (record_of J (flight_of c)) r role c) (ready-replay sigs J c)
 
--- what is left of the answers on the board is left after the history
-pub left-replay : (sigs : List (ℕ × Promise)) (J : History) (c : Command) (now : ℕ) (answers : List ℕ) → IsLegal sigs J → left_on (replay sigs J) c now answers ≡ left_by J c now answers
-left-replay sigs J c now answers l =
-    ap (λ ps. left_after (said_with ps (assigned_to (record_on (records_of J) (flight_of c)) c) now (bit_of c) answers)) (programs-replay sigs J c)
-    ∙ ap (λ r. left_after (said_with (programs_of J c) (assigned_to r c) now (bit_of c) answers)) (record_on-replay sigs J (flight_of c) l)
-    ∙ ap (λ r. left_after (said_with (programs_of J c) r now (bit_of c) answers)) (assigned-reported (flight_of c) (told J (flight_of c)) c)
+-- the record with what a command assigns, on the board and after the history
+assigned-replay : (sigs : List (ℕ × Promise)) (J : History) (c : Command) → IsLegal sigs J
+    → assigned_to (record_on (records_of J) (flight_of c)) c ≡ reported (flight_of c) c (told J (flight_of c))
+assigned-replay sigs J c l =
+    ap (λ r. assigned_to r c) (record_on-replay sigs J (flight_of c) l) ∙ assigned-reported (flight_of c) (told J (flight_of c)) c
 
--- and a program that traps on the board traps after it
-pub traps-replay : (sigs : List (ℕ × Promise)) (J : History) (c : Command) (now : ℕ) (log : machine.Told) → IsLegal sigs J
-    → TrapsIn (programs_on (slots_of sigs J) c) (assigned_to (record_on (records_of J) (flight_of c)) c) now (bit_of c) log
-    → TrapsIn (programs_of J c) (reported (flight_of c) c (told J (flight_of c))) now (bit_of c) log
-traps-replay sigs J c now log l h =
-    let ps = programs-replay sigs J c in
-    let r : assigned_to (record_on (records_of J) (flight_of c)) c ≡ reported (flight_of c) c (told J (flight_of c)) =
-    ap (λ r. assigned_to r c) (record_on-replay sigs J (flight_of c) l) ∙ assigned-reported (flight_of c) (told J (flight_of c)) c in
-    subst (λ x. TrapsIn (programs_of J c) x now (bit_of c) log) r (subst (λ p. TrapsIn p (assigned_to (record_on (records_of J) (flight_of c)) c) now (bit_of c) log) ps h)
+-- programs that ran on the board ran after it
+pub ran-replay : (sigs : List (ℕ × Promise)) (J : History) (c : Command) (moment : ℕ) (used : List ℕ) → IsLegal sigs J
+    → Ran (programs_on (slots_of sigs J) c) (assigned_to (record_on (records_of J) (flight_of c)) c) moment (bit_of c) used
+    → Ran (programs_of J c) (reported (flight_of c) c (told J (flight_of c))) moment (bit_of c) used
+ran-replay sigs J c moment used l h =
+    subst (λ x. Ran (programs_of J c) x moment (bit_of c) used) (assigned-replay sigs J c l)
+    (subst (λ p. Ran p (assigned_to (record_on (records_of J) (flight_of c)) c) moment (bit_of c) used) (programs-replay sigs J c) h)
+
+-- and a program that is left without an answer on the board is so after it
+pub asks-replay : (sigs : List (ℕ × Promise)) (J : History) (c : Command) (moment : ℕ) (from to : OracleView) → IsLegal sigs J
+    → AsksIn (programs_on (slots_of sigs J) c) (assigned_to (record_on (records_of J) (flight_of c)) c) moment (bit_of c) from to
+    → AsksIn (programs_of J c) (reported (flight_of c) c (told J (flight_of c))) moment (bit_of c) from to
+asks-replay sigs J c moment from to l h =
+    subst (λ x. AsksIn (programs_of J c) x moment (bit_of c) from to) (assigned-replay sigs J c l)
+    (subst (λ p. AsksIn p (assigned_to (record_on (records_of J) (flight_of c)) c) moment (bit_of c) from to) (programs-replay sigs J c) h)
 
 -- ---- one entry more
 
@@ -290,10 +294,10 @@ module _ (sigs : List (ℕ × Promise)) (e : Entry) (J : History) (legal : IsLeg
         → put (records_of J) (flight_of e.command) (changed (programs_on (slots_of sigs J) e.command) (record_on (records_of J) (flight_of e.command)) e.moment e.command e.answers) ≡ records_of (e ∷ J)
     accepted-replay d =
         let f : ℕ = flight_of e.command in
-        let now : changed (programs_on (slots_of sigs J) e.command) (record_on (records_of J) f) e.moment e.command e.answers ≡ record_of (e ∷ J) f =
+        let changed_now : changed (programs_on (slots_of sigs J) e.command) (record_on (records_of J) f) e.moment e.command e.answers ≡ record_of (e ∷ J) f =
         ap (λ ps. changed ps (record_on (records_of J) f) e.moment e.command e.answers) (programs-replay sigs J e.command)
         ∙ ap (λ r. changed (programs_of J e.command) r e.moment e.command e.answers) (record_on-replay sigs J f legal) ∙ sym (record_changed e J d k) in
-        ap (put (records_of J) f) now ∙
+        ap (put (records_of J) f) changed_now ∙
         (elim (exists J f) as (λ b. exists J f ≡ b → put (records_of J) f (record_of (e ∷ J) f) ≡ records_of (e ∷ J)) [
           | true ↦ λ t.
               let there : is_there (records_of J) f ≡ true = there-replay J f ∙ t in
@@ -338,20 +342,20 @@ module _ (sigs : List (ℕ × Promise)) (e : Entry) (J : History) (legal : IsLeg
       let slots : slots_of sigs (e ∷ J) ≡ slots_of sigs J = ap (λ b. cond b (with_slots e.command (slots_of sigs J)) (slots_of sigs J)) d in
       λ i. record { records = records i; slots = slots i }
 
-module _ (sigs : List (ℕ × Promise)) (J : History) (session : ℕ) (role : Role) (now : ℕ) (c : Command) (legal : IsLegal sigs J) where
+module _ (sigs : List (ℕ × Promise)) (J : History) (session : ℕ) (role : Role) (moment : ℕ) (c : Command) (legal : IsLegal sigs J) where
   -- a refused command changes no record and no slot
-  pub refused-replay : (v : Verdict) (answers : List ℕ) → is_accepted v ≡ false → replay sigs (after J session role now c v answers) ≡ replay sigs J
+  pub refused-replay : (v : Verdict) (answers : List ℕ) → is_accepted v ≡ false → replay sigs (after J session role moment c v answers) ≡ replay sigs J
   refused-replay v answers d =
-      let e : Entry = record { number = length J; session = session; role = role; moment = now; command = c; verdict = v; answers = answers } in
+      let e : Entry = record { number = length J; session = session; role = role; moment = moment; command = c; verdict = v; answers = answers } in
       refused-board sigs e J legal (λ t. absurd (cc)) d
 
   -- a step on the board with the verdict of the tests
-  pub step-replay : (answers : List ℕ) → board_after (replay sigs J) role now c answers ≡ replay sigs (after J session role now c (verdict_of sigs J role c) answers)
+  pub step-replay : (answers : List ℕ) → board_after (replay sigs J) role moment c answers ≡ replay sigs (after J session role moment c (verdict_of sigs J role c) answers)
   unfolding board_after
   step-replay answers =
-      let e : Entry = record { number = length J; session = session; role = role; moment = now; command = c; verdict = verdict_of sigs J role c; answers = answers } in
-      ap (λ o. cond (is_accepted o) (record { records = board_changed (replay sigs J) now c answers; slots = with_slots c (slots_of sigs J) }) (replay sigs J)) (verdict-replay sigs J role c legal)
-      ∙ (elim (is_accepted (verdict_of sigs J role c)) as (λ b. is_accepted (verdict_of sigs J role c) ≡ b → cond b (record { records = board_changed (replay sigs J) now c answers; slots = with_slots c (slots_of sigs J) }) (replay sigs J) ≡ replay sigs (e ∷ J)) [
+      let e : Entry = record { number = length J; session = session; role = role; moment = moment; command = c; verdict = verdict_of sigs J role c; answers = answers } in
+      ap (λ o. cond (is_accepted o) (record { records = board_changed (replay sigs J) moment c answers; slots = with_slots c (slots_of sigs J) }) (replay sigs J)) (verdict-replay sigs J role c legal)
+      ∙ (elim (is_accepted (verdict_of sigs J role c)) as (λ b. is_accepted (verdict_of sigs J role c) ≡ b → cond b (record { records = board_changed (replay sigs J) moment c answers; slots = with_slots c (slots_of sigs J) }) (replay sigs J) ≡ replay sigs (e ∷ J)) [
         | true ↦ λ d. accepted-board sigs e J legal (λ t. d) d
         | false ↦ λ d. sym (refused-board sigs e J legal (λ t. absurd (cc)) d)
       ] refl)

@@ -4,8 +4,8 @@ use Rattle.std.proofs.lemmas.List.{get_or_past, get_or_default, take_at}
 use Rattle.std.proofs.lemmas.Bool.Decides.{nat_tests}
 use Rattle.acdm_record.specs.Fields.{Fields, new_record}
 use Rattle.acdm_milestones.specs.declared.role.Role.{Role}
-use Rattle.acdm_milestones.specs.declared.refusal.Refusal.TheVariants.{Trapped}
-use Rattle.bpf_machine.specs.Steps as machine
+use Rattle.acdm_milestones.specs.declared.refusal.Refusal.TheVariants.{Unanswered}
+use Rattle.bpf_helpers.specs.Oracles.{OracleView, Gained, Unasked}
 use Rattle.bpf_helpers.specs.Same.{same_sigs}
 use Rattle.acdm_slots.specs.Loaded.{Loaded, program_in}
 use Rattle.acdm_step.specs.declared.command.Command.{Command}
@@ -18,8 +18,11 @@ use Rattle.acdm_step.specs.declared.outcome.Outcome.TheVariants as outcomes
 use Rattle.acdm_step.specs.declared.entry.Verdict.{Verdict}
 use Rattle.acdm_step.specs.declared.entry.Verdict.TheVariants.{Accepted, Refused}
 use Rattle.acdm_step.specs.History.{Board, flight_of, bit_of, is_accepted, is_tick, changes_flight, is_alerts, verdict_for, load_verdict, unload_verdict, tick_verdict, show_verdict, alert_list, outcome_with, with_slots}
-use Rattle.acdm_step.specs.Board.{board_of, assigned_to, touched, place_of, is_there, record_on, put, changed, programs_on, ready_on, left_on, board_verdict, board_creates, board_loads, board_outcome, board_changed, board_after}
-use Rattle.acdm_step.specs.Running.{Gained, ChangesTo, TrapsIn, Comes, answered, trapped}
+use Rattle.acdm_step.specs.Board.{board_of, assigned_to, touched, place_of, is_there, record_on, put, changed, programs_on, ready_on, board_verdict, board_creates, board_loads, board_outcome, board_changed, board_after}
+use Rattle.acdm_step.specs.Programs.{nothing_said, said_with, what_is_said, with_said}
+use Rattle.acdm_step.specs.Ran.{Ran}
+use Rattle.acdm_step.proofs.Saying.{none_ran, say_said}
+use Rattle.acdm_step.specs.Running.{ChangesTo, AsksIn, Comes, answered, unanswered}
 
 pub on_err : {T E P : Type 0} (r : Result T E) → P → OnErr r P
 on_err (Ok x) p = tt
@@ -78,69 +81,74 @@ accepted_is : (v : Verdict) → is_accepted v ≡ true → outcomes.Done ≡ out
 accepted_is Accepted h = refl
 accepted_is (Refused x) h = absurd (cc)
 
--- nothing is left of no answer where no program runs
-none_left : (b : Board) (c : Command) (now : ℕ) → changes_flight c ≡ false → left_on b c now [] ≡ Some []
-none_left b (Schedule s) now h = absurd (cc)
-none_left b (Report r) now h = absurd (cc)
-none_left b _ now h = refl
+-- where no program runs, no answer is used
+no_runs : (l : Loaded) (c : Command) (r : Fields) (moment : ℕ) → changes_flight c ≡ false → Ran (programs_on l c) r moment (bit_of c) []
+no_runs l (Schedule s) r moment h = absurd (cc)
+no_runs l (Report x) r moment h = absurd (cc)
+no_runs l _ r moment h = (nothing_said, none_ran r moment 0)
 
-nothing_gained : (log : machine.Told) → log.now ≡ log.before → Gained log []
-nothing_gained log e = e ∙ sym (append-nil log.before)
+nothing_gained : (from to : OracleView) → Unasked from to → Gained from to []
+nothing_gained from to e = e.log ∙ sym (append-nil from.log)
 
 -- ---- what comes of a command on a board
 
-module _ (b : Board) (role : Role) (now : ℕ) (c : Command) where
+module _ (b : Board) (role : Role) (moment : ℕ) (c : Command) where
   -- a refused command leaves the board
-  pub left : (answers : List ℕ) → is_accepted (board_verdict b role c) ≡ false → b ≡ board_after b role now c answers
+  pub left : (answers : List ℕ) → is_accepted (board_verdict b role c) ≡ false → b ≡ board_after b role moment c answers
   unfolding board_after
-  left answers d = sym (ap (λ v. cond v (record { records = board_changed b now c answers; slots = with_slots c b.slots }) b) d)
+  left answers d = sym (ap (λ v. cond v (record { records = board_changed b moment c answers; slots = with_slots c b.slots }) b) d)
 
-  taken : (answers : List ℕ) → is_accepted (board_verdict b role c) ≡ true → record { records = board_changed b now c answers; slots = with_slots c b.slots } ≡ board_after b role now c answers
+  taken : (answers : List ℕ) → is_accepted (board_verdict b role c) ≡ true → record { records = board_changed b moment c answers; slots = with_slots c b.slots } ≡ board_after b role moment c answers
   unfolding board_after
-  taken answers d = sym (ap (λ v. cond v (record { records = board_changed b now c answers; slots = with_slots c b.slots }) b) d)
+  taken answers d = sym (ap (λ v. cond v (record { records = board_changed b moment c answers; slots = with_slots c b.slots }) b) d)
 
-  module _ (log : machine.Told) (outcome : Outcome) where
+  module _ (from to : OracleView) (outcome : Outcome) where
     -- a refused change
-    pub comes_refused : (v : Verdict) → changes_flight c ≡ true → v ≡ board_verdict b role c → is_accepted v ≡ false → log.now ≡ log.before → outcome ≡ outcome_with outcomes.Done v
-        → Comes b role now c log outcome b
+    pub comes_refused : (v : Verdict) → changes_flight c ≡ true → v ≡ board_verdict b role c → is_accepted v ≡ false → Unasked from to → outcome ≡ outcome_with outcomes.Done v
+        → Comes b role moment c from to outcome b
     comes_refused v k e d same is =
         let no : is_accepted (board_verdict b role c) ≡ false = sym (ap is_accepted e) ∙ d in
-        answered [] (nothing_gained log same) (is ∙ ap (outcome_with outcomes.Done) e ∙ change_outcome_is b role c k) (λ t. absurd (cc)) (λ t. refl) (left [] no)
+        answered [] (nothing_gained from to same) same.refusals (is ∙ ap (outcome_with outcomes.Done) e ∙ change_outcome_is b role c k) (λ t. absurd (cc)) (λ t. refl) (left [] no)
 
-    pub comes_trapped : (v : Verdict) (r : Fields) → v ≡ board_verdict b role c → is_accepted v ≡ true → r ≡ record_on b.records (flight_of c) → outcome ≡ outcomes.Refused Trapped
-        → TrapsIn (programs_on b.slots c) (assigned_to r c) now (bit_of c) log → Comes b role now c log outcome b
-    comes_trapped v r e d is out h =
-        trapped out (sym (ap is_accepted e) ∙ d) (subst (λ x. TrapsIn (programs_on b.slots c) (assigned_to x c) now (bit_of c) log) is h) refl
+    pub comes_unanswered : (v : Verdict) (r : Fields) → v ≡ board_verdict b role c → is_accepted v ≡ true → r ≡ record_on b.records (flight_of c) → outcome ≡ outcomes.Refused Unanswered
+        → AsksIn (programs_on b.slots c) (assigned_to r c) moment (bit_of c) from to → Comes b role moment c from to outcome b
+    comes_unanswered v r e d is out h =
+        unanswered out (sym (ap is_accepted e) ∙ d) (subst (λ x. AsksIn (programs_on b.slots c) (assigned_to x c) moment (bit_of c) from to) is h) refl
 
     -- a change of one record
     pub comes_changed : (v : Verdict) (r s : Fields) (rs : List Fields) → changes_flight c ≡ true → v ≡ board_verdict b role c → is_accepted v ≡ true → r ≡ record_on b.records (flight_of c)
-        → outcome ≡ outcomes.Done → ChangesTo (programs_on b.slots c) r now c log s → rs ≡ put b.records (flight_of c) s → Comes b role now c log outcome (board_of rs b.slots)
+        → outcome ≡ outcomes.Done → ChangesTo (programs_on b.slots c) r moment c from to s → rs ≡ put b.records (flight_of c) s → Comes b role moment c from to outcome (board_of rs b.slots)
     comes_changed v r s rs k e d is out h stored =
         let yes : is_accepted (board_verdict b role c) ≡ true = sym (ap is_accepted e) ∙ d in
-        let h' : ChangesTo (programs_on b.slots c) (record_on b.records (flight_of c)) now c log s = subst (λ x. ChangesTo (programs_on b.slots c) x now c log s) is h in
-        let here : List Fields = put b.records (flight_of c) (changed (programs_on b.slots c) (record_on b.records (flight_of c)) now c h'.0) in
-        let records : rs ≡ board_changed b now c h'.0 =
-        stored ∙ ap (put b.records (flight_of c)) h'.3
-        ∙ sym (ap (λ t. cond t (map (touched now) b.records) (cond (changes_flight c) here b.records)) (change_no_tick c k) ∙ ap (λ t. cond t here b.records) k) in
+        let h' : ChangesTo (programs_on b.slots c) (record_on b.records (flight_of c)) moment c from to s = subst (λ x. ChangesTo (programs_on b.slots c) x moment c from to s) is h in
+        let x : Fields = assigned_to (record_on b.records (flight_of c)) c in
+        let all : said_with (programs_on b.slots c) x moment (bit_of c) h'.0 ≡ Some (h'.1, []) =
+        ap (said_with (programs_on b.slots c) x moment (bit_of c)) (sym (append-nil h'.0)) ∙ say_said (programs_on b.slots c) x moment (bit_of c) h'.0 h'.1 h'.3 [] in
+        let record_is : s ≡ changed (programs_on b.slots c) (record_on b.records (flight_of c)) moment c h'.0 =
+        h'.4 ∙ ap (λ o. touched moment (with_said (what_is_said o) x)) (sym all) in
+        let here : List Fields = put b.records (flight_of c) (changed (programs_on b.slots c) (record_on b.records (flight_of c)) moment c h'.0) in
+        let records : rs ≡ board_changed b moment c h'.0 =
+        stored ∙ ap (put b.records (flight_of c)) record_is
+        ∙ sym (ap (λ t. cond t (map (touched moment) b.records) (cond (changes_flight c) here b.records)) (change_no_tick c k) ∙ ap (λ t. cond t here b.records) k) in
         let slots : b.slots ≡ with_slots c b.slots = sym (change_keeps_slots c b.slots k) in
-        answered h'.0 h'.1 (out ∙ accepted_is (board_verdict b role c) yes ∙ change_outcome_is b role c k) (λ t. h'.2) (λ t. absurd (cc))
+        answered h'.0 h'.2 h'.5 (out ∙ accepted_is (board_verdict b role c) yes ∙ change_outcome_is b role c k) (λ t. (h'.1, h'.3)) (λ t. absurd (cc))
         ((λ i. record { records = records i; slots = slots i }) ∙ taken h'.0 yes)
 
     -- what runs no program
-    pub comes_quiet : (new : Board) → changes_flight c ≡ false → log.now ≡ log.before → outcome ≡ board_outcome b role c → new ≡ board_after b role now c [] → Comes b role now c log outcome new
-    comes_quiet new k same is after = answered [] (nothing_gained log same) is (λ t. none_left b c now k) (λ t. refl) after
+    pub comes_quiet : (new : Board) → changes_flight c ≡ false → Unasked from to → outcome ≡ board_outcome b role c → new ≡ board_after b role moment c [] → Comes b role moment c from to outcome new
+    comes_quiet new k same is after = answered [] (nothing_gained from to same) same.refusals is (λ t. no_runs b.slots c (assigned_to (record_on b.records (flight_of c)) c) moment k) (λ t. refl) after
 
   -- what changes slots alone, or nothing
   pub quiet_after : (rs : List Fields) (sl : Loaded) → is_tick c ≡ false → changes_flight c ≡ false → rs ≡ b.records → sl ≡ cond (is_accepted (board_verdict b role c)) (with_slots c b.slots) b.slots
-      → board_of rs sl ≡ board_after b role now c []
+      → board_of rs sl ≡ board_after b role moment c []
   unfolding board_after
   quiet_after rs sl t k e f =
-      let same : b.records ≡ board_changed b now c [] =
-      sym (ap (λ v. cond v (map (touched now) b.records) (cond (changes_flight c) here b.records)) t ∙ ap (λ v. cond v here b.records) k) in
-      (λ i. record { records = (e ∙ same) i; slots = f i }) ∙ either (is_accepted (board_verdict b role c)) (board_changed b now c []) same
+      let same : b.records ≡ board_changed b moment c [] =
+      sym (ap (λ v. cond v (map (touched moment) b.records) (cond (changes_flight c) here b.records)) t ∙ ap (λ v. cond v here b.records) k) in
+      (λ i. record { records = (e ∙ same) i; slots = f i }) ∙ either (is_accepted (board_verdict b role c)) (board_changed b moment c []) same
     where
       here : List Fields
-      here = put b.records (flight_of c) (changed (programs_on b.slots c) (record_on b.records (flight_of c)) now c [])
+      here = put b.records (flight_of c) (changed (programs_on b.slots c) (record_on b.records (flight_of c)) moment c [])
 
       either : (v : Bool) (rs : List Fields) → b.records ≡ rs
           → record { records = rs; slots = cond v (with_slots c b.slots) b.slots } ≡ cond v (record { records = rs; slots = with_slots c b.slots }) b
@@ -153,54 +161,54 @@ same_slots false l = refl
 
 -- ---- each command that changes no record of one flight
 
-module _ (b : Board) (role : Role) (now : ℕ) (log : machine.Told) (outcome : Outcome) (same : log.now ≡ log.before) where
+module _ (b : Board) (role : Role) (moment : ℕ) (from to : OracleView) (outcome : Outcome) (same : Unasked from to) where
   pub comes_tick : (v : Verdict) (rs : List Fields) → v ≡ tick_verdict role → outcome ≡ outcome_with outcomes.Done v
-      → rs ≡ cond (is_accepted (tick_verdict role)) (map (touched now) b.records) b.records → Comes b role now Tick log outcome (board_of rs b.slots)
+      → rs ≡ cond (is_accepted (tick_verdict role)) (map (touched moment) b.records) b.records → Comes b role moment Tick from to outcome (board_of rs b.slots)
   unfolding board_outcome board_verdict board_after
   comes_tick v rs e is after =
-      comes_quiet b role now Tick log outcome (board_of rs b.slots) refl same (is ∙ ap (outcome_with outcomes.Done) e) ((λ i. record { records = after i; slots = b.slots }) ∙ either (is_accepted (tick_verdict role)))
+      comes_quiet b role moment Tick from to outcome (board_of rs b.slots) refl same (is ∙ ap (outcome_with outcomes.Done) e) ((λ i. record { records = after i; slots = b.slots }) ∙ either (is_accepted (tick_verdict role)))
     where
-      either : (t : Bool) → record { records = cond t (map (touched now) b.records) b.records; slots = b.slots } ≡ cond t (record { records = map (touched now) b.records; slots = b.slots }) b
+      either : (t : Bool) → record { records = cond t (map (touched moment) b.records) b.records; slots = b.slots } ≡ cond t (record { records = map (touched moment) b.records; slots = b.slots }) b
       either true = refl
       either false = refl
 
   -- a question leaves the board
-  asked : (c : Command) → is_tick c ≡ false → changes_flight c ≡ false → with_slots c b.slots ≡ b.slots → outcome ≡ board_outcome b role c → Comes b role now c log outcome b
+  asked : (c : Command) → is_tick c ≡ false → changes_flight c ≡ false → with_slots c b.slots ≡ b.slots → outcome ≡ board_outcome b role c → Comes b role moment c from to outcome b
   asked c t k w is =
-      comes_quiet b role now c log outcome b k same is
-      (quiet_after b role now c b.records b.slots t k refl (same_slots (is_accepted (board_verdict b role c)) b.slots ∙ ap (λ l. cond (is_accepted (board_verdict b role c)) l b.slots) (sym w)))
+      comes_quiet b role moment c from to outcome b k same is
+      (quiet_after b role moment c b.records b.slots t k refl (same_slots (is_accepted (board_verdict b role c)) b.slots ∙ ap (λ l. cond (is_accepted (board_verdict b role c)) l b.slots) (sym w)))
 
-  pub comes_show : (f : ℕ) → outcome ≡ outcome_with (outcomes.Shown (record_on b.records f)) (show_verdict (is_there b.records f)) → Comes b role now (Show f) log outcome b
+  pub comes_show : (f : ℕ) → outcome ≡ outcome_with (outcomes.Shown (record_on b.records f)) (show_verdict (is_there b.records f)) → Comes b role moment (Show f) from to outcome b
   unfolding board_outcome board_verdict
   comes_show f is = asked (Show f) refl refl refl is
 
-  pub comes_alerts : outcome ≡ outcomes.Listed (alert_list b.records) → Comes b role now commands.Alerts log outcome b
+  pub comes_alerts : outcome ≡ outcomes.Listed (alert_list b.records) → Comes b role moment commands.Alerts from to outcome b
   unfolding board_outcome board_verdict
   comes_alerts is = asked commands.Alerts refl refl refl is
 
   -- a load or an unload
   pub comes_placed : (c : Command) (v : Verdict) (sl : Loaded) → is_tick c ≡ false → changes_flight c ≡ false → v ≡ board_verdict b role c → outcome ≡ outcome_with outcomes.Done v
-      → outcome_with outcomes.Done v ≡ board_outcome b role c → sl ≡ cond (is_accepted (board_verdict b role c)) (with_slots c b.slots) b.slots → Comes b role now c log outcome (board_of b.records sl)
+      → outcome_with outcomes.Done v ≡ board_outcome b role c → sl ≡ cond (is_accepted (board_verdict b role c)) (with_slots c b.slots) b.slots → Comes b role moment c from to outcome (board_of b.records sl)
   comes_placed c v sl t k e is out after =
-      comes_quiet b role now c log outcome (board_of b.records sl) k same (is ∙ out) (quiet_after b role now c b.records sl t k refl after)
+      comes_quiet b role moment c from to outcome (board_of b.records sl) k same (is ∙ out) (quiet_after b role moment c b.records sl t k refl after)
 
   pub comes_loaded : (l : command_load.Load) (v : Verdict) (sl : Loaded) → v ≡ load_verdict (same_sigs l.program.sigs b.slots.sigs) role → outcome ≡ outcome_with outcomes.Done v
-      → sl ≡ cond (is_accepted (load_verdict (same_sigs l.program.sigs b.slots.sigs) role)) (with_slots (Load l) b.slots) b.slots → Comes b role now (Load l) log outcome (board_of b.records sl)
+      → sl ≡ cond (is_accepted (load_verdict (same_sigs l.program.sigs b.slots.sigs) role)) (with_slots (Load l) b.slots) b.slots → Comes b role moment (Load l) from to outcome (board_of b.records sl)
   unfolding board_outcome board_verdict
   comes_loaded l v sl e is after = comes_placed (Load l) v sl refl refl e is (ap (outcome_with outcomes.Done) e) after
 
   pub comes_unloaded : (u : command_unload.Unload) (v : Verdict) (sl : Loaded) → v ≡ unload_verdict (is_some (program_in b.slots u.milestone u.kind)) role → outcome ≡ outcome_with outcomes.Done v
-      → sl ≡ cond (is_accepted (unload_verdict (is_some (program_in b.slots u.milestone u.kind)) role)) (with_slots (Unload u) b.slots) b.slots → Comes b role now (Unload u) log outcome (board_of b.records sl)
+      → sl ≡ cond (is_accepted (unload_verdict (is_some (program_in b.slots u.milestone u.kind)) role)) (with_slots (Unload u) b.slots) b.slots → Comes b role moment (Unload u) from to outcome (board_of b.records sl)
   unfolding board_outcome board_verdict
   comes_unloaded u v sl e is after = comes_placed (Unload u) v sl refl refl e is (ap (outcome_with outcomes.Done) e) after
 
 -- the same of a board and a command that are equal to these
-pub comes_as : (b other : Board) (role : Role) (now : ℕ) (c same : Command) (log : machine.Told) (outcome : Outcome) (new : Board) → b ≡ other → same ≡ c → Comes b role now c log outcome new → Comes other role now same log outcome new
-comes_as b other role now c same log outcome new e f h = subst (λ x. Comes x role now same log outcome new) e (subst (λ x. Comes b role now x log outcome new) (sym f) h)
+pub comes_as : (b other : Board) (role : Role) (moment : ℕ) (c same : Command) (from to : OracleView) (outcome : Outcome) (new : Board) → b ≡ other → same ≡ c → Comes b role moment c from to outcome new → Comes other role moment same from to outcome new
+comes_as b other role moment c same from to outcome new e f h = subst (λ x. Comes x role moment same from to outcome new) e (subst (λ x. Comes b role moment x from to outcome new) (sym f) h)
 
 -- and of one that stays
-pub comes_left : (b other : Board) (role : Role) (now : ℕ) (c same : Command) (log : machine.Told) (outcome : Outcome) → b ≡ other → same ≡ c → Comes b role now c log outcome b → Comes other role now same log outcome other
-comes_left b other role now c same log outcome e f h = subst (λ x. Comes x role now same log outcome x) e (subst (λ x. Comes b role now x log outcome b) (sym f) h)
+pub comes_left : (b other : Board) (role : Role) (moment : ℕ) (c same : Command) (from to : OracleView) (outcome : Outcome) → b ≡ other → same ≡ c → Comes b role moment c from to outcome b → Comes other role moment same from to outcome other
+comes_left b other role moment c same from to outcome e f h = subst (λ x. Comes x role moment same from to outcome x) e (subst (λ x. Comes b role moment x from to outcome b) (sym f) h)
 
 -- a load that is taken needs memory
 pub loading : (b : Board) (role : Role) (l : command_load.Load) → is_accepted (load_verdict (same_sigs l.program.sigs b.slots.sigs) role) ≡ true
@@ -251,19 +259,19 @@ module _ (bs : List Fields) (l : Loaded) (role : Role) (c : Command) (place flig
       ∙ ap not (flag_absent outside)
 
   -- the record, the verdict on it, and the record of the flight after its programs
-  module _ (r : Fields) (o : Verdict) (t : Bool) (test : t ≡ nat_lt place count) (is : r ≡ record_on bs flight) (e : o ≡ verdict_for t count r true role c) (now : ℕ) (log : machine.Told) (outcome : Outcome) where
+  module _ (r : Fields) (o : Verdict) (t : Bool) (test : t ≡ nat_lt place count) (is : r ≡ record_on bs flight) (e : o ≡ verdict_for t count r true role c) (moment : ℕ) (from to : OracleView) (outcome : Outcome) where
     right : o ≡ board_verdict (board_of bs l) role c
     right = verdict_is r o t test is e
 
-    pub flight_refused : is_accepted o ≡ false → log.now ≡ log.before → outcome ≡ outcome_with outcomes.Done o → Comes (board_of bs l) role now c log outcome (board_of bs l)
-    flight_refused d same out = comes_refused (board_of bs l) role now c log outcome o k right d same out
+    pub flight_refused : is_accepted o ≡ false → Unasked from to → outcome ≡ outcome_with outcomes.Done o → Comes (board_of bs l) role moment c from to outcome (board_of bs l)
+    flight_refused d same out = comes_refused (board_of bs l) role moment c from to outcome o k right d same out
 
-    pub flight_trapped : is_accepted o ≡ true → outcome ≡ outcomes.Refused Trapped → (rs : List Fields) → rs ≡ bs → TrapsIn (programs_on l c) (assigned_to r c) now (bit_of c) log → Comes (board_of bs l) role now c log outcome (board_of rs l)
-    flight_trapped d out rs same h =
-        subst (λ x. Comes (board_of bs l) role now c log outcome (board_of x l)) (sym same) (comes_trapped (board_of bs l) role now c log outcome o r right d (record_is r is) out h)
+    pub flight_unanswered : is_accepted o ≡ true → outcome ≡ outcomes.Refused Unanswered → (rs : List Fields) → rs ≡ bs → AsksIn (programs_on l c) (assigned_to r c) moment (bit_of c) from to → Comes (board_of bs l) role moment c from to outcome (board_of rs l)
+    flight_unanswered d out rs same h =
+        subst (λ x. Comes (board_of bs l) role moment c from to outcome (board_of x l)) (sym same) (comes_unanswered (board_of bs l) role moment c from to outcome o r right d (record_is r is) out h)
 
-    pub flight_changed : is_accepted o ≡ true → outcome ≡ outcomes.Done → (s : Fields) (rs : List Fields) → ChangesTo (programs_on l c) r now c log s → rs ≡ put bs (flight_of c) s → Comes (board_of bs l) role now c log outcome (board_of rs l)
-    flight_changed d out s rs h stored = comes_changed (board_of bs l) role now c log outcome o r s rs k right d (record_is r is) out h stored
+    pub flight_changed : is_accepted o ≡ true → outcome ≡ outcomes.Done → (s : Fields) (rs : List Fields) → ChangesTo (programs_on l c) r moment c from to s → rs ≡ put bs (flight_of c) s → Comes (board_of bs l) role moment c from to outcome (board_of rs l)
+    flight_changed d out s rs h stored = comes_changed (board_of bs l) role moment c from to outcome o r s rs k right d (record_is r is) out h stored
 
     pub flight_created : count ≤ place → is_accepted o ≡ true → board_creates (board_of bs l) role c ≡ true
     flight_created outside d = creating o outside right d

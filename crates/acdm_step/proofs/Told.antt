@@ -3,60 +3,60 @@ use Rattle.std.proofs.Common.{◌≡◌, ℕ, Bool, true, false, cond, List, Res
 use Rattle.std.proofs.lemmas.List.{append_cancel_left}
 use Rattle.acdm_milestones.specs.declared.role.Role.{Role}
 use Rattle.bpf_helpers.specs.Promise.{Promise}
-use Rattle.bpf_machine.specs.Steps as machine
+use Rattle.bpf_helpers.specs.Oracles.{OracleView, Gained}
 use Rattle.acdm_step.specs.declared.command.Command.{Command}
 use Rattle.acdm_step.specs.declared.outcome.Outcome.{Outcome}
 use Rattle.acdm_step.specs.History.{History, Board, IsLegal, replay, after, is_accepted, verdict_of, verdict_in, with_slots}
 use Rattle.acdm_step.specs.Board.{board_verdict, board_changed, board_after}
 use Rattle.acdm_step.specs.Laws.{verdict_in-outcome_of}
-use Rattle.acdm_step.specs.Running.{Gained, Comes, answered, trapped, ComesOf, answered_so, trapped_so}
-use Rattle.acdm_step.proofs.Replay.{verdict-replay, outcome-replay, left-replay, traps-replay, with_slots-sigs, refused-replay, step-replay}
+use Rattle.acdm_step.specs.Running.{Comes, answered, unanswered, ComesOf, answered_so, unanswered_so}
+use Rattle.acdm_step.proofs.Replay.{verdict-replay, outcome-replay, ran-replay, asks-replay, with_slots-sigs, refused-replay, step-replay}
 
-module _ (sigs : List (ℕ × Promise)) (J : History) (role : Role) (now : ℕ) (c : Command) (log : machine.Told) (outcome : Outcome) where
-  told_here : (new : Board) → IsLegal sigs J → Comes (replay sigs J) role now c log outcome new → ComesOf sigs J role now c log outcome
-  told_here new l (answered used gained is left none new_is) =
+module _ (sigs : List (ℕ × Promise)) (J : History) (role : Role) (moment : ℕ) (c : Command) (from to : OracleView) (outcome : Outcome) where
+  told_here : (new : Board) → IsLegal sigs J → Comes (replay sigs J) role moment c from to outcome new → ComesOf sigs J role moment c from to outcome
+  told_here new l (answered used gained counts is ran none new_is) =
       let same : is_accepted (board_verdict (replay sigs J) role c) ≡ is_accepted (verdict_of sigs J role c) = ap is_accepted (verdict-replay sigs J role c l) in
-      answered_so used gained (is ∙ outcome-replay sigs J role c l) (λ d. sym (left-replay sigs J c now used l) ∙ left (same ∙ d)) (λ d. none (same ∙ d))
-  told_here new l (trapped is d h new_is) =
-      trapped_so is (sym (ap is_accepted (verdict-replay sigs J role c l)) ∙ d) (traps-replay sigs J c now log l h)
+      answered_so used gained counts (is ∙ outcome-replay sigs J role c l) (λ d. ran-replay sigs J c moment used l (ran (same ∙ d))) (λ d. none (same ∙ d))
+  told_here new l (unanswered is d h new_is) =
+      unanswered_so is (sym (ap is_accepted (verdict-replay sigs J role c l)) ∙ d) (asks-replay sigs J c moment from to l h)
 
-  pub told_of : (b new : Board) → IsLegal sigs J → b ≡ replay sigs J → Comes b role now c log outcome new → ComesOf sigs J role now c log outcome
-  told_of b new l e h = told_here new l (subst (λ x. Comes x role now c log outcome new) e h)
+  pub told_of : (b new : Board) → IsLegal sigs J → b ≡ replay sigs J → Comes b role moment c from to outcome new → ComesOf sigs J role moment c from to outcome
+  told_of b new l e h = told_here new l (subst (λ x. Comes x role moment c from to outcome new) e h)
 
-  board_here : (new : Board) → IsLegal sigs J → Comes (replay sigs J) role now c log outcome new → (session : ℕ) (answers : List ℕ)
-      → (is_accepted (verdict_in outcome) ≡ true → Gained log answers) → new ≡ replay sigs (after J session role now c (verdict_in outcome) answers)
-  board_here new l (answered used gained is left none new_is) session answers given =
+  board_here : (new : Board) → IsLegal sigs J → Comes (replay sigs J) role moment c from to outcome new → (session : ℕ) (answers : List ℕ)
+      → (is_accepted (verdict_in outcome) ≡ true → Gained from to answers) → new ≡ replay sigs (after J session role moment c (verdict_in outcome) answers)
+  board_here new l (answered used gained counts is ran none new_is) session answers given =
       let verdict : verdict_in outcome ≡ verdict_of sigs J role c = ap verdict_in (is ∙ outcome-replay sigs J role c l) ∙ verdict_in-outcome_of sigs J role c in
       at (is_accepted (verdict_in outcome)) refl verdict
     where
-      at : (t : Bool) → is_accepted (verdict_in outcome) ≡ t → verdict_in outcome ≡ verdict_of sigs J role c → new ≡ replay sigs (after J session role now c (verdict_in outcome) answers)
+      at : (t : Bool) → is_accepted (verdict_in outcome) ≡ t → verdict_in outcome ≡ verdict_of sigs J role c → new ≡ replay sigs (after J session role moment c (verdict_in outcome) answers)
       at true d verdict =
-          let same : used ≡ answers = append_cancel_left log.before used answers (sym gained ∙ given d) in
-          new_is ∙ step-replay sigs J session role now c l used ∙ ap (λ us. replay sigs (after J session role now c (verdict_of sigs J role c) us)) same
-          ∙ ap (λ v. replay sigs (after J session role now c v answers)) (sym verdict)
+          let same : used ≡ answers = append_cancel_left from.log used answers (sym gained ∙ given d) in
+          new_is ∙ step-replay sigs J session role moment c l used ∙ ap (λ us. replay sigs (after J session role moment c (verdict_of sigs J role c) us)) same
+          ∙ ap (λ v. replay sigs (after J session role moment c v answers)) (sym verdict)
       at false d verdict =
-          new_is ∙ step-replay sigs J session role now c l used ∙ refused-replay sigs J session role now c l (verdict_of sigs J role c) used (sym (ap is_accepted verdict) ∙ d)
-          ∙ sym (refused-replay sigs J session role now c l (verdict_in outcome) answers d)
-  board_here new l (trapped is d h new_is) session answers given =
-      new_is ∙ sym (refused-replay sigs J session role now c l (verdict_in outcome) answers (ap (λ o. is_accepted (verdict_in o)) is))
+          new_is ∙ step-replay sigs J session role moment c l used ∙ refused-replay sigs J session role moment c l (verdict_of sigs J role c) used (sym (ap is_accepted verdict) ∙ d)
+          ∙ sym (refused-replay sigs J session role moment c l (verdict_in outcome) answers d)
+  board_here new l (unanswered is d h new_is) session answers given =
+      new_is ∙ sym (refused-replay sigs J session role moment c l (verdict_in outcome) answers (ap (λ o. is_accepted (verdict_in o)) is))
 
-  pub board_told : (b new : Board) → IsLegal sigs J → b ≡ replay sigs J → Comes b role now c log outcome new → (session : ℕ) (answers : List ℕ)
-      → (is_accepted (verdict_in outcome) ≡ true → Gained log answers) → new ≡ replay sigs (after J session role now c (verdict_in outcome) answers)
-  board_told b new l e h = board_here new l (subst (λ x. Comes x role now c log outcome new) e h)
+  pub board_told : (b new : Board) → IsLegal sigs J → b ≡ replay sigs J → Comes b role moment c from to outcome new → (session : ℕ) (answers : List ℕ)
+      → (is_accepted (verdict_in outcome) ≡ true → Gained from to answers) → new ≡ replay sigs (after J session role moment c (verdict_in outcome) answers)
+  board_told b new l e h = board_here new l (subst (λ x. Comes x role moment c from to outcome new) e h)
 
 -- the signatures of the board stay
-after_sigs : (b : Board) (role : Role) (now : ℕ) (c : Command) (answers : List ℕ) → (board_after b role now c answers).slots.sigs ≡ b.slots.sigs
+after_sigs : (b : Board) (role : Role) (moment : ℕ) (c : Command) (answers : List ℕ) → (board_after b role moment c answers).slots.sigs ≡ b.slots.sigs
 unfolding board_after
-after_sigs b role now c answers =
-    elim (is_accepted (board_verdict b role c)) as (λ t. (cond t (record { records = board_changed b now c answers; slots = with_slots c b.slots }) b).slots.sigs ≡ b.slots.sigs) [
+after_sigs b role moment c answers =
+    elim (is_accepted (board_verdict b role c)) as (λ t. (cond t (record { records = board_changed b moment c answers; slots = with_slots c b.slots }) b).slots.sigs ≡ b.slots.sigs) [
       | true ↦ with_slots-sigs c b.slots
       | false ↦ refl
     ]
 
-comes_sigs : (b new : Board) (role : Role) (now : ℕ) (c : Command) (log : machine.Told) (outcome : Outcome) → Comes b role now c log outcome new → new.slots.sigs ≡ b.slots.sigs
-comes_sigs b new role now c log outcome (answered used gained is left none new_is) = ap (λ x. x.slots.sigs) new_is ∙ after_sigs b role now c used
-comes_sigs b new role now c log outcome (trapped is d h new_is) = ap (λ x. x.slots.sigs) new_is
+comes_sigs : (b new : Board) (role : Role) (moment : ℕ) (c : Command) (from to : OracleView) (outcome : Outcome) → Comes b role moment c from to outcome new → new.slots.sigs ≡ b.slots.sigs
+comes_sigs b new role moment c from to outcome (answered used gained counts is ran none new_is) = ap (λ x. x.slots.sigs) new_is ∙ after_sigs b role moment c used
+comes_sigs b new role moment c from to outcome (unanswered is d h new_is) = ap (λ x. x.slots.sigs) new_is
 
-pub same_sigs : {E : Type 0} (r : Result Outcome E) (b new : Board) (role : Role) (now : ℕ) (c : Command) (log : machine.Told) → IfOk r (λ o. Comes b role now c log o new) → OnErr r (new ≡ b) → new.slots.sigs ≡ b.slots.sigs
-same_sigs (Ok o) b new role now c log h k = comes_sigs b new role now c log o h
-same_sigs (Err e) b new role now c log h k = ap (λ x. x.slots.sigs) k
+pub same_sigs : {E : Type 0} (r : Result Outcome E) (b new : Board) (role : Role) (moment : ℕ) (c : Command) (from to : OracleView) → IfOk r (λ o. Comes b role moment c from to o new) → OnErr r (new ≡ b) → new.slots.sigs ≡ b.slots.sigs
+same_sigs (Ok o) b new role moment c from to h k = comes_sigs b new role moment c from to o h
+same_sigs (Err e) b new role moment c from to h k = ap (λ x. x.slots.sigs) k

@@ -1,5 +1,5 @@
 -- One step on the records themselves, in order of creation, and on the slots.
-use Rattle.std.specs.Prelude.{ℕ, Bool, true, not, ◌&&◌, map, ◌==◌, nat_lt, if◌then◌else◌, List, [], ◌∷◌, ◌++◌, length, slice_index_or, slice_set, Option, is_some}
+use Rattle.std.specs.Prelude.{ℕ, Bool, true, not, ◌&&◌, map, ◌==◌, nat_lt, if◌then◌else◌, List, [], ◌∷◌, ◌++◌, length, slice_index_or, slice_set, is_some}
 use Rattle.std.specs.List.{position_or_len}
 use Rattle.acdm_record.specs.declared.field.Field.TheVariants.{Flight, Alerts}
 use Rattle.acdm_record.specs.Fields.{Fields, number_of, set_number, new_record}
@@ -17,8 +17,8 @@ use Rattle.acdm_step.specs.declared.command.Command.TheVariants as commands
 use Rattle.acdm_step.specs.declared.entry.Verdict.{Verdict}
 use Rattle.acdm_step.specs.declared.outcome.Outcome.{Outcome}
 use Rattle.acdm_step.specs.declared.outcome.Outcome.TheVariants as outcomes
-use Rattle.acdm_step.specs.Programs.{Programs, no_programs, said, said_with, with_said}
-use Rattle.acdm_step.specs.History.{Board, assigned_by, bit_of, flight_of, is_tick, is_load, changes_flight, is_accepted, verdict_for, alert_list, outcome_with, with_slots, left_after}
+use Rattle.acdm_step.specs.Programs.{Programs, no_programs, said, with_said}
+use Rattle.acdm_step.specs.History.{Board, assigned_by, bit_of, flight_of, is_tick, is_load, changes_flight, is_accepted, verdict_for, alert_list, outcome_with, with_slots}
 
 -- records and slots together
 abbrev pub board_of : List Fields → Loaded → Board
@@ -26,7 +26,7 @@ board_of records slots = record { records = records; slots = slots }
 
 -- a record with its alerts anew
 abbrev pub touched : ℕ → Fields → Fields
-touched now r = set_number r Alerts (alert_word r now)
+touched moment r = set_number r Alerts (alert_word r moment)
 
 -- a record with what a command of its flight assigns
 abbrev pub assigned_to : Fields → Command → Fields
@@ -34,7 +34,7 @@ assigned_to r c = marked (with_all r (assigned_by c)) (bit_of c)
 
 -- the record of a flight after an accepted command of it, with what these programs say with these answers
 abbrev pub changed : Programs → Fields → ℕ → Command → List ℕ → Fields
-changed ps r now c answers = touched now (with_said (said ps (assigned_to r c) now (bit_of c) answers) (assigned_to r c))
+changed ps r moment c answers = touched moment (with_said (said ps (assigned_to r c) moment (bit_of c) answers) (assigned_to r c))
 
 -- the place of a flight's record, or how many there are
 abbrev pub has_number : ℕ → Fields → Bool
@@ -84,15 +84,11 @@ board_answer b _ = outcomes.Done
 unfoldable pub board_outcome : Board → Role → Command → Outcome
 board_outcome b role c = outcome_with (board_answer b c) (board_verdict b role c)
 
--- the answers that are left of those that an accepted command was given, once its programs have ended
-abbrev pub left_on : Board → Command → ℕ → List ℕ → Option (List ℕ)
-left_on b c now answers = left_after (said_with (programs_on b.slots c) (assigned_to (record_on b.records (flight_of c)) c) now (bit_of c) answers)
-
 -- the records after an accepted command
 abbrev pub board_changed : Board → ℕ → Command → List ℕ → List Fields
-board_changed b now c answers =
-    if is_tick c then map (touched now) b.records
-    else (if changes_flight c then put b.records (flight_of c) (changed (programs_on b.slots c) (record_on b.records (flight_of c)) now c answers) else b.records)
+board_changed b moment c answers =
+    if is_tick c then map (touched moment) b.records
+    else (if changes_flight c then put b.records (flight_of c) (changed (programs_on b.slots c) (record_on b.records (flight_of c)) moment c answers) else b.records)
 
 unfoldable pub board_after : Board → Role → ℕ → Command → List ℕ → Board
-board_after b role now c answers = if is_accepted (board_verdict b role c) then record { records = board_changed b now c answers; slots = with_slots c b.slots } else b
+board_after b role moment c answers = if is_accepted (board_verdict b role c) then record { records = board_changed b moment c answers; slots = with_slots c b.slots } else b

@@ -1,6 +1,6 @@
 -- What the board is after a history of entries (this project's profile). A history is the list of its entries,
 -- the newest first. Each question is asked of the whole history.
-use Rattle.std.specs.Prelude.{ℕ, ◌^◌, ◌≡◌, ◌+◌, ◌⊎◌, Bool, true, false, ◌&&◌, ◌||◌, ◌==◌, not, nat_lt, if◌then◌else◌, List, [], ◌∷◌, ◌++◌, map, length, bit_or, Option, Some, None, is_some, option_map, Result, Ok, Err}
+use Rattle.std.specs.Prelude.{ℕ, ◌^◌, ◌≡◌, ◌+◌, ◌≤◌, ◌<◌, Bool, true, false, ◌&&◌, ◌||◌, ◌==◌, not, nat_lt, if◌then◌else◌, List, [], ◌∷◌, ◌++◌, map, length, bit_or, Option, Some, None, is_some, option_map, Result, Ok, Err}
 use Rattle.std.specs.List.{list_any, flat_map}
 use Rattle.acdm_record.specs.declared.field.Field.{Field}
 use Rattle.acdm_record.specs.declared.field.Field.TheVariants.{Flight, Reached, Alerts, Mttt, Exot, Stand, Layout, Exit, Sobt, Tobt}
@@ -13,7 +13,7 @@ use Rattle.acdm_milestones.specs.declared.role.Role.{Role}
 use Rattle.acdm_milestones.specs.declared.role.Action.TheVariants as actions
 use Rattle.acdm_milestones.specs.declared.milestone.Milestone.{Milestone}
 use Rattle.acdm_milestones.specs.declared.refusal.Refusal.{Refusal}
-use Rattle.acdm_milestones.specs.declared.refusal.Refusal.TheVariants.{UnknownFlight, NotOwner, AlreadyPlanned, FullBoard, EmptySlot, OtherSignatures, Trapped}
+use Rattle.acdm_milestones.specs.declared.refusal.Refusal.TheVariants.{UnknownFlight, NotOwner, AlreadyPlanned, FullBoard, EmptySlot, OtherSignatures}
 use Rattle.acdm_alerts.specs.Conditions.{conditions}
 use Rattle.acdm_alerts.specs.Decided.{decided_word}
 use Rattle.acdm_milestones.specs.Tables.{number, owns, times_of, has_reached, admission}
@@ -117,7 +117,7 @@ slot_change m k _ = None
 
 abbrev pub changed_or : Option (Option Verified) → Option Verified → Option Verified
 changed_or None before = before
-changed_or (Some now) before = now
+changed_or (Some after) before = after
 
 -- the program in a slot: that of the last accepted load or unload of the slot, or none
 abbrev pub program_in : History → Milestone → Kind → Option Verified
@@ -128,9 +128,6 @@ program_in (e ∷ J) m k = if is_accepted e.verdict then changed_or (slot_change
 abbrev pub programs_of : History → Command → Programs
 programs_of J (Report r) = record { tobt = program_in J r.milestone kinds.Tobt; alert = program_in J r.milestone kinds.Alert }
 programs_of J _ = no_programs
-
-abbrev pub has_program : Programs → Bool
-has_program ps = is_some ps.tobt || is_some ps.alert
 
 -- how many answers they use at most: the instructions of both
 abbrev pub size_of : Option Verified → ℕ
@@ -187,7 +184,7 @@ record_with f assigned reached alerts = fields_of (number_with f assigned reache
 -- its alerts: what programs decided, and the conditions at the moment of its last touch
 abbrev pub computed_at : ℕ → List Assignment → ℕ → Option ℕ → ℕ
 computed_at f assigned reached None = 0
-computed_at f assigned reached (Some now) = conditions (record_with f assigned reached 0) now
+computed_at f assigned reached (Some moment) = conditions (record_with f assigned reached 0) moment
 
 abbrev pub alerts_from : ℕ → Told → ℕ
 alerts_from f t = decided_word t.rejected t.locals + computed_at f t.assigned t.reached t.touch
@@ -228,17 +225,17 @@ number_or (Some n) before = n
 
 -- what an accepted command of the flight adds at its moment, with what programs said
 abbrev pub with_command : Command → ℕ → Said → Told → Told
-with_command c now s t = record {
+with_command c moment s t = record {
   assigned = with_tobt s.tobt (onto (assigned_by c) t.assigned);
   reached = with_ninth s.tobt (bit_or t.reached (2 ^ bit_of c));
-  touch = Some now;
+  touch = Some moment;
   rejected = rejects s.tobt t.rejected;
   locals = number_or s.locals t.locals;
 }
 
 -- a tick touches a flight that was touched before, by its creation
 abbrev pub with_tick : ℕ → Told → Told
-with_tick now t = record t { touch = option_map (λ m. now) t.touch }
+with_tick moment t = record t { touch = option_map (λ m. moment) t.touch }
 
 -- what one entry adds, with the programs that stood when it came; a refused entry, or one of another flight, adds nothing
 abbrev pub tell : Programs → Entry → ℕ → Told → Told
@@ -333,8 +330,7 @@ verdict_for there count r ready role Tick = tick_verdict role
 verdict_for there count r ready role (Show f) = show_verdict there
 verdict_for there count r ready role commands.Alerts = Accepted
 
--- the verdict on a command after a history, on a board with these signatures; a report whose programs trap is refused beside
--- that (`IsTrapped`)
+-- the verdict on a command after a history, on a board with these signatures
 abbrev pub verdict_of : List (ℕ × Promise) → History → Role → Command → Verdict
 verdict_of sigs J role c = verdict_for (exists J (flight_of c)) (length (flights J)) (record_of J (flight_of c)) (is_ready sigs J c) role c
 
@@ -366,6 +362,11 @@ abbrev pub verdict_in : Outcome → Verdict
 verdict_in (outcomes.Refused x) = Refused x
 verdict_in _ = Accepted
 
+-- whether it is a list of flights
+abbrev pub is_list : Outcome → Bool
+is_list (outcomes.Listed flights) = true
+is_list _ = false
+
 -- ---- histories that the platform may have
 
 -- a program that is loaded was checked against the signatures of the board, and is accepted under them
@@ -378,26 +379,26 @@ abbrev pub left_after : Option (Said × List ℕ) → Option (List ℕ)
 left_after s = option_map (λ x. x.1) s
 
 abbrev pub left_by : History → Command → ℕ → List ℕ → Option (List ℕ)
-left_by J c now answers = left_after (said_with (programs_of J c) (reported (flight_of c) c (told J (flight_of c))) now (bit_of c) answers)
+left_by J c moment answers = left_after (said_with (programs_of J c) (reported (flight_of c) c (told J (flight_of c))) moment (bit_of c) answers)
 
 -- the verdict is that of the tests, and the answers are those that the programs of an accepted command use
-pub record IsAnswered (sigs : List (ℕ × Promise)) (J : History) (role : Role) (now : ℕ) (c : Command) (verdict : Verdict) (answers : List ℕ) : Type 0 where
+pub record IsAnswered (sigs : List (ℕ × Promise)) (J : History) (role : Role) (moment : ℕ) (c : Command) (verdict : Verdict) (answers : List ℕ) : Type 0 where
   pub verdict_is : verdict ≡ verdict_of sigs J role c
-  pub used : is_accepted verdict ≡ true → left_by J c now answers ≡ Some []
+  pub used : is_accepted verdict ≡ true → left_by J c moment answers ≡ Some []
   pub unused : is_accepted verdict ≡ false → answers ≡ []
 
--- a report that the tests accept is refused where one of its programs trapped
-pub record IsTrapped (sigs : List (ℕ × Promise)) (J : History) (role : Role) (c : Command) (verdict : Verdict) (answers : List ℕ) : Type 0 where
-  pub verdict_is : verdict ≡ Refused Trapped
-  pub accepted : is_accepted (verdict_of sigs J role c) ≡ true
-  pub runs : has_program (programs_of J c) ≡ true
-  pub unused : answers ≡ []
+-- the ranges of what an entry says beside its command: sessions from 1 to 64, moments from 1, in minutes since 1970-01-01T00:00Z
+pub record IsInRange (session minute : ℕ) : Type 0 where
+  pub session_given : 1 ≤ session
+  pub few_sessions : session ≤ 64
+  pub minute_given : 1 ≤ minute
+  pub few_minutes : minute < 2 ^ 32
 
 abbrev pub IsLegal : List (ℕ × Promise) → History → Type 0
 IsLegal sigs [] = Unit {0}
 IsLegal sigs (e ∷ J) =
-    IsLegal sigs J × (e.number ≡ length J) × IsChecked sigs e.command
-    × (IsAnswered sigs J e.role e.moment e.command e.verdict e.answers ⊎ IsTrapped sigs J e.role e.command e.verdict e.answers)
+    IsLegal sigs J × (e.number ≡ length J) × IsInRange e.session e.moment × IsChecked sigs e.command
+    × IsAnswered sigs J e.role e.moment e.command e.verdict e.answers
 
 -- the board after a history: the records in order of creation, and the programs in the slots
 pub record Board : Type 0 where

@@ -25,12 +25,12 @@ pub data Suggestion : Type 0 where
 
 -- a time from now to 1440 minutes later, for a flight whose start-up is not approved
 abbrev pub is_usable : Fields → ℕ → ℕ → Bool
-is_usable r now time = nat_le now time && (nat_le time (now + 1440) && (nat_lt time (2 ^ 32) && not (is_set r Asat)))
+is_usable r moment time = nat_le moment time && (nat_le time (moment + 1440) && (nat_lt time (2 ^ 32) && not (is_set r Asat)))
 
 -- what r0 of a TOBT program means, where there is one; 0 suggests nothing
 abbrev pub suggestion : Fields → ℕ → Option ℕ → Suggestion
-suggestion r now None = Nothing
-suggestion r now (Some r0) = if r0 == 0 then Nothing else (if is_usable r now r0 then Usable r0 else Unusable)
+suggestion r moment None = Nothing
+suggestion r moment (Some r0) = if r0 == 0 then Nothing else (if is_usable r moment r0 then Usable r0 else Unusable)
 
 -- a record with CDM14 set or clear
 abbrev pub rejecting : Bool → Fields → Fields
@@ -64,25 +64,25 @@ nothing_said = record { tobt = Nothing; locals = None }
 -- r0 of the program, if there is one, on a record with the first of these answers, and the answers that are left; None where
 -- it comes to no end with them
 abbrev pub r0_of : Option Verified → Fields → ℕ → ℕ → List ℕ → Option (Option ℕ × List ℕ)
-r0_of None r now m answers = Some (None, answers)
-r0_of (Some p) r now m answers = option_map (λ e. (Some e.0, e.1)) (result_of p.ops p.sigs (bytes_of r) now m answers)
+r0_of None r moment m answers = Some (None, answers)
+r0_of (Some p) r moment m answers = option_map (λ e. (Some e.0, e.1)) (result_of p.ops p.sigs (bytes_of r) moment m answers)
 
 -- the alert program comes after what the TOBT program said, with the answers that this one left
 abbrev pub said_then : Programs → Fields → ℕ → ℕ → Option ℕ × List ℕ → Option (Said × List ℕ)
-said_then ps r now m first =
-    option_map (λ second. (record { tobt = suggestion r now first.0; locals = local_alerts second.0 }, second.1))
-    (r0_of ps.alert (with_suggestion (suggestion r now first.0) r) now m first.1)
+said_then ps r moment m first =
+    option_map (λ second. (record { tobt = suggestion r moment first.0; locals = local_alerts second.0 }, second.1))
+    (r0_of ps.alert (with_suggestion (suggestion r moment first.0) r) moment m first.1)
 
 -- what both say on a record, and the answers that are left
 abbrev pub said_with : Programs → Fields → ℕ → ℕ → List ℕ → Option (Said × List ℕ)
-said_with ps r now m answers = option_and_then (said_then ps r now m) (r0_of ps.tobt r now m answers)
+said_with ps r moment m answers = option_and_then (said_then ps r moment m) (r0_of ps.tobt r moment m answers)
 
 abbrev pub what_is_said : Option (Said × List ℕ) → Said
 what_is_said None = nothing_said
 what_is_said (Some s) = s.0
 
 abbrev pub said : Programs → Fields → ℕ → ℕ → List ℕ → Said
-said ps r now m answers = what_is_said (said_with ps r now m answers)
+said ps r moment m answers = what_is_said (said_with ps r moment m answers)
 
 -- a record with what was said
 abbrev pub with_said : Said → Fields → Fields

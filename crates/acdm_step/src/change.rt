@@ -2,10 +2,10 @@
 ghost use Rattle.std.specs.Prelude.{◌≡◌, ◌+◌, ◌<◌, ◌^◌, true, IsTrue, OnOk, OnErr};
 ghost use Rattle.acdm_record.specs.Assign.{with_all};
 ghost use Rattle.acdm_milestones.specs.Tables.{number};
-ghost use Rattle.bpf_machine.specs.Steps.{Told};
+ghost use Rattle.bpf_helpers.specs.Oracles.{MayBeAsked, SameRule};
 ghost use Rattle.acdm_step.specs.History.{schedule_verdict, report_verdict, tick_verdict, verdict_for, flight_of, bit_of, changes_flight, planned};
 ghost use Rattle.acdm_step.specs.Board.{assigned_to, programs_on, touched};
-ghost use Rattle.acdm_step.specs.Running.{ChangesTo, TrapsIn};
+ghost use Rattle.acdm_step.specs.Running.{ChangesTo, AsksIn};
 
 use crate::command::{Command, Plan, Report, Schedule};
 use crate::entry::Verdict;
@@ -17,16 +17,16 @@ use acdm_milestones::{
 use acdm_record::{Field, Record, TextField};
 use acdm_slots::Slots;
 use bpf_helpers::Oracle;
-use bpf_machine::Trap;
+use bpf_machine::BadAnswer;
 
 /// How many flights a board has at most.
 pub const MOST_FLIGHTS: usize = 4096;
 
 /// Computes the alerts of a record anew.
-pub(crate) fn touch(record: &mut Record, now: u32)
-    ensures { record.new ≡ touched now record.old }
+pub(crate) fn touch(record: &mut Record, moment: u32)
+    ensures { record.new ≡ touched moment record.old }
 {
-    builtin(record, now).store(record);
+    builtin(record, moment).store(record);
 }
 
 fn set_scheduled(record: &mut Record, schedule: &Schedule)
@@ -73,44 +73,40 @@ fn set_reported(record: &mut Record, report: &Report)
 fn change_reported<O: Oracle>(
     record: &mut Record,
     slots: &Slots,
-    now: u32,
+    moment: u32,
     report: &Report,
     oracle: &mut O,
-) -> Result<(), Trap>
-    requires sigs { O.sigs oracle.old ≡ slots.now.sigs }
-    requires counts { O.refusals oracle.old + 1 < 2 ^ 64 }
-    ensures changed { let log : Told = record { declines = O.declines oracle.old; before = O.log oracle.old; now = O.log oracle.new } in
-        OnOk result (ChangesTo (programs_on slots.now (Command.Report report.now)) record.old now (Command.Report report.now) log record.new) }
-    ensures trapped { let log : Told = record { declines = O.declines oracle.old; before = O.log oracle.old; now = O.log oracle.new } in
-        OnErr result (TrapsIn (programs_on slots.now (Command.Report report.now)) (assigned_to record.old (Command.Report report.now)) now (number report.now.milestone) log) }
+) -> Result<(), BadAnswer>
+    requires oracle { MayBeAsked slots.now.sigs (O.view oracle.old) }
+    ensures changed { OnOk result (ChangesTo (programs_on slots.now (Command.Report report.now)) record.old moment (Command.Report report.now) (O.view oracle.old) (O.view oracle.new) record.new) }
+    ensures unanswered { OnErr result (AsksIn (programs_on slots.now (Command.Report report.now)) (assigned_to record.old (Command.Report report.now)) moment (number report.now.milestone) (O.view oracle.old) (O.view oracle.new)) }
+    ensures same_rule { SameRule (O.view oracle.old) (O.view oracle.new) }
 {
     set_reported(record, report);
-    run_programs(slots, report.milestone, record, now, oracle)?;
-    touch(record, now);
+    run_programs(slots, report.milestone, record, moment, oracle)?;
+    touch(record, moment);
     Ok(())
 }
 
-/// What an accepted command does to the record of its flight, at a moment. Where a program of it traps the record is of no use.
+/// What an accepted command does to the record of its flight, at a moment. Where a program of it is left without an answer the record is of no use.
 pub(crate) fn change<O: Oracle>(
     record: &mut Record,
     slots: &Slots,
-    now: u32,
+    moment: u32,
     command: &Command,
     oracle: &mut O,
-) -> Result<(), Trap>
+) -> Result<(), BadAnswer>
     requires changes { IsTrue (changes_flight command.now) }
-    requires sigs { O.sigs oracle.old ≡ slots.now.sigs }
-    requires counts { O.refusals oracle.old + 1 < 2 ^ 64 }
-    ensures changed { let log : Told = record { declines = O.declines oracle.old; before = O.log oracle.old; now = O.log oracle.new } in
-        OnOk result (ChangesTo (programs_on slots.now command.now) record.old now command.now log record.new) }
-    ensures trapped { let log : Told = record { declines = O.declines oracle.old; before = O.log oracle.old; now = O.log oracle.new } in
-        OnErr result (TrapsIn (programs_on slots.now command.now) (assigned_to record.old command.now) now (bit_of command.now) log) }
+    requires oracle { MayBeAsked slots.now.sigs (O.view oracle.old) }
+    ensures changed { OnOk result (ChangesTo (programs_on slots.now command.now) record.old moment command.now (O.view oracle.old) (O.view oracle.new) record.new) }
+    ensures unanswered { OnErr result (AsksIn (programs_on slots.now command.now) (assigned_to record.old command.now) moment (bit_of command.now) (O.view oracle.old) (O.view oracle.new)) }
+    ensures same_rule { SameRule (O.view oracle.old) (O.view oracle.new) }
 {
     match command {
-        Command::Report(report) => change_reported(record, slots, now, report, oracle),
+        Command::Report(report) => change_reported(record, slots, moment, report, oracle),
         Command::Schedule(schedule) => {
             set_scheduled(record, schedule);
-            touch(record, now);
+            touch(record, moment);
             Ok(())
         }
         _ => unreachable!(),

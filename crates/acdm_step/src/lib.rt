@@ -4,6 +4,7 @@
 mod change;
 mod command;
 mod entry;
+pub mod law;
 mod outcome;
 mod programs;
 mod state;

@@ -1,6 +1,6 @@
 //! What comes of a command.
-ghost use Rattle.std.specs.Prelude.{◌≡◌, ◌++◌, IfOk};
-ghost use Rattle.acdm_step.specs.History.{verdict_in, outcome_with, alert_list};
+ghost use Rattle.std.specs.Prelude.{◌≡◌, ◌++◌, IfOk, IsTrue, OnErr};
+ghost use Rattle.acdm_step.specs.History.{verdict_in, outcome_with, alert_list, is_list};
 
 use crate::entry::Verdict;
 use acdm_alerts::AlertSet;
@@ -93,7 +93,8 @@ impl Outcome {
 
     /// An outcome that equals this one. `Err` only where memory was refused, which a list of alerts needs.
     pub fn copy(&self) -> Result<Outcome, AllocError>
-        ensures { IfOk result (λ outcome. outcome ≡ self.now) }
+        ensures copied { IfOk result (λ outcome. outcome ≡ self.now) }
+        ensures memory { OnErr result (IsTrue (is_list self.now)) }
     {
         match self {
             Outcome::Done => Ok(Outcome::Done),

@@ -2,11 +2,11 @@
 ghost use Rattle.std.specs.Prelude.{◌≡◌, ◌+◌, ◌<◌, ◌≤◌, ◌^◌, length, OnOk, OnErr, IfOk, if◌then◌else◌, option_map};
 ghost use Rattle.acdm_milestones.specs.Tables.{number};
 ghost use Rattle.acdm_slots.specs.Loaded.{program_in};
-ghost use Rattle.bpf_machine.specs.Steps.{Told};
+ghost use Rattle.bpf_helpers.specs.Oracles.{MayBeAsked, SameRule};
 ghost use Rattle.acdm_step.specs.Programs.{Programs, is_usable as may_be_set, rejecting, suggestion, with_suggestion, local_alerts, with_local_alerts};
 ghost use Rattle.bpf_regstate.specs.States.{instruction_count};
 ghost use Rattle.acdm_step.specs.History.{size_of};
-ghost use Rattle.acdm_step.specs.Running.{EndsAt, TrapsAt, EndsIn, TrapsIn};
+ghost use Rattle.acdm_step.specs.Running.{EndsAt, AsksAt, EndsIn, AsksIn};
 
 use acdm_alerts::AlertSet;
 use acdm_milestones::{Milestone, mark_reached};
@@ -14,7 +14,7 @@ use acdm_record::{Field, Record};
 use acdm_slots::{Kind, Slots};
 use bpf_decode::Op;
 use bpf_helpers::Oracle;
-use bpf_machine::{Trap, run_tested};
+use bpf_machine::{BadAnswer, run};
 
 /// The bit of milestone 9 in the reached word.
 const TOBT_UPDATE: u32 = 9;
@@ -28,30 +28,19 @@ fn run_slot<O: Oracle>(
     milestone: Milestone,
     kind: Kind,
     record: &Record,
-    now: u32,
+    moment: u32,
     oracle: &mut O,
-) -> Result<Option<u64>, Trap>
-    requires sigs { O.sigs oracle.old ≡ slots.now.sigs }
-    requires counts { O.refusals oracle.old + 1 < 2 ^ 64 }
-    ensures ended { let log : Told = record { declines = O.declines oracle.old; before = O.log oracle.old; now = O.log oracle.new } in
-        IfOk result (EndsAt (program_in slots.now milestone kind) record.now now (number milestone) log) }
-    ensures trapped { let log : Told = record { declines = O.declines oracle.old; before = O.log oracle.old; now = O.log oracle.new } in
-        OnErr result (TrapsAt (program_in slots.now milestone kind) record.now now (number milestone) log) }
-    ensures counted { OnOk result (O.refusals oracle.new ≡ O.refusals oracle.old) }
-    ensures same_sigs { O.sigs oracle.new ≡ O.sigs oracle.old }
-    ensures same_rule { O.declines oracle.new ≡ O.declines oracle.old }
+) -> Result<Option<u64>, BadAnswer>
+    requires oracle { MayBeAsked slots.now.sigs (O.view oracle.old) }
+    ensures ended { IfOk result (EndsAt (program_in slots.now milestone kind) record.now moment (number milestone) (O.view oracle.old) (O.view oracle.new)) }
+    ensures unanswered { OnErr result (AsksAt (program_in slots.now milestone kind) record.now moment (number milestone) (O.view oracle.old) (O.view oracle.new)) }
+    ensures counted { OnOk result ((O.view oracle.new).refusals ≡ (O.view oracle.old).refusals) }
+    ensures same_rule { SameRule (O.view oracle.old) (O.view oracle.new) }
 {
     let Some(checked) = slots.get(milestone, kind) else {
         return Ok(None);
     };
-    let ended = run_tested(
-        checked.program(),
-        checked.sigs(),
-        record.bytes(),
-        now,
-        milestone,
-        oracle,
-    )?;
+    let ended = run(checked, record.bytes(), moment, milestone, oracle)?;
     Ok(Some(ended.r0))
 }
 
@@ -63,10 +52,10 @@ fn set_rejected(record: &mut Record, rejected: bool)
 }
 
 // Whether a time is a TOBT that a program may set.
-fn is_usable(record: &Record, now: u32, time: u64) -> bool
-    ensures { result ≡ may_be_set record.now now time }
+fn is_usable(record: &Record, moment: u32, time: u64) -> bool
+    ensures { result ≡ may_be_set record.now moment time }
 {
-    let moment = u64::from(now);
+    let moment = u64::from(moment);
     moment <= time
         && time <= moment + FARTHEST
         && time <= u64::from(u32::MAX)
@@ -74,8 +63,8 @@ fn is_usable(record: &Record, now: u32, time: u64) -> bool
 }
 
 // Does to a record what r0 of its TOBT program means.
-fn suggest(record: &mut Record, now: u32, r0: Option<u64>)
-    ensures { record.new ≡ with_suggestion (suggestion record.old now r0) record.old }
+fn suggest(record: &mut Record, moment: u32, r0: Option<u64>)
+    ensures { record.new ≡ with_suggestion (suggestion record.old moment r0) record.old }
 {
     let Some(time) = r0 else {
         return;
@@ -83,7 +72,7 @@ fn suggest(record: &mut Record, now: u32, r0: Option<u64>)
     if time == 0 {
         return;
     }
-    if !is_usable(record, now, time) {
+    if !is_usable(record, moment, time) {
         set_rejected(record, true);
         return;
     }
@@ -105,28 +94,24 @@ fn decide_locals(record: &mut Record, r0: Option<u64>)
 }
 
 /// Runs the two programs of a reported milestone on the record of its flight: the TOBT program, and the alert program on what
-/// came of it. Where one of them traps the record is of no use.
+/// came of it. Where one of them is left without an answer the record is of no use.
 pub(crate) fn run_programs<O: Oracle>(
     slots: &Slots,
     milestone: Milestone,
     record: &mut Record,
-    now: u32,
+    moment: u32,
     oracle: &mut O,
-) -> Result<(), Trap>
-    requires sigs { O.sigs oracle.old ≡ slots.now.sigs }
-    requires counts { O.refusals oracle.old + 1 < 2 ^ 64 }
-    ensures ended { let log : Told = record { declines = O.declines oracle.old; before = O.log oracle.old; now = O.log oracle.new } in
-        OnOk result (EndsIn (record { tobt = program_in slots.now milestone Kind.Tobt; alert = program_in slots.now milestone Kind.Alert })
-        record.old now (number milestone) log record.new) }
-    ensures trapped { let log : Told = record { declines = O.declines oracle.old; before = O.log oracle.old; now = O.log oracle.new } in
-        OnErr result (TrapsIn (record { tobt = program_in slots.now milestone Kind.Tobt; alert = program_in slots.now milestone Kind.Alert })
-        record.old now (number milestone) log) }
-    ensures same_sigs { O.sigs oracle.new ≡ O.sigs oracle.old }
-    ensures same_rule { O.declines oracle.new ≡ O.declines oracle.old }
+) -> Result<(), BadAnswer>
+    requires oracle { MayBeAsked slots.now.sigs (O.view oracle.old) }
+    ensures ended { OnOk result (EndsIn (record { tobt = program_in slots.now milestone Kind.Tobt; alert = program_in slots.now milestone Kind.Alert })
+        record.old moment (number milestone) (O.view oracle.old) (O.view oracle.new) record.new) }
+    ensures unanswered { OnErr result (AsksIn (record { tobt = program_in slots.now milestone Kind.Tobt; alert = program_in slots.now milestone Kind.Alert })
+        record.old moment (number milestone) (O.view oracle.old) (O.view oracle.new)) }
+    ensures same_rule { SameRule (O.view oracle.old) (O.view oracle.new) }
 {
-    let tobt = run_slot(slots, milestone, Kind::Tobt, record, now, oracle)?;
-    suggest(record, now, tobt);
-    let locals = run_slot(slots, milestone, Kind::Alert, record, now, oracle)?;
+    let tobt = run_slot(slots, milestone, Kind::Tobt, record, moment, oracle)?;
+    suggest(record, moment, tobt);
+    let locals = run_slot(slots, milestone, Kind::Alert, record, moment, oracle)?;
     decide_locals(record, locals);
     Ok(())
 }

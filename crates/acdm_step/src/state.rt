@@ -4,7 +4,7 @@ ghost use Rattle.std.specs.Option.{option_copied};
 ghost use Rattle.acdm_milestones.specs.Tables.{has_reached};
 ghost use Rattle.bpf_helpers.specs.Promise.{Promise};
 ghost use Rattle.bpf_helpers.specs.Same.{same_sigs};
-ghost use Rattle.bpf_machine.specs.Steps.{Told};
+ghost use Rattle.bpf_helpers.specs.Oracles.{Gained, MayBeAsked, SameRule, Unasked};
 ghost use Rattle.acdm_slots.specs.Loaded.{program_in};
 ghost use Rattle.acdm_step.specs.History.{History, IsLegal, replay, after, outcome_with, verdict_in, needs_memory, exists, record_of as record_in, has_come_to, is_accepted, changes_flight, load_verdict, unload_verdict, tick_verdict, show_verdict, is_alerts, with_slots, room_of, size_of};
 ghost use Rattle.acdm_step.specs.Board.{board_of, touched, place_of, is_there, record_on, board_creates, board_loads};
@@ -35,24 +35,24 @@ fn place_in(records: &[Record], flight: u64) -> usize
 }
 
 // Touches each record.
-fn touch_all(records: &mut [Record], now: u32)
-    ensures { records.new ≡ map (touched now) records.old }
+fn touch_all(records: &mut [Record], moment: u32)
+    ensures { records.new ≡ map (touched moment) records.old }
 {
     for record in records.iter_mut() {
-        touch(record, now);
+        touch(record, moment);
     }
 }
 
 // A tick on the records.
-fn tick(records: &mut [Record], role: Role, now: u32) -> Verdict
+fn tick(records: &mut [Record], role: Role, moment: u32) -> Verdict
     ensures verdict { result ≡ tick_verdict role }
-    ensures records { records.new ≡ (if is_accepted (tick_verdict role) then map (touched now) records.old else records.old) }
+    ensures records { records.new ≡ (if is_accepted (tick_verdict role) then map (touched moment) records.old else records.old) }
 {
     let result = verdict_on_tick(role);
     if !result.is_accepted() {
         return result;
     }
-    touch_all(records, now);
+    touch_all(records, moment);
     result
 }
 
@@ -75,15 +75,15 @@ fn step_flight<O: Oracle>(
     slots: &Slots,
     oracle: &mut O,
     role: Role,
-    now: u32,
+    moment: u32,
     command: &Command,
 ) -> Result<Outcome, AllocError>
     requires changes { IsTrue (changes_flight command.now) }
-    requires sigs { O.sigs oracle.old ≡ slots.now.sigs }
-    requires counts { O.refusals oracle.old + 1 < 2 ^ 64 }
-    ensures comes { let log : Told = record { declines = O.declines oracle.old; before = O.log oracle.old; now = O.log oracle.new } in
-        IfOk result (λ outcome. Comes (board_of records.old.items slots.now) role now command.now log outcome (board_of records.new.items slots.now)) }
+    requires oracle { MayBeAsked slots.now.sigs (O.view oracle.old) }
+    ensures comes { IfOk result (λ outcome. Comes (board_of records.old.items slots.now) role moment command.now (O.view oracle.old) (O.view oracle.new) outcome (board_of records.new.items slots.now)) }
     ensures err { OnErr result (records.new.items ≡ records.old.items) }
+    ensures unasked { OnErr result (Unasked (O.view oracle.old) (O.view oracle.new)) }
+    ensures same_rule { SameRule (O.view oracle.old) (O.view oracle.new) }
     ensures creating { OnErr result (IsTrue (board_creates (board_of records.old.items slots.now) role command.now)) }
 {
     let flight = flight_of_command(command);
@@ -95,15 +95,15 @@ fn step_flight<O: Oracle>(
         return Ok(Outcome::of(verdict));
     }
     if place < count {
-        if change(&mut record, slots, now, command, oracle).is_err() {
-            return Ok(Outcome::Refused(Refusal::Trapped));
+        if change(&mut record, slots, moment, command, oracle).is_err() {
+            return Ok(Outcome::Refused(Refusal::Unanswered));
         }
         records[place] = record;
         return Ok(Outcome::Done);
     }
     records.reserve(1)?;
-    if change(&mut record, slots, now, command, oracle).is_err() {
-        return Ok(Outcome::Refused(Refusal::Trapped));
+    if change(&mut record, slots, moment, command, oracle).is_err() {
+        return Ok(Outcome::Refused(Refusal::Unanswered));
     }
     if records.push(record).is_err() {
         unreachable!();
@@ -236,14 +236,14 @@ impl Core {
         &mut self,
         oracle: &mut O,
         role: Role,
-        now: u32,
+        moment: u32,
         command: &Command,
     ) -> Result<Outcome, AllocError>
-        requires sigs { O.sigs oracle.old ≡ self.old.slots.sigs }
-        requires counts { O.refusals oracle.old + 1 < 2 ^ 64 }
-        ensures comes { let log : Told = record { declines = O.declines oracle.old; before = O.log oracle.old; now = O.log oracle.new } in
-            IfOk result (λ outcome. Comes self.old role now command.now log outcome self.new) }
+        requires oracle { MayBeAsked self.old.slots.sigs (O.view oracle.old) }
+        ensures comes { IfOk result (λ outcome. Comes self.old role moment command.now (O.view oracle.old) (O.view oracle.new) outcome self.new) }
         ensures err { OnErr result (self.new ≡ self.old) }
+        ensures unasked { OnErr result (Unasked (O.view oracle.old) (O.view oracle.new)) }
+        ensures same_rule { SameRule (O.view oracle.old) (O.view oracle.new) }
         ensures memory { OnErr result (IsTrue (is_alerts command.now || (board_loads self.old role command.now || board_creates self.old role command.now))) }
     {
         match command {
@@ -252,7 +252,7 @@ impl Core {
                 &self.slots,
                 oracle,
                 role,
-                now,
+                moment,
                 command,
             ),
             Command::Report(_) => step_flight(
@@ -260,7 +260,7 @@ impl Core {
                 &self.slots,
                 oracle,
                 role,
-                now,
+                moment,
                 command,
             ),
             Command::Load(load) => {
@@ -272,7 +272,7 @@ impl Core {
                 role,
                 unload,
             ))),
-            Command::Tick => Ok(Outcome::of(tick(self.records.as_mut_slice(), role, now))),
+            Command::Tick => Ok(Outcome::of(tick(self.records.as_mut_slice(), role, moment))),
             Command::Show(flight) => Ok(show(self.records.as_slice(), flight.get())),
             Command::Alerts => {
                 let list = AlertList::of(*self.records.allocator(), self.records.as_slice())?;
@@ -284,7 +284,7 @@ impl Core {
     /// What comes of a command at a moment (minutes since 1970-01-01T00:00Z), and the board after it. Helpers that its programs
     /// call are answered by the oracle.
     ///
-    /// Where a program traps, the report is refused as `Trapped` and nothing has changed. `Err` only where memory was refused,
+    /// Where the oracle leaves a program without an answer, the report is refused as `Unanswered` and nothing has changed. `Err` only where memory was refused,
     /// which is asked for where a flight would be created, for a load and for a list of alerts, before any program runs and
     /// anything changes.
     pub fn apply<O: Oracle>(
@@ -295,19 +295,20 @@ impl Core {
         command: &Command,
     ) -> Result<Outcome, AllocError>
         // The oracle answers by the signatures of the board, and may still count one more call without an answer.
-        requires sigs { O.sigs oracle.old ≡ self.old.slots.sigs }
-        requires counts { O.refusals oracle.old + 1 < 2 ^ 64 }
+        requires oracle { MayBeAsked self.old.slots.sigs (O.view oracle.old) }
 
         // The answers meant are those that the oracle gave in the call, by which its log has grown.
-        ensures outcome { let log : Told = record { declines = O.declines oracle.old; before = O.log oracle.old; now = O.log oracle.new } in
-            IfOk result (λ outcome. (sigs : List (ℕ × Promise)) (J : History) → IsLegal sigs J → self.old ≡ replay sigs J →
-            ComesOf sigs J role moment command.now log outcome) }
+        ensures outcome { IfOk result (λ outcome. (sigs : List (ℕ × Promise)) (J : History) → IsLegal sigs J → self.old ≡ replay sigs J →
+            ComesOf sigs J role moment command.now (O.view oracle.old) (O.view oracle.new) outcome) }
         ensures board { IfOk result (λ outcome. (sigs : List (ℕ × Promise)) (J : History) (session : ℕ) (answers : List ℕ) →
             IsLegal sigs J → self.old ≡ replay sigs J →
-            (is_accepted (verdict_in outcome) ≡ true → O.log oracle.new ≡ O.log oracle.old ++ answers) →
+            (is_accepted (verdict_in outcome) ≡ true → Gained (O.view oracle.old) (O.view oracle.new) answers) →
             self.new ≡ replay sigs (after J session role moment command.now (verdict_in outcome) answers)) }
         ensures sigs { self.new.slots.sigs ≡ self.old.slots.sigs }
         ensures err { OnErr result (self.new ≡ self.old) }
+        ensures unasked { OnErr result (Unasked (O.view oracle.old) (O.view oracle.new)) }
+        // What the oracle answers from stays the same.
+        ensures same_rule { SameRule (O.view oracle.old) (O.view oracle.new) }
         ensures memory { OnErr result ((sigs : List (ℕ × Promise)) (J : History) → IsLegal sigs J → self.old ≡ replay sigs J →
             IsTrue (needs_memory sigs J role command.now)) }
     {

@@ -311,7 +311,7 @@ fn a_program_that_gets_no_answer_refuses_its_report(rt: HostRuntime) -> Result<(
     )?;
     let report = reported(Milestone::TobtUpdate, TEN)?;
     let refused = applied(&mut core, &sigs, &[], Role::GroundHandler, SEVEN, &report)?;
-    assert_eq!(rt; refused.verdict(), Verdict::Refused(Refusal::Trapped));
+    assert_eq!(rt; refused.verdict(), Verdict::Refused(Refusal::Unanswered));
     assert_eq!(rt; alerts_of(&core)?, 0);
     assert_eq!(rt; core.record_of(7).ok_or("no flight")?.get(Field::Tobt), 0);
     // The program is still there: with its answer it sets LOC01 and LOC03.

@@ -192,18 +192,60 @@ fn faults(rt: HostRuntime) -> Result<(), Fail> {
     Ok(())
 }
 
-#[test]
-fn lengths(rt: HostRuntime) -> Result<(), Fail> {
-    let mut bytes = Vec::new(rt.alloc());
-    for _ in 0..4096 {
+/// So many exits are a program, which is encoded and copied; with one more opcode of 255 it is none, by its last slot.
+fn is_as_long(rt: &impl Abort, alloc: Global, slots: u16) -> Result<(), Fail> {
+    let mut bytes = Vec::new(alloc);
+    for _ in 0..slots {
         bytes.extend_from_slice(&[0x95, 0, 0, 0, 0, 0, 0, 0])?;
     }
-    let program = decode(rt.alloc(), &bytes)?;
-    assert_eq!(rt; program.slot_count(), 4096);
-    bytes.push(0)?;
-    let error = decode(rt.alloc(), &bytes).err().ok_or("no program")?;
-    assert_eq!(rt; error.code(), 302);
-    assert_eq!(rt; error.slot(), 0);
+    let program = decode(alloc, &bytes)?;
+    assert_eq!(rt; program.slot_count(), slots as usize);
+    assert_eq!(rt; encode(alloc, &program)?.as_slice(), bytes.as_slice());
+    assert_eq!(rt; program.copy()?.slot_count(), slots as usize);
+    bytes.extend_from_slice(&[0xff, 0, 0, 0, 0, 0, 0, 0])?;
+    let error = decode(alloc, &bytes).err().ok_or("no program")?;
+    if slots < 4096 {
+        assert_eq!(rt; (error.code(), error.slot()), (303, slots as usize));
+    } else {
+        assert_eq!(rt; (error.code(), error.slot()), (302, 0));
+    }
+    Ok(())
+}
+
+#[test]
+fn lengths(rt: HostRuntime) -> Result<(), Fail> {
+    for slots in [1, 2, 3, 7, 64, 255, 256, 257, 1_000, 2_048, 4_095, 4_096] {
+        is_as_long(&rt, rt.alloc(), slots)?;
+    }
+    Ok(())
+}
+
+/// The text of a fault, and of its refusal at slot 2.
+fn has_text(rt: &impl Abort, alloc: Global, fault: Fault, text: &str) -> Result<(), Fail> {
+    assert_eq!(rt; format!(in alloc; "{fault}")?.as_str(), text);
+    let refused = DecodeError::Refused { fault, slot: 2 };
+    let whole = format!(in alloc; "slot 2: {text}")?;
+    assert_eq!(rt; format!(in alloc; "{refused}")?.as_str(), whole.as_str());
+    Ok(())
+}
+
+#[test]
+fn errors_have_texts(rt: HostRuntime) -> Result<(), Fail> {
+    let alloc = rt.alloc();
+    for (fault, text) in [
+        (Fault::Length, "no whole slots of 8 bytes"),
+        (Fault::TooLong, "more than 4096 slots"),
+        (Fault::Opcode, "unknown opcode"),
+        (Fault::Field, "field value that the opcode does not allow"),
+        (Fault::Register, "register over 10"),
+        (Fault::CutWide, "wide load without its second slot"),
+    ] {
+        has_text(&rt, alloc, fault, text)?;
+    }
+    assert_eq!(rt;
+        format!(in alloc; "{}", DecodeError::Memory)?.as_str(),
+        "no memory"
+    );
     Ok(())
 }
 

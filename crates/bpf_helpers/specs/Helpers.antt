@@ -1,5 +1,7 @@
 -- Helpers, and what contracts see of them and of a bank: numbers and promises.
 use Rattle.std.specs.Prelude.{ℕ, ◌≤◌, ◌<◌, List, length, map, IsSome, IsNone}
+use Rattle.std.specs.declared.alloc.Global.{Global}
+use Rattle.std.specs.declared.dyn_box.DynBox.{DynBox}
 use Rattle.bpf_helpers.specs.declared.helper.Helper.{Helper}
 use Rattle.bpf_helpers.specs.declared.bank.Bank.{Bank}
 use Rattle.bpf_helpers.specs.Promise.{Promise, signature_of}
@@ -7,6 +9,10 @@ use Rattle.bpf_helpers.specs.Promise.{Promise, signature_of}
 -- the number of a helper, and what it promises
 abbrev pub entry_of : {V : _} {F : _} {m : _} → Helper V F m → ℕ × Promise
 entry_of helper = (helper.number, helper.signature)
+
+-- the code of a helper
+abbrev pub code_of : {V : _} {F : _} {m : _} → Helper V F m → DynBox V Global F
+code_of helper = helper.code
 
 -- these of all helpers of a bank, in the order in which they were added
 abbrev pub entries_of : {V : _} {F : _} {m : _} → Bank V F m → List (ℕ × Promise)

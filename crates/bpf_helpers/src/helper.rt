@@ -20,9 +20,9 @@ pub struct Helper {
 }
 
 impl Helper {
-    ghost use Rattle.std.specs.Prelude.{◌≡◌, [], ◌∷◌, IsTrue};
+    ghost use Rattle.std.specs.Prelude.{◌≡◌, ℕ, [], ◌∷◌, IsTrue};
     ghost use Rattle.bpf_helpers.specs.Code.{IsCallable, KeepsPromise};
-    ghost use Rattle.bpf_helpers.specs.Helpers.{entry_of};
+    ghost use Rattle.bpf_helpers.specs.Helpers.{code_of, entry_of};
     ghost use Rattle.bpf_helpers.specs.Promise.{is_call, is_promised};
 
     /// The helper of this number, with code that keeps the signature.
@@ -46,7 +46,7 @@ impl Helper {
     }
 
     /// What the helper takes, and what it may answer.
-    pub(crate) fn signature(&self) -> &Signature
+    pub fn signature(&self) -> &Signature
         ensures { result.now ≡ (entry_of self.now).1 }
     {
         &self.signature
@@ -55,7 +55,9 @@ impl Helper {
     /// The helper's answer to these arguments, those beyond its signature being 0.
     pub fn answer(&self, arguments: [u64; 5]) -> u64
         requires { IsTrue (is_call (entry_of self.now).1 arguments) }
-        ensures { IsTrue (is_promised (entry_of self.now).1 arguments result) }
+        ensures promised { IsTrue (is_promised (entry_of self.now).1 arguments result) }
+        // It is one that the helper's own code gives.
+        ensures own { (a b c d e : ℕ) → arguments ≡ a ∷ b ∷ c ∷ d ∷ e ∷ [] → Code.post (code_of self.now) a b c d e result }
     {
         let [a, b, c, d, e] = arguments;
         self.answer_to(a, b, c, d, e)
@@ -63,7 +65,8 @@ impl Helper {
 
     fn answer_to(&self, a: u64, b: u64, c: u64, d: u64, e: u64) -> u64
         requires { IsTrue (is_call (entry_of self.now).1 (a ∷ b ∷ c ∷ d ∷ e ∷ [])) }
-        ensures { IsTrue (is_promised (entry_of self.now).1 (a ∷ b ∷ c ∷ d ∷ e ∷ []) result) }
+        ensures promised { IsTrue (is_promised (entry_of self.now).1 (a ∷ b ∷ c ∷ d ∷ e ∷ []) result) }
+        ensures own { Code.post (code_of self.now) a b c d e result }
     {
         (self.code)(a, b, c, d, e)
     }

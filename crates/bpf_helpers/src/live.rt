@@ -65,16 +65,10 @@ impl<'a, H: Helpers> Live<'a, H> {
 }
 
 impl<'a, H: Helpers> Oracle for Live<'a, H> {
-    ghost use Rattle.bpf_helpers.specs.Oracles.{is_full};
+    ghost use Rattle.bpf_helpers.specs.Oracles.{view_of_live};
 
-    ghost sigs = { λ live. live.sigs };
-
-    ghost log = { λ live. live.log };
-
-    ghost refusals = { λ live. live.refusals };
-
-    /// There is no room for one more answer.
-    ghost declines = { λ live log helper arguments. is_full live.room log };
+    /// It gives no answer where there is no room for one more.
+    ghost view = { view_of_live };
 
     fn call(&mut self, helper: u32, arguments: [u64; 5]) -> Option<u64> {
         if self.answers.len() == self.room {

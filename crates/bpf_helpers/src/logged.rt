@@ -43,17 +43,10 @@ impl<'a> Logged<'a> {
 }
 
 impl<'a> Oracle for Logged<'a> {
-    ghost use Rattle.std.specs.Prelude.{length, slice_get};
-    ghost use Rattle.bpf_helpers.specs.Oracles.{is_refused, sigs_of_logged, log_of_logged, refusals_of_logged, answers_of_logged};
+    ghost use Rattle.bpf_helpers.specs.Oracles.{view_of_logged};
 
-    ghost sigs = { λ logged. sigs_of_logged logged };
-
-    ghost log = { λ logged. log_of_logged logged };
-
-    ghost refusals = { λ logged. refusals_of_logged logged };
-
-    /// The next answer is missing, or the helper may not give it.
-    ghost declines = { λ logged log helper arguments. is_refused (sigs_of_logged logged) (slice_get (answers_of_logged logged) (length log)) helper arguments };
+    /// It gives no answer where the next one is missing, or where the helper may not give it.
+    ghost view = { view_of_logged };
 
     fn call(&mut self, helper: u32, arguments: [u64; 5]) -> Option<u64> {
         if self.used < self.answers.len() {

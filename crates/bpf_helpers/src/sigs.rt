@@ -27,7 +27,8 @@ impl Model for Sigs {
 }
 
 impl Sigs {
-    pub(crate) fn new(alloc: Global) -> Sigs
+    /// No signatures.
+    pub fn new(alloc: Global) -> Sigs
         ensures { result ≡ [] }
     {
         Sigs {
@@ -35,12 +36,20 @@ impl Sigs {
         }
     }
 
-    pub(crate) fn push(&mut self, number: u32, signature: Signature) -> Result<(), NoMemory>
+    /// Adds a signature under a number, behind the others. `Err` only where there is no memory.
+    pub fn push(&mut self, number: u32, signature: Signature) -> Result<(), NoMemory>
         ensures added { OnOk result (self.new ≡ self.old ++ (number, signature) ∷ []) }
     {
         let _ = signature.answer();
         self.entries.push((number, signature))?;
         Ok(())
+    }
+
+    /// Each signature is well formed. It does nothing when it runs; its contract is the fact.
+    pub fn keep_their_form(&self)
+        ensures { IsTrue (are_well_formed self.now) }
+    {
+        let _ = &self.entries;
     }
 
     /// The signature of the helper of this number.

@@ -1,2 +1,5 @@
 pub mod Running
 pub mod Told
+pub mod Standing
+pub mod Following
+pub mod Room

@@ -1,3 +1,6 @@
-pub mod Memory
 pub mod Outcome
+pub mod Plain
+pub mod Refusals
+pub mod Registry
 pub mod Steps
+pub mod Vm

@@ -1,17 +1,32 @@
 //! Running programs.
 #![tactic(auto)]
 
+mod execution;
 mod memory;
-mod run;
+mod outcome;
+mod plain;
+mod refusal;
+mod registry;
 mod state;
 mod tested;
+mod untested;
+mod vm;
 
-pub use run::{Ended, Trap};
+pub use outcome::{BadAnswer, Ended, Trap};
+pub use refusal::{ExecuteError, RegisterFault, SetError};
 pub use tested::run_tested;
+pub use untested::run;
+pub use vm::{EbpfVmRaw, NotRegistered};
 
 #[cfg(test)]
 mod cross_check;
 #[cfg(test)]
+mod form_vectors;
+#[cfg(test)]
+mod forms;
+#[cfg(test)]
 mod tests;
 #[cfg(test)]
 mod vectors;
+#[cfg(test)]
+mod vm_tests;

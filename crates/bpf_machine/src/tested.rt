@@ -1,11 +1,11 @@
 //! Running a program with every test.
 
-ghost use Rattle.std.specs.Prelude.{◌≡◌, ◌<◌, ◌≤◌, ◌+◌, ◌^◌, length, IfOk, IfErr, if◌then◌else◌};
+ghost use Rattle.std.specs.Prelude.{◌≡◌, ◌<◌, ◌≤◌, ◌^◌, length, IfOk, IfErr};
 ghost use Rattle.bpf_machine.specs.Outcome.{EndsOver, TrapsOver, is_refused};
-ghost use Rattle.bpf_machine.specs.Steps.{Told};
+ghost use Rattle.bpf_helpers.specs.Oracles.{Counts, MayBeAsked, SameRule};
 ghost use Rattle.acdm_milestones.specs.Tables.{number as number_of};
 
-use crate::run::{Ended, Trap};
+use crate::outcome::{Ended, Trap};
 use crate::state::{State, Step};
 use acdm_milestones::Milestone;
 use bpf_decode::{Op, Program};
@@ -15,29 +15,25 @@ use bpf_helpers::{Oracle, Sigs};
 fn run_slots<O: Oracle>(
     ops: &[Op],
     sigs: &Sigs,
-    flight: &[u8],
-    now: u32,
+    record_bytes: &[u8],
+    moment: u32,
     milestone: u32,
     oracle: &mut O,
 ) -> Result<Ended, Trap>
     requires some { 0 < length ops.now }
     requires few { length ops.now ≤ 4096 }
-    requires short { length flight.now < 2 ^ 16 }
-    requires sigs { O.sigs oracle.old ≡ sigs.now }
-    requires counts { O.refusals oracle.old + 1 < 2 ^ 64 }
-    ensures ended { let told : Told = record { declines = O.declines oracle.old; before = O.log oracle.old; now = O.log oracle.new } in
-        IfOk result (EndsOver ops.now sigs.now flight.now now milestone told) }
-    ensures trapped { let told : Told = record { declines = O.declines oracle.old; before = O.log oracle.old; now = O.log oracle.new } in
-        IfErr result (TrapsOver ops.now sigs.now flight.now now milestone told) }
-    ensures counted { O.refusals oracle.new ≡ (if is_refused result then O.refusals oracle.old + 1 else O.refusals oracle.old) }
-    ensures same_sigs { O.sigs oracle.new ≡ O.sigs oracle.old }
-    ensures same_rule { O.declines oracle.new ≡ O.declines oracle.old }
+    requires short { length record_bytes.now < 2 ^ 16 }
+    requires oracle { MayBeAsked sigs.now (O.view oracle.old) }
+    ensures ended { IfOk result (EndsOver ops.now sigs.now record_bytes.now moment milestone (O.view oracle.old) (O.view oracle.new)) }
+    ensures trapped { IfErr result (TrapsOver ops.now sigs.now record_bytes.now moment milestone (O.view oracle.old) (O.view oracle.new)) }
+    ensures counted { Counts (is_refused result) (O.view oracle.old) (O.view oracle.new) }
+    ensures same_rule { SameRule (O.view oracle.old) (O.view oracle.new) }
 {
-    let mut state = State::start(flight.len(), now, milestone);
+    let mut state = State::start(record_bytes.len(), moment, milestone);
     let mut steps = 0u64;
     loop {
         steps += 1;
-        match state.advance(ops, sigs, flight, oracle) {
+        match state.advance(ops, sigs, record_bytes, oracle) {
             Step::Went => {}
             Step::Ended(r0) => return Ok(Ended { r0, steps }),
             Step::Trapped => return Err(Trap::Stuck),
@@ -53,25 +49,28 @@ fn run_slots<O: Oracle>(
 pub fn run_tested<O: Oracle>(
     program: &Program,
     sigs: &Sigs,
-    flight: &[u8; 128],
-    now: u32,
+    record_bytes: &[u8; 128],
+    moment: u32,
     milestone: Milestone,
     oracle: &mut O,
 ) -> Result<Ended, Trap>
     // The oracle answers by these signatures, and may still count one more call without an answer.
-    requires sigs { O.sigs oracle.old ≡ sigs.now }
-    requires counts { O.refusals oracle.old + 1 < 2 ^ 64 }
+    requires oracle { MayBeAsked sigs.now (O.view oracle.old) }
 
     // The answers meant are those that the oracle gave in the call, by which its log has grown.
-    ensures ended { let told : Told = record { declines = O.declines oracle.old; before = O.log oracle.old; now = O.log oracle.new } in
-        IfOk result (EndsOver program.now sigs.now flight.now now (number_of milestone) told) }
-    ensures trapped { let told : Told = record { declines = O.declines oracle.old; before = O.log oracle.old; now = O.log oracle.new } in
-        IfErr result (TrapsOver program.now sigs.now flight.now now (number_of milestone) told) }
+    ensures ended { IfOk result (EndsOver program.now sigs.now record_bytes.now moment (number_of milestone) (O.view oracle.old) (O.view oracle.new)) }
+    ensures trapped { IfErr result (TrapsOver program.now sigs.now record_bytes.now moment (number_of milestone) (O.view oracle.old) (O.view oracle.new)) }
 
     // The oracle gave no answer once where the run was left without one, and never where it was not.
-    ensures counted { O.refusals oracle.new ≡ (if is_refused result then O.refusals oracle.old + 1 else O.refusals oracle.old) }
-    ensures same_sigs { O.sigs oracle.new ≡ O.sigs oracle.old }
-    ensures same_rule { O.declines oracle.new ≡ O.declines oracle.old }
+    ensures counted { Counts (is_refused result) (O.view oracle.old) (O.view oracle.new) }
+    ensures same_rule { SameRule (O.view oracle.old) (O.view oracle.new) }
 {
-    run_slots(program.ops(), sigs, flight, now, milestone.number(), oracle)
+    run_slots(
+        program.ops(),
+        sigs,
+        record_bytes,
+        moment,
+        milestone.number(),
+        oracle,
+    )
 }

@@ -7,6 +7,7 @@ use super::*;
 use acdm_milestones::Milestone;
 use bpf_decode::decode;
 use bpf_helpers::{Bank, Code, Helper, Logged, Range, Signature, Sigs};
+use bpf_verifier::verify;
 use std::alloc::Global;
 use std::process::Abort;
 use std::test::Fail;
@@ -15,7 +16,15 @@ use std::test::Fail;
 const PLANNED: &str =
     "0700000000000000444c4837000000004133323041333230444149424300000044414942430000004544444d4544444d030000000000000028000a000c0001053884ba013884ba01";
 
-/// What a program comes to on that record, at 07:00 and with these answers.
+/// That record.
+pub(crate) fn planned() -> Result<[u8; 128], Fail> {
+    let mut record_bytes = [0u8; 128];
+    hex::decode_to_slice(PLANNED, &mut record_bytes[..72])?;
+    Ok(record_bytes)
+}
+
+/// What a program comes to on that record, at 07:00 and with these answers. Where it is accepted, the machine without tests comes to
+/// the same.
 fn outcome(
     alloc: Global,
     sigs: &Sigs,
@@ -23,11 +32,25 @@ fn outcome(
     milestone: Milestone,
     answers: &[u64],
 ) -> Result<Result<Ended, Trap>, Fail> {
-    let mut flight = [0u8; 128];
-    hex::decode_to_slice(PLANNED, &mut flight[..72])?;
+    let record_bytes = planned()?;
     let program = decode(alloc, &hex::decode(alloc, text)?)?;
     let mut oracle = Logged::new(sigs, answers);
-    Ok(run_tested(&program, sigs, &flight, 29_000_580, milestone, &mut oracle))
+    let came = run_tested(
+        &program,
+        sigs,
+        &record_bytes,
+        29_000_580,
+        milestone,
+        &mut oracle,
+    );
+    if let Ok(checked) = verify(alloc, program, sigs) {
+        let mut oracle = Logged::new(sigs, answers);
+        let untested = run(&checked, &record_bytes, 29_000_580, milestone, &mut oracle);
+        if untested.map_err(|_| Trap::Unanswered) != came {
+            return Err("the machine without tests comes to something else".into());
+        }
+    }
+    Ok(came)
 }
 
 /// The program ends with r0 in so many steps.

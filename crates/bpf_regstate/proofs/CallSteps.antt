@@ -104,13 +104,13 @@ found : (o : Option Promise) → is_missing o ≡ false → (sig : Promise) × (
 found None e = absurd cc
 found (Some sig) e = (sig, refl)
 
-module _ (ops : List Op) (sigs : List (ℕ × Promise)) (flight : List ℕ) (m : Machine) (s : Shape) (i : IsShape s) (k : IsMachine m) (h : Holds s m) (well : IsTrue (are_well_formed sigs)) where
+module _ (ops : List Op) (sigs : List (ℕ × Promise)) (record_bytes : List ℕ) (m : Machine) (s : Shape) (i : IsShape s) (k : IsMachine m) (h : Holds s m) (well : IsTrue (are_well_formed sigs)) where
   -- on from a call
   answers_well : (helper : ℕ) (sig : Promise) (passed : List ℕ) (answer : ℕ) → signature_of sigs helper ≡ Some sig → is_promised sig passed answer ≡ true
-      → is_entry (slice_get ops (m.slot + 1)) ≡ true → LeadsTo ops m.slot (edges (length flight) sigs m.slot (Call helper) s) (answered m answer)
+      → is_entry (slice_get ops (m.slot + 1)) ≡ true → LeadsTo ops m.slot (edges (length record_bytes) sigs m.slot (Call helper) s) (answered m answer)
   answers_well helper sig passed answer is e next =
       let known_answer : answer_reg (signature_of sigs helper) ≡ Known sig.answer = rw is refl in
-      let held : Holds (after_op (length flight) sigs (Call helper) s) (answered m answer) = record {
+      let held : Holds (after_op (length record_bytes) sigs (Call helper) s) (answered m answer) = record {
         registers = λ r. subst (λ (x : Reg). HoldsWord (get_or (x ∷ Uninit ∷ Uninit ∷ Uninit ∷ Uninit ∷ Uninit ∷ drop 6 s.registers) r Uninit)
             (get_or (Some answer ∷ None ∷ None ∷ None ∷ None ∷ None ∷ drop 6 m.registers) r None)) (sym known_answer) (answer_held s m sig answer r h (promised_in sig passed answer e));
         marks = h.marks;
@@ -123,29 +123,29 @@ module _ (ops : List Op) (sigs : List (ℕ × Promise)) (flight : List ℕ) (m :
       }
 
   call_with : (helper : ℕ) (sig : Promise) → signature_of sigs helper ≡ Some sig → argument_uninit s sig.args 1 ≡ false → arguments_within s sig.args 1 ≡ true
-      → is_entry (slice_get ops (m.slot + 1)) ≡ true → LeadsWell ops sigs (edges (length flight) sigs m.slot (Call helper) s) m (act_on ops sigs flight m (Call helper))
+      → is_entry (slice_get ops (m.slot + 1)) ≡ true → LeadsWell ops sigs (edges (length record_bytes) sigs m.slot (Call helper) s) m (act_on ops sigs record_bytes m (Call helper))
   call_with helper sig is uninit within next =
       let p = passes m s i h sig.args 1 uninit within in
       let may = may_call sig p.words p.inside p.count in
       let asked : IsTrue (is_question sigs helper (padded p.words)) = rw is may in
       let some = some_answer sigs helper (padded p.words) well asked in
-      let each : (answer : ℕ) → IsTrue (is_answer sigs helper (padded p.words) answer) → LeadsTo ops m.slot (edges (length flight) sigs m.slot (Call helper) s) (answered m answer) =
+      let each : (answer : ℕ) → IsTrue (is_answer sigs helper (padded p.words) answer) → LeadsTo ops m.slot (edges (length record_bytes) sigs m.slot (Call helper) s) (answered m answer) =
       λ answer e. answers_well helper sig (padded p.words) answer is (rw is at e) next in
       asks helper sig p.words is p.are may next (some, each)
     where
       asks : (helper : ℕ) (sig : Promise) (words : List ℕ) → signature_of sigs helper ≡ Some sig → arguments m (length sig.args) 1 ≡ Some words → is_call sig (padded words) ≡ true
           → is_entry (slice_get ops (m.slot + 1)) ≡ true
-          → LeadsWell ops sigs (edges (length flight) sigs m.slot (Call helper) s) m (Asks helper (padded words))
-          → LeadsWell ops sigs (edges (length flight) sigs m.slot (Call helper) s) m (act_on ops sigs flight m (Call helper))
+          → LeadsWell ops sigs (edges (length record_bytes) sigs m.slot (Call helper) s) m (Asks helper (padded words))
+          → LeadsWell ops sigs (edges (length record_bytes) sigs m.slot (Call helper) s) m (act_on ops sigs record_bytes m (Call helper))
       asks helper sig words is are may next leads =
-          let acts : act_on ops sigs flight m (Call helper) ≡ Asks helper (padded words) =
+          let acts : act_on ops sigs record_bytes m (Call helper) ≡ Asks helper (padded words) =
           ap (λ (o : Option Promise). o >>= λ x. calls ops m helper x) is
           ∙ ap (λ (o : Option (List ℕ)). o >>= λ xs. if is_call sig (padded xs) && is_entry (slice_get ops (m.slot + 1)) then Asks helper (padded xs) else Stuck) are
           ∙ rw (may, next) refl in
-          subst (λ (a : Action). LeadsWell ops sigs (edges (length flight) sigs m.slot (Call helper) s) m a) (sym acts) leads
+          subst (λ (a : Action). LeadsWell ops sigs (edges (length record_bytes) sigs m.slot (Call helper) s) m a) (sym acts) leads
 
-  pub call_steps : (helper : ℕ) → IsClear (length flight) ops sigs m.slot s (Call helper)
-      → LeadsWell ops sigs (edges (length flight) sigs m.slot (Call helper) s) m (act_on ops sigs flight m (Call helper))
+  pub call_steps : (helper : ℕ) → IsClear (length record_bytes) ops sigs m.slot s (Call helper)
+      → LeadsWell ops sigs (edges (length record_bytes) sigs m.slot (Call helper) s) m (act_on ops sigs record_bytes m (Call helper))
   call_steps helper c =
       let sig = found (signature_of sigs helper) c.helper in
       let uninit : argument_uninit s sig.0.args 1 ≡ false = rw sig.1 at c.reads in

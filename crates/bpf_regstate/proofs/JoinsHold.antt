@@ -1,4 +1,4 @@
--- A join holds what each side holds, and a state that is pulled together holds what each edge brings.
+-- A join holds what each side holds, and a state that is state_from together holds what each edge brings.
 use Rattle.std.proofs.Common.{◌≡◌, ℕ, zero, suc, ◌+◌, ◌<◌, ◌≤◌, Bool, true, false, ◌&&◌, cond, eqb, List, [], ◌∷◌, ◌++◌, length, Option, Some, None, refl, ap, subst, ◌∙◌, arith, inl, inr, get_or, add-zero, zero-add}
 use Rattle.std.specs.Prelude.{slice_get}
 use Rattle.std.proofs.lemmas.Bool.{cases_lt}
@@ -11,7 +11,7 @@ use Rattle.bpf_regstate.specs.declared.reg.Reg.TheVariants.{Uninit, Known}
 use Rattle.bpf_regstate.specs.Shape.{Shape}
 use Rattle.bpf_regstate.specs.Holds.{HoldsWord, Holds, HoldsAt, SomeHolds, EdgeHolds}
 use Rattle.bpf_regstate.specs.Joins.{join_reg, join_registers, join_marks, joined}
-use Rattle.bpf_regstate.specs.States.{join_with, join_all, into, sends, arriving, entering, pulled, states, state_at}
+use Rattle.bpf_regstate.specs.States.{join_with, join_all, into, sends, arriving, entering, state_from, states, state_at}
 
 reg_left : (x y : Reg) (o : Option ℕ) → HoldsWord x o → HoldsWord (join_reg x y) o
 reg_left Uninit y o h = tt
@@ -120,7 +120,7 @@ module _ (record_length : ℕ) (ops : List Op) (sigs : List (ℕ × Promise)) wh
   pub length-states : (n : ℕ) → length (states record_length ops sigs n) ≡ n
   unfolding states
   length-states zero = refl
-  length-states (suc n) = omega (arith, length-append (states record_length ops sigs n) (pulled record_length ops sigs n (states record_length ops sigs n) ∷ []), length-states n)
+  length-states (suc n) = omega (arith, length-append (states record_length ops sigs n) (state_from record_length ops sigs n (states record_length ops sigs n) ∷ []), length-states n)
 
   get_end : (xs : List (Option Shape)) (x : Option Shape) → slice_get (xs ++ x ∷ []) (length xs) ≡ Some x
   get_end [] x = refl

@@ -1,3 +1,5 @@
+pub mod Ones
+pub mod Differences
 pub mod ResultsInRange
 pub mod ResultsOfOne
 pub mod Ordered

@@ -43,30 +43,30 @@ number w (Some bytes) = Some (from_le_bytes w bytes)
 
 -- ---- loads
 
-module _ (flight : List ℕ) (short : length flight < 2 ^ 32) (bytes : AreBytes flight) (m : Machine) (s : Shape) (i : IsShape s) (k : IsMachine m) (h : Holds s m) where
+module _ (record_bytes : List ℕ) (short : length record_bytes < 2 ^ 32) (bytes : AreBytes record_bytes) (m : Machine) (s : Shape) (i : IsShape s) (k : IsMachine m) (h : Holds s m) where
   -- the bytes are there
   bytes_there : (r : Range) (n : ℕ) (e : ℕ) (p : Place) → IsSomewhere p → e ≤ r.hi - r.lo → is_unmarked s r n p ≡ false
-      → (bs : List ℕ) × (bytes_at flight m.stack (further_on p e) n ≡ Some bs) × AreBytes bs
+      → (bs : List ℕ) × (bytes_at record_bytes m.stack (further_on p e) n ≡ Some bs) × AreBytes bs
   bytes_there r n e (InRecord at) some le u =
-      (take n (drop (at + e) flight), refl, bytes_taken n (drop (at + e) flight) (bytes_dropped (at + e) flight bytes))
+      (take n (drop (at + e) record_bytes), refl, bytes_taken n (drop (at + e) record_bytes) (bytes_dropped (at + e) record_bytes bytes))
   bytes_there r n e (InStack at) some le u =
       let all = not_false (all_marked s at (r.hi - r.lo + n)) u in
       marked_present n (at + e) s.marks m.stack (omega (arith, i.marks, k.stack)) (access_marked (r.hi - r.lo) e n at s.marks le all) h.marks k.bytes
   bytes_there r n e Nowhere some le u = elim some [ ]
 
   -- what is loaded
-  pub load_there : (w : int.Width) (r : Range) (a : ℕ) (offset : ℤ) → In r a → is_nowhere (Some (access (length flight) r offset (byte_len w))) ≡ false
-      → is_unmarked s r (byte_len w) (access (length flight) r offset (byte_len w)) ≡ false
-      → (bs : List ℕ) × (loaded flight m w a offset ≡ Some (from_le_bytes w bs)) × AreBytes bs
+  pub load_there : (w : int.Width) (r : Range) (a : ℕ) (offset : ℤ) → In r a → is_nowhere (Some (access (length record_bytes) r offset (byte_len w))) ≡ false
+      → is_unmarked s r (byte_len w) (access (length record_bytes) r offset (byte_len w)) ≡ false
+      → (bs : List ℕ) × (loaded record_bytes m w a offset ≡ Some (from_le_bytes w bs)) × AreBytes bs
   load_there w r a offset there some u =
-      let p = access (length flight) r offset (byte_len w) in
-      let place = access_moves (length flight) r a offset (byte_len w) p short (somewhere p some) there refl in
+      let p = access (length record_bytes) r offset (byte_len w) in
+      let place = access_moves (length record_bytes) r a offset (byte_len w) p short (somewhere p some) there refl in
       let bs = bytes_there r (byte_len w) (a - r.lo) p (somewhere p some) (omega (arith, there.low, there.high)) u in
-      (bs.0, ap (λ (q : Place). number w (bytes_at flight m.stack q (byte_len w))) place ∙ ap (number w) bs.1, bs.2)
+      (bs.0, ap (λ (q : Place). number w (bytes_at record_bytes m.stack q (byte_len w))) place ∙ ap (number w) bs.1, bs.2)
 
   module _ (ops : List Op) (sigs : List (ℕ × Promise)) where
-    pub load_steps : (size : Size) (dst base : ℕ) (offset : ℤ) → IsClear (length flight) ops sigs m.slot s (Load size dst base offset)
-        → LeadsWell ops sigs (edges (length flight) sigs m.slot (Load size dst base offset) s) m (act_on ops sigs flight m (Load size dst base offset))
+    pub load_steps : (size : Size) (dst base : ℕ) (offset : ℤ) → IsClear (length record_bytes) ops sigs m.slot s (Load size dst base offset)
+        → LeadsWell ops sigs (edges (length record_bytes) sigs m.slot (Load size dst base offset) s) m (act_on ops sigs record_bytes m (Load size dst base offset))
     load_steps size dst base offset c =
         let a = reg_held (known s base) (register m base) (i.ranges base) c.reads (h.registers base) in
         let v = load_there (size_type size) (range_of (known s base)) a.0 offset a.2 c.place c.marked in
@@ -74,8 +74,8 @@ module _ (flight : List ℕ) (short : length flight < 2 ^ 32) (bytes : AreBytes 
         rw (a.1, v.1) (sets_well ops sigs m s i k h (m.slot + 1) dst (from_le_bytes (size_type size) v.0) (span 0 (2 ^ (8 * byte_len (size_type size)) - 1))
         (record { low = omega arith; high = omega (arith, below) }) c.end (not_false (is_entry (slice_get ops (m.slot + 1))) c.next) (omega arith))
 
-    pub load_signed_steps : (part : Part) (dst base : ℕ) (offset : ℤ) → IsClear (length flight) ops sigs m.slot s (LoadSigned part dst base offset)
-        → LeadsWell ops sigs (edges (length flight) sigs m.slot (LoadSigned part dst base offset) s) m (act_on ops sigs flight m (LoadSigned part dst base offset))
+    pub load_signed_steps : (part : Part) (dst base : ℕ) (offset : ℤ) → IsClear (length record_bytes) ops sigs m.slot s (LoadSigned part dst base offset)
+        → LeadsWell ops sigs (edges (length record_bytes) sigs m.slot (LoadSigned part dst base offset) s) m (act_on ops sigs record_bytes m (LoadSigned part dst base offset))
     load_signed_steps part dst base offset c =
         let a = reg_held (known s base) (register m base) (i.ranges base) c.reads (h.registers base) in
         let v = load_there (part_type part) (range_of (known s base)) a.0 offset a.2 c.place c.marked in
@@ -188,14 +188,14 @@ module _ (m : Machine) (s : Shape) (i : IsShape s) (k : IsMachine m) (h : Holds 
           rw same (marks_there at bs j (omega (arith, len, fits, same)) (rw len marks))
       by_test false e f = store_keeps (at + (a - r.lo)) bs j (omega (arith, len, fits)) (h.marks j f)
 
-  module _ (ops : List Op) (sigs : List (ℕ × Promise)) (flight : List ℕ) (short : length flight < 2 ^ 32) where
+  module _ (ops : List Op) (sigs : List (ℕ × Promise)) (record_bytes : List ℕ) (short : length record_bytes < 2 ^ 32) where
     in_stack_place : (p : Place) → is_nowhere (Some p) ≡ false → is_in_record p ≡ false → (at : ℕ) × (p ≡ InStack at)
     in_stack_place (InRecord at) e f = absurd cc
     in_stack_place (InStack at) e f = (at, refl)
     in_stack_place Nowhere e f = absurd cc
 
-    pub store_steps : (size : Size) (base : ℕ) (offset : ℤ) (from : Operand) → IsOperand from → IsClear (length flight) ops sigs m.slot s (Store size base offset from)
-        → LeadsWell ops sigs (edges (length flight) sigs m.slot (Store size base offset from) s) m (act_on ops sigs flight m (Store size base offset from))
+    pub store_steps : (size : Size) (base : ℕ) (offset : ℤ) (from : Operand) → IsOperand from → IsClear (length record_bytes) ops sigs m.slot s (Store size base offset from)
+        → LeadsWell ops sigs (edges (length record_bytes) sigs m.slot (Store size base offset from) s) m (act_on ops sigs record_bytes m (Store size base offset from))
     store_steps size base offset from f c =
         let reads = or_false (is_uninit (known s base)) (operand_uninit s from) c.reads in
         let a = reg_held (known s base) (register m base) (i.ranges base) reads.0 (h.registers base) in
@@ -204,13 +204,13 @@ module _ (m : Machine) (s : Shape) (i : IsShape s) (k : IsMachine m) (h : Holds 
         let r = range_of (known s base) in
         let bs = take n (to_le_bytes w64 v.0) in
         let len : length bs ≡ n = length-stored size v.0 in
-        let at = in_stack_place (access (length flight) r offset n) c.place c.store in
-        let place : place_of (length flight) (pos a.0 +ℤ offset) n ≡ InStack (at.0 + (a.0 - r.lo)) = access_moves (length flight) r a.0 offset n (InStack at.0) short tt a.2 at.1 in
-        let fits : at.0 + (a.0 - r.lo) + n ≤ 512 = inside_stack (length flight) (pos a.0 +ℤ offset) n (at.0 + (a.0 - r.lo)) place in
+        let at = in_stack_place (access (length record_bytes) r offset n) c.place c.store in
+        let place : place_of (length record_bytes) (pos a.0 +ℤ offset) n ≡ InStack (at.0 + (a.0 - r.lo)) = access_moves (length record_bytes) r a.0 offset n (InStack at.0) short tt a.2 at.1 in
+        let fits : at.0 + (a.0 - r.lo) + n ≤ 512 = inside_stack (length record_bytes) (pos a.0 +ℤ offset) n (at.0 + (a.0 - r.lo)) place in
         let room : at.0 + (a.0 - r.lo) + length bs ≤ 512 = omega (arith, len, fits) in
-        let written : stored m.stack (place_of (length flight) (pos a.0 +ℤ offset) n) bs ≡ Some (after_store (at.0 + (a.0 - r.lo)) bs) = ap (λ (p : Place). stored m.stack p bs) place in
+        let written : stored m.stack (place_of (length record_bytes) (pos a.0 +ℤ offset) n) bs ≡ Some (after_store (at.0 + (a.0 - r.lo)) bs) = ap (λ (p : Place). stored m.stack p bs) place in
         let next = not_false (is_entry (slice_get ops (m.slot + 1))) c.next in
-        let goes : LeadsTo ops m.slot (edges (length flight) sigs m.slot (Store size base offset from) s)
+        let goes : LeadsTo ops m.slot (edges (length record_bytes) sigs m.slot (Store size base offset from) s)
         (record { slot = m.slot + 1; registers = m.registers; stack = after_store (at.0 + (a.0 - r.lo)) bs }) = record {
           later = omega arith;
           entry = next;
@@ -223,7 +223,7 @@ module _ (m : Machine) (s : Shape) (i : IsShape s) (k : IsMachine m) (h : Holds 
             refl,
             record {
               registers = h.registers;
-              marks = store_marks_there (length flight) r a.0 offset n at.0 bs len a.2 fits at.1;
+              marks = store_marks_there (length record_bytes) r a.0 offset n at.0 bs len a.2 fits at.1;
             },
           );
         } in

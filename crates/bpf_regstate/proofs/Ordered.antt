@@ -1,10 +1,8 @@
 -- Each range that comes of ranges with words has words, and words alone.
-use Rattle.std.proofs.Common.{◌≡◌, ℕ, ◌+◌, ◌-◌, ◌*◌, ◌/◌, ◌%◌, ◌^◌, ◌<◌, ◌≤◌, Bool, true, false, ◌&&◌, cond, eqb, ltb, leb, Option, Some, None, refl, arith, min, max, lit<}
-use Rattle.std.specs.Prelude.{IfSome}
-use Rattle.std.specs.Int.{leading_zeros, w64}
+use Rattle.std.proofs.Common.{◌≡◌, ℕ, ◌+◌, ◌-◌, ◌*◌, ◌/◌, ◌%◌, ◌^◌, ◌<◌, Bool, true, false, ◌&&◌, cond, eqb, ltb, leb, Option, Some, None, refl, arith, min, max, lit<}
+use Rattle.std.specs.Prelude.{IfSome, ℤ, pos, ◌-ℤ◌}
 use Rattle.std.proofs.lemmas.Bool.{ltb-true, leb-true}
-use Rattle.std.proofs.lemmas.Nat.{leading_length, pow_pos}
-use Rattle.std.proofs.Math.Nat.{div-le_self, pow-le-pow_right}
+use Rattle.std.proofs.Math.Nat.{div-le_self}
 use Rattle.bpf_decode.specs.declared.op.Width.{Width}
 use Rattle.bpf_decode.specs.declared.op.Width.TheVariants.{W32, W64}
 use Rattle.bpf_decode.specs.declared.op.Code.{Code}
@@ -14,11 +12,13 @@ use Rattle.bpf_decode.specs.declared.op.Condition.TheVariants.{Equal, NotEqual, 
 use Rattle.bpf_decode.specs.Words.{bits_of, arith_word}
 use Rattle.bpf_helpers.specs.declared.range.Range.{Range}
 use Rattle.bpf_regstate.specs.Shape.{IsRange}
-use Rattle.bpf_regstate.specs.Ranges.{span, full, modulus, reduced, wrapped, filled, ranged, arith_range}
+use Rattle.bpf_regstate.specs.Ranges.{span, full, modulus, quotient, remainder, are_equal, reduced, wrapped, filled, ranged, arith_range}
 use Rattle.bpf_regstate.specs.Holds.{In}
 use Rattle.bpf_regstate.specs.Effect.{arith_result}
 use Rattle.bpf_regstate.specs.Narrowing.{both_of, without, narrow_equal, narrow_different, narrow_below, narrow_at_most, swapped, narrowed}
-use Rattle.bpf_regstate.proofs.ResultsInRange.{arith_in, both, low_below, reduced_high, width_fits, word_below}
+use Rattle.bpf_regstate.proofs.Differences.{remainder_below}
+use Rattle.bpf_regstate.proofs.Ones.{filled_is_least}
+use Rattle.bpf_regstate.proofs.ResultsInRange.{arith_in, both, reduced_high, width_fits, word_below}
 
 -- ---- results of operations on two words
 
@@ -30,22 +30,18 @@ pub full_words : (w : Width) → (full w).hi < 2 ^ 64
 full_words W32 = lit< tt
 full_words W64 = lit< tt
 
-wrapped_words : (w : Width) (lo hi : ℕ) → (wrapped w lo hi).hi < 2 ^ 64
+wrapped_words : (w : Width) (lo hi : ℤ) → (wrapped w lo hi).hi < 2 ^ 64
 wrapped_words w lo hi =
-    choice_words (eqb (lo / modulus w) (hi / modulus w)) (span (lo % modulus w) (hi % modulus w)) (full w)
-    (λ e. omega (arith, low_below w hi, width_fits w)) (λ e. full_words w)
+    choice_words (are_equal (quotient lo (modulus w)) (quotient hi (modulus w)))
+    (span (remainder lo (modulus w)) (remainder hi (modulus w))) (full w)
+    (λ e. omega (arith, remainder_below w hi, width_fits w)) (λ e. full_words w)
 
 filled_words : (n : ℕ) → n < 2 ^ 64 → filled n < 2 ^ 64
-filled_words n h =
-    let l = leading_length 64 n h in
-    let e : 64 - leading_zeros w64 n ≡ l.0 = omega (arith, l.1) in
-    let most : l.0 ≤ 64 = omega (arith, l.1) in
-    let up : 2 ^ l.0 ≤ 2 ^ 64 = pow-le-pow_right {n = 2} (omega arith) {i = l.0} {j = 64} most in
-    rw e (omega (arith, up, pow_pos l.0))
+filled_words n h = let l = filled_is_least n h in omega (arith, l.least 64 (omega arith))
 
 ranged_words : (code : Code) (w : Width) (a b : Range) → a.hi < 2 ^ 64 → b.hi < 2 ^ 64 → (ranged code w a b).hi < 2 ^ 64
-ranged_words Add w a b p q = wrapped_words w (a.lo + b.lo) (a.hi + b.hi)
-ranged_words Sub w a b p q = wrapped_words w (a.lo + (modulus w - b.hi)) (a.hi + (modulus w - b.lo))
+ranged_words Add w a b p q = wrapped_words w (pos (a.lo + b.lo)) (pos (a.hi + b.hi))
+ranged_words Sub w a b p q = wrapped_words w (pos a.lo -ℤ pos b.hi) (pos a.hi -ℤ pos b.lo)
 ranged_words Mul w a b p q =
     choice_words (ltb (a.hi * b.hi) (modulus w)) (span (a.lo * b.lo) (a.hi * b.hi)) (full w)
     (λ e. let f = ltb-true _ _ e in omega (arith, f, width_fits w)) (λ e. full_words w)

@@ -1,4 +1,4 @@
--- What is pulled together over all edges is what they push, one after the other.
+-- What is state_from together over all edges is what they push, one after the other.
 use Rattle.std.proofs.Common.{◌≡◌, ℕ, zero, suc, ◌+◌, ◌<◌, Bool, true, false, ◌&&◌, List, [], ◌∷◌, ◌++◌, length, Option, Some, None, refl, sym, ap, ◌∙◌, arith, append_assoc, add-zero, min, max}
 use Rattle.std.specs.Prelude.{slice_get}
 use Rattle.std.proofs.lemmas.List.{append-nil}
@@ -10,7 +10,8 @@ use Rattle.bpf_regstate.specs.Shape.{Shape}
 use Rattle.bpf_regstate.specs.Ranges.{span}
 use Rattle.bpf_regstate.specs.Joins.{join_reg, join_registers, join_marks, joined}
 use Rattle.bpf_regstate.proofs.JoinsHold.{length-states}
-use Rattle.bpf_regstate.specs.States.{join_with, join_all, into, sends, arriving, entering, states, state_at, so_far, pushed, pushed_all}
+use Rattle.bpf_regstate.specs.States.{join_with, join_all, into, sends, arriving, entering, states, state_at}
+use Rattle.bpf_regstate.specs.Pass.{so_far, with_edge, with_edges}
 
 reg_assoc : (x y z : Reg) → join_reg x (join_reg y z) ≡ join_reg (join_reg x y) z
 reg_assoc Uninit y z = refl
@@ -44,19 +45,19 @@ joined_assoc s t u =
     ap (λ (rs : List Reg). record { registers = rs; marks = join_marks s.marks (join_marks t.marks u.marks) }) (registers_assoc s.registers t.registers u.registers)
     ∙ ap (λ (bs : List Bool). record { registers = join_registers (join_registers s.registers t.registers) u.registers; marks = bs }) (marks_assoc s.marks t.marks u.marks)
 
-push_with : (x : Shape) (o : Option Shape) (s : Shape) → join_with x (pushed o s) ≡ pushed (join_with x o) s
+push_with : (x : Shape) (o : Option Shape) (s : Shape) → join_with x (with_edge o s) ≡ with_edge (join_with x o) s
 push_with x None s = refl
 push_with x (Some t) s = ap (λ (u : Shape). Some u) (joined_assoc x t s)
 
-push_end : (xs : List Shape) (s : Shape) → join_all (xs ++ s ∷ []) ≡ pushed (join_all xs) s
+push_end : (xs : List Shape) (s : Shape) → join_all (xs ++ s ∷ []) ≡ with_edge (join_all xs) s
 push_end [] s = refl
 push_end (x ∷ xs) s = ap (join_with x) (push_end xs s) ∙ push_with x (join_all xs) s
 
-pub push_append : (xs ys : List Shape) → join_all (xs ++ ys) ≡ pushed_all (join_all xs) ys
+pub push_append : (xs ys : List Shape) → join_all (xs ++ ys) ≡ with_edges (join_all xs) ys
 push_append xs [] = ap join_all (append-nil xs)
 push_append xs (y ∷ ys) =
     let regrouped : xs ++ y ∷ ys ≡ (xs ++ y ∷ []) ++ ys = sym (append_assoc xs (y ∷ []) ys) in
-    ap join_all regrouped ∙ push_append (xs ++ y ∷ []) ys ∙ ap (λ (o : Option Shape). pushed_all o ys) (push_end xs y)
+    ap join_all regrouped ∙ push_append (xs ++ y ∷ []) ys ∙ ap (λ (o : Option Shape). with_edges o ys) (push_end xs y)
 
 module _ (record_length : ℕ) (ops : List Op) (sigs : List (ℕ × Promise)) where
   arriving_end : (ss : List (Option Shape)) (s : Option Shape) (to from : ℕ) → arriving record_length ops sigs to from (ss ++ s ∷ []) ≡ arriving record_length ops sigs to from ss ++ into to (sends record_length ops sigs (from + length ss) (slice_get ops (from + length ss)) s)
@@ -68,7 +69,7 @@ module _ (record_length : ℕ) (ops : List Op) (sigs : List (ℕ × Promise)) wh
       rw moved (ap (λ (l : List Shape). front ++ l) rest ∙ sym (append_assoc front (arriving record_length ops sigs to (suc from) ss) (into to (sends record_length ops sigs (suc from + length ss) (slice_get ops (suc from + length ss)) s))))
 
   -- One more slot pushes its edges: the step of a forward pass.
-  pub one_slot : (n to : ℕ) → so_far record_length ops sigs (suc n) to ≡ pushed_all (so_far record_length ops sigs n to) (into to (sends record_length ops sigs n (slice_get ops n) (state_at record_length ops sigs n)))
+  pub one_slot : (n to : ℕ) → so_far record_length ops sigs (suc n) to ≡ with_edges (so_far record_length ops sigs n to) (into to (sends record_length ops sigs n (slice_get ops n) (state_at record_length ops sigs n)))
   unfolding states
   one_slot n to =
       let len = length-states record_length ops sigs n in

@@ -1,6 +1,5 @@
 -- Worked ranges: results, narrowing and joins.
 use Rattle.std.proofs.Common.{◌≡◌, Some, None, true, false, refl}
-use Rattle.std.specs.Int.Count.{count_leading_zeros}
 use Rattle.bpf_decode.specs.declared.op.Bytes.TheVariants.{Two}
 use Rattle.bpf_decode.specs.declared.op.Code.TheVariants.{Add, Sub, Mul, Div, Mod, Or, Xor, LeftShift, RightShift, ArithmeticShift, Mov}
 use Rattle.bpf_decode.specs.declared.op.Condition.TheVariants.{Equal, NotEqual, Above, Below}
@@ -8,7 +7,7 @@ use Rattle.bpf_decode.specs.declared.op.Order.TheVariants.{Little, Big}
 use Rattle.bpf_decode.specs.declared.op.Part.TheVariants.{Low8}
 use Rattle.bpf_decode.specs.declared.op.Width.TheVariants.{W32, W64}
 use Rattle.bpf_regstate.specs.declared.reg.Reg.TheVariants.{Uninit, Known}
-use Rattle.bpf_regstate.specs.Ranges.{span, full}
+use Rattle.bpf_regstate.specs.Ranges.{span, full, filled}
 use Rattle.bpf_regstate.specs.Effect.{arith_result, extend_range, negate_range, order_result}
 use Rattle.bpf_regstate.specs.Joins.{join_reg}
 use Rattle.bpf_regstate.specs.Narrowing.{narrowed}
@@ -50,11 +49,11 @@ remainder_of_less : arith_result Mod W64 (span 1 16) (span 17 20) ≡ span 1 16
 remainder_of_less = refl
 
 bits_of_either : arith_result Or W64 (span 1 16) (span 128 128) ≡ span 128 255
-unfolding count_leading_zeros
+unfolding filled
 bits_of_either = refl
 
 bits_of_one : arith_result Xor W64 (span 1 16) (span 0 3) ≡ span 0 31
-unfolding count_leading_zeros
+unfolding filled
 bits_of_one = refl
 
 -- a count of 68 is one of 4

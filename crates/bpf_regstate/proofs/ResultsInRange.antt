@@ -1,27 +1,33 @@
 -- The range of the results holds each result.
-use Rattle.std.proofs.Common.{◌≡◌, ℕ, ◌+◌, ◌-◌, ◌*◌, ◌/◌, ◌%◌, ◌^◌, ◌<◌, ◌≤◌, Bool, true, false, cond, eqb, ltb, leb, refl, ap, subst, ◌∙◌, arith, min, max, zero, suc, ◌&&◌, lit<, lit≤}
+use Rattle.std.proofs.Common.{◌≡◌, ℕ, ◌+◌, ◌-◌, ◌*◌, ◌/◌, ◌%◌, ◌^◌, ◌<◌, ◌≤◌, Bool, true, false, cond, eqb, ltb, leb, refl, sym, ap, subst, ◌∙◌, arith, min, max, zero, suc, ◌&&◌, lit<, lit≤}
 use Rattle.std.specs.Prelude.{bit_or, bit_xor, ℤ, pos, negsuc, neg_ℤ, unsigned_abs}
-use Rattle.std.specs.Int.{leading_zeros, w64, int_shr}
+use Rattle.std.specs.Int.{int_shr}
 use Rattle.std.specs.Int.RustNames.{int_div, int_rem}
 use mir.Val.{sel}
 use Rattle.std.proofs.lemmas.Bool.{ltb-false}
-use Rattle.std.proofs.lemmas.Bool.{eqb-true, ltb-true, leb-true}
-use Rattle.std.proofs.lemmas.Nat.{and_le_l, and_le_r, le_or_l, le_or_r, or_lt, xor_lt, mul-le, le-div, mod_below, leading_length, pow_pos}
-use Rattle.std.proofs.Math.Nat.{div-le_self, div-mul-le_self, mod-le, mod-eq_of_lt, le_refl}
+use Rattle.std.proofs.lemmas.Bool.{eqb-true, ne_eqb, ltb-true, leb-true}
+use Rattle.std.proofs.lemmas.Nat.{and_le_l, and_le_r, le_or_l, le_or_r, or_lt, xor_lt, mul-le, le-div, mod_below, pow_pos}
+use Rattle.std.proofs.Math.Nat.{div-zero, mod-zero, div-le_self, div-mul-le_self, mod-le, mod-eq_of_lt, le_refl}
 use Rattle.bpf_decode.specs.declared.op.Width.{Width}
 use Rattle.bpf_decode.specs.declared.op.Width.TheVariants.{W32, W64}
 use Rattle.bpf_decode.specs.declared.op.Code.{Code}
 use Rattle.bpf_decode.specs.declared.op.Code.TheVariants.{Add, Sub, Mul, Div, SignedDiv, Mod, SignedMod, Or, And, Xor, LeftShift, RightShift, ArithmeticShift, Mov}
 use Rattle.bpf_decode.specs.Words.{bits_of, low, operation, arith_word, signed, unsigned}
 use Rattle.bpf_helpers.specs.declared.range.Range.{Range}
-use Rattle.bpf_regstate.specs.Ranges.{span, full, modulus, reduced, wrapped, filled, ranged, arith_range}
+use Rattle.bpf_regstate.specs.Ranges.{span, full, modulus, reduced, filled, ranged, arith_range}
 use Rattle.bpf_regstate.specs.Holds.{In}
 use Rattle.bpf_regstate.specs.Shape.{IsRange}
 use Rattle.bpf_regstate.specs.Effect.{arith_result}
+use Rattle.bpf_regstate.proofs.Differences.{wrapped_difference, wrapped_numbers}
+use Rattle.bpf_regstate.proofs.Ones.{filled_is_least}
 
 pub both : (b c : Bool) → (b && c) ≡ true → (b ≡ true) × (c ≡ true)
 both true c e = (refl, e)
 both false c e = absurd cc
+
+pub width_fits : (w : Width) → modulus w ≤ 2 ^ 64
+width_fits W32 = lit≤ tt
+width_fits W64 = lit≤ tt
 
 -- a choice holds what each side holds in its case
 pub choice_in : (b : Bool) (r s : Range) (x : ℕ) → (b ≡ true → In r x) → (b ≡ false → In s x) → In (cond b r s) x
@@ -37,7 +43,7 @@ low_below W32 x = omega arith
 low_below W64 x = omega arith
 
 -- the quotient rule
-pub wrapped_in : (w : Width) (lo hi z : ℕ) → lo ≤ z → z ≤ hi → In (wrapped w lo hi) (z % modulus w)
+pub wrapped_in : (w : Width) (lo hi z : ℕ) → lo ≤ z → z ≤ hi → In (wrapped_numbers w lo hi) (z % modulus w)
 wrapped_in W32 lo hi z p q =
     choice_in (eqb (lo / 2 ^ 32) (hi / 2 ^ 32)) (span (lo % 2 ^ 32) (hi % 2 ^ 32)) (full W32) (z % 2 ^ 32)
     (λ e. let f = eqb-true _ _ e in record { low = omega arith; high = omega arith })
@@ -54,8 +60,12 @@ reduced_in W64 r x h i = let e : x % 2 ^ 64 ≡ x = omega arith in rw e i
 pub add_in : (w : Width) (a b : Range) (x y : ℕ) → In a x → In b y → In (ranged Add w a b) (operation Add w x y)
 add_in w a b x y i j = wrapped_in w (a.lo + b.lo) (a.hi + b.hi) (x + y) (omega arith) (omega arith)
 
-pub sub_in : (w : Width) (a b : Range) (x y : ℕ) → In a x → In b y → In (ranged Sub w a b) (operation Sub w x y)
-sub_in w a b x y i j = wrapped_in w (a.lo + (modulus w - b.hi)) (a.hi + (modulus w - b.lo)) (x + (modulus w - y)) (omega arith) (omega arith)
+pub sub_in : (w : Width) (a b : Range) (x y : ℕ) → b.hi < modulus w → In a x → In b y → In (ranged Sub w a b) (operation Sub w x y)
+sub_in w a b x y h i j =
+    let least : b.lo ≤ modulus w = omega (arith, j.low, j.high) in
+    let moved = wrapped_difference w a.lo b.hi a.hi b.lo (omega arith) least in
+    let there = wrapped_in w (a.lo + (modulus w - b.hi)) (a.hi + (modulus w - b.lo)) (x + (modulus w - y)) (omega arith) (omega arith) in
+    rw moved there
 
 pub and_in : (w : Width) (a b : Range) (x y : ℕ) → In a x → In b y → In (ranged And w a b) (operation And w x y)
 and_in w a b x y i j = record { low = omega arith; high = omega (arith, and_le_l x y, and_le_r x y) }
@@ -79,31 +89,44 @@ div_le : (x y u v : ℕ) → x ≤ u → v ≤ y → 0 < v → x / y ≤ u / v
 div_le x y u v p q h =
     le-div (x / y) u v h (omega (arith, mul-le (x / y) v (x / y) y (le_refl (x / y)) q, div-mul-le_self x y))
 
+-- by 0 the quotient is 0 and the remainder the dividend, as among natural numbers
+by_zero : (x y : ℕ) → (cond (eqb y 0) 0 (x / y) ≡ x / y) × (cond (eqb y 0) x (x % y) ≡ x % y)
+by_zero x zero = (sym (div-zero x), sym (mod-zero x))
+by_zero x (suc y) = let other = ne_eqb (suc y) 0 (λ same. absurd (omega arith)) in (rw other refl, rw other refl)
+
+choice_number : (m : ℕ) (b : Bool) (x y : ℕ) → x < m → y < m → cond b x y < m
+choice_number m true x y p q = p
+choice_number m false x y p q = q
+
+some_word : (w : Width) → 0 < modulus w
+some_word W32 = lit< tt
+some_word W64 = lit< tt
+
 pub div_in : (w : Width) (a b : Range) (x y : ℕ) → In a x → In b y → In (ranged Div w a b) (operation Div w x y)
 div_in w a b x y i j =
-    choice_in (leb 1 b.lo) (span (a.lo / b.hi) (a.hi / b.lo)) (span 0 a.hi) (x / y)
+    rw ((by_zero x y).0) (choice_in (leb 1 b.lo) (span (a.lo / b.hi) (a.hi / b.lo)) (span 0 a.hi) (x / y)
     (λ e.
     let one = leb-true _ _ e in
     record { low = div_le a.lo b.hi x y i.low j.high (omega arith); high = div_le x y a.hi b.lo i.high j.low (omega arith) })
-    (λ e. record { low = omega arith; high = omega (arith, div-le_self x y) })
+    (λ e. record { low = omega arith; high = omega (arith, div-le_self x y) }))
 
 pub mod_in : (w : Width) (a b : Range) (x y : ℕ) → In a x → In b y → In (ranged Mod w a b) (operation Mod w x y)
 mod_in w a b x y i j =
-    choice_in (leb 1 b.lo) (cond (ltb a.hi b.lo) a (span 0 (min a.hi (b.hi - 1)))) (span 0 a.hi) (x % y)
+    rw ((by_zero x y).1) (choice_in (leb 1 b.lo) (cond (ltb a.hi b.lo) a (span 0 (min a.hi (b.hi - 1)))) (span 0 a.hi) (x % y)
     (λ e.
     let one = leb-true _ _ e in
     choice_in (ltb a.hi b.lo) a (span 0 (min a.hi (b.hi - 1))) (x % y)
     (λ f. let less = ltb-true _ _ f in let same : x % y ≡ x = mod-eq_of_lt (omega arith) in rw same i)
     (λ f. record { low = omega arith; high = omega (arith, mod-le x y, mod_below x y) }))
-    (λ e. record { low = omega arith; high = omega (arith, mod-le x y) })
+    (λ e. record { low = omega arith; high = omega (arith, mod-le x y) }))
 
 -- a number that is below each power of two above x and y is at most what fills n
 filled_bounds : (n x y z : ℕ) → n < 2 ^ 64 → x ≤ n → y ≤ n → ((k : ℕ) → x < 2 ^ k → y < 2 ^ k → z < 2 ^ k) → z ≤ filled n
 filled_bounds n x y z h p q below =
-    let l = leading_length 64 n h in
-    let e : 64 - leading_zeros w64 n ≡ l.0 = omega (arith, l.1) in
-    let b = below l.0 (omega (arith, l.2)) (omega (arith, l.2)) in
-    rw e (omega (arith, b))
+    let l = filled_is_least n h in
+    let positive = pow_pos l.count in
+    let b = below l.count (omega (arith, l.are_ones, l.enough, positive)) (omega (arith, l.are_ones, l.enough, positive)) in
+    omega (arith, l.are_ones, b)
 
 pub or_in : (w : Width) (a b : Range) (x y : ℕ) → a.hi < 2 ^ 64 → b.hi < 2 ^ 64 → In a x → In b y → In (ranged Or w a b) (operation Or w x y)
 or_in w a b x y p q i j = record {
@@ -187,20 +210,30 @@ shifted_below : (w : Width) (u : ℤ) (k : ℕ) → IsSmall w u → unsigned w (
 shifted_below w (pos a) k h = omega (arith, div-le_self a (2 ^ k))
 shifted_below w (negsuc a) k h = negative_below w (a / 2 ^ k)
 
+divided_below : (w : Width) (x y : ℕ) → x < modulus w → operation SignedDiv w x y < modulus w
+divided_below w x y h =
+    choice_number (modulus w) (eqb y 0) 0 (unsigned w (int_div (signed w x) (signed w y)))
+    (some_word w) (quotient_below w (signed w x) (signed w y) (signed_small w x h))
+
+left_below : (w : Width) (x y : ℕ) → x < modulus w → operation SignedMod w x y < modulus w
+left_below w x y h =
+    choice_number (modulus w) (eqb y 0) x (unsigned w (int_rem (signed w x) (signed w y)))
+    h (remainder_below w (signed w x) (signed w y) (signed_small w x h))
+
 -- ---- all operations
 
 -- The results on operands of a width.
-pub ranged_in : (code : Code) (w : Width) (a b : Range) (x y : ℕ) → x < modulus w → a.hi < 2 ^ 64 → b.hi < 2 ^ 64 → In a x → In b y → In (ranged code w a b) (operation code w x y)
+pub ranged_in : (code : Code) (w : Width) (a b : Range) (x y : ℕ) → x < modulus w → a.hi < 2 ^ 64 → b.hi < modulus w → In a x → In b y → In (ranged code w a b) (operation code w x y)
 ranged_in Add w a b x y h p q i j = add_in w a b x y i j
-ranged_in Sub w a b x y h p q i j = sub_in w a b x y i j
+ranged_in Sub w a b x y h p q i j = sub_in w a b x y q i j
 ranged_in Mul w a b x y h p q i j = mul_in w a b x y i j
 ranged_in Div w a b x y h p q i j = div_in w a b x y i j
-ranged_in SignedDiv w a b x y h p q i j = full_in w _ (quotient_below w (signed w x) (signed w y) (signed_small w x h))
+ranged_in SignedDiv w a b x y h p q i j = full_in w _ (divided_below w x y h)
 ranged_in Mod w a b x y h p q i j = mod_in w a b x y i j
-ranged_in SignedMod w a b x y h p q i j = full_in w _ (remainder_below w (signed w x) (signed w y) (signed_small w x h))
-ranged_in Or w a b x y h p q i j = or_in w a b x y p q i j
+ranged_in SignedMod w a b x y h p q i j = full_in w _ (left_below w x y h)
+ranged_in Or w a b x y h p q i j = or_in w a b x y p (omega (arith, q, width_fits w)) i j
 ranged_in And w a b x y h p q i j = and_in w a b x y i j
-ranged_in Xor w a b x y h p q i j = xor_in w a b x y p q i j
+ranged_in Xor w a b x y h p q i j = xor_in w a b x y p (omega (arith, q, width_fits w)) i j
 ranged_in LeftShift w a b x y h p q i j = shl_in w a b x y i j
 ranged_in RightShift w a b x y h p q i j = shr_in w a b x y i j
 ranged_in ArithmeticShift w a b x y h p q i j = full_in w _ (shifted_below w (signed w x) (y % bits_of w) (signed_small w x h))
@@ -214,6 +247,14 @@ pub reduced_high : (w : Width) (r : Range) → r.hi < 2 ^ 64 → (reduced w r).h
 reduced_high W32 r p = choice_high (eqb (r.lo / 2 ^ 32) (r.hi / 2 ^ 32)) (span (r.lo % 2 ^ 32) (r.hi % 2 ^ 32)) (full W32) (omega arith) (omega arith)
 reduced_high W64 r p = p
 
+choice_below : (m : ℕ) (b : Bool) (r s : Range) → r.hi < m → s.hi < m → (cond b r s).hi < m
+choice_below m true r s p q = p
+choice_below m false r s p q = q
+
+reduced_below : (w : Width) (r : Range) → r.hi < 2 ^ 64 → (reduced w r).hi < modulus w
+reduced_below W32 r p = choice_below (2 ^ 32) (eqb (r.lo / 2 ^ 32) (r.hi / 2 ^ 32)) (span (r.lo % 2 ^ 32) (r.hi % 2 ^ 32)) (full W32) (omega arith) (omega arith)
+reduced_below W64 r p = p
+
 -- The range of the results holds the result.
 pub arith_in : (code : Code) (w : Width) (a b : Range) (x y : ℕ) → x < 2 ^ 64 → y < 2 ^ 64 → a.hi < 2 ^ 64 → b.hi < 2 ^ 64 → In a x → In b y → In (arith_range code w a b) (arith_word code w x y)
 arith_in code w a b x y f g p q i j =
@@ -224,17 +265,17 @@ arith_in code w a b x y f g p q i j =
     let t = same_single b y parts.1 j in
     let same : arith_word code w a.lo b.lo ≡ arith_word code w x y = ap (λ (v : ℕ). arith_word code w v b.lo) s ∙ ap (λ (v : ℕ). arith_word code w x v) t in
     record { low = omega arith; high = omega arith })
-    (λ e. ranged_in code w (reduced w a) (reduced w b) (low w x) (low w y) (low_below w x) (reduced_high w a p) (reduced_high w b q) (reduced_in w a x f i) (reduced_in w b y g j))
+    (λ e. ranged_in code w (reduced w a) (reduced w b) (low w x) (low w y) (low_below w x) (reduced_high w a p) (reduced_below w b q) (reduced_in w a x f i) (reduced_in w b y g j))
 
 -- the results are words of the width
 pub operation_below : (code : Code) (w : Width) (x y : ℕ) → x < modulus w → y < modulus w → operation code w x y < modulus w
 operation_below Add w x y p q = low_below w (x + y)
 operation_below Sub w x y p q = low_below w (x + (modulus w - y))
 operation_below Mul w x y p q = low_below w (x * y)
-operation_below Div w x y p q = omega (arith, div-le_self x y)
-operation_below SignedDiv w x y p q = quotient_below w (signed w x) (signed w y) (signed_small w x p)
-operation_below Mod w x y p q = omega (arith, mod-le x y)
-operation_below SignedMod w x y p q = remainder_below w (signed w x) (signed w y) (signed_small w x p)
+operation_below Div w x y p q = choice_number (modulus w) (eqb y 0) 0 (x / y) (some_word w) (omega (arith, div-le_self x y))
+operation_below SignedDiv w x y p q = divided_below w x y p
+operation_below Mod w x y p q = choice_number (modulus w) (eqb y 0) x (x % y) p (omega (arith, mod-le x y))
+operation_below SignedMod w x y p q = left_below w x y p
 operation_below Or w x y p q = or_lt (bits_of w) x y p q
 operation_below And w x y p q = omega (arith, and_le_l x y)
 operation_below Xor w x y p q = xor_lt (bits_of w) x y p q
@@ -242,10 +283,6 @@ operation_below LeftShift w x y p q = low_below w (x * 2 ^ (y % bits_of w))
 operation_below RightShift w x y p q = omega (arith, div-le_self x (2 ^ (y % bits_of w)))
 operation_below ArithmeticShift w x y p q = shifted_below w (signed w x) (y % bits_of w) (signed_small w x p)
 operation_below Mov w x y p q = q
-
-pub width_fits : (w : Width) → modulus w ≤ 2 ^ 64
-width_fits W32 = lit≤ tt
-width_fits W64 = lit≤ tt
 
 pub word_below : (code : Code) (w : Width) (x y : ℕ) → arith_word code w x y < 2 ^ 64
 word_below code w x y = omega (arith, width_fits w, operation_below code w (low w x) (low w y) (low_below w x) (low_below w y))

@@ -37,7 +37,7 @@ use Rattle.bpf_regstate.specs.Effect.{access, after_op, answer_reg, arith_result
 use Rattle.bpf_regstate.specs.Narrowing.{compared, immediate_word, is_low, narrowed, narrows, put_both, refined, same_register}
 use Rattle.bpf_regstate.specs.Edges.{edge, edges}
 use Rattle.bpf_regstate.specs.Faults.{faults, least}
-use Rattle.bpf_regstate.specs.States.{join_with, join_all, start_shape, into, unless_fault, sends, arriving, entering, pulled, states, state_at}
+use Rattle.bpf_regstate.specs.States.{join_with, join_all, start_shape, into, unless_fault, sends, arriving, entering, state_from, states, state_at}
 use Rattle.bpf_regstate.proofs.ResultsInRange.{both, low_below, reduced_high, reduced_in, width_fits}
 use Rattle.bpf_regstate.proofs.ResultsOfOne.{extended_below, turned_below, low_bytes}
 use Rattle.bpf_regstate.proofs.Ordered.{AreRanges, full_words, narrowed_ordered, result_ordered}
@@ -333,8 +333,8 @@ module _ (record_length : ℕ) (short : record_length < 2 ^ 64) (ops : List Op) 
   entering_shapes zero = (start_is_shape record_length short, tt)
   entering_shapes (suc slot) = tt
 
-  pulled_is : (slot : ℕ) (earlier : List (Option Shape)) → AreStates earlier → IfSome (pulled record_length ops sigs slot earlier) IsShape
-  pulled_is slot earlier i =
+  state_from_is : (slot : ℕ) (earlier : List (Option Shape)) → AreStates earlier → IfSome (state_from record_length ops sigs slot earlier) IsShape
+  state_from_is slot earlier i =
       join_all_is (entering record_length slot ++ arriving record_length ops sigs slot 0 earlier)
       (shapes_append (entering record_length slot) (arriving record_length ops sigs slot 0 earlier) (entering_shapes slot) (arriving_shapes slot 0 earlier i))
 
@@ -346,9 +346,9 @@ module _ (record_length : ℕ) (short : record_length < 2 ^ 64) (ops : List Op) 
   unfolding states
   states_are zero = tt
   states_are (suc n) =
-      states_append (states record_length ops sigs n) (pulled record_length ops sigs n (states record_length ops sigs n) ∷ []) (states_are n)
-      (pulled_is n (states record_length ops sigs n) (states_are n), tt)
+      states_append (states record_length ops sigs n) (state_from record_length ops sigs n (states record_length ops sigs n) ∷ []) (states_are n)
+      (state_from_is n (states record_length ops sigs n) (states_are n), tt)
 
   -- the state at a slot, if there is one
   pub state_is_shape : (slot : ℕ) → IfSome (state_at record_length ops sigs slot) IsShape
-  state_is_shape slot = pulled_is slot (states record_length ops sigs slot) (states_are slot)
+  state_is_shape slot = state_from_is slot (states record_length ops sigs slot) (states_are slot)

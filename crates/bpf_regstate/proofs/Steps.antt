@@ -152,35 +152,35 @@ module _ (ops : List Op) (sigs : List (ℕ × Promise)) (m : Machine) (s : Shape
           arith_in code w (range_of (known s dst)) b x.0 y x.3 word words ordered_b.words x.2 there,
         )
 
-  module _ (flight : List ℕ) where
-    pub arith_steps : (w : Width) (code : Code) (dst : ℕ) (from : Operand) → IsOperand from → IsClear (length flight) ops sigs m.slot s (Arith w code dst from)
-        → LeadsWell ops sigs (edges (length flight) sigs m.slot (Arith w code dst from) s) m (act_on ops sigs flight m (Arith w code dst from))
+  module _ (record_bytes : List ℕ) where
+    pub arith_steps : (w : Width) (code : Code) (dst : ℕ) (from : Operand) → IsOperand from → IsClear (length record_bytes) ops sigs m.slot s (Arith w code dst from)
+        → LeadsWell ops sigs (edges (length record_bytes) sigs m.slot (Arith w code dst from) s) m (act_on ops sigs record_bytes m (Arith w code dst from))
     arith_steps w code dst from f c =
         let reads = or_false (destination_uninit code s dst) (operand_uninit s from) c.reads in
         let b = operand_held from f reads.1 in
         let v = value w (range_of (operand_reg s from)) b.0 b.3 b.2 code dst reads.0 in
         rw (b.1, v.1) (sets_well (m.slot + 1) dst v.0 (arith_result code w (range_of (known s dst)) (range_of (operand_reg s from))) v.2 c.end (not_false (is_entry (slice_get ops (m.slot + 1))) c.next) (omega arith))
 
-    pub negate_steps : (w : Width) (dst : ℕ) → IsClear (length flight) ops sigs m.slot s (Negate w dst)
-        → LeadsWell ops sigs (edges (length flight) sigs m.slot (Negate w dst) s) m (act_on ops sigs flight m (Negate w dst))
+    pub negate_steps : (w : Width) (dst : ℕ) → IsClear (length record_bytes) ops sigs m.slot s (Negate w dst)
+        → LeadsWell ops sigs (edges (length record_bytes) sigs m.slot (Negate w dst) s) m (act_on ops sigs record_bytes m (Negate w dst))
     negate_steps w dst c =
         let x = reg_held (known s dst) (register m dst) (i.ranges dst) c.reads (h.registers dst) in
         rw x.1 (sets_well (m.slot + 1) dst (negated w x.0) (negate_range w (range_of (known s dst))) (negate_in w (range_of (known s dst)) x.0 x.2) c.end (not_false (is_entry (slice_get ops (m.slot + 1))) c.next) (omega arith))
 
-    pub extend_steps : (w : Width) (part : Part) (dst src : ℕ) → IsClear (length flight) ops sigs m.slot s (Extend w part dst src)
-        → LeadsWell ops sigs (edges (length flight) sigs m.slot (Extend w part dst src) s) m (act_on ops sigs flight m (Extend w part dst src))
+    pub extend_steps : (w : Width) (part : Part) (dst src : ℕ) → IsClear (length record_bytes) ops sigs m.slot s (Extend w part dst src)
+        → LeadsWell ops sigs (edges (length record_bytes) sigs m.slot (Extend w part dst src) s) m (act_on ops sigs record_bytes m (Extend w part dst src))
     extend_steps w part dst src c =
         let x = reg_held (known s src) (register m src) (i.ranges src) c.reads (h.registers src) in
         rw x.1 (sets_well (m.slot + 1) dst (extended w part x.0) (extend_range w part (range_of (known s src))) (extend_in w part (range_of (known s src)) x.0 (range_is (known s src) (i.ranges src)) x.2) c.end (not_false (is_entry (slice_get ops (m.slot + 1))) c.next) (omega arith))
 
-    pub order_steps : (order : Order) (n : Bytes) (dst : ℕ) → IsClear (length flight) ops sigs m.slot s (End order n dst)
-        → LeadsWell ops sigs (edges (length flight) sigs m.slot (End order n dst) s) m (act_on ops sigs flight m (End order n dst))
+    pub order_steps : (order : Order) (n : Bytes) (dst : ℕ) → IsClear (length record_bytes) ops sigs m.slot s (End order n dst)
+        → LeadsWell ops sigs (edges (length record_bytes) sigs m.slot (End order n dst) s) m (act_on ops sigs record_bytes m (End order n dst))
     order_steps order n dst c =
         let x = reg_held (known s dst) (register m dst) (i.ranges dst) c.reads (h.registers dst) in
         rw x.1 (sets_well (m.slot + 1) dst (ordered order n x.0) (order_result order n (range_of (known s dst))) (order_result_in order n (range_of (known s dst)) x.0 x.2) c.end (not_false (is_entry (slice_get ops (m.slot + 1))) c.next) (omega arith))
 
-    pub wide_steps : (dst v : ℕ) → IsClear (length flight) ops sigs m.slot s (Wide dst v)
-        → LeadsWell ops sigs (edges (length flight) sigs m.slot (Wide dst v) s) m (act_on ops sigs flight m (Wide dst v))
+    pub wide_steps : (dst v : ℕ) → IsClear (length record_bytes) ops sigs m.slot s (Wide dst v)
+        → LeadsWell ops sigs (edges (length record_bytes) sigs m.slot (Wide dst v) s) m (act_on ops sigs record_bytes m (Wide dst v))
     wide_steps dst v c =
         sets_well (m.slot + 2) dst v (span v v) (record { low = omega arith; high = omega arith }) c.end (not_false (is_entry (slice_get ops (m.slot + 2))) c.next) (omega arith)
 
@@ -190,8 +190,8 @@ module _ (ops : List Op) (sigs : List (ℕ × Promise)) (m : Machine) (s : Shape
     always_steps offset e =
         jumps_well offset (edge (target m.slot offset) (Some s)) e (λ to is. rw is (one_edge (moved m to) to (Some s) (moved_held s m to h)))
 
-    pub jump_steps : (w : Width) (condition : Condition) (dst : ℕ) (from : Operand) (offset : ℤ) → IsOperand from → IsClear (length flight) ops sigs m.slot s (Jump w condition dst from offset)
-        → LeadsWell ops sigs (edges (length flight) sigs m.slot (Jump w condition dst from offset) s) m (act_on ops sigs flight m (Jump w condition dst from offset))
+    pub jump_steps : (w : Width) (condition : Condition) (dst : ℕ) (from : Operand) (offset : ℤ) → IsOperand from → IsClear (length record_bytes) ops sigs m.slot s (Jump w condition dst from offset)
+        → LeadsWell ops sigs (edges (length record_bytes) sigs m.slot (Jump w condition dst from offset) s) m (act_on ops sigs record_bytes m (Jump w condition dst from offset))
     jump_steps w condition dst from offset f c =
         let reads = or_false (is_uninit (known s dst)) (operand_uninit s from) c.reads in
         let a = reg_held (known s dst) (register m dst) (i.ranges dst) reads.0 (h.registers dst) in
@@ -213,5 +213,5 @@ module _ (ops : List Op) (sigs : List (ℕ × Promise)) (m : Machine) (s : Shape
             (later_edge (moved m (m.slot + 1)) (m.slot + 1) (edge (target m.slot offset) (refined w condition dst from true s)) (edge (Some (m.slot + 1)) (refined w condition dst from false s))
             (one_edge (moved m (m.slot + 1)) (m.slot + 1) (refined w condition dst from false s) (moved_held_at (refined w condition dst from false s) m (m.slot + 1) (held false e))))
 
-    pub exit_steps : IsClear (length flight) ops sigs m.slot s Exit → LeadsWell ops sigs (edges (length flight) sigs m.slot Exit s) m (act_on ops sigs flight m Exit)
+    pub exit_steps : IsClear (length record_bytes) ops sigs m.slot s Exit → LeadsWell ops sigs (edges (length record_bytes) sigs m.slot Exit s) m (act_on ops sigs record_bytes m Exit)
     exit_steps c = let x = reg_held (known s 0) (register m 0) (i.ranges 0) c.reads (h.registers 0) in rw x.1 tt

@@ -19,12 +19,12 @@ use Rattle.bpf_regstate.proofs.ResultsInRange.{both}
 
 -- ---- verdicts that compute
 
-abbrev is_clear : Option ℕ → Bool
+abbrev pub is_clear : Option ℕ → Bool
 is_clear None = true
 is_clear (Some code) = false
 
 -- the first n slots have no fault
-abbrev are_clear : List Op → List (ℕ × Promise) → ℕ → Bool
+abbrev pub are_clear : List Op → List (ℕ × Promise) → ℕ → Bool
 are_clear ops sigs zero = true
 are_clear ops sigs (suc n) = are_clear ops sigs n && is_clear (fault_at 128 ops sigs n)
 
@@ -40,10 +40,10 @@ clear_at ops sigs (suc n) k e h =
     (λ (same : n ≤ k). let here : n ≡ k = omega arith in subst (λ (j : ℕ). fault_at 128 ops sigs j ≡ None) here (is_none (fault_at 128 ops sigs n) parts.1))
     (cases_lt k n)
 
-record IsAccepted (ops : List Op) (sigs : List (ℕ × Promise)) : Type 0 where
+pub record IsAccepted (ops : List Op) (sigs : List (ℕ × Promise)) : Type 0 where
   pub accepts : Accepts 128 ops sigs
 
-accepted : (ops : List Op) (sigs : List (ℕ × Promise)) → are_clear ops sigs (length ops) ≡ true → IsAccepted ops sigs
+pub accepted : (ops : List Op) (sigs : List (ℕ × Promise)) → are_clear ops sigs (length ops) ≡ true → IsAccepted ops sigs
 accepted ops sigs e = record { accepts = λ slot h. clear_at ops sigs (length ops) slot e h }
 
 refused : (ops : List Op) (sigs : List (ℕ × Promise)) (slot code : ℕ) → slot < length ops → fault_at 128 ops sigs slot ≡ Some code
@@ -204,13 +204,13 @@ after_a_call = refused _ _ 2 308 (omega arith) refl refl
 
 -- ---- a run
 
-no_bytes : (n k : ℕ) → slice_index_or (replicate n 0) k 0 < 256
+pub no_bytes : (n k : ℕ) → slice_index_or (replicate n 0) k 0 < 256
 no_bytes zero k = omega arith
 no_bytes (suc n) zero = omega arith
 no_bytes (suc n) (suc k) = no_bytes n k
 
-accepts_all : (ops : List Op) (sigs : List (ℕ × Promise)) → IsAccepted ops sigs → (flight : List ℕ) → length flight ≡ 128 → Accepts (length flight) ops sigs
-accepts_all ops sigs a flight e = rw e a.accepts
+accepts_all : (ops : List Op) (sigs : List (ℕ × Promise)) → IsAccepted ops sigs → (record_bytes : List ℕ) → length record_bytes ≡ 128 → Accepts (length record_bytes) ops sigs
+accepts_all ops sigs a record_bytes e = rw e a.accepts
 
 -- the laws speak of this run: two slots on a record of zeros
 run_of_two_slots : IsAcceptedRun (Arith W64 Mov 0 (Immediate (pos 0)) ∷ Exit ∷ []) [] (replicate 128 0) 29000580 1
@@ -219,7 +219,7 @@ run_of_two_slots = record {
   signatures = refl;
   short = omega (arith, length-replicate 128 zero);
   bytes = no_bytes 128;
-  moment = omega arith;
+  timely = omega arith;
   first_milestone = omega arith;
   last_milestone = omega arith;
   accepts = accepts_all (Arith W64 Mov 0 (Immediate (pos 0)) ∷ Exit ∷ []) [] two_slots (replicate 128 0) (length-replicate 128 zero);

@@ -14,13 +14,14 @@ edge None s = []
 edge (Some to) None = []
 edge (Some to) (Some s) = (to, s) ∷ []
 
--- where a slot without a fault leads; a conditional jump has two edges, also where both lead to one slot
-abbrev pub edges : ℕ → List (ℕ × Promise) → ℕ → Op → Shape → List (ℕ × Shape)
-edges record_length sigs slot (Ja offset) s = edge (target slot offset) (Some s)
-edges record_length sigs slot (Ja32 offset) s = edge (target slot offset) (Some s)
-edges record_length sigs slot (Jump w condition dst from offset) s =
-    edge (target slot offset) (refined w condition dst from true s)
-    ++ edge (Some (slot + 1)) (refined w condition dst from false s)
-edges record_length sigs slot Exit s = []
-edges record_length sigs slot Tail s = []
-edges record_length sigs slot op s = (next_slot slot op, after_op record_length sigs op s) ∷ []
+module _ (record_length : ℕ) (sigs : List (ℕ × Promise)) where
+  -- where a slot without a fault leads; a conditional jump has two edges, also where both lead to one slot
+  abbrev pub edges : ℕ → Op → Shape → List (ℕ × Shape)
+  edges slot (Ja offset) s = edge (target slot offset) (Some s)
+  edges slot (Ja32 offset) s = edge (target slot offset) (Some s)
+  edges slot (Jump w condition dst from offset) s =
+      edge (target slot offset) (refined w condition dst from true s)
+      ++ edge (Some (slot + 1)) (refined w condition dst from false s)
+  edges slot Exit s = []
+  edges slot Tail s = []
+  edges slot op s = (next_slot slot op, after_op record_length sigs op s) ∷ []

@@ -65,41 +65,49 @@ arith_result code w a b = arith_range code w a b
 
 -- ---- memory
 
--- profile: where all addresses of an access lie, n bytes from each word of the range plus the offset, beside a record of this length
-abbrev pub access : ℕ → Range → ℤ → ℕ → Place
-access record_length r offset n = place_of record_length (pos r.lo +ℤ offset) (r.hi - r.lo + n)
-
 -- n bytes of the stack from a place on are marked
 abbrev pub marked : List Bool → Place → ℕ → List Bool
 marked marks (InStack at) n = take at marks ++ (replicate n true ++ drop (at + n) marks)
 marked marks (InRecord at) n = marks
 marked marks Nowhere n = marks
 
--- profile: a store at one address marks its bytes, a store at any of several marks none
-abbrev pub store_marks : ℕ → List Bool → Range → ℤ → ℕ → List Bool
-store_marks record_length marks r offset n = if is_single r then marked marks (access record_length r offset n) n else marks
-
--- ---- all instructions but conditional jumps
-
 -- profile: the answer lies in the range that the signature promises; an unknown helper is a fault
 abbrev pub answer_reg : Option Promise → Reg
 answer_reg None = Uninit
 answer_reg (Some sig) = Known sig.answer
 
--- what is known after an instruction, beside a record of this length
-abbrev pub after_op : ℕ → List (ℕ × Promise) → Op → Shape → Shape
-after_op record_length sigs (Arith w code dst from) s =
-    with_register s dst (Known (arith_result code w (range_of (known s dst)) (range_of (operand_reg s from))))
-after_op record_length sigs (Negate w dst) s = with_register s dst (Known (negate_range w (range_of (known s dst))))
-after_op record_length sigs (Extend w part dst src) s = with_register s dst (Known (extend_range w part (range_of (known s src))))
-after_op record_length sigs (End order n dst) s = with_register s dst (Known (order_result order n (range_of (known s dst))))
-after_op record_length sigs (Load size dst base offset) s = with_register s dst (Known (span 0 (2 ^ (8 * int.byte_len (size_type size)) - 1)))
-after_op record_length sigs (LoadSigned part dst base offset) s = with_register s dst (Known (full W64))
-after_op record_length sigs (Store size base offset from) s =
-    record { registers = s.registers; marks = store_marks record_length s.marks (range_of (known s base)) offset (int.byte_len (size_type size)) }
-after_op record_length sigs (Wide dst value) s = with_register s dst (Known (span value value))
-after_op record_length sigs (Call helper) s = record {
-  registers = answer_reg (signature_of sigs helper) ∷ Uninit ∷ Uninit ∷ Uninit ∷ Uninit ∷ Uninit ∷ drop 6 s.registers;
-  marks = s.marks;
-}
-after_op record_length sigs op s = s
+-- ---- beside a record of this length
+
+module _ (record_length : ℕ) where
+  -- profile: where all addresses of an access lie, n bytes from each word of the range plus the offset
+  abbrev pub access : Range → ℤ → ℕ → Place
+  access r offset n = place_of record_length (pos r.lo +ℤ offset) (r.hi - r.lo + n)
+
+  -- profile: a store at one address marks its bytes, a store at any of several marks none
+  abbrev pub store_marks : List Bool → Range → ℤ → ℕ → List Bool
+  store_marks marks r offset n = if is_single r then marked marks (access r offset n) n else marks
+
+  -- what is known after an instruction that is no conditional jump
+  abbrev pub after_op : List (ℕ × Promise) → Op → Shape → Shape
+  after_op sigs (Arith w code dst from) s =
+      with_register s dst (Known (arith_result code w (range_of (known s dst)) (range_of (operand_reg s from))))
+  after_op sigs (Negate w dst) s = with_register s dst (Known (negate_range w (range_of (known s dst))))
+  after_op sigs (Extend w part dst src) s =
+      with_register s dst (Known (extend_range w part (range_of (known s src))))
+  after_op sigs (End order n dst) s =
+      with_register s dst (Known (order_result order n (range_of (known s dst))))
+  after_op sigs (Load size dst base offset) s =
+      with_register s dst (Known (span 0 (2 ^ (8 * int.byte_len (size_type size)) - 1)))
+  after_op sigs (LoadSigned part dst base offset) s = with_register s dst (Known (full W64))
+  after_op sigs (Store size base offset from) s = record {
+    registers = s.registers;
+    marks = store_marks s.marks (range_of (known s base)) offset (int.byte_len (size_type size));
+  }
+  after_op sigs (Wide dst value) s = with_register s dst (Known (span value value))
+  after_op sigs (Call helper) s = record {
+    registers =
+        answer_reg (signature_of sigs helper)
+        ∷ Uninit ∷ Uninit ∷ Uninit ∷ Uninit ∷ Uninit ∷ drop 6 s.registers;
+    marks = s.marks;
+  }
+  after_op sigs op s = s

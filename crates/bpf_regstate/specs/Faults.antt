@@ -1,5 +1,5 @@
 -- What may not stand in a program (this project's profile). Faults have numbers from 306 to 314.
-use Rattle.std.specs.Prelude.{ℕ, ◌+◌, ◌-◌, List, [], ◌∷◌, take, drop, Bool, true, false, not, ◌&&◌, ◌||◌, ◌==◌, nat_lt, nat_le, if◌then◌else◌, Option, Some, None, slice_get}
+use Rattle.std.specs.Prelude.{ℕ, ◌+◌, ◌-◌, List, [], ◌∷◌, take, drop, Bool, true, false, not, ◌&&◌, ◌||◌, ◌==◌, nat_lt, nat_le, if◌then◌else◌, Option, Some, None, slice_get, ℤ}
 use Rattle.std.specs.Int as int
 use Rattle.std.specs.List.{list_all}
 use Rattle.bpf_decode.specs.declared.op.Op.{Op}
@@ -96,13 +96,6 @@ reads_uninit sigs s (LoadSigned part dst base offset) = is_uninit (known s base)
 reads_uninit sigs s (Store size base offset from) = is_uninit (known s base) || operand_uninit s from
 reads_uninit sigs s op = false
 
--- where the access of an instruction lies
-abbrev pub access_of : ℕ → Shape → Op → Option Place
-access_of record_length s (Load size dst base offset) = Some (access record_length (range_of (known s base)) offset (int.byte_len (size_type size)))
-access_of record_length s (LoadSigned part dst base offset) = Some (access record_length (range_of (known s base)) offset (int.byte_len (part_type part)))
-access_of record_length s (Store size base offset from) = Some (access record_length (range_of (known s base)) offset (int.byte_len (size_type size)))
-access_of record_length s op = None
-
 -- 309: the addresses do not all lie in one region
 abbrev pub is_nowhere : Option Place → Bool
 is_nowhere (Some Nowhere) = true
@@ -117,22 +110,9 @@ abbrev pub is_unmarked : Shape → Range → ℕ → Place → Bool
 is_unmarked s r n (InStack at) = not (all_marked s at (r.hi - r.lo + n))
 is_unmarked s r n p = false
 
--- 310: a load from the stack of bytes that are not all marked
-abbrev pub loads_unmarked : ℕ → Shape → Op → Bool
-loads_unmarked record_length s (Load size dst base offset) =
-    is_unmarked s (range_of (known s base)) (int.byte_len (size_type size)) (access record_length (range_of (known s base)) offset (int.byte_len (size_type size)))
-loads_unmarked record_length s (LoadSigned part dst base offset) =
-    is_unmarked s (range_of (known s base)) (int.byte_len (part_type part)) (access record_length (range_of (known s base)) offset (int.byte_len (part_type part)))
-loads_unmarked record_length s op = false
-
 abbrev pub is_in_record : Place → Bool
 is_in_record (InRecord at) = true
 is_in_record p = false
-
--- 311: a store to the record
-abbrev pub stores_in_record : ℕ → Shape → Op → Bool
-stores_in_record record_length s (Store size base offset from) = is_in_record (access record_length (range_of (known s base)) offset (int.byte_len (size_type size)))
-stores_in_record record_length s op = false
 
 abbrev pub lies_within : Range → Range → Bool
 lies_within inner outer = nat_le outer.lo inner.lo && nat_le inner.hi outer.hi
@@ -152,23 +132,6 @@ passes_badly sigs s op = false
 
 -- ---- all faults, by their numbers
 
--- a fault that counts only where no register that is read is uninitialised
-abbrev pub state_faults : ℕ → List (ℕ × Promise) → Op → Option Shape → List (ℕ × Bool)
-state_faults record_length sigs op None = []
-state_faults record_length sigs op (Some s) =
-    (308, reads_uninit sigs s op)
-    ∷ (309, not (reads_uninit sigs s op) && is_nowhere (access_of record_length s op))
-    ∷ (310, not (reads_uninit sigs s op) && loads_unmarked record_length s op)
-    ∷ (311, not (reads_uninit sigs s op) && stores_in_record record_length s op)
-    ∷ (313, not (reads_uninit sigs s op) && passes_badly sigs s op)
-    ∷ []
-
--- the numbers of faults, each with whether a slot has it
-abbrev pub faults : ℕ → List Op → List (ℕ × Promise) → ℕ → Op → Option Shape → List (ℕ × Bool)
-faults record_length ops sigs slot Tail s = []
-faults record_length ops sigs slot op s =
-    (306, jumps_badly ops slot op) ∷ (307, falls_off ops slot op) ∷ (312, calls_unknown sigs op) ∷ (314, writes_end op) ∷ state_faults record_length sigs op s
-
 abbrev pub smaller : ℕ → Option ℕ → Option ℕ
 smaller n None = Some n
 smaller n (Some m) = if nat_lt n m then Some n else Some m
@@ -177,3 +140,51 @@ smaller n (Some m) = if nat_lt n m then Some n else Some m
 abbrev pub least : List (ℕ × Bool) → Option ℕ
 least [] = None
 least (f ∷ fs) = if f.1 then smaller f.0 (least fs) else least fs
+
+-- ---- all faults, beside a record of this length
+
+module _ (record_length : ℕ) where
+  -- where so many bytes may lie that a register and an offset give
+  abbrev pub place_by : Shape → ℕ → ℤ → ℕ → Place
+  place_by s base offset n = access record_length (range_of (known s base)) offset n
+
+  -- where the access of an instruction lies
+  abbrev pub access_of : Shape → Op → Option Place
+  access_of s (Load size dst base offset) = Some (place_by s base offset (int.byte_len (size_type size)))
+  access_of s (LoadSigned part dst base offset) = Some (place_by s base offset (int.byte_len (part_type part)))
+  access_of s (Store size base offset from) = Some (place_by s base offset (int.byte_len (size_type size)))
+  access_of s op = None
+
+  -- a load of so many bytes from the stack, of which some may not be marked
+  abbrev pub is_unmarked_by : Shape → ℕ → ℤ → ℕ → Bool
+  is_unmarked_by s base offset n = is_unmarked s (range_of (known s base)) n (place_by s base offset n)
+
+  -- 310: a load from the stack of bytes that are not all marked
+  abbrev pub loads_unmarked : Shape → Op → Bool
+  loads_unmarked s (Load size dst base offset) = is_unmarked_by s base offset (int.byte_len (size_type size))
+  loads_unmarked s (LoadSigned part dst base offset) = is_unmarked_by s base offset (int.byte_len (part_type part))
+  loads_unmarked s op = false
+
+  -- 311: a store to the record
+  abbrev pub stores_in_record : Shape → Op → Bool
+  stores_in_record s (Store size base offset from) =
+      is_in_record (place_by s base offset (int.byte_len (size_type size)))
+  stores_in_record s op = false
+
+  -- a fault that counts only where no register that is read is uninitialised
+  abbrev pub state_faults : List (ℕ × Promise) → Op → Option Shape → List (ℕ × Bool)
+  state_faults sigs op None = []
+  state_faults sigs op (Some s) =
+      (308, reads_uninit sigs s op)
+      ∷ (309, not (reads_uninit sigs s op) && is_nowhere (access_of s op))
+      ∷ (310, not (reads_uninit sigs s op) && loads_unmarked s op)
+      ∷ (311, not (reads_uninit sigs s op) && stores_in_record s op)
+      ∷ (313, not (reads_uninit sigs s op) && passes_badly sigs s op)
+      ∷ []
+
+  -- the numbers of faults, each with whether a slot has it
+  abbrev pub faults : List Op → List (ℕ × Promise) → ℕ → Op → Option Shape → List (ℕ × Bool)
+  faults ops sigs slot Tail s = []
+  faults ops sigs slot op s =
+      (306, jumps_badly ops slot op) ∷ (307, falls_off ops slot op) ∷ (312, calls_unknown sigs op)
+      ∷ (314, writes_end op) ∷ state_faults sigs op s

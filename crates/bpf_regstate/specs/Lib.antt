@@ -7,5 +7,5 @@ pub mod Narrowing
 pub mod Edges
 pub mod Faults
 pub mod States
-pub mod Memory
+pub mod Pass
 pub mod Soundness

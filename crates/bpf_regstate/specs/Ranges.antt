@@ -1,6 +1,5 @@
 -- Ranges of results (this project's profile).
-use Rattle.std.specs.Prelude.{ℕ, ◌+◌, ◌-◌, ◌*◌, ◌/◌, ◌%◌, ◌^◌, Bool, ◌&&◌, ◌==◌, nat_lt, nat_le, min, max, if◌then◌else◌}
-use Rattle.std.specs.Int.{leading_zeros, w64}
+use Rattle.std.specs.Prelude.{◌≡◌, ℕ, zero, suc, ◌≤◌, ◌+◌, ◌-◌, ◌*◌, ◌/◌, ◌%◌, ◌^◌, Bool, false, ◌&&◌, ◌==◌, nat_lt, nat_le, min, max, if◌then◌else◌, ℤ, pos, negsuc, ◌-ℤ◌}
 use Rattle.bpf_decode.specs.declared.op.Width.{Width}
 use Rattle.bpf_decode.specs.declared.op.Width.TheVariants.{W32, W64}
 use Rattle.bpf_decode.specs.declared.op.Code.{Code}
@@ -24,21 +23,57 @@ full w = span 0 (modulus w - 1)
 -- the low halves of the words of a range
 abbrev pub reduced : Width → Range → Range
 reduced W64 r = r
-reduced W32 r = if r.lo / 2 ^ 32 == r.hi / 2 ^ 32 then span (r.lo % 2 ^ 32) (r.hi % 2 ^ 32) else full W32
+reduced W32 r =
+    if r.lo / 2 ^ 32 == r.hi / 2 ^ 32 then span (r.lo % 2 ^ 32) (r.hi % 2 ^ 32) else full W32
 
--- the numbers from lo to hi, modulo the width, where they have one quotient
-abbrev pub wrapped : Width → ℕ → ℕ → Range
-wrapped w lo hi = if lo / modulus w == hi / modulus w then span (lo % modulus w) (hi % modulus w) else full w
+-- ---- integers modulo the width
 
--- the least 2 ^ k - 1 that isn't below n
-abbrev pub filled : ℕ → ℕ
-filled n = 2 ^ (64 - leading_zeros w64 n) - 1
+-- the quotient by m, rounded down: of -1 - n it is -1 - n / m
+abbrev pub quotient : ℤ → ℕ → ℤ
+quotient (pos n) m = pos (n / m)
+quotient (negsuc n) m = negsuc (n / m)
+
+-- what that quotient leaves, from 0 to m - 1
+abbrev pub remainder : ℤ → ℕ → ℕ
+remainder (pos n) m = n % m
+remainder (negsuc n) m = m - 1 - n % m
+
+abbrev pub are_equal : ℤ → ℤ → Bool
+are_equal (pos n) (pos m) = n == m
+are_equal (pos n) (negsuc m) = false
+are_equal (negsuc n) (pos m) = false
+are_equal (negsuc n) (negsuc m) = n == m
+
+-- the integers from lo to hi, modulo the width, where they have one quotient
+abbrev pub wrapped : Width → ℤ → ℤ → Range
+wrapped w lo hi =
+    if are_equal (quotient lo (modulus w)) (quotient hi (modulus w))
+    then span (remainder lo (modulus w)) (remainder hi (modulus w)) else full w
+
+-- ---- ones in a row
+
+-- the first of 2 ^ k - 1, 2 ^ (k + 1) - 1 and so on that isn't below n, of so many that are tried
+abbrev pub first_ones : ℕ → ℕ → ℕ → ℕ
+first_ones zero k n = 2 ^ k - 1
+first_ones (suc tries) k n = if nat_le n (2 ^ k - 1) then 2 ^ k - 1 else first_ones tries (suc k) n
+
+-- the least 2 ^ k - 1 that isn't below a word
+unfoldable pub filled : ℕ → ℕ
+filled n = first_ones 64 0 n
+
+-- these are the least ones in a row that aren't below n
+pub record AreLeastOnes (n ones : ℕ) : Type 0 where
+  pub count : ℕ
+  pub are_ones : ones ≡ 2 ^ count - 1
+  pub enough : n ≤ ones
+  pub least : (k : ℕ) → n ≤ 2 ^ k - 1 → ones ≤ 2 ^ k - 1
+
+-- ---- results
 
 -- The range of the results of an operation on the words of two ranges, of which one isn't single.
--- In differences the modulus is added once, so that none is below 0.
 abbrev pub ranged : Code → Width → Range → Range → Range
-ranged Add w a b = wrapped w (a.lo + b.lo) (a.hi + b.hi)
-ranged Sub w a b = wrapped w (a.lo + (modulus w - b.hi)) (a.hi + (modulus w - b.lo))
+ranged Add w a b = wrapped w (pos (a.lo + b.lo)) (pos (a.hi + b.hi))
+ranged Sub w a b = wrapped w (pos a.lo -ℤ pos b.hi) (pos a.hi -ℤ pos b.lo)
 ranged Mul w a b = if nat_lt (a.hi * b.hi) (modulus w) then span (a.lo * b.lo) (a.hi * b.hi) else full w
 ranged Div w a b = if nat_le 1 b.lo then span (a.lo / b.hi) (a.hi / b.lo) else span 0 a.hi
 ranged SignedDiv w a b = full w
@@ -56,8 +91,8 @@ ranged RightShift w a b =
 ranged ArithmeticShift w a b = full w
 ranged Mov w a b = b
 
--- The range of the results on whole words: that of their low halves where the width is 32, and the machine's own result where both
--- ranges have one word.
+-- The range of the results on whole words: that of their low halves where the width is 32, and the
+-- machine's own result where both ranges have one word.
 abbrev pub arith_range : Code → Width → Range → Range → Range
 arith_range code w a b =
     if is_single a && is_single b then span (arith_word code w a.lo b.lo) (arith_word code w a.lo b.lo)

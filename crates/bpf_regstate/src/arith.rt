@@ -1,10 +1,10 @@
 //! Ranges of the results of arithmetic.
 
-ghost use Rattle.std.specs.Prelude.{◌≡◌, ◌<◌, ◌≤◌, ◌^◌};
+ghost use Rattle.std.specs.Prelude.{◌≡◌, ◌<◌, ◌≤◌, ◌^◌, pos};
 ghost use Rattle.bpf_regstate.specs.Effect.{arith_result};
 ghost use Rattle.bpf_regstate.specs.Shape.{IsRange};
 ghost use Rattle.bpf_regstate.specs.Ranges.{arith_range, ranged, full, reduced, wrapped, filled, modulus};
-ghost use Rattle.bpf_decode.specs.declared.op.Code.TheVariants.{Mul, Div, Mod, LeftShift, RightShift};
+ghost use Rattle.bpf_decode.specs.declared.op.Code.TheVariants.{Sub, Mul, Div, Mod, LeftShift, RightShift};
 ghost use Rattle.bpf_decode.specs.Words.{bits_of};
 ghost use Rattle.bpf_decode.specs.declared.op.Width.TheVariants.{W32, W64};
 
@@ -53,7 +53,7 @@ pub fn reduce(width: Width, range: Range) -> Range
 
 /// The numbers from one to another, modulo the width, where they have one quotient.
 fn wrap(width: Width, lo: u128, hi: u128) -> Range
-    ensures { result ≡ wrapped width lo hi }
+    ensures { result ≡ wrapped width (pos lo) (pos hi) }
 {
     match width {
         Width::W32 => {
@@ -107,6 +107,20 @@ fn fill(n: u64) -> u64
 {
     let zeros = n.leading_zeros();
     if zeros == 64 { 0 } else { u64::MAX >> zeros }
+}
+
+/// The range of a difference. The size of the width is added to both ends, so that none is below 0.
+fn subtract(width: Width, a: Range, b: Range) -> Range
+    requires ordered { b.lo ≤ b.hi }
+    requires width { b.hi < modulus width }
+    ensures { result ≡ ranged Sub width a b }
+{
+    let size = size_of_width(width);
+    wrap(
+        width,
+        a.lo as u128 + (size - b.hi as u128),
+        a.hi as u128 + (size - b.lo as u128),
+    )
 }
 
 /// The range of a product.
@@ -206,14 +220,7 @@ fn results_of_ranges(code: Code, width: Width, a: Range, b: Range) -> Range
             a.lo as u128 + b.lo as u128,
             a.hi as u128 + b.hi as u128,
         ),
-        Code::Sub => {
-            let size = size_of_width(width);
-            wrap(
-                width,
-                a.lo as u128 + (size - b.hi as u128),
-                a.hi as u128 + (size - b.lo as u128),
-            )
-        }
+        Code::Sub => subtract(width, a, b),
         Code::Mul => multiply(width, a, b),
         Code::Div => divide(width, a, b),
         Code::Mod => remainder(width, a, b),

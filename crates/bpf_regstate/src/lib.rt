@@ -11,7 +11,7 @@ mod single;
 mod state;
 
 pub use bpf_helpers::Range;
-pub use places::{Place, byte_count, part_byte_count, place_of_access};
+pub use places::{RECORD_LENGTH, place_of_access};
 pub use reg::Reg;
 pub use state::State;
 

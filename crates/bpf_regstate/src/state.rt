@@ -12,13 +12,12 @@ ghost use Rattle.bpf_regstate.specs.declared.reg.Reg.TheVariants.{Uninit};
 
 use crate::arith::{all_of, operate_on_ranges};
 use crate::narrowing::{narrow, narrows};
-use crate::places::{
-    Place, RECORD_BASE, RECORD_LENGTH, STACK_BASE, STACK_LENGTH, byte_count, place_of_access,
-};
+use crate::places::{RECORD_LENGTH, place_of_access};
 use crate::reg::Reg;
 use crate::single::{extend_words, negate_words, order_words, single};
 use bpf_decode::{Condition, Op, Operand, Register, Size, Width};
 use bpf_helpers::{Range, Sigs};
+use bpf_places::{Place, RECORD_BASE, STACK_BASE, STACK_LENGTH, byte_count};
 use std::marker::Model;
 
 /// What is known before an instruction: of each register, and which bytes of the stack were written on every way there.
@@ -155,15 +154,15 @@ impl State {
         let none = Reg::Uninit;
         let record = Reg::Known(single(RECORD_BASE));
         let length = Reg::Known(single(RECORD_LENGTH as u64));
-        let now = Reg::Known(Range {
+        let moment = Reg::Known(Range {
             lo: 0,
             hi: 0xffff_ffff,
         });
         let milestone = Reg::Known(Range { lo: 1, hi: 16 });
-        let end = Reg::Known(single(STACK_BASE + STACK_LENGTH));
+        let end = Reg::Known(single(STACK_BASE + STACK_LENGTH as u64));
         State {
             registers: [
-                none, record, length, now, milestone, none, none, none, none, none, end,
+                none, record, length, moment, milestone, none, none, none, none, none, end,
             ],
             marks: [false; 512],
         }

@@ -5,7 +5,7 @@ use Rattle.bpf_helpers.specs.Promise.{Promise, is_answer}
 use Rattle.bpf_semantics.specs.Machine.{Machine, Action, Goes, Asks, Ends, Stuck, action, answered}
 use Rattle.bpf_semantics.specs.Runs.{follow, after, Reaches, Comes}
 
-module _ (ops : List Op) (sigs : List (ℕ × Promise)) (flight : List ℕ) where
+module _ (ops : List Op) (sigs : List (ℕ × Promise)) (record_bytes : List ℕ) where
   -- the run of n steps over xs, which ends in a and leaves these answers, goes on to that of k steps over ys
   pub record GoesOn (n k : ℕ) (xs ys left right : List ℕ) (a b : Machine) : Type 0 where
     pub steps : ℕ
@@ -13,7 +13,7 @@ module _ (ops : List Op) (sigs : List (ℕ × Promise)) (flight : List ℕ) wher
     pub later : k ≡ n + steps
     pub longer : ys ≡ xs ++ more
     pub rest : left ≡ more ++ right
-    pub reaches : Reaches ops sigs flight a more steps b
+    pub reaches : Reaches ops sigs record_bytes a more steps b
 
   abbrev pub Meet : ℕ → ℕ → List ℕ → List ℕ → List ℕ → List ℕ → Machine → Machine → Type 0
   Meet n k xs ys left right a b = GoesOn n k xs ys left right a b ⊎ GoesOn k n ys xs right left b a
@@ -39,8 +39,8 @@ module _ (ops : List Op) (sigs : List (ℕ × Promise)) (flight : List ℕ) wher
   if_some false go a e = absurd (cc)
 
   step_meets : (act : Action) (m : Machine) (n k : ℕ) (xs ys left right : List ℕ) (a b : Machine)
-      → ((us vs : List ℕ) (x : Machine) → us ++ left ≡ vs ++ right → after ops sigs flight n us x ≡ Some a → after ops sigs flight k vs x ≡ Some b → Meet n k us vs left right a b)
-      → xs ++ left ≡ ys ++ right → follow sigs act m (after ops sigs flight n) xs ≡ Some a → follow sigs act m (after ops sigs flight k) ys ≡ Some b
+      → ((us vs : List ℕ) (x : Machine) → us ++ left ≡ vs ++ right → after ops sigs record_bytes n us x ≡ Some a → after ops sigs record_bytes k vs x ≡ Some b → Meet n k us vs left right a b)
+      → xs ++ left ≡ ys ++ right → follow sigs act m (after ops sigs record_bytes n) xs ≡ Some a → follow sigs act m (after ops sigs record_bytes k) ys ≡ Some b
       → Meet (suc n) (suc k) xs ys left right a b
   step_meets (Goes next) m n k xs ys left right a b on e h i = both_later n k xs ys left right a b (on xs ys next e h i)
   step_meets (Asks helper passed) m n k [] ys left right a b on e h i = absurd (cc)
@@ -48,29 +48,29 @@ module _ (ops : List Op) (sigs : List (ℕ × Promise)) (flight : List ℕ) wher
   step_meets (Asks helper passed) m n k (x ∷ xs) (y ∷ ys) left right a b on e h i =
       let same : x ≡ y = cc in
       let rests : xs ++ left ≡ ys ++ right = cc in
-      let first : after ops sigs flight n xs (answered m x) ≡ Some a = if_some (is_answer sigs helper passed x) _ a h in
-      let second : after ops sigs flight k ys (answered m y) ≡ Some b = if_some (is_answer sigs helper passed y) _ b i in
+      let first : after ops sigs record_bytes n xs (answered m x) ≡ Some a = if_some (is_answer sigs helper passed x) _ a h in
+      let second : after ops sigs record_bytes k ys (answered m y) ≡ Some b = if_some (is_answer sigs helper passed y) _ b i in
       both_longer n k x y xs ys left right a b same (on xs ys (answered m x) rests first (rw same second))
   step_meets (Ends r) m n k xs ys left right a b on e h i = absurd (cc)
   step_meets Stuck m n k xs ys left right a b on e h i = absurd (cc)
 
   pub meets : (n k : ℕ) (xs ys left right : List ℕ) (m a b : Machine)
-      → xs ++ left ≡ ys ++ right → Reaches ops sigs flight m xs n a → Reaches ops sigs flight m ys k b → Meet n k xs ys left right a b
+      → xs ++ left ≡ ys ++ right → Reaches ops sigs record_bytes m xs n a → Reaches ops sigs record_bytes m ys k b → Meet n k xs ys left right a b
   meets zero k [] ys left right m a b e h i =
-      let here : Reaches ops sigs flight a ys k b = subst (λ x. Reaches ops sigs flight x ys k b) (cc) i in
+      let here : Reaches ops sigs record_bytes a ys k b = subst (λ x. Reaches ops sigs record_bytes x ys k b) (cc) i in
       inl (record { steps = k; more = ys; later = omega arith; longer = refl; rest = e; reaches = here })
   meets zero k (x ∷ xs) ys left right m a b e h i = absurd (cc)
   meets (suc n) zero xs [] left right m a b e h i =
-      let here : Reaches ops sigs flight b xs (suc n) a = subst (λ x. Reaches ops sigs flight x xs (suc n) a) (cc) h in
+      let here : Reaches ops sigs record_bytes b xs (suc n) a = subst (λ x. Reaches ops sigs record_bytes x xs (suc n) a) (cc) h in
       inr (record { steps = suc n; more = xs; later = omega arith; longer = refl; rest = sym e; reaches = here })
   meets (suc n) zero xs (y ∷ ys) left right m a b e h i = absurd (cc)
   meets (suc n) (suc k) xs ys left right m a b e h i =
-      step_meets (action ops sigs flight m) m n k xs ys left right a b (λ us vs x. meets n k us vs left right x a b) e h i
+      step_meets (action ops sigs record_bytes m) m n k xs ys left right a b (λ us vs x. meets n k us vs left right x a b) e h i
 
   -- ---- at an end, a question, or a trap
 
   -- no step leads on from an end
-  at_end : (d : ℕ) (more : List ℕ) (a b : Machine) (r : ℕ) → action ops sigs flight a ≡ Ends r → Reaches ops sigs flight a more d b → (d ≡ 0) × (more ≡ []) × (a ≡ b)
+  at_end : (d : ℕ) (more : List ℕ) (a b : Machine) (r : ℕ) → action ops sigs record_bytes a ≡ Ends r → Reaches ops sigs record_bytes a more d b → (d ≡ 0) × (more ≡ []) × (a ≡ b)
   at_end zero [] a b r e h = (refl, refl, cc)
   at_end zero (x ∷ more) a b r e h = absurd (cc)
   at_end (suc d) more a b r e h =
@@ -78,32 +78,32 @@ module _ (ops : List Op) (sigs : List (ℕ × Promise)) (flight : List ℕ) wher
       absurd (cc)
 
   -- a step on from a question takes an answer to it
-  taken : (d : ℕ) (more : List ℕ) (a b : Machine) (helper : ℕ) (passed : List ℕ) → action ops sigs flight a ≡ Asks helper passed → Reaches ops sigs flight a more (suc d) b
+  taken : (d : ℕ) (more : List ℕ) (a b : Machine) (helper : ℕ) (passed : List ℕ) → action ops sigs record_bytes a ≡ Asks helper passed → Reaches ops sigs record_bytes a more (suc d) b
       → (answer : ℕ) × (others : List ℕ) × (more ≡ answer ∷ others) × IsTrue (is_answer sigs helper passed answer)
   taken d more a b helper passed e h =
-      let asked : follow sigs (Asks helper passed) a (after ops sigs flight d) more ≡ Some b = rw e at h in
+      let asked : follow sigs (Asks helper passed) a (after ops sigs record_bytes d) more ≡ Some b = rw e at h in
       first more asked
     where
       if_true : (t : Bool) (go : Option Machine) → (if t then go else None) ≡ Some b → t ≡ true
       if_true true go k = refl
       if_true false go k = absurd (cc)
 
-      first : (more : List ℕ) → follow sigs (Asks helper passed) a (after ops sigs flight d) more ≡ Some b
+      first : (more : List ℕ) → follow sigs (Asks helper passed) a (after ops sigs record_bytes d) more ≡ Some b
           → (answer : ℕ) × (others : List ℕ) × (more ≡ answer ∷ others) × IsTrue (is_answer sigs helper passed answer)
       first [] k = absurd (cc)
       first (answer ∷ others) k = (answer, others, refl, if_true (is_answer sigs helper passed answer) _ k)
 
-  end_of : (n k : ℕ) (xs ys left right : List ℕ) (a b : Machine) (r s : ℕ) → action ops sigs flight a ≡ Ends r → action ops sigs flight b ≡ Ends s
+  end_of : (n k : ℕ) (xs ys left right : List ℕ) (a b : Machine) (r s : ℕ) → action ops sigs record_bytes a ≡ Ends r → action ops sigs record_bytes b ≡ Ends s
       → GoesOn n k xs ys left right a b → (xs ≡ ys) × (n ≡ k) × (r ≡ s)
   end_of n k xs ys left right a b r s e f g =
       let at : (g.steps ≡ 0) × (g.more ≡ []) × (a ≡ b) = at_end g.steps g.more a b r e g.reaches in
-      let same : Ends r ≡ Ends s = sym e ∙ ap (action ops sigs flight) at.2 ∙ f in
+      let same : Ends r ≡ Ends s = sym e ∙ ap (action ops sigs record_bytes) at.2 ∙ f in
       let longer : ys ≡ xs ++ [] = g.longer ∙ ap (λ more. xs ++ more) at.1 in
       (sym (longer ∙ append-nil xs), omega (arith, g.later, at.0), cc)
 
   -- answers decide how a run ends
   pub ends_once : (n k : ℕ) (xs ys left right : List ℕ) (m : Machine) (r s : ℕ)
-      → xs ++ left ≡ ys ++ right → Comes ops sigs flight m xs n (Ends r) → Comes ops sigs flight m ys k (Ends s) → (xs ≡ ys) × (n ≡ k) × (r ≡ s)
+      → xs ++ left ≡ ys ++ right → Comes ops sigs record_bytes m xs n (Ends r) → Comes ops sigs record_bytes m ys k (Ends s) → (xs ≡ ys) × (n ≡ k) × (r ≡ s)
   ends_once n k xs ys left right m r s e f h =
       elim (meets n k xs ys left right m f.0 h.0 e f.1 h.1) [
         | inl g ↦ end_of n k xs ys left right f.0 h.0 r s f.2 h.2 g
@@ -111,18 +111,18 @@ module _ (ops : List Op) (sigs : List (ℕ × Promise)) (flight : List ℕ) wher
       ]
 
   end_after : (n k : ℕ) (xs ys left right : List ℕ) (a b : Machine) (r helper : ℕ) (passed : List ℕ)
-      → action ops sigs flight a ≡ Ends r → action ops sigs flight b ≡ Asks helper passed → GoesOn n k xs ys left right a b → ⊥
+      → action ops sigs record_bytes a ≡ Ends r → action ops sigs record_bytes b ≡ Asks helper passed → GoesOn n k xs ys left right a b → ⊥
   end_after n k xs ys left right a b r helper passed e f g =
       let at : (g.steps ≡ 0) × (g.more ≡ []) × (a ≡ b) = at_end g.steps g.more a b r e g.reaches in
-      let same : Ends r ≡ Asks helper passed = sym e ∙ ap (action ops sigs flight) at.2 ∙ f in
+      let same : Ends r ≡ Asks helper passed = sym e ∙ ap (action ops sigs record_bytes) at.2 ∙ f in
       cc
 
   asked_before : (n k d : ℕ) (xs ys left right more : List ℕ) (a b : Machine) (r helper : ℕ) (passed : List ℕ)
-      → action ops sigs flight a ≡ Ends r → action ops sigs flight b ≡ Asks helper passed → right ≡ more ++ left → Reaches ops sigs flight b more d a
+      → action ops sigs record_bytes a ≡ Ends r → action ops sigs record_bytes b ≡ Asks helper passed → right ≡ more ++ left → Reaches ops sigs record_bytes b more d a
       → (answer : ℕ) × (others : List ℕ) × (right ≡ answer ∷ others) × IsTrue (is_answer sigs helper passed answer)
   asked_before n k zero xs ys left right [] a b r helper passed e f h i =
       let at : b ≡ a = cc in
-      let same : Asks helper passed ≡ Ends r = sym f ∙ ap (action ops sigs flight) at ∙ e in
+      let same : Asks helper passed ≡ Ends r = sym f ∙ ap (action ops sigs record_bytes) at ∙ e in
       absurd (cc)
   asked_before n k zero xs ys left right (x ∷ more) a b r helper passed e f h i = absurd (cc)
   asked_before n k (suc d) xs ys left right more a b r helper passed e f h i =
@@ -131,7 +131,7 @@ module _ (ops : List Op) (sigs : List (ℕ × Promise)) (flight : List ℕ) wher
 
   -- where a run asks, and one over more of the same answers ends, the next answer is one that may be given
   pub asks_before_end : (n k : ℕ) (xs ys left right : List ℕ) (m : Machine) (r helper : ℕ) (passed : List ℕ)
-      → xs ++ left ≡ ys ++ right → Comes ops sigs flight m xs n (Ends r) → Comes ops sigs flight m ys k (Asks helper passed)
+      → xs ++ left ≡ ys ++ right → Comes ops sigs record_bytes m xs n (Ends r) → Comes ops sigs record_bytes m ys k (Asks helper passed)
       → (answer : ℕ) × (others : List ℕ) × (right ≡ answer ∷ others) × IsTrue (is_answer sigs helper passed answer)
   asks_before_end n k xs ys left right m r helper passed e f h =
       elim (meets n k xs ys left right m f.0 h.0 e f.1 h.1) [

@@ -1,1 +1,3 @@
+pub mod RunRows
+pub mod NeverWrong
 pub mod PassLemmas

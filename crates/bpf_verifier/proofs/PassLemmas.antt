@@ -7,13 +7,14 @@ use Rattle.bpf_helpers.specs.Promise.{Promise}
 use Rattle.bpf_regstate.specs.Shape.{Shape}
 use Rattle.bpf_regstate.specs.Faults.{faults, least}
 use Rattle.bpf_regstate.specs.Edges.{edges}
-use Rattle.bpf_regstate.specs.States.{Accepts, IsFirstFault, fault_at, fault_of, into, pushed, pushed_all, sends, so_far, start_shape, state_at, unless_fault}
+use Rattle.bpf_regstate.specs.States.{Accepts, IsFirstFault, fault_at, fault_of, into, sends, start_shape, state_at, unless_fault}
+use Rattle.bpf_regstate.specs.Pass.{with_edge, with_edges, so_far}
 use Rattle.bpf_verifier.specs.Table.{put_edge, sent, sent_from}
 
 -- ---- edges that are put into a table
 
 put_length : (table : List (Option Shape)) (e : ℕ × Shape) → length (put_edge table e) ≡ length table
-put_length table e = length-set table e.0 (pushed (slice_index_or table e.0 None) e.1)
+put_length table e = length-set table e.0 (with_edge (slice_index_or table e.0 None) e.1)
 
 pub sent_length : (table : List (Option Shape)) (es : List (ℕ × Shape)) → length (sent table es) ≡ length table
 sent_length table [] = refl
@@ -21,7 +22,7 @@ sent_length table (e ∷ es) = sent_length (put_edge table e) es ∙ put_length 
 
 -- a row after one edge, by whether the edge leads to it
 abbrev after_edge : Bool → Option Shape → Shape → Option Shape
-after_edge true row s = pushed row s
+after_edge true row s = with_edge row s
 after_edge false row s = row
 
 put_row : (b : Bool) (table : List (Option Shape)) (e : ℕ × Shape) (to : ℕ) → to < length table → eqb e.0 to ≡ b
@@ -29,24 +30,24 @@ put_row : (b : Bool) (table : List (Option Shape)) (e : ℕ × Shape) (to : ℕ)
 put_row true table e to inside is =
     let same : e.0 ≡ to = eqb-true e.0 to is in
     let there : e.0 < length table = omega arith in
-    subst (λ (k : ℕ). slice_index_or (put_edge table e) k None ≡ pushed (slice_index_or table k None) e.1) same
-    (get_or-set_same table e.0 (pushed (slice_index_or table e.0 None) e.1) None there)
+    subst (λ (k : ℕ). slice_index_or (put_edge table e) k None ≡ with_edge (slice_index_or table k None) e.1) same
+    (get_or-set_same table e.0 (with_edge (slice_index_or table e.0 None) e.1) None there)
 put_row false table e to inside is =
     let other : to ≢ e.0 = λ same. eqb-false e.0 to is (sym same) in
-    get_or-set_other table e.0 to (pushed (slice_index_or table e.0 None) e.1) None other
+    get_or-set_other table e.0 to (with_edge (slice_index_or table e.0 None) e.1) None other
 
-chosen_row : (b : Bool) (row : Option Shape) (s : Shape) (ss : List Shape) → pushed_all (after_edge b row s) ss ≡ pushed_all row (cond b (s ∷ ss) ss)
+chosen_row : (b : Bool) (row : Option Shape) (s : Shape) (ss : List Shape) → with_edges (after_edge b row s) ss ≡ with_edges row (cond b (s ∷ ss) ss)
 chosen_row true row s ss = refl
 chosen_row false row s ss = refl
 
 -- each row gets what the edges bring to it
 pub sent_row : (table : List (Option Shape)) (es : List (ℕ × Shape)) (to : ℕ) → to < length table
-    → slice_index_or (sent table es) to None ≡ pushed_all (slice_index_or table to None) (into to es)
+    → slice_index_or (sent table es) to None ≡ with_edges (slice_index_or table to None) (into to es)
 sent_row table [] to inside = refl
 sent_row table (e ∷ es) to inside =
     let still : to < length (put_edge table e) = omega (arith, put_length table e) in
     sent_row (put_edge table e) es to still
-    ∙ ap (λ (row : Option Shape). pushed_all row (into to es)) (put_row (eqb e.0 to) table e to inside refl)
+    ∙ ap (λ (row : Option Shape). with_edges row (into to es)) (put_row (eqb e.0 to) table e to inside refl)
     ∙ chosen_row (eqb e.0 to) (slice_index_or table to None) e.1 (into to es)
 
 -- ---- the pass
@@ -113,19 +114,19 @@ module _ (ops : List Op) (sigs : List (ℕ × Promise)) where
   sent_on : (slot to : ℕ) (table : List (Option Shape)) (op : Op) (state : Option Shape) → to < length table
       → least (faults 128 ops sigs slot op state) ≡ None → slice_get ops slot ≡ Some op
       → slice_index_or (sent_from sigs slot op state table) to None
-      ≡ pushed_all (slice_index_or table to None) (into to (sends 128 ops sigs slot (slice_get ops slot) state))
+      ≡ with_edges (slice_index_or table to None) (into to (sends 128 ops sigs slot (slice_get ops slot) state))
   sent_on slot to table op None inside none is =
-      ap (λ (es : List (ℕ × Shape)). pushed_all (slice_index_or table to None) (into to es)) (sym (sends_nothing slot op is))
+      ap (λ (es : List (ℕ × Shape)). with_edges (slice_index_or table to None) (into to es)) (sym (sends_nothing slot op is))
   sent_on slot to table op (Some s) inside none is =
       sent_row table (edges 128 sigs slot op s) to inside
-      ∙ ap (λ (es : List (ℕ × Shape)). pushed_all (slice_index_or table to None) (into to es)) (sym (sends_is slot op s none is))
+      ∙ ap (λ (es : List (ℕ × Shape)). with_edges (slice_index_or table to None) (into to es)) (sym (sends_is slot op s none is))
 
   kept_length : (slot : ℕ) (table : List (Option Shape)) (op : Op) (state : Option Shape) → length (sent_from sigs slot op state table) ≡ length table
   kept_length slot table op None = refl
   kept_length slot table op (Some s) = sent_length table (edges 128 sigs slot op s)
 
   abbrev Step : ℕ → Type 0
-  Step slot = (to : ℕ) → so_far 128 ops sigs (slot + 1) to ≡ pushed_all (so_far 128 ops sigs slot to) (into to (sends 128 ops sigs slot (slice_get ops slot) (state_at 128 ops sigs slot)))
+  Step slot = (to : ℕ) → so_far 128 ops sigs (slot + 1) to ≡ with_edges (so_far 128 ops sigs slot to) (into to (sends 128 ops sigs slot (slice_get ops slot) (state_at 128 ops sigs slot)))
 
   -- one more slot
   pub goes_on : (slot : ℕ) (table : List (Option Shape)) (op : Op) → Step slot → Passed slot table → slot < length ops → slice_get ops slot ≡ Some op
@@ -139,8 +140,8 @@ module _ (ops : List Op) (sigs : List (ℕ × Promise)) where
             let in_table : to < length table = omega (arith, passed.long) in
             let later : slot ≤ to = omega arith in
             sent_on slot to table op state in_table none is
-            ∙ ap (λ (row : Option Shape). pushed_all row (into to (sends 128 ops sigs slot (slice_get ops slot) state))) (passed.rows to later in_ops)
-            ∙ ap (λ (s : Option Shape). pushed_all (so_far 128 ops sigs slot to) (into to (sends 128 ops sigs slot (slice_get ops slot) s))) (passed.rows slot (omega arith) inside)
+            ∙ ap (λ (row : Option Shape). with_edges row (into to (sends 128 ops sigs slot (slice_get ops slot) state))) (passed.rows to later in_ops)
+            ∙ ap (λ (s : Option Shape). with_edges (so_far 128 ops sigs slot to) (into to (sends 128 ops sigs slot (slice_get ops slot) s))) (passed.rows slot (omega arith) inside)
             ∙ sym (step to);
         clear = below_more (λ k. fault_at 128 ops sigs k ≡ None) slot passed.clear (here slot table op passed inside is ∙ none);
       }

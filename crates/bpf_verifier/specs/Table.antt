@@ -5,11 +5,11 @@ use Rattle.bpf_helpers.specs.Promise.{Promise}
 use Rattle.bpf_regstate.specs.Shape.{Shape}
 use Rattle.bpf_regstate.specs.Edges.{edges}
 use Rattle.bpf_regstate.specs.Faults.{faults, least}
-use Rattle.bpf_regstate.specs.States.{pushed}
+use Rattle.bpf_regstate.specs.Pass.{with_edge}
 
 -- one edge is joined into what its end has
 abbrev pub put_edge : List (Option Shape) → ℕ × Shape → List (Option Shape)
-put_edge table e = slice_set table e.0 (pushed (slice_index_or table e.0 None) e.1)
+put_edge table e = slice_set table e.0 (with_edge (slice_index_or table e.0 None) e.1)
 
 -- all edges, one after the other
 abbrev pub sent : List (Option Shape) → List (ℕ × Shape) → List (Option Shape)

@@ -4,6 +4,7 @@
 mod checked;
 mod fault;
 mod flow;
+pub mod laws;
 mod memory;
 mod reads;
 mod slot;
@@ -14,5 +15,9 @@ pub use checked::Checked;
 pub use fault::{Fault, VerifyError};
 pub use verifier::verify;
 
+#[cfg(test)]
+mod form_verdicts;
+#[cfg(test)]
+mod forms;
 #[cfg(test)]
 mod tests;

@@ -1,17 +1,15 @@
 //! Faults of loads and stores: where they may go, and what they may find there.
 
 ghost use Rattle.std.specs.Prelude.{◌≡◌, ◌≤◌, ◌+◌, ◌-◌};
+ghost use Rattle.bpf_places.specs.Places.{PlaceIs};
 ghost use Rattle.bpf_regstate.specs.Shape.{known};
 ghost use Rattle.bpf_regstate.specs.Effect.{access, range_of};
-ghost use Rattle.bpf_regstate.specs.Memory.{PlaceIs};
 ghost use Rattle.bpf_regstate.specs.Faults.{access_of, is_nowhere, is_unmarked, loads_unmarked, stores_in_record};
 
 use crate::reads::range_of;
 use bpf_decode::{Op, Register};
-use bpf_regstate::{Place, State, byte_count, part_byte_count, place_of_access};
-
-/// How many bytes a record has.
-const RECORD_LENGTH: usize = 128;
+use bpf_places::{Place, byte_count, part_byte_count};
+use bpf_regstate::{RECORD_LENGTH, State, place_of_access};
 
 /// Where all addresses lie that so many bytes at a register plus the offset may have.
 fn place_at(state: &State, base: Register, offset: i32, count: usize) -> Place

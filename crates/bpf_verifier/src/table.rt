@@ -4,7 +4,8 @@ ghost use Rattle.std.specs.Prelude.{◌≡◌, ◌≢◌, ◌∷◌, ◌++◌, �
 ghost use Rattle.std.specs.Option.{ForSome};
 ghost use Rattle.bpf_regstate.specs.Edges.{edge, edges};
 ghost use Rattle.bpf_regstate.specs.Faults.{falls_off, faults, jumps_badly, least};
-ghost use Rattle.bpf_regstate.specs.States.{pushed, start_shape};
+ghost use Rattle.bpf_regstate.specs.States.{start_shape};
+ghost use Rattle.bpf_regstate.specs.Pass.{with_edge};
 ghost use Rattle.bpf_verifier.specs.Table.{Passes, put_edge, sent, sent_from};
 ghost use Rattle.bpf_regstate.specs.Narrowing.{refined};
 ghost use Rattle.bpf_verifier.specs.Verdict.{code_of};
@@ -29,7 +30,7 @@ pub fn first_table(alloc: Global, slots: usize) -> Result<Vec<Option<State>>, Al
 
 /// What a slot has after one more edge to it.
 fn join_into(known: Option<State>, state: State) -> Option<State>
-    ensures { result ≡ pushed known state }
+    ensures { result ≡ with_edge known state }
 {
     match known {
         Some(mut both) => {
@@ -89,7 +90,7 @@ fn send(table: &mut [Option<State>], ops: &[Op], sigs: &Sigs, slot: usize, op: &
     }
 }
 
-/// The fault of a slot, by what the edges of earlier slots have brought to it; where it has none, its own edges are pushed.
+/// The fault of a slot, by what the edges of earlier slots have brought to it; where it has none, its own edges are with_edge.
 pub fn pass_slot(table: &mut [Option<State>], ops: &[Op], sigs: &Sigs, slot: usize) -> Option<Fault>
     requires same { length table.old ≡ length ops.now }
     requires inside { slot < length ops.now }

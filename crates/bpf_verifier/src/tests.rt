@@ -111,6 +111,12 @@ fn programs_are_refused(rt: HostRuntime) -> Result<(), Fail> {
             309,
             3,
         ),
+        // A wide load of r10.
+        (
+            "180a0000000000000000000000000000b7000000000000009500000000000000",
+            314,
+            0,
+        ),
         // What is not reached may not write r10.
         (
             "b7000000000000000500010000000000b70a0000000000009500000000000000",
@@ -256,33 +262,62 @@ fn the_least_slot_and_its_least_number_are_told(rt: HostRuntime) -> Result<(), F
     Ok(())
 }
 
+/// The text of a fault, and of its refusal at slot 2.
+fn has_text(rt: &impl Abort, alloc: Global, fault: Fault, text: &str) -> Result<(), Fail> {
+    assert_eq!(rt; format!(in alloc; "{fault}")?.as_str(), text);
+    let refused = VerifyError::Refused { fault, slot: 2 };
+    let whole = format!(in alloc; "slot 2: {text}")?;
+    assert_eq!(rt; format!(in alloc; "{refused}")?.as_str(), whole.as_str());
+    Ok(())
+}
+
 #[test]
 fn errors_have_texts(rt: HostRuntime) -> Result<(), Fail> {
     let alloc = rt.alloc();
-    let refused = VerifyError::Refused {
-        fault: Fault::Uninitialised,
-        slot: 2,
-    };
-    assert_eq!(rt;
-        format!(in alloc; "{refused}")?.as_str(),
-        "slot 2: uninitialised register"
-    );
+    for (fault, text) in [
+        (Fault::Jump, "jump backward, outside or into a wide load"),
+        (Fault::FallsOff, "end of the program without an exit"),
+        (Fault::Uninitialised, "uninitialised register"),
+        (Fault::Address, "address outside the record and the stack"),
+        (Fault::StackByte, "uninitialised byte of the stack"),
+        (Fault::WritesRecord, "store to the record"),
+        (Fault::Helper, "unknown helper"),
+        (Fault::Argument, "argument outside the helper's range"),
+        (Fault::WritesEnd, "write to r10"),
+    ] {
+        has_text(&rt, alloc, fault, text)?;
+    }
     let memory = VerifyError::from(AllocError);
     assert_eq!(rt; format!(in alloc; "{memory}")?.as_str(), "no memory");
     assert_eq!(rt; memory.code(), 501);
     Ok(())
 }
 
-#[test]
-fn the_longest_program_is_accepted(rt: HostRuntime) -> Result<(), Fail> {
-    let alloc = rt.alloc();
-    let mut bytes = Vec::with_capacity(alloc, 32_768)?;
-    for _ in 0..4_095 {
+/// A program of so many slots is accepted, of which the last is the exit, and refused without it.
+fn is_as_long(rt: &impl Abort, alloc: Global, sigs: &Sigs, slots: u16) -> Result<(), Fail> {
+    let mut bytes = Vec::new(alloc);
+    for _ in 1..slots {
         bytes.extend_from_slice(&[0xb7, 0, 0, 0, 0, 0, 0, 0])?;
     }
+    let cut = verify(alloc, decode(alloc, &bytes)?, sigs)
+        .err()
+        .ok_or("accepted")?;
+    assert_eq!(rt;
+        (cut.code(), cut.slot()),
+        (307, (slots as usize).saturating_sub(2))
+    );
     bytes.extend_from_slice(&[0x95, 0, 0, 0, 0, 0, 0, 0])?;
-    let sigs = Bank::new(alloc)?.sigs()?;
-    let checked = verify(alloc, decode(alloc, &bytes)?, &sigs)?;
-    assert_eq!(rt; checked.program().slot_count(), 4_096);
+    let checked = verify(alloc, decode(alloc, &bytes)?, sigs)?;
+    assert_eq!(rt; checked.program().slot_count(), slots as usize);
+    assert_eq!(rt; checked.copy()?.program().slot_count(), slots as usize);
+    Ok(())
+}
+
+#[test]
+fn programs_of_several_lengths_are_judged(rt: HostRuntime) -> Result<(), Fail> {
+    let sigs = Bank::new(rt.alloc())?.sigs()?;
+    for slots in [2, 3, 7, 64, 255, 256, 257, 1_000, 2_048, 4_095, 4_096] {
+        is_as_long(&rt, rt.alloc(), &sigs, slots)?;
+    }
     Ok(())
 }

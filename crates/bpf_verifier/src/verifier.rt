@@ -2,6 +2,7 @@
 
 ghost use Rattle.std.specs.Prelude.{◌≡◌, ◌∷◌, ◌<◌, ◌≤◌, ◌-◌, ℕ, Some, None, length, replicate, IfOk, IfErr, IsOkUnless, MatchOption};
 ghost use Rattle.bpf_regstate.specs.States.{Accepts, IsFirstFault, start_shape};
+ghost use Rattle.bpf_verifier.specs.Runs.{MayRun};
 ghost use Rattle.bpf_verifier.specs.Verdict.{AnswersFault, Refuses, code_of};
 
 use crate::checked::Checked;
@@ -34,6 +35,7 @@ fn first_fault(ops: &[Op], sigs: &Sigs, table: &mut [Option<State>]) -> Option<(
 pub fn verify(alloc: Global, program: Program, sigs: &Sigs) -> Result<Checked, VerifyError>
     // What is answered is accepted, or the first fault, unless memory runs out.
     ensures accepted { IfOk result (λ checked. Accepts 128 program sigs.now) }
+    ensures may_run { IfOk result MayRun }
     ensures checked { IfOk result (λ checked. checked ≡ record { ops = program; sigs = sigs.now }) }
     ensures refused { IfErr result (λ e. Refuses 128 program sigs.now e) }
 

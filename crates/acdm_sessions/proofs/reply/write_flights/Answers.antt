@@ -1,26 +1,25 @@
 use Rattle.std.proofs.Common.{ap, sym, subst, ◌∙◌}
 use Rattle.std.specs.List.{flat_map}
-use Rattle.std.proofs.lemmas.Result.{on_ok_weaker, on_err_weaker}
-use Rattle.std.specs.Io.KnownBytes.{Appends}
-use Rattle.acdm_sessions.specs.Reply.{AppendsPart}
+use Rattle.std.proofs.lemmas.Result.{err_from_is_err_and}
 use Rattle.acdm_sessions.specs.Output.{alerted_text, next_text, list_text}
-use Rattle.acdm_sessions.proofs.Writing.{Appends-both, part-front, part-back, on_err}
+use Rattle.acdm_sessions.specs.Reply.{Writes}
+use Rattle.acdm_sessions.proofs.Writing.{wrote-front, wrote-as, writes-both}
 use Rattle.acdm_sessions.proofs.reply.write_flights.Goals as goal
 
-pub returns-in_err-write_whole-clause-part : goal.returns-in_err-write_whole-clause-part
-returns-in_err-write_whole-clause-part g c =
+pub returns-in_err-write_whole : goal.returns-in_err-write_whole
+returns-in_err-write_whole g c =
     let first = c.as_slice.ensures ∙ c.alerted.ensures in
-    on_err c.from_residual.result (subst (AppendsPart _ _) (ap list_text (sym c.in-Some.ensures.cases.0))
-    (part-front _ _ (alerted_text c.in-Some.first.now) (flat_map next_text c.in-Some.more.now) (rw first at c.in_err-write_whole.ensures.part)))
+    let p = err_from_is_err_and c.from_residual.result c.from_residual.ensures.1 in
+    rw (p.1, p.2)
+    (wrote-as _ _ _ _ _ _ (ap list_text (sym c.in-Some.ensures.cases.0))
+    (wrote-front _ _ _ (alerted_text c.in-Some.first.now)
+    (flat_map next_text c.in-Some.more.now) _ (rw first at c.in_err-write_whole.ensures)))
 
-pub returns-clause-ok : goal.returns-clause-ok
-returns-clause-ok g c =
+pub returns : goal.returns
+returns g c =
     let first = c.as_slice.ensures ∙ c.alerted.ensures in
-    on_ok_weaker c.write_more.result (λ w. subst (Appends _ _) (ap list_text (sym c.in-Some.ensures.cases.0))
-    (Appends-both _ _ _ (alerted_text c.in-Some.first.now) (flat_map next_text c.in-Some.more.now) (rw first at c.in_ok-write_whole.ensures.ok) w)) c.write_more.ensures.ok
-
-pub returns-clause-part : goal.returns-clause-part
-returns-clause-part g c =
-    let first = c.as_slice.ensures ∙ c.alerted.ensures in
-    on_err_weaker c.write_more.result (λ w. subst (AppendsPart _ _) (ap list_text (sym c.in-Some.ensures.cases.0))
-    (part-back _ _ _ (alerted_text c.in-Some.first.now) (flat_map next_text c.in-Some.more.now) (rw first at c.in_ok-write_whole.ensures.ok) w)) c.write_more.ensures.part
+    subst
+    (λ t. Writes g.W.Write.contents c.args.writer.now c.write_more.new.writer t c.write_more.result)
+    (ap list_text (sym c.in-Some.ensures.cases.0))
+    (writes-both _ _ _ _ (alerted_text c.in-Some.first.now) (flat_map next_text c.in-Some.more.now)
+    c.write_more.result (rw first at c.in_ok-write_whole.ensures) c.write_more.ensures)

@@ -1,29 +1,31 @@
 use Rattle.std.proofs.Common.{[], ◌∷◌, ◌++◌, ◌∙◌}
-use Rattle.std.proofs.lemmas.Result.{on_ok_weaker, on_err_weaker}
+use Rattle.std.proofs.lemmas.Result.{err_from_is_err_and}
 use Rattle.acdm_sessions.specs.Output.{list_head, list_text}
-use Rattle.acdm_sessions.proofs.Writing.{Appends-both, part-front, part-back, on_err}
+use Rattle.acdm_sessions.proofs.Writing.{wrote-front, wrote-back, writes-both}
 use Rattle.acdm_sessions.proofs.reply.write_list.Goals as goal
 
-pub returns-in_err-write_whole-clause-part : goal.returns-in_err-write_whole-clause-part
-returns-in_err-write_whole-clause-part g c =
+pub returns-in_err-write_whole : goal.returns-in_err-write_whole
+returns-in_err-write_whole g c =
     let first = c.as_slice.ensures ∙ c.head.ensures in
-    on_err c.from_residual.result (part-front _ _ (list_head c.args.number) (list_text c.args.flights.now ++ 10 ∷ []) (rw first at c.in_err-write_whole.ensures.part))
+    let p = err_from_is_err_and c.from_residual.result c.from_residual.ensures.1 in
+    rw (p.1, p.2)
+    (wrote-front _ _ _ (list_head c.args.number) (list_text c.args.flights.now ++ 10 ∷ []) _
+    (rw first at c.in_err-write_whole.ensures))
 
-pub returns-in_err-write_flights-clause-part : goal.returns-in_err-write_flights-clause-part
-returns-in_err-write_flights-clause-part g c =
+pub returns-in_err-write_flights : goal.returns-in_err-write_flights
+returns-in_err-write_flights g c =
     let first = c.as_slice.ensures ∙ c.head.ensures in
-    on_err c.from_residual-in_err-write_flights.result
-    (part-back _ _ _ (list_head c.args.number) (list_text c.args.flights.now ++ 10 ∷ []) (rw first at c.in_ok-write_whole.ensures.ok)
-    (part-front _ _ (list_text c.args.flights.now) (10 ∷ []) c.in_err-write_flights.ensures.part))
+    let result = c.from_residual-in_err-write_flights.result in
+    let p = err_from_is_err_and result c.from_residual-in_err-write_flights.ensures.1 in
+    rw (p.1, p.2)
+    (wrote-back _ _ _ _ (list_head c.args.number) (list_text c.args.flights.now ++ 10 ∷ []) _
+    (rw first at c.in_ok-write_whole.ensures)
+    (wrote-front _ _ _ (list_text c.args.flights.now) (10 ∷ []) _ c.in_err-write_flights.ensures))
 
-pub returns-clause-ok : goal.returns-clause-ok
-returns-clause-ok g c =
+pub returns : goal.returns
+returns g c =
     let first = c.as_slice.ensures ∙ c.head.ensures in
-    on_ok_weaker c.write_whole-2.result (λ w. Appends-both _ _ _ (list_head c.args.number) (list_text c.args.flights.now ++ 10 ∷ []) (rw first at c.in_ok-write_whole.ensures.ok)
-    (Appends-both _ _ _ (list_text c.args.flights.now) (10 ∷ []) c.in_ok-write_flights.ensures.ok w)) c.write_whole-2.ensures.ok
-
-pub returns-clause-part : goal.returns-clause-part
-returns-clause-part g c =
-    let first = c.as_slice.ensures ∙ c.head.ensures in
-    on_err_weaker c.write_whole-2.result (λ w. part-back _ _ _ (list_head c.args.number) (list_text c.args.flights.now ++ 10 ∷ []) (rw first at c.in_ok-write_whole.ensures.ok)
-    (part-back _ _ _ (list_text c.args.flights.now) (10 ∷ []) c.in_ok-write_flights.ensures.ok w)) c.write_whole-2.ensures.part
+    writes-both _ _ _ _ (list_head c.args.number) (list_text c.args.flights.now ++ 10 ∷ [])
+    c.write_whole-2.result (rw first at c.in_ok-write_whole.ensures)
+    (writes-both _ _ _ _ (list_text c.args.flights.now) (10 ∷ []) c.write_whole-2.result
+    c.in_ok-write_flights.ensures c.write_whole-2.ensures)

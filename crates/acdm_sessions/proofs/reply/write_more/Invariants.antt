@@ -1,15 +1,14 @@
 use Rattle.std.proofs.Common.{◌≡◌, ◌++◌, ℕ, List, length}
 use Rattle.std.specs.List.{flat_map}
-use Rattle.std.specs.Io.KnownBytes.{Appends}
 use Rattle.acdm_sessions.specs.Output.{next_text}
+use Rattle.acdm_sessions.specs.Reply.{Wrote}
 use Rattle.acdm_sessions.proofs.reply.write_more.Given as goal
 
 abbrev pub invariant-loop-flight : goal.invariant-loop-flight
 invariant-loop-flight g l = record {
   done : List ℕ;
-  wrote : Appends (g.W.Write.contents l.initial.writer.inner) (g.W.Write.contents l.writer.inner) done;
+  wrote : Wrote g.W.Write.contents l.initial.writer l.writer done;
   whole : done ++ flat_map next_text l.rest ≡ flat_map next_text l.flights;
-  well : l.writer.faults ≡ l.initial.writer.faults;
 }
 
 abbrev pub decreases-loop-flight : goal.decreases-loop-flight

@@ -1,4 +1,4 @@
-use Rattle.std.proofs.Common.{ℕ, List, arith, length-drop}
+use Rattle.std.proofs.Common.{◌≡◌, ℕ, List, arith, length-drop}
 use Rattle.std.proofs.lemmas.List.{take_rest}
 use Rattle.acdm_sessions.proofs.Writing.{Appends-further}
 use Rattle.acdm_sessions.proofs.reply.write_whole.Goals as goal
@@ -7,8 +7,14 @@ pub loop-at-preserved : goal.loop-at-preserved
 loop-at-preserved g c =
     let bytes : List ℕ = c.args.bytes.now in
     let bound = rw (take_rest bytes c.loop-at.at) at c.in-Ok.ensures.bound in
+    let before : c.loop-at.writer.faults ≡ c.args.writer.now.faults =
+    c.loop-at.invariant.wrote.well in
     record {
       inside = omega (arith, length-drop c.loop-at.at bytes);
-      wrote = Appends-further _ _ _ bytes c.loop-at.at c.in-Ok.taken c.loop-at.invariant.wrote (rw (take_rest bytes c.loop-at.at) at c.in-Ok.ensures.bytes);
-      well = grind arith;
+      wrote = record {
+        wrote = Appends-further _ _ _ bytes c.loop-at.at c.in-Ok.taken
+            c.loop-at.invariant.wrote.wrote
+            (rw (take_rest bytes c.loop-at.at) at c.in-Ok.ensures.bytes);
+        well = grind arith;
+      };
     }

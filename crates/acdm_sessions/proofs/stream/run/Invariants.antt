@@ -1,15 +1,16 @@
-use Rattle.std.proofs.Common.{◌≡◌}
-use Rattle.std.specs.Io.KnownBytes.{prepend_known}
-use Rattle.acdm_sessions.specs.Lines.{EachReadGave, weight}
+use Rattle.std.proofs.Common.{◌≡◌, false}
+use Rattle.acdm_sessions.specs.Lines.{weight}
 use Rattle.acdm_sessions.proofs.Running.{Sofar}
 use Rattle.acdm_sessions.proofs.stream.run.Given as goal
 
 abbrev pub invariant-loop-lines : goal.invariant-loop-lines
 invariant-loop-lines g l = record {
-  sofar : Sofar (g.R.Read.remaining l.initial.reader.inner) (prepend_known l.lines.window (g.R.Read.remaining l.reader.inner)) l.initial.desk l.desk (g.W.Write.contents l.initial.writer.inner) (g.W.Write.contents l.writer.inner);
-  gave : EachReadGave (g.R.Read.remaining l.initial.reader.inner) (g.R.Read.remaining l.reader.inner) 1099511627776 l.lines.reads_left;
+  sofar : Sofar (g.R.Read.remaining l.initial.reader.inner) (g.R.Read.remaining l.reader.inner)
+      l.lines.window l.lines.reads_left l.initial.desk l.desk
+      (g.W.Write.contents l.initial.writer.inner) (g.W.Write.contents l.writer.inner);
   read_well : l.reader.faults ≡ l.initial.reader.faults;
   wrote_well : l.writer.faults ≡ l.initial.writer.faults;
+  flushed : l.initial.writer.waits ≡ false → l.writer.waits ≡ false;
 }
 
 abbrev pub decreases-loop-lines : goal.decreases-loop-lines

@@ -5,5 +5,5 @@ use Rattle.acdm_step.proofs.state.touch_all.Goals as goal
 
 pub loop-record-preserved : goal.loop-record-preserved
 loop-record-preserved c =
-    ap (set c.loop-record.records c.loop-record.record-index) (c.touch.ensures ∙ ap (touched c.args.now) (sym c.record-item.is))
-    ∙ map_over_more (touched c.args.now) c.args.records.now c.loop-record.records c.loop-record.record-index c.record-item.result c.loop-record-test.true c.loop-record.invariant c.record-item.is
+    ap (set c.loop-record.records c.loop-record.record-index) (c.touch.ensures ∙ ap (touched c.args.moment) (sym c.record-item.is))
+    ∙ map_over_more (touched c.args.moment) c.args.records.now c.loop-record.records c.loop-record.record-index c.record-item.result c.loop-record-test.true c.loop-record.invariant c.record-item.is

@@ -1,3 +1,4 @@
+use Rattle.bpf_regstate.proofs.Ones.{filled_is_least}
 use Rattle.bpf_regstate.proofs.Ordered.{result_ordered}
 use Rattle.bpf_regstate.proofs.ResultsInRange.{result_in}
 use Rattle.bpf_regstate.proofs.ResultsOfOne.{negate_in, extend_in, order_result_in}
@@ -18,6 +19,9 @@ returns-clause-order c = order_result_in
 
 pub returns-clause-loads : goal.returns-clause-loads
 returns-clause-loads c = loads_in
+
+pub returns-clause-ones : goal.returns-clause-ones
+returns-clause-ones c = filled_is_least
 
 pub returns-clause-ranges : goal.returns-clause-ranges
 returns-clause-ranges c = result_ordered

@@ -8,14 +8,14 @@ use Rattle.acdm_step.proofs.state.Core.apply.Goals as goal
 
 pub returns-clause-outcome : goal.returns-clause-outcome
 returns-clause-outcome g c =
-    IfOk-weaker c.step.result _ _ (λ o h sigs J l eq. told_of sigs J c.args.role c.args.moment c.args.command.now _ o _ _ l eq h) c.step.ensures.comes
+    IfOk-weaker c.step.result _ _ (λ o h sigs J l eq. told_of sigs J c.args.role c.args.moment c.args.command.now _ _ o _ _ l eq h) c.step.ensures.comes
 
 pub returns-clause-board : goal.returns-clause-board
 returns-clause-board g c =
-    IfOk-weaker c.step.result _ _ (λ o h sigs J session answers l eq given. board_told sigs J c.args.role c.args.moment c.args.command.now _ o _ _ l eq h session answers given) c.step.ensures.comes
+    IfOk-weaker c.step.result _ _ (λ o h sigs J session answers l eq given. board_told sigs J c.args.role c.args.moment c.args.command.now _ _ o _ _ l eq h session answers given) c.step.ensures.comes
 
 pub returns-clause-sigs : goal.returns-clause-sigs
-returns-clause-sigs g c = same_sigs c.step.result c.args.self.now c.step.new.self c.args.role c.args.moment c.args.command.now _ c.step.ensures.comes c.step.ensures.err
+returns-clause-sigs g c = same_sigs c.step.result c.args.self.now c.step.new.self c.args.role c.args.moment c.args.command.now _ _ c.step.ensures.comes c.step.ensures.err
 
 pub returns-clause-memory : goal.returns-clause-memory
 returns-clause-memory g c =

@@ -1,0 +1,141 @@
+//! The embeddable machine with the three helpers of this project.
+
+ghost use Rattle.std.specs.Prelude.{◌≡◌, ◌+◌, ◌<◌, ◌^◌, IfOk};
+ghost use Rattle.bpf_helpers.specs.Known.{sum, taxi, taxi_from, turn_round, turn_round_of};
+
+use crate::tests::planned;
+use crate::{EbpfVmRaw, Ended};
+use acdm_milestones::Milestone;
+use bpf_helpers::{Code, Helper, Range, Signature};
+use std::alloc::Global;
+use std::test::Fail;
+
+const A320: u64 = 808_596_289;
+
+const B738: u64 = 942_880_578;
+
+const A388: u64 = 943_207_233;
+
+/// The aircraft category, and 0 where it is over 124.
+const CATEGORY: &str =
+    "71153f0000000000250503007c0000000f5100000000000071100000000000009500000000000000b7000000000000009500000000000000";
+
+/// The moment of the run, five minutes later.
+const FIVE_LATER: &str = "bf31000000000000b70200000500000085000000030000009500000000000000";
+
+fn range(lo: u64, hi: u64) -> Range
+    ensures { result ≡ record { lo = lo; hi = hi } }
+{
+    Range { lo, hi }
+}
+
+fn turn_round_signature(alloc: Global) -> Result<Signature, Fail>
+    ensures { IfOk result (λ signature. signature ≡ turn_round) }
+{
+    let args = vec![in alloc; range(0, 4_294_967_295)]?;
+    let table = vec![in alloc; (A320, 45), (B738, 45), (A388, 120)]?;
+    Ok(Signature::new(args, range(1, 1440), table).ok_or("helper 1")?)
+}
+
+fn taxi_signature(alloc: Global) -> Result<Signature, Fail>
+    ensures { IfOk result (λ signature. signature ≡ taxi) }
+{
+    let args = vec![in alloc; range(0, 999)]?;
+    let table = vec![in alloc; (12, 10), (120, 15), (900, 20)]?;
+    Ok(Signature::new(args, range(1, 60), table).ok_or("helper 2")?)
+}
+
+fn sum_signature(alloc: Global) -> Result<Signature, Fail>
+    ensures { IfOk result (λ signature. signature ≡ sum) }
+{
+    let args = vec![in alloc; range(0, 4_294_967_295), range(0, 10_000)]?;
+    Ok(Signature::new(args, range(0, 4_294_977_295), Vec::new(alloc)).ok_or("helper 3")?)
+}
+
+fn turn_round_minutes(kind: u64, _b: u64, _c: u64, _d: u64, _e: u64) -> u64
+    ensures { result ≡ turn_round_of kind }
+{
+    match kind {
+        A320 | B738 => 45,
+        A388 => 120,
+        _ => 60,
+    }
+}
+
+fn taxi_minutes(stand: u64, _b: u64, _c: u64, _d: u64, _e: u64) -> u64
+    ensures { result ≡ taxi_from stand }
+{
+    if stand < 100 {
+        10
+    } else if stand < 500 {
+        15
+    } else {
+        20
+    }
+}
+
+fn minutes_later(moment: u64, minutes: u64, _c: u64, _d: u64, _e: u64) -> u64
+    requires { moment + minutes < 2 ^ 64 }
+    ensures { result ≡ moment + minutes }
+{
+    moment + minutes
+}
+
+#[test]
+fn a_program_stays_until_another_is_accepted(rt: HostRuntime) -> Result<(), Fail> {
+    let alloc = rt.alloc();
+    let kinds: Code = Box::new(alloc, turn_round_minutes)?;
+    let stands: Code = Box::new(alloc, taxi_minutes)?;
+    let minutes: Code = Box::new(alloc, minutes_later)?;
+    let again: Code = Box::new(alloc, taxi_minutes)?;
+    let spare = Helper::new(2, taxi_signature(alloc)?, again);
+    let mut vm = EbpfVmRaw::new(alloc)?;
+    vm.register_helper(Helper::new(1, turn_round_signature(alloc)?, kinds))
+        .map_err(|refused| refused.fault)?;
+    vm.register_helper(Helper::new(2, taxi_signature(alloc)?, stands))
+        .map_err(|refused| refused.fault)?;
+    vm.register_helper(Helper::new(3, sum_signature(alloc)?, minutes))
+        .map_err(|refused| refused.fault)?;
+    let record_bytes = planned()?;
+    let none = vm.execute_program(&record_bytes, 29_000_580, Milestone::InBlock);
+    assert_eq!(rt; none.err().map(|e| e.code()), Some(334));
+    vm.set_program(&hex::decode(alloc, CATEGORY)?)?;
+    let wanted = Ok(Ended { r0: 0, steps: 5 });
+    assert_eq!(rt;
+        vm.execute_program(&record_bytes, 29_000_580, Milestone::InBlock),
+        wanted
+    );
+    let exit = vm.set_program(&[0x95, 0, 0, 0, 0, 0, 0, 0]);
+    assert_eq!(rt; exit.err().map(|e| (e.code(), e.slot())), Some((308, 0)));
+    let cut = vm.set_program(&[0x18, 0, 0, 0, 1, 0, 0, 0]);
+    assert_eq!(rt; cut.err().map(|e| (e.code(), e.slot())), Some((315, 0)));
+    assert_eq!(rt;
+        vm.execute_program(&record_bytes, 29_000_580, Milestone::InBlock),
+        wanted
+    );
+    let late = vm.register_helper(spare);
+    assert_eq!(rt;
+        late.err()
+            .map(|refused| (refused.fault.code(), refused.helper.number())),
+        Some((333, 2))
+    );
+    Ok(())
+}
+
+#[test]
+fn helpers_are_called(rt: HostRuntime) -> Result<(), Fail> {
+    let alloc = rt.alloc();
+    let minutes: Code = Box::new(alloc, minutes_later)?;
+    let mut vm = EbpfVmRaw::new(alloc)?;
+    let unknown = vm.set_program(&hex::decode(alloc, FIVE_LATER)?);
+    assert_eq!(rt; unknown.err().map(|e| (e.code(), e.slot())), Some((312, 2)));
+    vm.register_helper(Helper::new(3, sum_signature(alloc)?, minutes))
+        .map_err(|refused| refused.fault)?;
+    let again: Code = Box::new(alloc, minutes_later)?;
+    let twice = vm.register_helper(Helper::new(3, sum_signature(alloc)?, again));
+    assert_eq!(rt; twice.err().map(|refused| refused.fault.code()), Some(331));
+    vm.set_program(&hex::decode(alloc, FIVE_LATER)?)?;
+    let ended = vm.execute_program(&planned()?, 7, Milestone::InBlock);
+    assert_eq!(rt; ended, Ok(Ended { r0: 12, steps: 4 }));
+    Ok(())
+}
