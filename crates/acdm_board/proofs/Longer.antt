@@ -1,20 +1,18 @@
 -- A journal with one more entry.
-use Rattle.std.proofs.Common.{◌≡◌, ℕ, ◌+◌, ◌<◌, Bool, true, false, nat_le, List, [], ◌∷◌, ◌++◌, length, reverse, refl, sym, ap, subst, ◌∙◌, arith}
+use Rattle.std.proofs.Common.{◌≡◌, ℕ, ◌+◌, ◌<◌, true, false, nat_le, List, [], ◌∷◌, ◌++◌, length, reverse, refl, sym, ap, subst, ◌∙◌, arith}
 use Rattle.std.proofs.lemmas.Bool.Decides.{nat_tests}
 use Rattle.std.proofs.lemmas.List.{reverse-append, length-reverse, length-append}
 use Rattle.acdm_milestones.specs.declared.role.Role.{Role}
 use Rattle.acdm_record.specs.Fields.{Fields}
-use Rattle.bpf_helpers.specs.Promise.{Promise}
 use Rattle.bpf_helpers.specs.Oracles.{OracleView, is_full}
 use Rattle.acdm_step.specs.declared.command.Command.{Command}
 use Rattle.acdm_step.specs.declared.entry.Entry.{Entry}
 use Rattle.acdm_step.specs.declared.entry.Verdict.{Verdict}
 use Rattle.acdm_step.specs.declared.outcome.Outcome.{Outcome}
 use Rattle.acdm_step.specs.Programs.{Programs}
-use Rattle.acdm_step.specs.History.{History, Board, IsChecked, IsInRange, IsLegal, IsAnswered, replay, after, flight_of, bit_of, told, reported, programs_of, room_of, left_by, is_accepted, verdict_of, outcome_of, verdict_in}
+use Rattle.acdm_step.specs.History.{Board, IsChecked, IsInRange, IsLegal, IsAnswered, replay, after, flight_of, bit_of, told, reported, programs_of, room_of, left_by, is_accepted, verdict_of, outcome_of, verdict_in}
 use Rattle.acdm_step.specs.Laws.{verdict_in-outcome_of}
 use Rattle.acdm_step.specs.Running.{AsksIn, first, second, ComesOf, answered_so, unanswered_so}
-use Rattle.acdm_step.proofs.Replay.{sigs-replay}
 use Rattle.acdm_step.proofs.Runs.{asked_few}
 use Rattle.acdm_step.proofs.Saying.{ran_left}
 use Rattle.acdm_board.specs.Desk.{DeskView, Keeps, Enters}
@@ -77,7 +75,7 @@ module _ (old new : Board) (xs ys : List Entry) (capacity n session moment : ℕ
   stands = board answers (λ d. sym (ap (λ l. l ++ answers) begins ∙ accepted d))
 
   same_sigs : new.slots.sigs ≡ old.slots.sigs
-  same_sigs = ap (λ b. b.slots.sigs) stands ∙ sigs-replay old.slots.sigs (after (reverse xs) session role moment c (verdict_in outcome) answers)
+  same_sigs = ap (λ b. b.slots.sigs) stands
 
   pub keeps-pushed : length (reverse xs) < capacity → Keeps new ys capacity
   keeps-pushed room =

@@ -1,5 +1,5 @@
 -- Loaded programs are a map from milestone and kind.
-use Rattle.std.proofs.Common.{◌≡◌, ℕ, zero, suc, ◌+◌, ◌<◌, ◌/◌, ◌%◌, List, [], ◌∷◌, length, replicate, Bool, true, false, nat_eq, if◌then◌else◌, slice_index_or, slice_set, unwrap_or, Option, Some, None, refl, sym, ap, ◌∙◌, arith, subst, length-set, eqb-true}
+use Rattle.std.proofs.Common.{◌≡◌, ℕ, zero, suc, ◌+◌, ◌<◌, ◌/◌, ◌%◌, List, [], ◌∷◌, length, Bool, true, false, nat_eq, if◌then◌else◌, slice_index_or, slice_set, unwrap_or, Option, Some, None, refl, sym, ap, ◌∙◌, arith, subst, length-set, eqb-true}
 use Rattle.std.proofs.lemmas.Bool.{eqb-false}
 use Rattle.std.specs.Prelude.{◌==◌}
 use Rattle.acdm_milestones.specs.declared.milestone.Milestone.{Milestone}
@@ -7,41 +7,35 @@ use Rattle.acdm_milestones.specs.declared.milestone.Milestone.TheVariants.{Fligh
 use Rattle.acdm_milestones.specs.Tables.{milestone_numbered}
 use Rattle.acdm_slots.specs.declared.kind.Kind.{Kind}
 use Rattle.acdm_slots.specs.declared.kind.Kind.TheVariants.{Tobt, Alert}
-use Rattle.acdm_slots.specs.Loaded.{AreFit, IsBoard, Loaded, nothing_loaded, place, program_in, put, with_program}
+use Rattle.acdm_slots.specs.Loaded.{AreFit, IsBoard, Loaded, loaded, place, program_in, table, with_program}
 use Rattle.bpf_helpers.specs.Promise.{Promise}
 use Rattle.bpf_regstate.specs.States.{Accepts}
 use Rattle.bpf_verifier.specs.Verdict.{Verified}
 
 -- ---- a list with something else at one place
 
-there : (xs : List (Option Verified)) (i : ℕ) (p : Option Verified) → slice_index_or (put xs i p) i None ≡ p
-there [] zero p = refl
-there [] (suc i) p = there [] i p
-there (x ∷ xs) zero p = refl
-there (x ∷ xs) (suc i) p = there xs i p
+there : (xs : List (Option Verified)) (i : ℕ) (p : Option Verified) → i < length xs → slice_index_or (slice_set xs i p) i None ≡ p
+there [] i p within = absurd (omega (arith, within))
+there (x ∷ xs) zero p within = refl
+there (x ∷ xs) (suc i) p within = there xs i p (omega (arith, within))
 
-elsewhere : (xs : List (Option Verified)) (i j : ℕ) (p : Option Verified) → (i ≡ j → ⊥) → slice_index_or (put xs i p) j None ≡ slice_index_or xs j None
-elsewhere [] zero zero p apart = absurd (apart refl)
-elsewhere [] zero (suc j) p apart = refl
-elsewhere [] (suc i) zero p apart = refl
-elsewhere [] (suc i) (suc j) p apart = elsewhere [] i j p (λ e. apart (ap (λ (n : ℕ). suc n) e))
+elsewhere : (xs : List (Option Verified)) (i j : ℕ) (p : Option Verified) → (i ≡ j → ⊥) → slice_index_or (slice_set xs i p) j None ≡ slice_index_or xs j None
+elsewhere [] i j p apart = refl
 elsewhere (x ∷ xs) zero zero p apart = absurd (apart refl)
 elsewhere (x ∷ xs) zero (suc j) p apart = refl
 elsewhere (x ∷ xs) (suc i) zero p apart = refl
 elsewhere (x ∷ xs) (suc i) (suc j) p apart = elsewhere xs i j p (λ e. apart (ap (λ (n : ℕ). suc n) e))
 
-put_within : (xs : List (Option Verified)) (i : ℕ) (p : Option Verified) → i < length xs → slice_set xs i p ≡ put xs i p
-put_within [] i p within = absurd (omega (arith, within))
-put_within (x ∷ xs) zero p within = refl
-put_within (x ∷ xs) (suc i) p within = ap (λ (ys : List (Option Verified)). x ∷ ys) (put_within xs i p (omega (arith, within)))
+-- the elements of a list, asked for one after another
+abbrev tabulate : ℕ → (ℕ → Option Verified) → List (Option Verified)
+tabulate zero f = []
+tabulate (suc n) f = f 0 ∷ tabulate n (λ i. f (suc i))
 
-abbrev empty : Option Verified
-empty = None
-
-none_of : (n i : ℕ) → slice_index_or (replicate n empty) i None ≡ None
-none_of zero i = refl
-none_of (suc n) zero = refl
-none_of (suc n) (suc i) = none_of n i
+each_of : (n : ℕ) (xs : List (Option Verified)) → length xs ≡ n → xs ≡ tabulate n (λ i. slice_index_or xs i None)
+each_of zero [] e = refl
+each_of zero (x ∷ xs) e = absurd (omega (arith, e))
+each_of (suc n) [] e = absurd (omega (arith, e))
+each_of (suc n) (x ∷ xs) e = ap (λ (ys : List (Option Verified)). x ∷ ys) (each_of n xs (omega (arith, e)))
 
 -- ---- places
 
@@ -83,12 +77,6 @@ back OffBlock Alert = refl
 back TakeOff Tobt = refl
 back TakeOff Alert = refl
 
-first_place : place FlightPlanActivated Tobt ≡ 0
-first_place = refl
-
-last_place : place TakeOff Alert ≡ 31
-last_place = refl
-
 -- no two have one place
 pub same_place : (m n : Milestone) (kind other : Kind) → place m kind ≡ place n other → (m ≡ n) × (kind ≡ other)
 same_place m n kind other e =
@@ -97,21 +85,62 @@ same_place m n kind other e =
 
 -- ---- the map
 
--- nothing is loaded at first
-pub nothing_in : (sigs : List (ℕ × Promise)) (m : Milestone) (kind : Kind) → program_in (nothing_loaded sigs) m kind ≡ None
-nothing_in sigs m kind = none_of 32 (place m kind)
+-- each slot has what the function gives
+pub given : (sigs : List (ℕ × Promise)) (f : Milestone → Kind → Option Verified) (m : Milestone) (kind : Kind) → program_in (loaded sigs f) m kind ≡ f m kind
+unfolding table
+given sigs f FlightPlanActivated Tobt = refl
+given sigs f FlightPlanActivated Alert = refl
+given sigs f TwoHoursBeforeEobt Tobt = refl
+given sigs f TwoHoursBeforeEobt Alert = refl
+given sigs f TakeOffFromOutstation Tobt = refl
+given sigs f TakeOffFromOutstation Alert = refl
+given sigs f LocalRadarUpdate Tobt = refl
+given sigs f LocalRadarUpdate Alert = refl
+given sigs f FinalApproach Tobt = refl
+given sigs f FinalApproach Alert = refl
+given sigs f Landed Tobt = refl
+given sigs f Landed Alert = refl
+given sigs f InBlock Tobt = refl
+given sigs f InBlock Alert = refl
+given sigs f GroundHandlingStarts Tobt = refl
+given sigs f GroundHandlingStarts Alert = refl
+given sigs f TobtUpdate Tobt = refl
+given sigs f TobtUpdate Alert = refl
+given sigs f TsatIssue Tobt = refl
+given sigs f TsatIssue Alert = refl
+given sigs f BoardingStarts Tobt = refl
+given sigs f BoardingStarts Alert = refl
+given sigs f AircraftReady Tobt = refl
+given sigs f AircraftReady Alert = refl
+given sigs f StartUpRequest Tobt = refl
+given sigs f StartUpRequest Alert = refl
+given sigs f StartUpApproved Tobt = refl
+given sigs f StartUpApproved Alert = refl
+given sigs f OffBlock Tobt = refl
+given sigs f OffBlock Alert = refl
+given sigs f TakeOff Tobt = refl
+given sigs f TakeOff Alert = refl
 
--- a change at one place is seen there alone
 pub program_after : (l : Loaded) (m n : Milestone) (kind other : Kind) (p : Option Verified)
     → program_in (with_program l m kind p) n other ≡ (if place m kind == place n other then p else program_in l n other)
-program_after l m n kind other p = at (nat_eq (place m kind) (place n other)) refl
+program_after l m n kind other p = given l.sigs (λ n other. if place m kind == place n other then p else program_in l n other) n other
+
+-- a change is seen in its slot
+pub there_after : (l : Loaded) (m : Milestone) (kind : Kind) (p : Option Verified) → program_in (with_program l m kind p) m kind ≡ p
+there_after l m kind p = program_after l m m kind kind p ∙ at (nat_eq (place m kind) (place m kind)) refl
   where
-    at : (t : Bool) → nat_eq (place m kind) (place n other) ≡ t
-        → program_in (with_program l m kind p) n other ≡ (if t then p else program_in l n other)
-    at true e =
-        let same : place n other ≡ place m kind = sym (eqb-true (place m kind) (place n other) e) in
-        rw same (there l.programs (place m kind) p)
-    at false e = elsewhere l.programs (place m kind) (place n other) p (eqb-false (place m kind) (place n other) e)
+    at : (t : Bool) → nat_eq (place m kind) (place m kind) ≡ t → (if t then p else program_in l m kind) ≡ p
+    at true e = refl
+    at false e = absurd (eqb-false (place m kind) (place m kind) e refl)
+
+-- and in no other
+pub elsewhere_after : (l : Loaded) (m n : Milestone) (kind other : Kind) (p : Option Verified) → ((m ≡ n) × (kind ≡ other) → ⊥)
+    → program_in (with_program l m kind p) n other ≡ program_in l n other
+elsewhere_after l m n kind other p apart = program_after l m n kind other p ∙ at (nat_eq (place m kind) (place n other)) refl
+  where
+    at : (t : Bool) → nat_eq (place m kind) (place n other) ≡ t → (if t then p else program_in l n other) ≡ program_in l n other
+    at true e = absurd (apart (same_place m n kind other (eqb-true (place m kind) (place n other) e)))
+    at false e = refl
 
 -- ---- what is loaded fits
 
@@ -119,9 +148,9 @@ program_after l m n kind other p = at (nat_eq (place m kind) (place n other)) re
 abbrev pub Fits : List (ℕ × Promise) → Option Verified → Type 0
 Fits sigs p = (v : Verified) → p ≡ Some v → (v.sigs ≡ sigs) × Accepts 128 v.ops sigs
 
-pub nothing_fits : (sigs : List (ℕ × Promise)) → AreFit (nothing_loaded sigs)
+pub nothing_fits : (sigs : List (ℕ × Promise)) → AreFit (loaded sigs (λ m kind. None))
 nothing_fits sigs m kind v e =
-    let none : None ≡ Some v = sym (nothing_in sigs m kind) ∙ e in
+    let none : None ≡ Some v = sym (given sigs (λ m kind. None) m kind) ∙ e in
     absurd (cc)
 
 pub stays_fit : (l : Loaded) (m : Milestone) (kind : Kind) (p : Option Verified) → Fits l.sigs p → AreFit l → AreFit (with_program l m kind p)
@@ -143,13 +172,29 @@ none_fits sigs v e = absurd (cc)
 
 -- ---- a store in the list of all places
 
--- what stands there after the store
+-- what is loaded after the store
 pub stored_as : (l : Loaded) (m : Milestone) (kind : Kind) (p : Option Verified) (n : ℕ) → n ≡ place m kind → n < 32 → IsBoard l
     → record { sigs = l.sigs; programs = slice_set l.programs n p } ≡ with_program l m kind p
-stored_as l m kind p n at within board =
-    let put_there : slice_set l.programs n p ≡ put l.programs (place m kind) p = put_within l.programs n p (omega (arith, within, board.places)) ∙ ap (λ (i : ℕ). put l.programs i p) at in
+unfolding table
+stored_as l m kind p n is within board =
+    let whole : slice_set l.programs n p ≡ table (λ other_m other. slice_index_or (slice_set l.programs n p) (place other_m other) None) =
+    each_of 32 (slice_set l.programs n p) (length-set l.programs n p ∙ board.places) in
+    let asked : table (λ other_m other. slice_index_or (slice_set l.programs n p) (place other_m other) None)
+    ≡ table (λ other_m other. if place m kind == place other_m other then p else program_in l other_m other) =
+    ap table (λ i other_m other. each other_m other i) in
     let as_loaded : List (Option Verified) → Loaded = λ xs. record { sigs = l.sigs; programs = xs } in
-    ap as_loaded put_there
+    ap as_loaded (whole ∙ asked)
+  where
+    at : (o : ℕ) (t : Bool) → nat_eq (place m kind) o ≡ t
+        → slice_index_or (slice_set l.programs n p) o None ≡ (if t then p else slice_index_or l.programs o None)
+    at o true e =
+        let here : n ≡ o = is ∙ eqb-true (place m kind) o e in
+        subst (λ (j : ℕ). slice_index_or (slice_set l.programs n p) j None ≡ p) here (there l.programs n p (omega (arith, within, board.places)))
+    at o false e = elsewhere l.programs n o p (λ same. eqb-false (place m kind) o e (sym is ∙ same))
+
+    each : (other_m : Milestone) (other : Kind) → slice_index_or (slice_set l.programs n p) (place other_m other) None
+        ≡ (if place m kind == place other_m other then p else program_in l other_m other)
+    each other_m other = at (place other_m other) (nat_eq (place m kind) (place other_m other)) refl
 
 -- it keeps what is true of a board
 pub board_after : (l : Loaded) (m : Milestone) (kind : Kind) (p : Option Verified) (n : ℕ) → n ≡ place m kind → n < 32 → IsBoard l → Fits l.sigs p

@@ -46,6 +46,7 @@ fn place_of(milestone: Milestone, kind: Kind) -> usize
 
 impl Slots {
     /// No program is loaded yet; there is room for all. `Err` only where there is no memory.
+    #[tactic(auto, unfolding(crate::specs::Loaded::table))]
     pub fn new(alloc: Global, sigs: Sigs) -> Result<Slots, AllocError>
         ensures { IfOk result (λ slots. slots ≡ nothing_loaded sigs) }
     {

@@ -8,7 +8,6 @@ use Rattle.acdm_milestones.specs.declared.role.Action.TheVariants as actions
 use Rattle.acdm_milestones.specs.declared.refusal.Refusal.TheVariants.{NotOwner, UnknownFlight}
 use Rattle.acdm_milestones.specs.Tables.{number, owns}
 use Rattle.bpf_helpers.specs.Promise.{Promise}
-use Rattle.bpf_helpers.specs.Same.{same_sigs}
 use Rattle.bpf_verifier.specs.Verdict.{Verified}
 use Rattle.bpf_helpers.specs.Oracles.{OracleView}
 use Rattle.acdm_milestones.specs.declared.milestone.Milestone.{Milestone}
@@ -16,7 +15,7 @@ use Rattle.acdm_slots.specs.declared.kind.Kind.{Kind}
 use Rattle.acdm_slots.specs.declared.kind.Kind.TheVariants as kinds
 use Rattle.acdm_slots.specs.Loaded.{Loaded, place}
 use Rattle.acdm_slots.specs.Loaded as loaded
-use Rattle.acdm_slots.proofs.PlaceLemmas.{nothing_in, program_after}
+use Rattle.acdm_slots.proofs.PlaceLemmas.{given}
 use Rattle.acdm_step.specs.declared.command.Command.{Command}
 use Rattle.acdm_step.specs.declared.command.Command.TheVariants.{Schedule, Report, Load, Unload, Tick, Show}
 use Rattle.acdm_step.specs.declared.outcome.Outcome.TheVariants as outcomes
@@ -114,33 +113,39 @@ either_slot : (b : Bool) (after before : Option Verified) → cond b after befor
 either_slot true after before = refl
 either_slot false after before = refl
 
-slot-with : (m : Milestone) (k : Kind) (c : Command) (l : Loaded) → loaded.program_in (with_slots c l) m k ≡ changed_or (slot_change m k c) (loaded.program_in l m k)
-slot-with m k (Load c) l = program_after l c.milestone m c.kind k (Some c.program) ∙ either_slot (place c.milestone c.kind == place m k) (Some c.program) (loaded.program_in l m k)
-slot-with m k (Unload c) l = program_after l c.milestone m c.kind k None ∙ either_slot (place c.milestone c.kind == place m k) None (loaded.program_in l m k)
-slot-with m k _ l = refl
-
 -- the program that stands in a slot is that of the last load or unload
 pub slot-replay : (sigs : List (ℕ × Promise)) (J : History) (m : Milestone) (k : Kind) → loaded.program_in (slots_of sigs J) m k ≡ program_in J m k
-slot-replay sigs [] m k = nothing_in sigs m k
-slot-replay sigs (e ∷ J) m k =
-    elim (is_accepted e.verdict) as (λ b. loaded.program_in (cond b (with_slots e.command (slots_of sigs J)) (slots_of sigs J)) m k ≡ cond b (changed_or (slot_change m k e.command) (program_in J m k)) (program_in J m k)) [
-      | true ↦ slot-with m k e.command (slots_of sigs J) ∙ ap (changed_or (slot_change m k e.command)) (slot-replay sigs J m k)
-      | false ↦ slot-replay sigs J m k
-    ]
+slot-replay sigs J m k = given sigs (program_in J) m k
+
+-- a command changes what a slot is said to have
+module _ (sigs : List (ℕ × Promise)) (f : Milestone → Kind → Option Verified) where
+  put_there : (m n : Milestone) (kind other : Kind) (after : Option Verified)
+      → cond (place m kind == place n other) after (loaded.program_in (loaded.loaded sigs f) n other)
+      ≡ changed_or (cond (place m kind == place n other) (Some after) None) (f n other)
+  put_there m n kind other after =
+      ap (λ before. cond (place m kind == place n other) after before) (given sigs f n other)
+      ∙ either_slot (place m kind == place n other) after (f n other)
+
+  changed_slots : (c : Command) → with_slots c (loaded.loaded sigs f) ≡ loaded.loaded sigs (λ m k. changed_or (slot_change m k c) (f m k))
+  changed_slots (Load c) = ap (loaded.loaded sigs) (λ i m k. put_there c.milestone m c.kind k (Some c.program) i)
+  changed_slots (Unload c) = ap (loaded.loaded sigs) (λ i m k. put_there c.milestone m c.kind k None i)
+  changed_slots _ = refl
+
+-- an accepted entry changes the slots, and a refused one leaves them
+pub accepted-slots : (sigs : List (ℕ × Promise)) (e : Entry) (J : History) → is_accepted e.verdict ≡ true
+    → with_slots e.command (slots_of sigs J) ≡ slots_of sigs (e ∷ J)
+accepted-slots sigs e J d =
+    changed_slots sigs (program_in J) e.command
+    ∙ sym (ap (λ b. loaded.loaded sigs (λ m k. cond b (changed_or (slot_change m k e.command) (program_in J m k)) (program_in J m k))) d)
+
+refused-slots : (sigs : List (ℕ × Promise)) (e : Entry) (J : History) → is_accepted e.verdict ≡ false → slots_of sigs (e ∷ J) ≡ slots_of sigs J
+refused-slots sigs e J d =
+    ap (λ b. loaded.loaded sigs (λ m k. cond b (changed_or (slot_change m k e.command) (program_in J m k)) (program_in J m k))) d
 
 pub with_slots-sigs : (c : Command) (l : Loaded) → (with_slots c l).sigs ≡ l.sigs
 with_slots-sigs (Load c) l = refl
 with_slots-sigs (Unload c) l = refl
 with_slots-sigs _ l = refl
-
--- the signatures stay
-pub sigs-replay : (sigs : List (ℕ × Promise)) (J : History) → (slots_of sigs J).sigs ≡ sigs
-sigs-replay sigs [] = refl
-sigs-replay sigs (e ∷ J) =
-    elim (is_accepted e.verdict) as (λ b. (cond b (with_slots e.command (slots_of sigs J)) (slots_of sigs J)).sigs ≡ sigs) [
-      | true ↦ with_slots-sigs e.command (slots_of sigs J) ∙ sigs-replay sigs J
-      | false ↦ sigs-replay sigs J
-    ]
 
 pub programs-replay : (sigs : List (ℕ × Promise)) (J : History) (c : Command) → programs_on (slots_of sigs J) c ≡ programs_of J c
 programs-replay sigs J (Report r) =
@@ -150,7 +155,7 @@ programs-replay sigs J (Report r) =
 programs-replay sigs J _ = refl
 
 ready-replay : (sigs : List (ℕ × Promise)) (J : History) (c : Command) → ready_on (slots_of sigs J) c ≡ is_ready sigs J c
-ready-replay sigs J (Load c) = ap (same_sigs c.program.sigs) (sigs-replay sigs J)
+ready-replay sigs J (Load c) = refl
 ready-replay sigs J (Unload c) = ap is_some (slot-replay sigs J c.milestone c.kind)
 ready-replay sigs J _ = refl
 
@@ -333,13 +338,13 @@ module _ (sigs : List (ℕ × Promise)) (e : Entry) (J : History) (legal : IsLeg
   accepted-board : is_accepted e.verdict ≡ true → record { records = board_changed (replay sigs J) e.moment e.command e.answers; slots = with_slots e.command (slots_of sigs J) } ≡ replay sigs (e ∷ J)
   accepted-board d =
       let records = changed-replay d in
-      let slots : with_slots e.command (slots_of sigs J) ≡ slots_of sigs (e ∷ J) = sym (ap (λ b. cond b (with_slots e.command (slots_of sigs J)) (slots_of sigs J)) d) in
+      let slots = accepted-slots sigs e J d in
       λ i. record { records = records i; slots = slots i }
 
   refused-board : is_accepted e.verdict ≡ false → replay sigs (e ∷ J) ≡ replay sigs J
   refused-board d =
       let records = refused-records d in
-      let slots : slots_of sigs (e ∷ J) ≡ slots_of sigs J = ap (λ b. cond b (with_slots e.command (slots_of sigs J)) (slots_of sigs J)) d in
+      let slots = refused-slots sigs e J d in
       λ i. record { records = records i; slots = slots i }
 
 module _ (sigs : List (ℕ × Promise)) (J : History) (session : ℕ) (role : Role) (moment : ℕ) (c : Command) (legal : IsLegal sigs J) where

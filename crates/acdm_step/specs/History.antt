@@ -23,7 +23,7 @@ use Rattle.bpf_regstate.specs.States.{Accepts, instruction_count}
 use Rattle.bpf_verifier.specs.Verdict.{Verified}
 use Rattle.acdm_slots.specs.declared.kind.Kind.{Kind}
 use Rattle.acdm_slots.specs.declared.kind.Kind.TheVariants as kinds
-use Rattle.acdm_slots.specs.Loaded.{Loaded, nothing_loaded, place, with_program}
+use Rattle.acdm_slots.specs.Loaded.{Loaded, loaded, place, with_program}
 use Rattle.acdm_step.specs.Programs.{Programs, no_programs, Suggestion, Nothing, Usable, Unusable, Said, said, said_with}
 use Rattle.acdm_step.specs.declared.command.Plan.{Plan}
 use Rattle.acdm_step.specs.declared.command.Command.{Command}
@@ -137,15 +137,15 @@ size_of (Some p) = instruction_count p.ops
 abbrev pub room_of : History → Command → ℕ
 room_of J c = size_of (programs_of J c).tobt + size_of (programs_of J c).alert
 
--- all slots
+-- the slots after an accepted command
 abbrev pub with_slots : Command → Loaded → Loaded
 with_slots (Load l) slots = with_program slots l.milestone l.kind (Some l.program)
 with_slots (Unload u) slots = with_program slots u.milestone u.kind None
 with_slots _ slots = slots
 
+-- the slots of a board: in each the program that the history says
 abbrev pub slots_of : List (ℕ × Promise) → History → Loaded
-slots_of sigs [] = nothing_loaded sigs
-slots_of sigs (e ∷ J) = if is_accepted e.verdict then with_slots e.command (slots_of sigs J) else slots_of sigs J
+slots_of sigs J = loaded sigs (program_in J)
 
 -- ---- what the whole history says of a flight
 

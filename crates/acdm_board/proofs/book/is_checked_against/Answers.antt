@@ -1,4 +1,4 @@
-use Rattle.std.proofs.Common.{◌≡◌, ap, ◌∙◌}
+use Rattle.std.proofs.Common.{ap, ◌∙◌}
 use Rattle.bpf_helpers.specs.Same.{same_sigs}
 use Rattle.bpf_helpers.proofs.SameSigs.{is_same_sigs}
 use Rattle.acdm_board.proofs.book.is_checked_against.Goals as goal

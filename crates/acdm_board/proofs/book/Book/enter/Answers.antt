@@ -1,4 +1,4 @@
-use Rattle.std.proofs.Common.{◌≡◌, ◌<◌, [], ◌∷◌, ◌++◌, length, reverse, true, not, is_ok, refl, ap, sym, subst, ◌∙◌}
+use Rattle.std.proofs.Common.{◌≡◌, ◌<◌, length, reverse, not, refl, ap, sym, subst, ◌∙◌}
 use Rattle.bpf_helpers.specs.Oracles.{is_full, view_of_live}
 use Rattle.acdm_step.specs.History.{IsChecked, room_of}
 use Rattle.acdm_board.specs.Desk.{DeskView}
