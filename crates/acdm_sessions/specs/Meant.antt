@@ -54,6 +54,11 @@ GivesView view (Ok x) reading = reading ≡ Ok (view x)
 GivesView view (Err errors.Memory) reading = Unit {0}
 GivesView view (Err (errors.Fault f)) reading = reading ≡ Err f
 
+-- what a function that takes no memory returned, seen by view, is what reading gives
+abbrev pub Sees : {X Y : Type 0} → (X → Y) → Result X Fault → Result Y Fault → Type 0
+Sees view (Ok x) reading = reading ≡ Ok (view x)
+Sees view (Err f) reading = reading ≡ Err f
+
 -- ---- the words before the JSON
 
 abbrev pub is_space : ℕ → Bool
@@ -199,6 +204,13 @@ kind_named w = if bytes_eq w (codes "tobt") then Some Tobt else (if bytes_eq w (
 unfoldable pub kind_field : Data → Result kinds.Kind Fault
 kind_field d = or_fault Kind (option_and_then as_str (get (codes "kind") d)) >>= λ t. or_fault Range (kind_named t)
 
+-- the slot of a program
+abbrev pub slot_field : Data → Result (Milestone × kinds.Kind) Fault
+slot_field d = do
+  milestone ← milestone_field d
+  kind ← kind_field d
+  Ok (milestone, kind)
+
 -- the bytes of hexadecimal text, with digits in either case
 abbrev pub bytes_read : {E : Type 0} → Result (List ℕ) E → Result (List ℕ) Fault
 bytes_read (Ok bytes) = Ok bytes
@@ -210,17 +222,15 @@ program_field d = or_fault Kind (option_and_then as_str (get (codes "program") d
 -- the fields of a load
 unfoldable pub load_field : Data → Result Asked Fault
 load_field d = do
-  milestone ← milestone_field d
-  kind ← kind_field d
+  slot ← slot_field d
   program ← program_field d
-  Ok (Load record { milestone = milestone; kind = kind; program = program })
+  Ok (Load record { milestone = slot.0; kind = slot.1; program = program })
 
 -- the slot that is to be emptied
 unfoldable pub unload_field : Data → Result Command Fault
 unload_field d = do
-  milestone ← milestone_field d
-  kind ← kind_field d
-  Ok (Unload record { milestone = milestone; kind = kind })
+  slot ← slot_field d
+  Ok (Unload record { milestone = slot.0; kind = slot.1 })
 
 -- the command of this name, where it is not a load
 unfoldable pub plain_named : List ℕ → Data → Result Command Fault

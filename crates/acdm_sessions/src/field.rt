@@ -3,7 +3,7 @@ ghost use Rattle.std.specs.Prelude.{◌≡◌, ◌≤◌, true, false, IfOk, IsT
 ghost use Rattle.acdm_step.specs.Facts.{has_its_plan, has_its_time};
 ghost use Rattle.acdm_step.specs.History.{is_load};
 ghost use Rattle.serde_json.specs.View.{view};
-ghost use Rattle.acdm_sessions.specs.Meant.{Gives, GivesView, number_field, text_field, minute_of, time_field, time_or_null, time_for, plan_field, plan_for, milestone_of, milestone_field, schedule_field, report_field, show_field, kind_named, kind_field, program_field, load_field, unload_field, plain_named, command_of, is_plain, json_of};
+ghost use Rattle.acdm_sessions.specs.Meant.{Gives, GivesView, number_field, text_field, minute_of, time_field, time_or_null, time_for, plan_field, plan_for, milestone_of, milestone_field, schedule_field, report_field, show_field, kind_named, kind_field, slot_field, program_field, load_field, unload_field, plain_named, command_of, is_plain, json_of};
 
 use crate::fault::Fault;
 use crate::program::ProgramBytes;
@@ -18,63 +18,63 @@ use serde_json::Value;
 use std::alloc::Global;
 
 #[tactic(auto, unfolding(crate::specs::Meant::number_field))]
-fn number_in(value: &Value, key: &str, low: u64, high: u64) -> Result<u64, LineError>
-    ensures reads { Gives result (number_field key.now low high (view value.now)) }
+fn number_in(value: &Value, key: &str, low: u64, high: u64) -> Result<u64, Fault>
+    ensures reads { result ≡ number_field key.now low high (view value.now) }
     ensures within { IfOk result (λ n. (low ≤ n) × (n ≤ high)) }
 {
     let Some(number) = value.get(key).and_then(Value::as_u64) else {
-        return Err(LineError::Fault(Fault::Kind));
+        return Err(Fault::Kind);
     };
     if low <= number && number <= high {
         Ok(number)
     } else {
-        Err(LineError::Fault(Fault::Range))
+        Err(Fault::Range)
     }
 }
 
 // The minute of a text that is an instant.
 #[tactic(auto, unfolding(crate::specs::Meant::time_field))]
-fn time_in(value: &Value, key: &str) -> Result<u32, LineError>
-    ensures reads { Gives result (time_field key.now (view value.now)) }
+fn time_in(value: &Value, key: &str) -> Result<u32, Fault>
+    ensures reads { result ≡ time_field key.now (view value.now) }
     ensures given { IfOk result (λ t. 1 ≤ t) }
 {
     let Some(text) = value.get(key).and_then(Value::as_str) else {
-        return Err(LineError::Fault(Fault::Kind));
+        return Err(Fault::Kind);
     };
     let Ok(instant) = text.parse::<Timestamp>() else {
-        return Err(LineError::Fault(Fault::Range));
+        return Err(Fault::Range);
     };
     minute_at(instant)
 }
 
-fn minute_at(instant: Timestamp) -> Result<u32, LineError>
-    ensures reads { Gives result (minute_of instant.nanosecond) }
+fn minute_at(instant: Timestamp) -> Result<u32, Fault>
+    ensures reads { result ≡ minute_of instant.nanosecond }
     ensures given { IfOk result (λ t. 1 ≤ t) }
 {
     let minute = instant.as_second() / 60;
     if 1 <= minute && minute <= 4_294_967_295 {
         Ok(minute as u32)
     } else {
-        Err(LineError::Fault(Fault::Range))
+        Err(Fault::Range)
     }
 }
 
 #[tactic(auto, unfolding(crate::specs::Meant::text_field))]
-fn text_in<const N: usize>(value: &Value, key: &str) -> Result<Text<N>, LineError>
-    ensures { Gives result (text_field key.now N (view value.now)) }
+fn text_in<const N: usize>(value: &Value, key: &str) -> Result<Text<N>, Fault>
+    ensures { result ≡ text_field key.now N (view value.now) }
 {
     let Some(text) = value.get(key).and_then(Value::as_str) else {
-        return Err(LineError::Fault(Fault::Kind));
+        return Err(Fault::Kind);
     };
     let Some(kept) = Text::from_bytes(text.as_bytes()) else {
-        return Err(LineError::Fault(Fault::Range));
+        return Err(Fault::Range);
     };
     Ok(kept)
 }
 
 #[tactic(auto, unfolding(crate::specs::Meant::plan_field))]
-fn plan_in(value: &Value) -> Result<Plan, LineError>
-    ensures { Gives result (plan_field (view value.now)) }
+fn plan_in(value: &Value) -> Result<Plan, Fault>
+    ensures { result ≡ plan_field (view value.now) }
 {
     let callsign = text_in(value, "callsign")?;
     let aircraft = text_in(value, "type")?;
@@ -88,18 +88,18 @@ fn plan_in(value: &Value) -> Result<Plan, LineError>
     })
 }
 
-fn milestone_at(number: u64) -> Result<Milestone, LineError>
-    ensures { Gives result (milestone_of number) }
+fn milestone_at(number: u64) -> Result<Milestone, Fault>
+    ensures { result ≡ milestone_of number }
 {
     let Some(milestone) = Milestone::from_number(number) else {
-        return Err(LineError::Fault(Fault::Range));
+        return Err(Fault::Range);
     };
     Ok(milestone)
 }
 
 #[tactic(auto, unfolding(crate::specs::Meant::milestone_field))]
-fn milestone_in(value: &Value) -> Result<Milestone, LineError>
-    ensures { Gives result (milestone_field (view value.now)) }
+fn milestone_in(value: &Value) -> Result<Milestone, Fault>
+    ensures { result ≡ milestone_field (view value.now) }
 {
     let number = number_in(value, "milestone", 0, u64::MAX)?;
     milestone_at(number)
@@ -107,8 +107,8 @@ fn milestone_in(value: &Value) -> Result<Milestone, LineError>
 
 // A time, or 0 for null.
 #[tactic(auto, unfolding(crate::specs::Meant::time_or_null))]
-fn time_or_null_in(value: &Value, key: &str) -> Result<u32, LineError>
-    ensures { Gives result (time_or_null key.now (view value.now)) }
+fn time_or_null_in(value: &Value, key: &str) -> Result<u32, Fault>
+    ensures { result ≡ time_or_null key.now (view value.now) }
 {
     if value.get(key).and_then(Value::as_null).is_some() {
         return Ok(0);
@@ -117,8 +117,8 @@ fn time_or_null_in(value: &Value, key: &str) -> Result<u32, LineError>
 }
 
 // The time of a report.
-fn time_of(value: &Value, milestone: Milestone) -> Result<u32, LineError>
-    ensures reads { Gives result (time_for milestone (view value.now)) }
+fn time_of(value: &Value, milestone: Milestone) -> Result<u32, Fault>
+    ensures reads { result ≡ time_for milestone (view value.now) }
     ensures timed { IfOk result (λ t. IsTrue (has_its_time milestone t)) }
 {
     match milestone {
@@ -128,8 +128,8 @@ fn time_of(value: &Value, milestone: Milestone) -> Result<u32, LineError>
 }
 
 #[tactic(auto, unfolding(crate::specs::Meant::schedule_field, crate::specs::Meant::number_field))]
-fn schedule_in(value: &Value) -> Result<Command, LineError>
-    ensures reads { Gives result (schedule_field (view value.now)) }
+fn schedule_in(value: &Value) -> Result<Command, Fault>
+    ensures reads { result ≡ schedule_field (view value.now) }
     ensures plain { IfOk result (λ command. is_load command ≡ false) }
 {
     let flight = number_in(value, "flight", 1, u64::MAX)?;
@@ -150,8 +150,8 @@ fn schedule_in(value: &Value) -> Result<Command, LineError>
     )))
 }
 
-fn plan_of(value: &Value, milestone: Milestone) -> Result<Option<Plan>, LineError>
-    ensures reads { Gives result (plan_for milestone (view value.now)) }
+fn plan_of(value: &Value, milestone: Milestone) -> Result<Option<Plan>, Fault>
+    ensures reads { result ≡ plan_for milestone (view value.now) }
     ensures with_first { IfOk result (λ p. IsTrue (has_its_plan milestone p)) }
 {
     match milestone {
@@ -161,8 +161,8 @@ fn plan_of(value: &Value, milestone: Milestone) -> Result<Option<Plan>, LineErro
 }
 
 #[tactic(auto, unfolding(crate::specs::Meant::report_field))]
-fn report_in(value: &Value) -> Result<Command, LineError>
-    ensures reads { Gives result (report_field (view value.now)) }
+fn report_in(value: &Value) -> Result<Command, Fault>
+    ensures reads { result ≡ report_field (view value.now) }
     ensures plain { IfOk result (λ command. is_load command ≡ false) }
 {
     let flight = number_in(value, "flight", 1, u64::MAX)?;
@@ -173,8 +173,8 @@ fn report_in(value: &Value) -> Result<Command, LineError>
 }
 
 #[tactic(auto, unfolding(crate::specs::Meant::show_field))]
-fn show_in(value: &Value) -> Result<Command, LineError>
-    ensures reads { Gives result (show_field (view value.now)) }
+fn show_in(value: &Value) -> Result<Command, Fault>
+    ensures reads { result ≡ show_field (view value.now) }
     ensures plain { IfOk result (λ command. is_load command ≡ false) }
 {
     let flight = number_in(value, "flight", 1, u64::MAX)?;
@@ -194,16 +194,25 @@ fn kind_named_by(name: &str) -> Option<Kind>
 }
 
 #[tactic(auto, unfolding(crate::specs::Meant::kind_field))]
-fn kind_in(value: &Value) -> Result<Kind, LineError>
-    ensures { Gives result (kind_field (view value.now)) }
+fn kind_in(value: &Value) -> Result<Kind, Fault>
+    ensures { result ≡ kind_field (view value.now) }
 {
     let Some(name) = value.get("kind").and_then(Value::as_str) else {
-        return Err(LineError::Fault(Fault::Kind));
+        return Err(Fault::Kind);
     };
     let Some(kind) = kind_named_by(name) else {
-        return Err(LineError::Fault(Fault::Range));
+        return Err(Fault::Range);
     };
     Ok(kind)
+}
+
+// The slot of a program: its milestone and its kind.
+fn slot_in(value: &Value) -> Result<(Milestone, Kind), Fault>
+    ensures { result ≡ slot_field (view value.now) }
+{
+    let milestone = milestone_in(value)?;
+    let kind = kind_in(value)?;
+    Ok((milestone, kind))
 }
 
 // The bytes of hexadecimal text.
@@ -226,8 +235,10 @@ fn load_in(alloc: Global, value: &Value) -> Result<Asked, LineError>
     ensures reads { Gives result (load_field (view value.now)) }
     ensures plain { IfOk result (λ asked. is_plain asked ≡ true) }
 {
-    let milestone = milestone_in(value)?;
-    let kind = kind_in(value)?;
+    let (milestone, kind) = match slot_in(value) {
+        Ok(slot) => slot,
+        Err(fault) => return Err(LineError::Fault(fault)),
+    };
     let program = program_in(alloc, value)?;
     Ok(Asked::Load(LoadRequest {
         milestone,
@@ -237,19 +248,18 @@ fn load_in(alloc: Global, value: &Value) -> Result<Asked, LineError>
 }
 
 #[tactic(auto, unfolding(crate::specs::Meant::unload_field))]
-fn unload_in(value: &Value) -> Result<Command, LineError>
-    ensures reads { Gives result (unload_field (view value.now)) }
+fn unload_in(value: &Value) -> Result<Command, Fault>
+    ensures reads { result ≡ unload_field (view value.now) }
     ensures plain { IfOk result (λ command. is_load command ≡ false) }
 {
-    let milestone = milestone_in(value)?;
-    let kind = kind_in(value)?;
+    let (milestone, kind) = slot_in(value)?;
     Ok(Command::Unload(Unload { milestone, kind }))
 }
 
 // The command of this name, where it is not a load.
 #[tactic(auto, unfolding(crate::specs::Meant::plain_named))]
-fn plain_in(value: &Value, name: &str) -> Result<Command, LineError>
-    ensures reads { Gives result (plain_named name.now (view value.now)) }
+fn plain_in(value: &Value, name: &str) -> Result<Command, Fault>
+    ensures reads { result ≡ plain_named name.now (view value.now) }
     ensures plain { IfOk result (λ command. is_load command ≡ false) }
 {
     if name == "schedule" {
@@ -265,7 +275,7 @@ fn plain_in(value: &Value, name: &str) -> Result<Command, LineError>
     } else if name == "alerts" {
         Ok(Command::Alerts)
     } else {
-        Err(LineError::Fault(Fault::UnknownCommand))
+        Err(Fault::UnknownCommand)
     }
 }
 
@@ -280,8 +290,10 @@ pub(crate) fn command_in(alloc: Global, value: &Value) -> Result<Asked, LineErro
     if name == "load" {
         return load_in(alloc, value);
     }
-    let command = plain_in(value, name)?;
-    Ok(Asked::Plain(command))
+    match plain_in(value, name) {
+        Ok(command) => Ok(Asked::Plain(command)),
+        Err(fault) => Err(LineError::Fault(fault)),
+    }
 }
 
 pub(crate) fn json_in(alloc: Global, bytes: &[u8]) -> Result<Value, LineError>

@@ -1,6 +1,6 @@
 //! The words before the JSON of a line.
 ghost use Rattle.std.specs.Prelude.{◌≡◌, ◌<◌, ◌≤◌, length, position, true, IfSome, IfOk};
-ghost use Rattle.acdm_sessions.specs.Meant.{Gives, GivesView, is_space, word_at, natural_of, number_word, role_named, head_of, meant, is_plain};
+ghost use Rattle.acdm_sessions.specs.Meant.{Gives, Sees, is_space, word_at, natural_of, number_word, role_named, head_of, meant, is_plain};
 
 use crate::fault::Fault;
 use crate::field::{command_in, json_in};
@@ -17,11 +17,11 @@ fn space_in(line: &[u8]) -> Option<usize>
 }
 
 // The bytes before the first space, and those after it.
-fn word_in(line: &[u8]) -> Result<(&[u8], &[u8]), LineError>
-    ensures { GivesView (λ x. (x.0.now, x.1.now)) result (word_at line.now) }
+fn word_in(line: &[u8]) -> Result<(&[u8], &[u8]), Fault>
+    ensures { Sees (λ x. (x.0.now, x.1.now)) result (word_at line.now) }
 {
     let Some(end) = space_in(line) else {
-        return Err(LineError::Fault(Fault::Prefix));
+        return Err(Fault::Prefix);
     };
     Ok((&line[..end], &line[end + 1..]))
 }
@@ -44,17 +44,17 @@ fn natural_in(word: &[u8]) -> Option<u64>
     Some(number)
 }
 
-fn number_in(word: &[u8], high: u64) -> Result<u64, LineError>
-    ensures reads { Gives result (number_word high word.now) }
+fn number_in(word: &[u8], high: u64) -> Result<u64, Fault>
+    ensures reads { result ≡ number_word high word.now }
     ensures within { IfOk result (λ n. (1 ≤ n) × (n ≤ high)) }
 {
     let Some(number) = natural_in(word) else {
-        return Err(LineError::Fault(Fault::Prefix));
+        return Err(Fault::Prefix);
     };
     if 1 <= number && number <= high {
         Ok(number)
     } else {
-        Err(LineError::Fault(Fault::Prefix))
+        Err(Fault::Prefix)
     }
 }
 
@@ -85,10 +85,10 @@ struct Head<'a> {
 }
 
 #[tactic(auto, unfolding(crate::specs::Meant::head_of))]
-fn head_in(line: &[u8]) -> Result<Head<'_>, LineError>
+fn head_in(line: &[u8]) -> Result<Head<'_>, Fault>
     ensures session { IfOk result (λ h. (1 ≤ h.session) × (h.session ≤ 64)) }
     ensures moment { IfOk result (λ h. 1 ≤ h.moment) }
-    ensures reads { GivesView
+    ensures reads { Sees
         (λ h. record { session = h.session; moment = h.moment; role = h.role; rest = h.rest.now })
         result (head_of line.now) }
 {
@@ -98,7 +98,7 @@ fn head_in(line: &[u8]) -> Result<Head<'_>, LineError>
     let moment = number_in(second, 4_294_967_295)?;
     let (third, rest) = word_in(line)?;
     let Some(role) = role_in(third) else {
-        return Err(LineError::Fault(Fault::Prefix));
+        return Err(Fault::Prefix);
     };
     Ok(Head {
         session: session as u8,
@@ -119,7 +119,10 @@ pub fn request_of(alloc: Global, line: &[u8]) -> Result<Request, LineError>
     if line.len() > 70_000 {
         return Err(LineError::Fault(Fault::TooLong));
     }
-    let head = head_in(line)?;
+    let head = match head_in(line) {
+        Ok(head) => head,
+        Err(fault) => return Err(LineError::Fault(fault)),
+    };
     let value = json_in(alloc, head.rest)?;
     let asked = command_in(alloc, &value)?;
     Ok(Request {

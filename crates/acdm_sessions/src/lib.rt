@@ -34,3 +34,5 @@ mod board_tests;
 mod program_tests;
 #[cfg(test)]
 mod tests;
+#[cfg(test)]
+mod wire_tests;
