@@ -7,6 +7,7 @@ ghost use Rattle.bpf_decode.specs.declared.op.Width.TheVariants.{W32, W64};
 use bpf_decode::{Bytes, Code, Condition, Order, Part, Width};
 
 /// The result of an operation on 64 bits.
+#[inline(always)]
 fn operate64(code: Code, a: u64, b: u64) -> u64
     ensures { result ≡ operation code W64 a b }
 {
@@ -28,6 +29,7 @@ fn operate64(code: Code, a: u64, b: u64) -> u64
     }
 }
 
+#[inline(never)]
 fn signed_div64(a: u64, b: u64) -> u64
     ensures { result ≡ operation Code.SignedDiv W64 a b }
 {
@@ -40,6 +42,7 @@ fn signed_div64(a: u64, b: u64) -> u64
     }
 }
 
+#[inline(never)]
 fn signed_mod64(a: u64, b: u64) -> u64
     ensures { result ≡ operation Code.SignedMod W64 a b }
 {
@@ -109,6 +112,7 @@ fn extend64(part: Part, a: u64) -> u64
 }
 
 /// The result of an operation on 32 bits.
+#[inline(always)]
 fn operate32(code: Code, a: u32, b: u32) -> u32
     ensures { result ≡ operation code W32 a b }
 {
@@ -130,6 +134,7 @@ fn operate32(code: Code, a: u32, b: u32) -> u32
     }
 }
 
+#[inline(never)]
 fn signed_div32(a: u32, b: u32) -> u32
     ensures { result ≡ operation Code.SignedDiv W32 a b }
 {
@@ -142,6 +147,7 @@ fn signed_div32(a: u32, b: u32) -> u32
     }
 }
 
+#[inline(never)]
 fn signed_mod32(a: u32, b: u32) -> u32
     ensures { result ≡ operation Code.SignedMod W32 a b }
 {
@@ -155,6 +161,7 @@ fn signed_mod32(a: u32, b: u32) -> u32
 }
 
 /// The result of an operation on two words.
+#[inline(always)]
 pub fn operate(code: Code, width: Width, a: u64, b: u64) -> u64
     ensures value { result ≡ arith_word code width a b }
 {
