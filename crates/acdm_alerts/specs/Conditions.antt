@@ -1,6 +1,6 @@
 -- When a flight has an alert (this project's profile, over the list of alerts of A-CDM airports). All sums are
 -- whole numbers, and never wrap.
-use Rattle.std.specs.Prelude.{ℕ, ◌+◌, ◌*◌, ◌/◌, ◌%◌, ◌^◌, Bool, false, ◌||◌, ◌&&◌, not, nat_le, nat_lt, if◌then◌else◌, Option, Some, None}
+use Rattle.std.specs.Prelude.{ℕ, ◌+◌, ◌*◌, ◌/◌, ◌%◌, ◌^◌, Bool, false, ◌||◌, ◌&&◌, not, nat_le, nat_lt, if◌then◌else◌, List, [], ◌∷◌, Option, Some, None}
 use Rattle.std.specs.Str.{bytes_eq}
 use Rattle.acdm_record.specs.declared.field.Field.{Field}
 use Rattle.acdm_record.specs.declared.field.Field.TheVariants.{Alerts, Mttt, Exit, Sobt, Eobt, Eldt, Aldt, Aibt, Tobt, Tsat, Asbt, Asat, Aobt}
@@ -57,19 +57,31 @@ no_flight_plan r moment = has_reached r 0 && (not (has_reached r 1) && nat_le (n
 abbrev pub bit_if : Bool → ℕ → ℕ
 bit_if b n = if b then 2 ^ n else 0
 
--- the alerts that are computed: CDM01 to 05, 07 to 13, and 07a, which is bit 15
-abbrev pub plan_conditions : Fields → ℕ
-plan_conditions r =
-    bit_if (no_airport_slot r) 1 + bit_if (differ_by 0 r Sobt Eobt) 2 + bit_if (texts_differ r ScheduledType PlanType) 3
-    + bit_if (texts_differ r ScheduledRegistration PlanRegistration) 4 + bit_if (texts_differ r ScheduledDestination PlanDestination) 5
+-- the alerts that are computed, CDM01 to CDM05, CDM07 to CDM13 and CDM07a: the bit of each, in rising order, and whether it holds
+abbrev pub computed_alerts : Fields → ℕ → List (ℕ × Bool)
+computed_alerts r moment =
+    (1, no_airport_slot r)
+    ∷ (2, differ_by 0 r Sobt Eobt)
+    ∷ (3, texts_differ r ScheduledType PlanType)
+    ∷ (4, texts_differ r ScheduledRegistration PlanRegistration)
+    ∷ (5, texts_differ r ScheduledDestination PlanDestination)
+    ∷ (7, turns_after r Eobt)
+    ∷ (8, differ_by 15 r Tobt Eobt)
+    ∷ (9, boarding_not_started r moment)
+    ∷ (10, tobt_deleted r)
+    ∷ (11, tsat_passed r moment)
+    ∷ (12, differ_by 5 r Asat Tsat)
+    ∷ (13, no_flight_plan r moment)
+    ∷ (15, turns_after r Tobt)
+    ∷ []
 
-abbrev pub time_conditions : Fields → ℕ → ℕ
-time_conditions r moment =
-    bit_if (turns_after r Eobt) 7 + bit_if (differ_by 15 r Tobt Eobt) 8 + bit_if (boarding_not_started r moment) 9 + bit_if (tobt_deleted r) 10
-    + bit_if (tsat_passed r moment) 11 + bit_if (differ_by 5 r Asat Tsat) 12 + bit_if (no_flight_plan r moment) 13 + bit_if (turns_after r Tobt) 15
+-- a word, and the bits of those alerts of a table that hold
+abbrev pub sum_from : ℕ → List (ℕ × Bool) → ℕ
+sum_from word [] = word
+sum_from word (alert ∷ more) = sum_from (word + bit_if alert.1 alert.0) more
 
 abbrev pub conditions : Fields → ℕ → ℕ
-conditions r moment = plan_conditions r + time_conditions r moment
+conditions r moment = sum_from 0 (computed_alerts r moment)
 
 -- what only local programs set and clear: bit 14 (CDM14) and the bits from 16 on
 abbrev pub kept_bits : ℕ → ℕ

@@ -1,4 +1,3 @@
 pub mod Conditions
 pub mod Decided
 pub mod Names
-pub mod Laws

@@ -4,7 +4,7 @@ ghost use Rattle.acdm_record.specs.declared.field.Field.TheVariants.{Alerts};
 ghost use Rattle.acdm_record.specs.Place.{width_of};
 ghost use Rattle.acdm_record.specs.Fields.{number_of, is_allowed};
 ghost use Rattle.acdm_milestones.specs.Tables.{is_set as is_given};
-ghost use Rattle.acdm_alerts.specs.Conditions.{eibt as in_block_time, turns_after as turns_later, differ_by as are_apart, texts_differ as have_other_texts, no_airport_slot as lacks_slot, boarding_not_started as is_not_boarding, tobt_deleted as has_no_tobt, tsat_passed as is_past_tsat, no_flight_plan as lacks_plan, bit_if as bit_where, plan_conditions as plan_alerts, time_conditions as time_alerts, kept_bits as kept, alert_word};
+ghost use Rattle.acdm_alerts.specs.Conditions.{eibt as in_block_time, turns_after as turns_later, differ_by as are_apart, texts_differ as have_other_texts, no_airport_slot as lacks_slot, boarding_not_started as is_not_boarding, tobt_deleted as has_no_tobt, tsat_passed as is_past_tsat, no_flight_plan as lacks_plan, bit_if as bit_where, conditions as computed_word, kept_bits as kept, alert_word};
 
 use crate::alert_set::AlertSet;
 use acdm_milestones::has_reached;
@@ -111,8 +111,9 @@ fn bit_if(holds: bool, bit: u32) -> u32
     if holds { 1 << bit } else { 0 }
 }
 
-fn plan_conditions(record: &Record) -> u32
-    ensures { result ≡ plan_alerts record.now }
+// The alerts that are computed, as a word.
+fn computed(record: &Record, moment: u32) -> u32
+    ensures { result ≡ computed_word record.now moment }
 {
     let types = texts_differ(record, TextField::ScheduledType, TextField::PlanType);
     let registrations = texts_differ(
@@ -130,12 +131,7 @@ fn plan_conditions(record: &Record) -> u32
         + bit_if(types, 3)
         + bit_if(registrations, 4)
         + bit_if(destinations, 5)
-}
-
-fn time_conditions(record: &Record, moment: u32) -> u32
-    ensures { result ≡ time_alerts record.now moment }
-{
-    bit_if(turns_after(record, Field::Eobt), 7)
+        + bit_if(turns_after(record, Field::Eobt), 7)
         + bit_if(differ_by(15, record, Field::Tobt, Field::Eobt), 8)
         + bit_if(boarding_not_started(record, moment), 9)
         + bit_if(tobt_deleted(record), 10)
@@ -158,5 +154,5 @@ pub fn builtin(record: &Record, moment: u32) -> AlertSet
     ensures { result ≡ alert_word record.now moment }
 {
     let word = kept_bits(AlertSet::of(record).word());
-    AlertSet::from_word(word + plan_conditions(record) + time_conditions(record, moment))
+    AlertSet::from_word(word + computed(record, moment))
 }

@@ -13,7 +13,8 @@ use Rattle.acdm_record.specs.Fields.{set_number, set_text}
 use Rattle.acdm_record.specs.Assign.{Assignment, number_is, text_is, with_all}
 use Rattle.acdm_alerts.specs.Conditions.{conditions}
 use Rattle.acdm_alerts.specs.Decided.{decided_word}
-use Rattle.acdm_alerts.proofs.DecidedBits.{IsComputed, conditions-computed, zero-computed, kept_bits-decided, with_rejection-decided, with_locals-decided}
+use Rattle.acdm_alerts.proofs.Sums.{IsComputed, conditions-computed, zero-computed}
+use Rattle.acdm_alerts.proofs.DecidedBits.{kept_bits-decided, with_rejection-decided, with_locals-decided}
 use Rattle.acdm_milestones.specs.declared.milestone.Milestone.{Milestone}
 use Rattle.acdm_milestones.specs.declared.milestone.Milestone.TheVariants.{FlightPlanActivated, TobtUpdate}
 use Rattle.acdm_milestones.specs.Tables.{times_of, marked, has_reached}
