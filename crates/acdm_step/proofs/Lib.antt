@@ -5,4 +5,8 @@ pub mod Runs
 pub mod Saying
 pub mod Steps
 pub mod Told
+pub mod Marking
+pub mod Kept
+pub mod Numbers
+pub mod Planned
 pub mod Rows

@@ -29,14 +29,14 @@ use Rattle.acdm_step.specs.Board.{assigned_to, changed, touched}
 -- ---- one assignment
 
 -- the fields that commands assign: not the flight's number, the layout, the reached word and the alert word
-abbrev is_plain : Field → Bool
+abbrev pub is_plain : Field → Bool
 is_plain Flight = false
 is_plain Layout = false
 is_plain Reached = false
 is_plain Alerts = false
 is_plain _ = true
 
-abbrev are_plain : List Assignment → Bool
+abbrev pub are_plain : List Assignment → Bool
 are_plain [] = true
 are_plain (number_is g v ∷ more) = is_plain g && are_plain more
 are_plain (text_is t v ∷ more) = are_plain more
@@ -105,7 +105,7 @@ plain_plan : (p : Option Plan) → are_plain (planned p) ≡ true
 plain_plan None = refl
 plain_plan (Some p) = refl
 
-plain_command : (c : Command) → are_plain (assigned_by c) ≡ true
+pub plain_command : (c : Command) → are_plain (assigned_by c) ≡ true
 plain_command (Schedule s) = refl
 plain_command (Report r) = plain-append (times_of r.milestone r.time) (planned r.plan) (plain_times r.milestone r.time) (plain_plan r.plan)
 plain_command _ = refl

@@ -1,9 +1,9 @@
 -- Runs of the programs of a report, one after the other, and what they leave of the answers.
-use Rattle.std.proofs.Common.{◌≡◌, ℕ, ◌+◌, ◌<◌, ◌≤◌, List, [], ◌++◌, length, Option, Some, None, refl, sym, ap, subst, ◌∙◌, append_assoc, append-nil, length-append, arith}
+use Rattle.std.proofs.Common.{◌≡◌, ℕ, ◌+◌, ◌<◌, ◌≤◌, List, [], ◌++◌, length, Option, Some, refl, sym, ap, subst, ◌∙◌, append_assoc, append-nil, length-append, arith}
 use Rattle.acdm_record.specs.Fields.{Fields, bytes_of}
 use Rattle.bpf_decode.specs.declared.op.Op.{Op}
 use Rattle.bpf_helpers.specs.Promise.{Promise}
-use Rattle.bpf_helpers.specs.Oracles.{OracleView, Gained, SameRule, Unasked}
+use Rattle.bpf_helpers.specs.Oracles.{OracleView, SameRule, Unasked}
 use Rattle.bpf_semantics.specs.Runs.{RunEnds}
 use Rattle.bpf_semantics.proofs.Questions.{end_uses_fewer}
 use Rattle.bpf_regstate.specs.States.{instruction_count}

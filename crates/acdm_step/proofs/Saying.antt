@@ -1,10 +1,10 @@
 -- What is computed of the programs of a report is what their runs end with.
-use Rattle.std.proofs.Common.{◌≡◌, ℕ, List, [], ◌∷◌, ◌++◌, Option, Some, None, option_map, option_and_then, unwrap_or, refl, sym, ap, subst, ◌∙◌, append_assoc, append-nil}
+use Rattle.std.proofs.Common.{◌≡◌, ℕ, List, [], ◌++◌, Option, Some, None, option_map, option_and_then, unwrap_or, refl, sym, ap, subst, ◌∙◌, append_assoc, append-nil}
 use Rattle.acdm_record.specs.Fields.{Fields, bytes_of}
-use Rattle.bpf_semantics.specs.Runs.{RunEnds, result_of}
+use Rattle.bpf_semantics.specs.Runs.{result_of}
 use Rattle.bpf_semantics.proofs.Results.{ends_result, result_ends}
 use Rattle.bpf_verifier.specs.Verdict.{Verified}
-use Rattle.acdm_step.specs.Programs.{Programs, no_programs, Nothing, Said, nothing_said, suggestion, with_suggestion, local_alerts, r0_of, said_then, said_with}
+use Rattle.acdm_step.specs.Programs.{Programs, no_programs, Said, nothing_said, suggestion, with_suggestion, local_alerts, r0_of, said_then, said_with}
 use Rattle.acdm_step.specs.History.{left_after}
 use Rattle.acdm_step.specs.Ran.{EndsWith, Say, Ran}
 

@@ -1,6 +1,6 @@
 -- What a step on the board is, by what came of the command.
-use Rattle.std.proofs.Common.{◌≡◌, ℕ, ◌<◌, ◌≤◌, Bool, true, false, cond, not, ◌&&◌, ◌||◌, nat_lt, List, [], ◌∷◌, ◌++◌, map, length, take, drop, get_or, set, Some, is_some, refl, Result, Ok, Err, is_ok, OnOk, OnErr, sym, ap, subst, ◌∙◌, arith, append-nil}
-use Rattle.std.proofs.lemmas.List.{get_or_past, get_or_default, take_at}
+use Rattle.std.proofs.Common.{◌≡◌, ℕ, ◌<◌, ◌≤◌, Bool, true, false, cond, ◌&&◌, ◌||◌, nat_lt, List, [], ◌∷◌, ◌++◌, map, length, get_or, set, Some, is_some, refl, Result, Ok, Err, is_ok, OnOk, OnErr, sym, ap, subst, ◌∙◌, arith, append-nil}
+use Rattle.std.proofs.lemmas.List.{get_or_past, get_or_default}
 use Rattle.std.proofs.lemmas.Bool.Decides.{nat_tests}
 use Rattle.acdm_record.specs.Fields.{Fields, new_record}
 use Rattle.acdm_milestones.specs.declared.role.Role.{Role}
@@ -251,13 +251,6 @@ module _ (bs : List Fields) (l : Loaded) (role : Role) (c : Command) (place flig
   pub put_absent : (s : Fields) (rs : List Fields) → count ≤ place → rs ≡ bs ++ s ∷ [] → rs ≡ put bs (flight_of c) s
   put_absent s rs outside is = is ∙ sym (ap (λ t. cond t (set bs (place_of bs (flight_of c)) s) (bs ++ s ∷ [])) (flag_absent outside))
 
-  pub creating : (o : Verdict) → count ≤ place → o ≡ board_verdict (board_of bs l) role c → is_accepted o ≡ true → board_creates (board_of bs l) role c ≡ true
-  creating o outside e d =
-      ap (λ v. is_accepted v && (changes_flight c && not (is_there bs (flight_of c)))) (sym e)
-      ∙ ap (λ v. v && (changes_flight c && not (is_there bs (flight_of c)))) d
-      ∙ ap (λ v. v && not (is_there bs (flight_of c))) k
-      ∙ ap not (flag_absent outside)
-
   -- the record, the verdict on it, and the record of the flight after its programs
   module _ (r : Fields) (o : Verdict) (t : Bool) (test : t ≡ nat_lt place count) (is : r ≡ record_on bs flight) (e : o ≡ verdict_for t count r true role c) (moment : ℕ) (from to : OracleView) (outcome : Outcome) where
     right : o ≡ board_verdict (board_of bs l) role c
@@ -272,10 +265,3 @@ module _ (bs : List Fields) (l : Loaded) (role : Role) (c : Command) (place flig
 
     pub flight_changed : is_accepted o ≡ true → outcome ≡ outcomes.Done → (s : Fields) (rs : List Fields) → ChangesTo (programs_on l c) r moment c from to s → rs ≡ put bs (flight_of c) s → Comes (board_of bs l) role moment c from to outcome (board_of rs l)
     flight_changed d out s rs h stored = comes_changed (board_of bs l) role moment c from to outcome o r s rs k right d (record_is r is) out h stored
-
-    pub flight_created : count ≤ place → is_accepted o ≡ true → board_creates (board_of bs l) role c ≡ true
-    flight_created outside d = creating o outside right d
-
--- what is written through a whole slice
-pub whole_slice : {X : Type 0} (xs ys : List X) (n : ℕ) → n ≡ length ys → take n (ys ++ drop (length ys) xs) ≡ ys
-whole_slice xs ys n e = take_at ys (drop (length ys) xs) n (sym e)

@@ -1,5 +1,5 @@
 -- What comes of a command on the board of a history is what comes of it after the history.
-use Rattle.std.proofs.Common.{◌≡◌, ℕ, Bool, true, false, cond, List, Result, Ok, Err, IfOk, OnErr, refl, sym, ap, subst, ◌∙◌}
+use Rattle.std.proofs.Common.{◌≡◌, ℕ, Bool, true, false, cond, List, refl, sym, ap, subst, ◌∙◌}
 use Rattle.std.proofs.lemmas.List.{append_cancel_left}
 use Rattle.acdm_milestones.specs.declared.role.Role.{Role}
 use Rattle.bpf_helpers.specs.Promise.{Promise}
@@ -53,10 +53,6 @@ after_sigs b role moment c answers =
       | false ↦ refl
     ]
 
-comes_sigs : (b new : Board) (role : Role) (moment : ℕ) (c : Command) (from to : OracleView) (outcome : Outcome) → Comes b role moment c from to outcome new → new.slots.sigs ≡ b.slots.sigs
+pub comes_sigs : (b new : Board) (role : Role) (moment : ℕ) (c : Command) (from to : OracleView) (outcome : Outcome) → Comes b role moment c from to outcome new → new.slots.sigs ≡ b.slots.sigs
 comes_sigs b new role moment c from to outcome (answered used gained counts is ran none new_is) = ap (λ x. x.slots.sigs) new_is ∙ after_sigs b role moment c used
 comes_sigs b new role moment c from to outcome (unanswered is d h new_is) = ap (λ x. x.slots.sigs) new_is
-
-pub same_sigs : {E : Type 0} (r : Result Outcome E) (b new : Board) (role : Role) (moment : ℕ) (c : Command) (from to : OracleView) → IfOk r (λ o. Comes b role moment c from to o new) → OnErr r (new ≡ b) → new.slots.sigs ≡ b.slots.sigs
-same_sigs (Ok o) b new role moment c from to h k = comes_sigs b new role moment c from to o h
-same_sigs (Err e) b new role moment c from to h k = ap (λ x. x.slots.sigs) k

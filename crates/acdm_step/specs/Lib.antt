@@ -4,4 +4,6 @@ pub mod History
 pub mod Board
 pub mod Ran
 pub mod Running
+pub mod Marked
+pub mod Prepared
 pub mod Laws

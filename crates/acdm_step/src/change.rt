@@ -6,6 +6,7 @@ ghost use Rattle.bpf_helpers.specs.Oracles.{MayBeAsked, SameRule};
 ghost use Rattle.acdm_step.specs.History.{schedule_verdict, report_verdict, tick_verdict, verdict_for, flight_of, bit_of, changes_flight, planned};
 ghost use Rattle.acdm_step.specs.Board.{assigned_to, programs_on, touched};
 ghost use Rattle.acdm_step.specs.Running.{ChangesTo, AsksIn};
+ghost use Rattle.acdm_step.specs.Prepared.{owns_change};
 
 use crate::command::{Command, Plan, Report, Schedule};
 use crate::entry::Verdict;
@@ -180,6 +181,18 @@ pub(crate) fn verdict(
         Command::Report(report) => {
             verdict_on_report(record, is_there, count, role, report.milestone, report.time)
         }
+        _ => unreachable!(),
+    }
+}
+
+/// Whether the role owns a command that changes a flight.
+pub(crate) fn is_owner(role: Role, command: &Command) -> bool
+    requires { IsTrue (changes_flight command.now) }
+    ensures { result ≡ owns_change role command.now }
+{
+    match command {
+        Command::Schedule(_) => owns(role, Action::Schedule),
+        Command::Report(report) => owns(role, Action::Report(report.milestone)),
         _ => unreachable!(),
     }
 }

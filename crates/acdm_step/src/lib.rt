@@ -1,11 +1,14 @@
 //! The step of the platform: commands, entries, and the core that an entry changes.
 #![tactic(auto)]
 
+mod by_flight;
 mod change;
 mod command;
 mod entry;
 pub mod law;
+mod marks;
 mod outcome;
+mod prepare;
 mod programs;
 mod state;
 
@@ -14,5 +17,7 @@ pub use entry::{Answers, Entry, Verdict};
 pub use outcome::{AlertList, Alerted, Outcome};
 pub use state::Core;
 
+#[cfg(test)]
+mod board_tests;
 #[cfg(test)]
 mod tests;

@@ -1,12 +1,12 @@
 //! What comes of a command.
 ghost use Rattle.std.specs.Prelude.{◌≡◌, ◌++◌, IfOk, IsTrue, OnErr};
-ghost use Rattle.acdm_step.specs.History.{verdict_in, outcome_with, alert_list, is_list};
+ghost use Rattle.acdm_step.specs.History.{verdict_in, outcome_with, is_list};
 
 use crate::entry::Verdict;
 use acdm_alerts::AlertSet;
 use acdm_milestones::Refusal;
-use acdm_record::{Field, Record};
-use std::alloc::{AllocError, Global};
+use acdm_record::Record;
+use std::alloc::AllocError;
 use std::marker::Model;
 
 /// A flight and its alerts.
@@ -32,23 +32,11 @@ impl Model for AlertList {
 }
 
 impl AlertList {
-    /// The flights with an alert, and with all of its alerts each. `Err` only where memory was refused.
-    pub(crate) fn of(alloc: Global, records: &[Record]) -> Result<AlertList, AllocError>
-        ensures { IfOk result (λ list. list ≡ alert_list records.now) }
+    /// These flights.
+    pub(crate) fn of(items: Vec<Alerted>) -> AlertList
+        ensures { result ≡ items.items }
     {
-        let mut items = Vec::new(alloc);
-        let mut rest = records;
-        while let Some((record, more)) = rest.split_first() {
-            let alerts = AlertSet::of(record);
-            if !alerts.is_empty() {
-                items.push(Alerted {
-                    flight: record.get(Field::Flight),
-                    alerts,
-                })?;
-            }
-            rest = more;
-        }
-        Ok(AlertList { items })
+        AlertList { items }
     }
 
     /// A list that equals this one. `Err` only where memory was refused.

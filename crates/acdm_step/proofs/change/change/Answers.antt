@@ -1,4 +1,3 @@
-use Rattle.std.proofs.Common.{refl}
 use Rattle.bpf_helpers.proofs.OracleLemmas.{unasked}
 use Rattle.acdm_step.proofs.Runs.{changes_scheduled}
 use Rattle.acdm_step.proofs.change.change.Goals as goal

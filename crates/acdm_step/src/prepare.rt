@@ -1,0 +1,200 @@
+//! What a command would do to the board, found out before anything changes.
+ghost use Rattle.std.specs.Prelude.{◌≡◌, ◌↔◌, IsTrue, IfOk, OnErr, if◌then◌else◌, is_some};
+ghost use Rattle.bpf_helpers.specs.Oracles.{MayBeAsked, SameRule};
+ghost use Rattle.bpf_helpers.specs.Same.{same_sigs};
+ghost use Rattle.acdm_slots.specs.Loaded.{program_in};
+ghost use Rattle.acdm_step.specs.History.{changes_flight, is_accepted, load_verdict, outcome_with, show_verdict, tick_verdict, unload_verdict};
+ghost use Rattle.acdm_step.specs.Board.{board_of, is_there, place_of, record_on};
+ghost use Rattle.acdm_step.specs.Running.{Comes};
+ghost use Rattle.acdm_step.specs.Prepared.{Fits, after_change};
+
+use crate::by_flight::Flights;
+use crate::change::{change, flight_of_command, is_owner, verdict, verdict_on_tick};
+use crate::command::{Command, Load, Unload};
+use crate::entry::Verdict;
+use crate::outcome::Outcome;
+use acdm_milestones::{Action, Milestone, Refusal, Role, owns};
+use acdm_record::Record;
+use acdm_slots::{Kind, Slots};
+use bpf_helpers::Oracle;
+use bpf_verifier::Checked;
+use std::alloc::AllocError;
+
+/// What a command does to the board.
+#[derive(Drop)]
+pub(crate) enum Change {
+    /// The board stays.
+    Nothing,
+    /// The record at a place becomes this one, of the same flight.
+    Put(usize, Record),
+    /// A new flight has this record.
+    Add(Record),
+    /// Each record is touched at this moment (minutes since 1970-01-01T00:00Z).
+    Touch(u32),
+    /// A program comes into a slot.
+    Load(Milestone, Kind, Checked),
+    /// A slot becomes empty.
+    Unload(Milestone, Kind),
+}
+
+/// What comes of a command, and what it does to the board.
+#[derive(Drop)]
+pub(crate) struct Prepared {
+    pub(crate) outcome: Outcome,
+    pub(crate) change: Change,
+}
+
+// The record at a flight's place, or the one that it begins with.
+fn record_at(flights: &Flights, place: usize, flight: u64) -> Record
+    requires { place ≡ place_of flights.now flight }
+    ensures { result ≡ record_on flights.now flight }
+{
+    if place < flights.len() {
+        flights.at(place).copy()
+    } else {
+        Record::new(flight)
+    }
+}
+
+/// What a schedule or a report does. It takes no memory, and looks for the flight only where the role owns the command.
+pub(crate) fn prepare_flight<O: Oracle>(
+    flights: &Flights,
+    slots: &Slots,
+    oracle: &mut O,
+    role: Role,
+    moment: u32,
+    command: &Command,
+) -> Prepared
+    requires changes { IsTrue (changes_flight command.now) }
+    requires oracle { MayBeAsked slots.now.sigs (O.view oracle.old) }
+    ensures comes { Comes (board_of flights.now slots.now) role moment command.now (O.view oracle.old) (O.view oracle.new)
+        result.outcome (after_change (board_of flights.now slots.now) result.change) }
+    ensures fits { Fits (board_of flights.now slots.now) result.change }
+    ensures same_rule { SameRule (O.view oracle.old) (O.view oracle.new) }
+{
+    if !is_owner(role, command) {
+        return Prepared {
+            outcome: Outcome::Refused(Refusal::NotOwner),
+            change: Change::Nothing,
+        };
+    }
+    let flight = flight_of_command(command);
+    let place = flights.place(flight);
+    let count = flights.len();
+    let mut record = record_at(flights, place, flight);
+    let verdict = verdict(&record, place < count, count, role, command);
+    if !verdict.is_accepted() {
+        return Prepared {
+            outcome: Outcome::of(verdict),
+            change: Change::Nothing,
+        };
+    }
+    if change(&mut record, slots, moment, command, oracle).is_err() {
+        return Prepared {
+            outcome: Outcome::Refused(Refusal::Unanswered),
+            change: Change::Nothing,
+        };
+    }
+    if place < count {
+        Prepared {
+            outcome: Outcome::Done,
+            change: Change::Put(place, record),
+        }
+    } else {
+        Prepared {
+            outcome: Outcome::Done,
+            change: Change::Add(record),
+        }
+    }
+}
+
+// Whether a program was checked against the signatures of the board.
+fn is_checked_here(slots: &Slots, load: &Load) -> bool
+    ensures test { result ≡ same_sigs load.now.program.sigs slots.now.sigs }
+    ensures same { IsTrue result ↔ (load.now.program.sigs ≡ slots.now.sigs) }
+{
+    load.program.sigs().is_same(slots.sigs())
+}
+
+/// A load: a copy of its program comes into its slot. `Err` only where memory was refused.
+pub(crate) fn prepare_load(slots: &Slots, role: Role, load: &Load) -> Result<Prepared, AllocError>
+    ensures outcome { IfOk result (λ p. p.outcome ≡ outcome_with Outcome.Done (load_verdict (same_sigs load.now.program.sigs slots.now.sigs) role)) }
+    ensures change { IfOk result (λ p. p.change ≡
+        (if is_accepted (load_verdict (same_sigs load.now.program.sigs slots.now.sigs) role)
+        then Change.Load load.now.milestone load.now.kind load.now.program else Change.Nothing)) }
+    ensures same { IfOk result (λ p. IsTrue (is_accepted (load_verdict (same_sigs load.now.program.sigs slots.now.sigs) role)) →
+        load.now.program.sigs ≡ slots.now.sigs) }
+    ensures loading { OnErr result (IsTrue (is_accepted (load_verdict (same_sigs load.now.program.sigs slots.now.sigs) role))) }
+{
+    if !owns(role, Action::Load) {
+        return Ok(Prepared {
+            outcome: Outcome::Refused(Refusal::NotOwner),
+            change: Change::Nothing,
+        });
+    }
+    if !is_checked_here(slots, load) {
+        return Ok(Prepared {
+            outcome: Outcome::Refused(Refusal::OtherSignatures),
+            change: Change::Nothing,
+        });
+    }
+    let program = load.program.copy()?;
+    Ok(Prepared {
+        outcome: Outcome::Done,
+        change: Change::Load(load.milestone, load.kind, program),
+    })
+}
+
+/// An unload: its slot becomes empty.
+pub(crate) fn prepare_unload(slots: &Slots, role: Role, unload: &Unload) -> Prepared
+    ensures outcome { result.outcome ≡ outcome_with Outcome.Done (unload_verdict (is_some (program_in slots.now unload.now.milestone unload.now.kind)) role) }
+    ensures change { result.change ≡
+        (if is_accepted (unload_verdict (is_some (program_in slots.now unload.now.milestone unload.now.kind)) role)
+        then Change.Unload unload.now.milestone unload.now.kind else Change.Nothing) }
+{
+    if !owns(role, Action::Unload) {
+        return Prepared {
+            outcome: Outcome::Refused(Refusal::NotOwner),
+            change: Change::Nothing,
+        };
+    }
+    if slots.get(unload.milestone, unload.kind).is_none() {
+        return Prepared {
+            outcome: Outcome::Refused(Refusal::EmptySlot),
+            change: Change::Nothing,
+        };
+    }
+    Prepared {
+        outcome: Outcome::Done,
+        change: Change::Unload(unload.milestone, unload.kind),
+    }
+}
+
+/// A tick: each record is touched.
+pub(crate) fn prepare_tick(role: Role, moment: u32) -> Prepared
+    ensures outcome { result.outcome ≡ outcome_with Outcome.Done (tick_verdict role) }
+    ensures change { result.change ≡ (if is_accepted (tick_verdict role) then Change.Touch moment else Change.Nothing) }
+{
+    match verdict_on_tick(role) {
+        Verdict::Accepted => Prepared {
+            outcome: Outcome::Done,
+            change: Change::Touch(moment),
+        },
+        Verdict::Refused(refusal) => Prepared {
+            outcome: Outcome::Refused(refusal),
+            change: Change::Nothing,
+        },
+    }
+}
+
+/// The record of a flight, as it is answered.
+pub(crate) fn show(flights: &Flights, flight: u64) -> Outcome
+    ensures { result ≡ outcome_with (Outcome.Shown (record_on flights.now flight)) (show_verdict (is_there flights.now flight)) }
+{
+    let place = flights.place(flight);
+    if place < flights.len() {
+        Outcome::Shown(flights.at(place).copy())
+    } else {
+        Outcome::Refused(Refusal::UnknownFlight)
+    }
+}
