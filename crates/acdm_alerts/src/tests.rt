@@ -85,8 +85,39 @@ fn a_late_turn_round_is_told(rt: HostRuntime) -> Result<(), Fail> {
         names_of(&rt, builtin(&record, 1))?.as_str(),
         "CDM07,CDM07a"
     );
+    record.set(Field::Aldt, TEN - 45);
+    assert!(rt; builtin(&record, 1).is_empty());
+    record.set(Field::Aldt, TEN - 44);
+    assert_eq!(rt;
+        names_of(&rt, builtin(&record, 1))?.as_str(),
+        "CDM07,CDM07a"
+    );
     record.set(Field::Aibt, TEN - 40);
     assert!(rt; builtin(&record, 1).is_empty());
+    record.set(Field::Aibt, TEN - 39);
+    assert_eq!(rt;
+        names_of(&rt, builtin(&record, 1))?.as_str(),
+        "CDM07,CDM07a"
+    );
+    Ok(())
+}
+
+#[test]
+fn times_may_be_early_by_so_many_minutes(rt: HostRuntime) -> Result<(), Fail> {
+    let mut record = scheduled_and_planned();
+    record.set(Field::Eobt, TEN - 1);
+    assert_eq!(rt; names_of(&rt, builtin(&record, 1))?.as_str(), "CDM02");
+    record.set(Field::Eobt, TEN);
+    record.set(Field::Tobt, TEN - 15);
+    assert!(rt; builtin(&record, 1).is_empty());
+    record.set(Field::Tobt, TEN - 16);
+    assert_eq!(rt; names_of(&rt, builtin(&record, 1))?.as_str(), "CDM08");
+    record.set(Field::Tobt, TEN);
+    record.set(Field::Tsat, TEN + 5);
+    record.set(Field::Asat, TEN);
+    assert!(rt; builtin(&record, 1).is_empty());
+    record.set(Field::Asat, TEN - 1);
+    assert_eq!(rt; names_of(&rt, builtin(&record, 1))?.as_str(), "CDM12");
     Ok(())
 }
 
