@@ -21,7 +21,7 @@ const NINE: u32 = 29_000_700;
 
 const TEN: u32 = 29_000_760;
 
-fn no_sigs(alloc: Global) -> Result<Sigs, Fail> {
+pub(crate) fn no_sigs(alloc: Global) -> Result<Sigs, Fail> {
     let bank = Bank::new(alloc)?;
     Ok(bank.sigs()?)
 }
@@ -57,7 +57,7 @@ fn taxi_sigs(alloc: Global) -> Result<Sigs, Fail> {
     Ok(bank.sigs()?)
 }
 
-fn plan() -> Result<Plan, Fail> {
+pub(crate) fn plan() -> Result<Plan, Fail> {
     Ok(Plan {
         callsign: Text::from_bytes(b"DLH7").ok_or("a callsign")?,
         aircraft: Text::from_bytes(b"A320").ok_or("a type")?,
@@ -103,7 +103,7 @@ fn loaded(
 }
 
 // A command with the answers of a list.
-fn applied(
+pub(crate) fn applied(
     core: &mut Core,
     sigs: &Sigs,
     answers: &[u64],
