@@ -8,7 +8,10 @@ use acdm_board::Desk;
 use acdm_sessions::{Counted, run};
 use bpf_helpers::{Code, Helpers};
 use std::alloc::Global;
-use std::io::{Read, Write};
+use std::io::{BufWriter, Read, Write};
+
+/// How many bytes of replies are written at once at most: a reply of no more goes in one write.
+const BUFFER: usize = 65_536;
 
 /// Answers the lines of a reader on a writer, with room for so many entries in the journal. Local
 /// programs may call the known helpers.
@@ -48,6 +51,9 @@ fn serve_with<H: Helpers + Drop, R: Read + Drop, W: Write + Drop>(
     reader: R,
     writer: W,
 ) -> Result<(), Failure> {
+    let Ok(writer) = BufWriter::with_capacity(alloc, BUFFER, writer) else {
+        return Err(Failure::Memory);
+    };
     let mut reader = Counted::new(reader);
     let mut writer = Counted::new(writer);
     serve_counted(alloc, helpers, journal, &mut reader, &mut writer)

@@ -25,6 +25,9 @@ const ALIKE: [u64; 4] = [3_613_369, 20_823_727, 34_948_670, 36_576_179];
 fn activated(flight: u64) -> Result<Command, Fail>
     ensures { IfOk result (λ command. IsTrue (changes_flight command)) }
 {
+    if flight == 0 {
+        return Err("no flight".into());
+    }
     Ok(Command::Report(Report::new(flight, Milestone::FlightPlanActivated, TEN, Some(plan()?))))
 }
 
@@ -32,14 +35,20 @@ fn scheduled_at(flight: u64, stand: u16) -> Result<Command, Fail>
     requires { stand ≤ 999 }
     ensures { IfOk result (λ command. IsTrue (changes_flight command)) }
 {
+    if flight == 0 {
+        return Err("no flight".into());
+    }
     Ok(Command::Schedule(Schedule::new(flight, plan()?, TEN, 40, 5, 10, stand)))
 }
 
 // A TOBT, or none, which is told as CDM10.
-fn with_tobt(flight: u64, tobt: u32) -> Command
-    ensures { IsTrue (changes_flight result) }
+fn with_tobt(flight: u64, tobt: u32) -> Result<Command, Fail>
+    ensures { IfOk result (λ command. IsTrue (changes_flight command)) }
 {
-    Command::Report(Report::new(flight, Milestone::TobtUpdate, tobt, None))
+    if flight == 0 {
+        return Err("no flight".into());
+    }
+    Ok(Command::Report(Report::new(flight, Milestone::TobtUpdate, tobt, None)))
 }
 
 // A command, on a board without programs.
@@ -154,7 +163,7 @@ fn step_both(
             slots,
             Role::AircraftOperator,
             moment,
-            &with_tobt(flight, moment),
+            &with_tobt(flight, moment)?,
         ),
         3 => both(
             core,
@@ -162,7 +171,7 @@ fn step_both(
             slots,
             Role::GroundHandler,
             moment,
-            &with_tobt(flight, 0),
+            &with_tobt(flight, 0)?,
         ),
         _ => tick_both(core, records.as_mut_slice(), moment),
     }
