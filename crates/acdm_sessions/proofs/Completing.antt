@@ -1,5 +1,5 @@
 -- The command that a line asks for, once the bytes of its program are read.
-use Rattle.std.proofs.Common.{◌≡◌, ℕ, List, false, not, Result, Ok, Err, refl, sym, ap, subst}
+use Rattle.std.proofs.Common.{◌≡◌, ℕ, List, false, not, Ok, Err, refl, sym, ap, subst}
 use Rattle.bpf_helpers.specs.Promise.{Promise}
 use Rattle.bpf_helpers.specs.Same.{same_sigs}
 use Rattle.bpf_helpers.proofs.SameSigs.{same_sigs-decides}

@@ -7,6 +7,8 @@ pub mod Writing
 pub mod Serving
 pub mod Running
 pub mod Answering
+pub mod Ordering
+pub mod Seats
 pub mod Json
 pub mod MeantRows
 pub mod OutputRows

@@ -1,10 +1,10 @@
--- What a run has served at any time of the text that it reads.
+-- What was answered at any time of the text that is read.
 use Rattle.std.proofs.Common.{◌≡◌, ℕ, ◌+◌, ◌-◌, ◌^◌, ◌<◌, ◌≤◌, ◌⊎◌, true, List, [], ◌∷◌, ◌++◌, length}
 use Rattle.std.proofs.Common.{Option, refl, sym, ap, subst, ◌∙◌, arith, append_assoc, append-nil}
 use Rattle.std.proofs.Common.{length-append, inl, inr}
 use Rattle.std.proofs.lemmas.Bool.{lt-ltb}
-use Rattle.std.specs.Io.KnownBytes.{Appends, Consumes, IsAtEnd}
-use Rattle.acdm_board.specs.Desk.{DeskView}
+use Rattle.std.specs.Io.KnownBytes.{Appends, Consumes}
+use Rattle.acdm_sessions.specs.declared.answer.Answer.{Answer}
 use Rattle.acdm_sessions.specs.declared.lines.Ending.{Ending}
 use Rattle.acdm_sessions.specs.declared.lines.Ending.TheVariants.{LineFeed, Input}
 use Rattle.acdm_sessions.specs.declared.lines.Lines.{Lines}
@@ -12,67 +12,67 @@ use Rattle.acdm_sessions.specs.declared.run_error.RunError.{RunError}
 use Rattle.acdm_sessions.specs.Counted.{Watched, faults_after}
 use Rattle.acdm_sessions.specs.Lines.{IsLine, IsWhole, lines_of, kept}
 use Rattle.acdm_sessions.specs.NextLine.{TakesLine, TakesRest, TakesPart}
-use Rattle.acdm_sessions.specs.Reply.{AppendsPart}
-use Rattle.acdm_sessions.specs.Output.{Supply, IsRight, answer_to, desk_after, desk_after_all}
-use Rattle.acdm_sessions.specs.Output.{reply_text, ServesLine, ServesLinePart, Serves}
-use Rattle.acdm_sessions.specs.Run.{FailsOrEndless, ServesAll, ServesWhole, ServesPart}
+use Rattle.acdm_sessions.specs.Output.{reply_text}
+use Rattle.acdm_sessions.specs.Stream.{Answered, AnsweredInPart, AnswersEach, replies_text}
+use Rattle.acdm_sessions.specs.Stream.{AnswersText, AnswersAll, AnswersWhole, AnswersPart}
+use Rattle.acdm_sessions.specs.Stream.{FailsOrEndless}
 use Rattle.acdm_sessions.proofs.Feeds.{lines_of-line, lines_of-rest}
-use Rattle.acdm_sessions.proofs.Writing.{Appends-none}
-use Rattle.acdm_sessions.proofs.Serving.{lines_of-whole, IsWhole-line, IsWhole-append, desk-kept}
-use Rattle.acdm_sessions.proofs.Serving.{answer-kept, right-kept, Served, served_more}
+use Rattle.acdm_sessions.proofs.Writing.{Appends-none, Appends-both}
+use Rattle.acdm_sessions.proofs.Serving.{lines_of-whole, IsWhole-line, IsWhole-append}
 use Rattle.acdm_sessions.proofs.Taking.{Consumes-none, Consumes-both}
 
--- The reader gave whole lines and what is held, all of the lines are served, and each read so far
+-- ---- what was answered so far, and one line more
+
+module _ {A : Type 0} (may : A → A → List ℕ → Answer → Type 0) where
+  each_more : (ls : List (List ℕ)) (xs : List Answer) (before d after : A) (line : List ℕ)
+      (x : Answer) → AnswersEach may before d ls xs → may d after (kept line) x
+      → AnswersEach may before after (ls ++ line ∷ []) (xs ++ x ∷ [])
+  each_more [] [] before d after line x e h =
+      (after, subst (λ b. may b after (kept line) x) (sym e) h, refl)
+  each_more [] (y ∷ ys) before d after line x e h = absurd e
+  each_more (l ∷ ls) [] before d after line x e h = absurd e
+  each_more (l ∷ ls) (y ∷ ys) before d after line x e h =
+      (e.0, e.1, each_more ls ys e.0 d after line x e.2 h)
+
+replies_text-more : (xs : List Answer) (x : Answer)
+    → replies_text (xs ++ x ∷ []) ≡ replies_text xs ++ reply_text x
+replies_text-more [] x = append-nil (reply_text x)
+replies_text-more (y ∷ ys) x =
+    ap (λ t. reply_text y ++ t) (replies_text-more ys x)
+    ∙ sym (append_assoc (reply_text y) (replies_text ys) (reply_text x))
+
+-- lines were answered, and their replies were written
+pub record Spoken {A : Type 0} (may : A → A → List ℕ → Answer → Type 0) (ls : List (List ℕ))
+    (before after : A) (old new : Option (List ℕ)) : Type 0 where
+  pub answers : List Answer
+  pub are_right : AnswersEach may before after ls answers
+  pub wrote : Appends old new (replies_text answers)
+
+-- The reader gave whole lines and what is held, all of the lines are answered, and each read so far
 -- gave something.
-pub record Sofar (start left : Option (List ℕ)) (held : List ℕ) (reads : ℕ)
-    (before after : DeskView) (old new : Option (List ℕ)) : Type 0 where
+pub record Sofar {A : Type 0} (may : A → A → List ℕ → Answer → Type 0)
+    (start left : Option (List ℕ)) (held : List ℕ) (reads : ℕ)
+    (before after : A) (old new : Option (List ℕ)) : Type 0 where
   pub text : List ℕ
   pub whole : List ℕ
-  pub supplies : List Supply
   pub consumed : Consumes start left text
   pub gave : 2 ^ 40 ≤ length text + reads
   pub is_whole : IsWhole whole
   pub split : text ≡ whole ++ held
-  pub served : Served supplies (lines_of whole) before after old new
+  pub spoken : Spoken may (lines_of whole) before after old new
 
-pub sofar-begins : (known : Option (List ℕ)) (d : DeskView) (w : Option (List ℕ))
-    → Sofar known known [] 1099511627776 d d w w
-sofar-begins known d w = record {
+pub sofar-begins : {A : Type 0} (may : A → A → List ℕ → Answer → Type 0)
+    (known : Option (List ℕ)) (d : A) (w : Option (List ℕ))
+    → Sofar may known known [] 1099511627776 d d w w
+sofar-begins may known d w = record {
   text = [];
   whole = [];
-  supplies = [];
   consumed = Consumes-none known;
   gave = omega arith;
   is_whole = tt;
   split = refl;
-  served = record { aligned = refl; right = tt; desk = refl; wrote = Appends-none w };
+  spoken = record { answers = []; are_right = refl; wrote = Appends-none w };
 }
-
--- what was kept of a line serves as the line does
-line_to : (d after : DeskView) (old new : Option (List ℕ)) (bytes line : List ℕ)
-    → bytes ≡ kept line → ServesLine d after bytes old new → ServesLine d after line old new
-line_to d after old new bytes line same s =
-    let answer = ap (answer_to d s.supply) same ∙ answer-kept d s.supply line in
-    record {
-      supply = s.supply;
-      right = right-kept d.sigs s.supply line
-          (subst (λ bs. IsRight d.sigs s.supply bs) same s.right);
-      desk_is = s.desk_is ∙ ap (desk_after d s.supply) same ∙ desk-kept d s.supply line;
-      wrote = subst (λ a. Appends old new (reply_text a)) answer s.wrote;
-    }
-
-part_to : (d after : DeskView) (old new : Option (List ℕ)) (bytes line : List ℕ)
-    → bytes ≡ kept line → ServesLinePart d after bytes old new
-    → ServesLinePart d after line old new
-part_to d after old new bytes line same s =
-    let answer = ap (answer_to d s.supply) same ∙ answer-kept d s.supply line in
-    record {
-      supply = s.supply;
-      right = right-kept d.sigs s.supply line
-          (subst (λ bs. IsRight d.sigs s.supply bs) same s.right);
-      desk_is = s.desk_is ∙ ap (desk_after d s.supply) same ∙ desk-kept d s.supply line;
-      wrote = subst (λ a. AppendsPart old new (reply_text a)) answer s.wrote;
-    }
 
 lines_with : (whole line : List ℕ) → IsWhole whole → IsLine line
     → lines_of (whole ++ (line ++ 10 ∷ [])) ≡ lines_of whole ++ line ∷ []
@@ -109,24 +109,37 @@ kept-some (b ∷ bs) h = omega arith
 faults-more : (n : ℕ) → n < 2 ^ 64 - 1 → faults_after true n ≡ n + 1
 faults-more n h = rw (lt-ltb n (2 ^ 64 - 1) h) refl
 
--- what was served is so for a text of these lines
-serves_as : (ss : List Supply) (text : List ℕ) (ls : List (List ℕ)) (before after : DeskView)
-    (old new : Option (List ℕ)) → ls ≡ lines_of text → Served ss ls before after old new
-    → Serves text before after old new
-serves_as ss text ls before after old new all h =
-    let moved = subst (λ v. Served ss v before after old new) all h in
-    record {
-      supplies = ss;
-      right = moved.right;
-      desk_is = moved.desk;
-      wrote = moved.wrote;
-    }
-
-module _ {R : Type 0} (remaining : R → Option (List ℕ)) (r0 r1 r2 : Watched R) (l1 l2 : Lines)
-    (before d : DeskView) (old mid : Option (List ℕ))
-    (so_far : Sofar (remaining r0.inner) (remaining r1.inner) l1.window l1.reads_left
-    before d old mid)
+module _ {A R W : Type 0} (may : A → A → List ℕ → Answer → Type 0)
+    (remaining : R → Option (List ℕ)) (r0 r1 r2 : Watched R) (l1 l2 : Lines)
+    (contents : W → Option (List ℕ)) (w1 w2 : Watched W)
+    (before d : A) (old : Option (List ℕ))
+    (so_far : Sofar may (remaining r0.inner) (remaining r1.inner) l1.window l1.reads_left
+    before d old (contents w1.inner))
   where
+    -- what was answered is so for a text of these lines
+    text_as : (text : List ℕ) (ls : List (List ℕ)) (after : A) (new : Option (List ℕ))
+        → ls ≡ lines_of text → Spoken may ls before after old new
+        → AnswersText may text before after old new
+    text_as text ls after new all h =
+        let moved : Spoken may (lines_of text) before after old new =
+        subst (λ v. Spoken may v before after old new) all h in
+        record { answers = moved.answers; are_right = moved.are_right; wrote = moved.wrote }
+
+    -- one more line is answered
+    spoken-more : (line bytes : List ℕ) (after : A) → bytes ≡ kept line
+        → Answered may contents w1 w2 d after bytes
+        → Spoken may (lines_of so_far.whole ++ line ∷ []) before after old (contents w2.inner)
+    spoken-more line bytes after same a =
+        let xs : List Answer = so_far.spoken.answers in
+        record {
+          answers = xs ++ a.answer ∷ [];
+          are_right = each_more may (lines_of so_far.whole) xs before d after line a.answer
+              so_far.spoken.are_right (subst (λ bs. may d after bs a.answer) same a.is_right);
+          wrote = subst (Appends old (contents w2.inner)) (sym (replies_text-more xs a.answer))
+              (Appends-both old (contents w1.inner) (contents w2.inner) (replies_text xs)
+              (reply_text a.answer) so_far.spoken.wrote a.wrote);
+        }
+
     -- all that was read, with what was read for one more line
     consumed_more : (more : List ℕ) → Consumes (remaining r1.inner) (remaining r2.inner) more
         → Consumes (remaining r0.inner) (remaining r2.inner) (so_far.whole ++ (l1.window ++ more))
@@ -149,36 +162,32 @@ module _ {R : Type 0} (remaining : R → Option (List ℕ)) (r0 r1 r2 : Watched 
         ∙ ap (λ n. length so_far.whole + n) (length-append l1.window more) in
         omega arith
 
-    -- one more line is served
-    pub sofar-line : (after : DeskView) (new : Option (List ℕ))
-        → TakesLine remaining r1 r2 l1 l2 → ServesLine d after l2.line mid new
-        → Sofar (remaining r0.inner) (remaining r2.inner) l2.window l2.reads_left
-        before after old new
-    sofar-line after new t s =
-        let line : ServesLine d after t.line mid new =
-        line_to d after mid new l2.line t.line t.bytes_are s in
+    -- one more line is answered
+    pub sofar-line : (after : A) → TakesLine remaining r1 r2 l1 l2
+        → Answered may contents w1 w2 d after l2.line
+        → Sofar may (remaining r0.inner) (remaining r2.inner) l2.window l2.reads_left
+        before after old (contents w2.inner)
+    sofar-line after t a =
         let whole : List ℕ = so_far.whole ++ (t.line ++ 10 ∷ []) in
-        let ss : List Supply = so_far.supplies ++ line.supply ∷ [] in
         let lines = lines_with so_far.whole t.line so_far.is_whole t.is_line in
-        let more = served_more so_far.supplies (lines_of so_far.whole) before d after old mid new
-        t.line so_far.served line in
+        let more = spoken-more t.line l2.line after t.bytes_are a in
         record {
           text = so_far.whole ++ (l1.window ++ t.text);
           whole = whole;
-          supplies = ss;
           consumed = consumed_more t.text t.consumed;
           gave = gave_more t.text l2.reads_left t.gave;
           is_whole = IsWhole-append so_far.whole (t.line ++ 10 ∷ []) so_far.is_whole
               (IsWhole-line t.line);
           split = ap (λ l. so_far.whole ++ l) t.split ∙ text_with so_far.whole t.line l2.window;
-          served = subst (λ ls. Served ss ls before after old new) (sym lines) more;
+          spoken = subst (λ ls. Spoken may ls before after old (contents w2.inner)) (sym lines) more;
         }
 
     -- its reply could not be written
-    pub part-line : (after : DeskView) (new : Option (List ℕ)) → TakesLine remaining r1 r2 l1 l2
-        → ServesLinePart d after l2.line mid new
-        → ServesPart (remaining r0.inner) (remaining r2.inner) before after old new
-    part-line after new t s = record {
+    pub part-line : (after : A) (error : RunError) → TakesLine remaining r1 r2 l1 l2
+        → AnsweredInPart may contents w1 w2 d after l2.line error
+        → AnswersPart may (remaining r0.inner) (remaining r2.inner) before after old
+        (contents w2.inner)
+    part-line after error t a = record {
       whole = so_far.whole;
       line = t.line;
       later = 10 ∷ l2.window;
@@ -189,16 +198,19 @@ module _ {R : Type 0} (remaining : R → Option (List ℕ)) (r0 r1 r2 : Watched 
           (λ l. Consumes (remaining r0.inner) (remaining r2.inner) (so_far.whole ++ l)) t.split
           (consumed_more t.text t.consumed);
       middle = d;
-      between = mid;
-      served = serves_as so_far.supplies so_far.whole (lines_of so_far.whole) before d old mid refl
-          so_far.served;
-      in_hand = part_to d after mid new l2.line t.line t.bytes_are s;
+      between = contents w1.inner;
+      served = text_as so_far.whole (lines_of so_far.whole) d (contents w1.inner) refl
+          so_far.spoken;
+      answer = a.answer;
+      is_right = subst (λ bs. may d after bs a.answer) t.bytes_are a.is_right;
+      in_hand = a.wrote;
     }
 
     -- no line more could be read
     pub sofar-part : (error : RunError) → TakesPart remaining r1 r2 l1 l2 error
         → r1.faults ≡ r0.faults → r0.faults < 2 ^ 64 - 1
-        → ServesWhole (remaining r0.inner) (remaining r2.inner) r0.faults r2.faults before d old mid
+        → AnswersWhole may (remaining r0.inner) (remaining r2.inner) r0.faults r2.faults before d
+        old (contents w1.inner)
     sofar-part error t well room = record {
       whole = so_far.whole;
       part = l1.window ++ t.text;
@@ -206,8 +218,8 @@ module _ {R : Type 0} (remaining : R → Option (List ℕ)) (r0 r1 r2 : Watched 
       is_part = t.is_line;
       consumed = consumed_more t.text t.consumed;
       why = why t.why;
-      served = serves_as so_far.supplies so_far.whole (lines_of so_far.whole) before d old mid refl
-          so_far.served;
+      served = text_as so_far.whole (lines_of so_far.whole) d (contents w1.inner) refl
+          so_far.spoken;
     }
       where
         why : (r2.faults ≡ faults_after true r1.faults)
@@ -221,7 +233,7 @@ module _ {R : Type 0} (remaining : R → Option (List ℕ)) (r0 r1 r2 : Watched 
 
     -- the text has ended with a line feed, or was empty
     pub sofar-ends : TakesRest remaining r1 r2 l1 l2 → length l2.line ≡ 0
-        → ServesAll (remaining r0.inner) (remaining r2.inner) before d old mid
+        → AnswersAll may (remaining r0.inner) (remaining r2.inner) before d old (contents w1.inner)
     sofar-ends t empty =
         let none : l1.window ++ t.text ≡ [] =
         kept-empty (l1.window ++ t.text) (ap length (sym t.bytes_are) ∙ empty) in
@@ -231,36 +243,34 @@ module _ {R : Type 0} (remaining : R → Option (List ℕ)) (r0 r1 r2 : Watched 
               (ap (λ l. so_far.whole ++ l) none ∙ append-nil so_far.whole)
               (consumed_more t.text t.consumed);
           ended = t.ended;
-          served = serves_as so_far.supplies so_far.whole (lines_of so_far.whole) before d old mid
-              refl so_far.served;
+          served = text_as so_far.whole (lines_of so_far.whole) d (contents w1.inner) refl
+              so_far.spoken;
         }
 
-    -- the text has ended with the rest of a line, which is served
-    pub sofar-rest : (after : DeskView) (new : Option (List ℕ)) → TakesRest remaining r1 r2 l1 l2
-        → 0 < length l2.line → ServesLine d after l2.line mid new
-        → ServesAll (remaining r0.inner) (remaining r2.inner) before after old new
-    sofar-rest after new t some s =
+    -- the text has ended with the rest of a line, which is answered
+    pub sofar-rest : (after : A) → TakesRest remaining r1 r2 l1 l2 → 0 < length l2.line
+        → Answered may contents w1 w2 d after l2.line
+        → AnswersAll may (remaining r0.inner) (remaining r2.inner) before after old
+        (contents w2.inner)
+    sofar-rest after t some a =
         let rest : List ℕ = l1.window ++ t.text in
         let there : 0 < length rest = kept-some rest (subst (λ l. 0 < length l) t.bytes_are some) in
-        let line : ServesLine d after rest mid new =
-        line_to d after mid new l2.line rest t.bytes_are s in
-        let ss : List Supply = so_far.supplies ++ line.supply ∷ [] in
-        let more = served_more so_far.supplies (lines_of so_far.whole) before d after old mid new
-        rest so_far.served line in
+        let more = spoken-more rest l2.line after t.bytes_are a in
         let lines = lines_to_end so_far.whole rest so_far.is_whole t.is_line there in
         record {
           text = so_far.whole ++ rest;
           consumed = consumed_more t.text t.consumed;
           ended = t.ended;
-          served = serves_as ss (so_far.whole ++ rest) (lines_of so_far.whole ++ rest ∷ []) before
-              after old new (sym lines) more;
+          served = text_as (so_far.whole ++ rest) (lines_of so_far.whole ++ rest ∷ []) after
+              (contents w2.inner) (sym lines) more;
         }
 
     -- its reply could not be written
-    pub part-rest : (after : DeskView) (new : Option (List ℕ)) → TakesRest remaining r1 r2 l1 l2
-        → 0 < length l2.line → ServesLinePart d after l2.line mid new
-        → ServesPart (remaining r0.inner) (remaining r2.inner) before after old new
-    part-rest after new t some s =
+    pub part-rest : (after : A) (error : RunError) → TakesRest remaining r1 r2 l1 l2
+        → 0 < length l2.line → AnsweredInPart may contents w1 w2 d after l2.line error
+        → AnswersPart may (remaining r0.inner) (remaining r2.inner) before after old
+        (contents w2.inner)
+    part-rest after error t some a =
         let rest : List ℕ = l1.window ++ t.text in
         let there : 0 < length rest = kept-some rest (subst (λ l. 0 < length l) t.bytes_are some) in
         record {
@@ -274,10 +284,12 @@ module _ {R : Type 0} (remaining : R → Option (List ℕ)) (r0 r1 r2 : Watched 
               (λ l. Consumes (remaining r0.inner) (remaining r2.inner) (so_far.whole ++ l))
               (sym (append-nil rest)) (consumed_more t.text t.consumed);
           middle = d;
-          between = mid;
-          served = serves_as so_far.supplies so_far.whole (lines_of so_far.whole) before d old mid
-              refl so_far.served;
-          in_hand = part_to d after mid new l2.line rest t.bytes_are s;
+          between = contents w1.inner;
+          served = text_as so_far.whole (lines_of so_far.whole) d (contents w1.inner) refl
+              so_far.spoken;
+          answer = a.answer;
+          is_right = subst (λ bs. may d after bs a.answer) t.bytes_are a.is_right;
+          in_hand = a.wrote;
         }
 
 pub input-from_not_line_feed : (e : Ending) → (e ≡ LineFeed → ⊥) → e ≡ Input

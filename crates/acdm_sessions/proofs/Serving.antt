@@ -1,7 +1,7 @@
--- How the output grows with each line.
-use Rattle.std.proofs.Common.{◌≡◌, ℕ, ◌+◌, ◌<◌, Bool, true, false, cond, nat_le, List, [], ◌∷◌, ◌++◌}
+-- Whole lines of a text, and what a desk that answers lines has served.
+use Rattle.std.proofs.Common.{◌≡◌, ℕ, ◌<◌, Bool, true, false, cond, nat_le, List, [], ◌∷◌, ◌++◌}
 use Rattle.std.proofs.Common.{length, Option, Result, Ok, Err, refl, sym, ap, subst, ◌∙◌, arith}
-use Rattle.std.proofs.Common.{append_assoc, append-nil, length-append, leb-true, leb-false}
+use Rattle.std.proofs.Common.{leb-true, leb-false}
 use Rattle.std.proofs.lemmas.Bool.{lt-leb}
 use Rattle.std.proofs.lemmas.List.{take_all, length-take-le}
 use Rattle.std.specs.Io.KnownBytes.{Appends}
@@ -12,15 +12,18 @@ use Rattle.acdm_sessions.specs.declared.fault.Fault.{Fault}
 use Rattle.acdm_sessions.specs.declared.fault.Fault.TheVariants.{TooLong}
 use Rattle.acdm_sessions.specs.declared.fault.Bad.{Bad}
 use Rattle.acdm_sessions.specs.declared.fault.Bad.TheVariants.{NoMemory}
+use Rattle.acdm_sessions.specs.declared.answer.Answer.{Answer}
 use Rattle.acdm_sessions.specs.declared.answer.Answer.TheVariants.{Rejected}
 use Rattle.acdm_sessions.specs.declared.request.Request.{Request}
 use Rattle.acdm_sessions.specs.Lines.{is_line_feed, IsWhole, lines_of, with_first, kept}
 use Rattle.acdm_sessions.specs.Meant.{meant, most_line}
 use Rattle.acdm_sessions.specs.Output.{Supply, IsReadingOf, IsRight, AreRight, command_with, is_full}
 use Rattle.acdm_sessions.specs.Output.{answer_meant, desk_command, desk_meant, answer_to, desk_after}
-use Rattle.acdm_sessions.specs.Output.{reply_text, ServesLine, first_supply, later_supplies, replies}
-use Rattle.acdm_sessions.specs.Output.{desk_after_all}
-use Rattle.acdm_sessions.proofs.Writing.{Appends-both}
+use Rattle.acdm_sessions.specs.Output.{reply_text, replies, desk_after_all, Answers, Serves}
+use Rattle.acdm_sessions.specs.Reply.{AppendsPart}
+use Rattle.acdm_sessions.specs.Run.{ServesAll, ServesWhole, ServesPart}
+use Rattle.acdm_sessions.specs.Stream.{AnswersEach, AnswersText, AnswersAll, AnswersWhole}
+use Rattle.acdm_sessions.specs.Stream.{AnswersPart, replies_text}
 
 -- ---- whole lines
 
@@ -68,40 +71,6 @@ IsWhole-append (x ∷ []) [] a b = a
 IsWhole-append (x ∷ []) (y ∷ ys) a b = b
 IsWhole-append (x ∷ y ∷ xs) ys a b = IsWhole-append (y ∷ xs) ys a b
 
--- ---- one line more
-
-module _ (s : Supply) (l : List ℕ) where
-  desk_more : (d : DeskView) (ss : List Supply) (ls : List (List ℕ)) → length ss ≡ length ls
-      → desk_after_all d (ss ++ s ∷ []) (ls ++ l ∷ []) ≡ desk_after (desk_after_all d ss ls) s l
-  desk_more d [] [] h = refl
-  desk_more d [] (k ∷ ks) h = absurd (omega arith)
-  desk_more d (u ∷ us) [] h = absurd (omega arith)
-  desk_more d (u ∷ us) (k ∷ ks) h =
-      let same : length us ≡ length ks = omega arith in desk_more (desk_after d u k) us ks same
-
-  replies_more : (d : DeskView) (ss : List Supply) (ls : List (List ℕ)) → length ss ≡ length ls
-      → replies d (ss ++ s ∷ []) (ls ++ l ∷ [])
-      ≡ replies d ss ls ++ reply_text (answer_to (desk_after_all d ss ls) s l)
-  replies_more d [] [] h = append-nil (reply_text (answer_to d s l))
-  replies_more d [] (k ∷ ks) h = absurd (omega arith)
-  replies_more d (u ∷ us) [] h = absurd (omega arith)
-  replies_more d (u ∷ us) (k ∷ ks) h =
-      let same : length us ≡ length ks = omega arith in
-      let first : List ℕ = reply_text (answer_to d u k) in
-      let next : DeskView = desk_after d u k in
-      let last : List ℕ = reply_text (answer_to (desk_after_all next us ks) s l) in
-      ap (λ r. first ++ r) (replies_more next us ks same)
-      ∙ sym (append_assoc first (replies next us ks) last)
-
-  right_more : (sigs : List (ℕ × Promise)) (ss : List Supply) (ls : List (List ℕ))
-      → length ss ≡ length ls → AreRight sigs ss ls → IsRight sigs s l
-      → AreRight sigs (ss ++ s ∷ []) (ls ++ l ∷ [])
-  right_more sigs [] [] h a r = (r, tt)
-  right_more sigs [] (k ∷ ks) h a r = absurd (omega arith)
-  right_more sigs (u ∷ us) [] h a r = absurd (omega arith)
-  right_more sigs (u ∷ us) (k ∷ ks) h a r =
-      let same : length us ≡ length ks = omega arith in (a.0, right_more sigs us ks same a.1 r)
-
 -- ---- the signatures stay as they are
 
 command_keeps : (d : DeskView) (s : Supply) (r : Request) (c : Result Command Bad)
@@ -122,13 +91,6 @@ desk_keeps d s l =
       | true ↦ refl
       | false ↦ meant_keeps d s (meant l)
     ]
-
-all_keep : (d : DeskView) (ss : List Supply) (ls : List (List ℕ))
-    → (desk_after_all d ss ls).sigs ≡ d.sigs
-all_keep d ss [] = refl
-all_keep d ss (l ∷ ls) =
-    let next : DeskView = desk_after d (first_supply ss) l in
-    all_keep next (later_supplies ss) ls ∙ desk_keeps d (first_supply ss) l
 
 -- ---- what is kept of a line means what the line means
 
@@ -163,33 +125,110 @@ pub right-kept : (sigs : List (ℕ × Promise)) (s : Supply) (line : List ℕ)
 right-kept sigs s line r =
     λ there. subst (λ m. IsReadingOf sigs m s.reading) (meant-kept line) (r there)
 
--- ---- what was served so far, and one line more
+-- ---- a desk that answers
 
--- these lines were served from one desk to another, each with its supply
-pub record Served (ss : List Supply) (ls : List (List ℕ)) (before after : DeskView)
-    (old new : Option (List ℕ)) : Type 0 where
-  pub aligned : length ss ≡ length ls
-  pub right : AreRight before.sigs ss ls
-  pub desk : after ≡ desk_after_all before ss ls
-  pub wrote : Appends old new (replies before ss ls)
+-- what a desk answered to what was kept of a line, it answers to the line
+pub to_line : (before after : DeskView) (line : List ℕ) (answer : Answer)
+    → Answers before after (kept line) answer → Answers before after line answer
+to_line before after line answer a = record {
+  supply = a.supply;
+  right = right-kept before.sigs a.supply line a.right;
+  answer_is = a.answer_is ∙ answer-kept before a.supply line;
+  desk_is = a.desk_is ∙ desk-kept before a.supply line;
+}
 
-pub served_more : (ss : List Supply) (ls : List (List ℕ)) (before d after : DeskView)
-    (old mid new : Option (List ℕ)) (line : List ℕ) → Served ss ls before d old mid
-    → (h : ServesLine d after line mid new)
-    → Served (ss ++ h.supply ∷ []) (ls ++ line ∷ []) before after old new
-served_more ss ls before d after old mid new line so_far h =
-    let s : Supply = h.supply in
-    let same : d.sigs ≡ before.sigs = ap (λ v. v.sigs) so_far.desk ∙ all_keep before ss ls in
-    let first : List ℕ = replies before ss ls in
-    let grown = ap (λ v. first ++ reply_text (answer_to v s line)) so_far.desk
-    ∙ sym (replies_more s line before ss ls so_far.aligned) in
+-- lines that a desk answered, by their supplies
+pub record Supplied (ls : List (List ℕ)) (answers : List Answer) (before after : DeskView) : Type 0
+  where
+    pub supplies : List Supply
+    pub right : AreRight before.sigs supplies ls
+    pub desk_is : after ≡ desk_after_all before supplies ls
+    pub text_is : replies_text answers ≡ replies before supplies ls
+
+pub supplied : (ls : List (List ℕ)) (xs : List Answer) (before after : DeskView)
+    → AnswersEach Answers before after ls xs → Supplied ls xs before after
+supplied [] [] before after e = record {
+  supplies = [];
+  right = tt;
+  desk_is = sym e;
+  text_is = refl;
+}
+supplied [] (x ∷ xs) before after e = absurd e
+supplied (l ∷ ls) [] before after e = absurd e
+supplied (l ∷ ls) (x ∷ xs) before after e =
+    let middle : DeskView = e.0 in
+    let here : Answers before middle l x = to_line before middle l x e.1 in
+    let more : Supplied ls xs middle after = supplied ls xs middle after e.2 in
+    let s : Supply = here.supply in
+    let ss : List Supply = more.supplies in
+    let first : List ℕ = reply_text (answer_to before s l) in
+    let same : middle.sigs ≡ before.sigs =
+    ap (λ d. d.sigs) here.desk_is ∙ desk_keeps before s l in
     record {
-      aligned = length-append ss (s ∷ []) ∙ ap (λ n. n + 1) so_far.aligned
-          ∙ sym (length-append ls (line ∷ []));
-      right = right_more s line before.sigs ss ls so_far.aligned so_far.right
-          (subst (λ sigs. IsRight sigs s line) same h.right);
-      desk = h.desk_is ∙ ap (λ v. desk_after v s line) so_far.desk
-          ∙ sym (desk_more s line before ss ls so_far.aligned);
-      wrote = subst (Appends old new) grown
-          (Appends-both old mid new first (reply_text (answer_to d s line)) so_far.wrote h.wrote);
+      supplies = s ∷ ss;
+      right = (here.right, subst (λ sigs. AreRight sigs ss ls) same more.right);
+      desk_is = more.desk_is ∙ ap (λ d. desk_after_all d ss ls) here.desk_is;
+      text_is = ap (λ a. reply_text a ++ replies_text xs) here.answer_is
+          ∙ ap (λ t. first ++ t) (more.text_is ∙ ap (λ d. replies d ss ls) here.desk_is);
     }
+
+-- the lines of a text that a desk answered were served
+pub serves : (text : List ℕ) (before after : DeskView) (old new : Option (List ℕ))
+    → AnswersText Answers text before after old new → Serves text before after old new
+serves text before after old new t =
+    let all : Supplied (lines_of text) t.answers before after =
+    supplied (lines_of text) t.answers before after t.are_right in
+    record {
+      supplies = all.supplies;
+      right = all.right;
+      desk_is = all.desk_is;
+      wrote = subst (Appends old new) all.text_is t.wrote;
+    }
+
+module _ (left left_after : Option (List ℕ)) (before after : DeskView) (old new : Option (List ℕ))
+  where
+    pub serves_all : AnswersAll Answers left left_after before after old new
+        → ServesAll left left_after before after old new
+    serves_all a = record {
+      text = a.text;
+      consumed = a.consumed;
+      ended = a.ended;
+      served = serves a.text before after old new a.served;
+    }
+
+    pub serves_whole : (faults later : ℕ)
+        → AnswersWhole Answers left left_after faults later before after old new
+        → ServesWhole left left_after faults later before after old new
+    serves_whole faults later a = record {
+      whole = a.whole;
+      part = a.part;
+      is_whole = a.is_whole;
+      is_part = a.is_part;
+      consumed = a.consumed;
+      why = a.why;
+      served = serves a.whole before after old new a.served;
+    }
+
+    pub serves_part : AnswersPart Answers left left_after before after old new
+        → ServesPart left left_after before after old new
+    serves_part a =
+        let last : Answers a.middle after a.line a.answer =
+        to_line a.middle after a.line a.answer a.is_right in
+        record {
+          whole = a.whole;
+          line = a.line;
+          later = a.later;
+          others = a.others;
+          is_whole = a.is_whole;
+          is_next = a.is_next;
+          consumed = a.consumed;
+          middle = a.middle;
+          between = a.between;
+          served = serves a.whole before a.middle old a.between a.served;
+          in_hand = record {
+            supply = last.supply;
+            right = last.right;
+            desk_is = last.desk_is;
+            wrote = subst (λ x. AppendsPart a.between new (reply_text x)) last.answer_is a.in_hand;
+          };
+        }

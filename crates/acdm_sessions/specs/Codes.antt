@@ -18,6 +18,7 @@ fault_code TooLong = 105
 abbrev pub bad_code : Bad → ℕ
 bad_code (bad.Faulty fault) = fault_code fault
 bad_code (bad.Program code slot) = code
+bad_code bad.NoMinute = 106
 bad_code bad.NoMemory = 501
 bad_code bad.FullJournal = 502
 

@@ -6,4 +6,7 @@ pub mod Reading
 pub mod Meant
 pub mod Reply
 pub mod Output
+pub mod Stream
 pub mod Run
+pub mod Orders
+pub mod Sessions

@@ -160,15 +160,7 @@ abbrev pub reply_text : Answer → List ℕ
 reply_text (Entered reply) = entry_text reply.number reply.outcome
 reply_text (Rejected b) = bad_text b
 
--- one line was answered, and its reply was written
-pub record ServesLine (before after : DeskView) (line : List ℕ) (old new : Option (List ℕ))
-    : Type 0 where
-  pub supply : Supply
-  pub right : IsRight before.sigs supply line
-  pub desk_is : after ≡ desk_after before supply line
-  pub wrote : Appends old new (reply_text (answer_to before supply line))
-
--- the same where a first part of its reply was written
+-- one line was answered, and a first part of its reply was written
 pub record ServesLinePart (before after : DeskView) (line : List ℕ) (old new : Option (List ℕ))
     : Type 0 where
   pub supply : Supply

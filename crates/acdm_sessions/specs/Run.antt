@@ -1,35 +1,10 @@
--- How a run ends, and what stands then.
-use Rattle.std.specs.Prelude.{ℕ, ◌≡◌, ◌+◌, ◌^◌, ◌≤◌, ◌⊎◌, true, false, List, ◌∷◌, ◌++◌, length, Option}
-use Rattle.std.specs.Prelude.{Result, Ok, Err}
+-- How a run over a desk ends, and what stands then.
+use Rattle.std.specs.Prelude.{ℕ, ◌≡◌, List, ◌∷◌, ◌++◌, Option}
 use Rattle.std.specs.Io.KnownBytes.{Consumes, IsAtEnd}
 use Rattle.acdm_board.specs.Desk.{DeskView}
-use Rattle.acdm_sessions.specs.declared.run_error.RunError.{RunError}
-use Rattle.acdm_sessions.specs.declared.run_error.RunError.TheVariants.{Write}
-use Rattle.acdm_sessions.specs.Counted.{Watched, faults_after}
 use Rattle.acdm_sessions.specs.Lines.{IsLine, IsWhole, lines_of}
-use Rattle.acdm_sessions.specs.Output.{ServesLine, ServesLinePart, Serves}
-
--- a line was answered, and no byte of its reply waits for a flush
-pub record Answered {W : Type 0} (contents : W → Option (List ℕ)) (old new : Watched W)
-    (before after : DeskView) (line : List ℕ) : Type 0 where
-  pub serves : ServesLine before after line (contents old.inner) (contents new.inner)
-  pub well : new.faults ≡ old.faults
-  pub flushed : new.waits ≡ false
-
--- the writer failed once more, after a first part of the reply to a line
-pub record AnsweredInPart {W : Type 0} (contents : W → Option (List ℕ)) (old new : Watched W)
-    (before after : DeskView) (line : List ℕ) (error : RunError) : Type 0 where
-  pub serves : ServesLinePart before after line (contents old.inner) (contents new.inner)
-  pub fault : new.faults ≡ faults_after true old.faults
-  pub kind : error ≡ Write
-
--- what comes of answering a line
-abbrev pub AnswersLine : {W T : Type 0} → (W → Option (List ℕ)) → Watched W → Watched W → DeskView
-    → DeskView → List ℕ → Result T RunError → Type 0
-AnswersLine contents old new before after line (Ok x) =
-    Answered contents old new before after line
-AnswersLine contents old new before after line (Err e) =
-    AnsweredInPart contents old new before after line e
+use Rattle.acdm_sessions.specs.Output.{ServesLinePart, Serves}
+use Rattle.acdm_sessions.specs.Stream.{FailsOrEndless}
 
 -- The reader gave a text and has ended, and the lines of that text were answered. Where it was
 -- known what the reader has left, the text is all of that (`Consumes`, `IsAtEnd`).
@@ -39,11 +14,6 @@ pub record ServesAll (left left_after : Option (List ℕ)) (before after : DeskV
   pub consumed : Consumes left left_after text
   pub ended : IsAtEnd left_after
   pub served : Serves text before after old new
-
--- a reader failed once more, or not, but gave so much that each of 2^40 reads gave a part of it
-abbrev pub FailsOrEndless : ℕ → ℕ → List ℕ → Type 0
-FailsOrEndless before after text =
-    (after ≡ before + 1) ⊎ ((after ≡ before) × (2 ^ 40 ≤ length text))
 
 -- No more could be read: the reader gave whole lines and a part of one, and then failed or was
 -- endless. The whole lines were answered, and nothing was entered for the part.

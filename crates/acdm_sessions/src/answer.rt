@@ -1,6 +1,7 @@
 //! The answer to one line.
 ghost use Rattle.acdm_sessions.specs.Output.{Answers};
 
+use crate::answerer::Answerer;
 use crate::fault::Bad;
 use crate::head::request_of;
 use crate::loading::command_for;
@@ -19,11 +20,7 @@ pub enum Answer {
 }
 
 /// Takes one line: the answer to it, and the desk after it.
-pub(crate) fn answer_line<H: Helpers + Drop>(
-    alloc: Global,
-    line: &[u8],
-    desk: &mut Desk<H>,
-) -> Answer
+fn answer_line<H: Helpers + Drop>(alloc: Global, line: &[u8], desk: &mut Desk<H>) -> Answer
     ensures { Answers desk.old desk.new line.now result }
 {
     let request = match request_of(alloc, line) {
@@ -41,4 +38,16 @@ pub(crate) fn answer_line<H: Helpers + Drop>(
         Err(DeskError::Full) => Answer::Rejected(Bad::FullJournal),
         Err(DeskError::OtherSignatures) => unreachable!(),
     }
+}
+
+impl<H: Helpers + Drop> Answerer for Desk<H> {
+    ghost use Rattle.acdm_sessions.specs.Output.{Answers};
+
+    ghost may = { λ before after line answer. Answers before after line answer };
+
+    fn answer(&mut self, alloc: Global, line: &[u8]) -> Answer {
+        answer_line(alloc, line, self)
+    }
+
+    fn replied(&self) {}
 }

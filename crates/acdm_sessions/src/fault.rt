@@ -46,6 +46,8 @@ pub enum Bad {
     /// It asks to load a program, and its bytes encode none (RFC 9669) or one that is not accepted:
     /// the number of their first fault, 301 to 315, and its slot, counted from 0.
     Program { code: u16, slot: usize },
+    /// 106: the clock gave no minute.
+    NoMinute,
     /// 501: there was no memory for the line that was read, or for its entry.
     NoMemory,
     /// 502: the journal is full.
@@ -60,6 +62,7 @@ impl Bad {
         match self {
             Bad::Faulty(fault) => fault.code(),
             Bad::Program { code, slot: _ } => code,
+            Bad::NoMinute => 106,
             Bad::NoMemory => 501,
             Bad::FullJournal => 502,
         }

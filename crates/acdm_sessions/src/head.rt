@@ -1,10 +1,11 @@
 //! The words before the JSON of a line.
 ghost use Rattle.std.specs.Prelude.{◌≡◌, ◌<◌, ◌≤◌, length, position, true, IfSome, IfOk};
-ghost use Rattle.acdm_sessions.specs.Meant.{Gives, Sees, is_space, word_at, natural_of, number_word, role_named, head_of, meant, is_plain};
+ghost use Rattle.acdm_sessions.specs.Meant.{Gives, Sees, is_space, word_at, natural_of, number_word, head_of, meant, is_plain};
 
 use crate::fault::Fault;
 use crate::field::{command_in, json_in};
 use crate::request::{LineError, Request};
+use crate::roles::role_of;
 use acdm_milestones::Role;
 use std::alloc::Global;
 
@@ -58,24 +59,6 @@ fn number_in(word: &[u8], high: u64) -> Result<u64, Fault>
     }
 }
 
-fn role_in(word: &[u8]) -> Option<Role>
-    ensures { result ≡ role_named word.now }
-{
-    if word == b"NM".as_slice() {
-        Some(Role::NetworkManager)
-    } else if word == b"ATC".as_slice() {
-        Some(Role::AirTrafficControl)
-    } else if word == b"APT".as_slice() {
-        Some(Role::AirportOperator)
-    } else if word == b"AO".as_slice() {
-        Some(Role::AircraftOperator)
-    } else if word == b"GH".as_slice() {
-        Some(Role::GroundHandler)
-    } else {
-        None
-    }
-}
-
 #[derive(Drop)]
 struct Head<'a> {
     session: u8,
@@ -97,7 +80,7 @@ fn head_in(line: &[u8]) -> Result<Head<'_>, Fault>
     let (second, line) = word_in(line)?;
     let moment = number_in(second, 4_294_967_295)?;
     let (third, rest) = word_in(line)?;
-    let Some(role) = role_in(third) else {
+    let Some(role) = role_of(third) else {
         return Err(Fault::Prefix);
     };
     Ok(Head {

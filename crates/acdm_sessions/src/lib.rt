@@ -2,6 +2,9 @@
 #![tactic(auto)]
 
 mod answer;
+mod answerer;
+mod at_desk;
+mod clock;
 mod counted;
 mod fault;
 mod field;
@@ -9,21 +12,30 @@ mod head;
 mod line;
 mod lines;
 mod loading;
+mod locked;
+mod order;
 mod program;
 mod reply;
 mod reply_text;
 mod request;
+mod roles;
 mod run_error;
+mod session;
+mod sessions;
 mod stream;
 mod window;
 
 pub use answer::Answer;
+pub use clock::{Clock, Gate};
 pub use counted::Counted;
 pub use fault::{Bad, Fault};
 pub use head::request_of;
 pub use program::{ProgramBytes, ProgramError, read_program};
 pub use request::{Asked, LineError, LoadRequest, Request};
+pub use roles::{name_of, role_of};
 pub use run_error::RunError;
+pub use session::{Closed, End, Ended, Session};
+pub use sessions::run_sessions;
 pub use stream::run;
 
 #[cfg(test)]

@@ -1,8 +1,9 @@
 //! From a reader to a writer.
 ghost use Rattle.std.specs.Prelude.{◌≡◌, ◌+◌, ◌-◌, ◌^◌, ◌<◌, false, Err, OnOk};
-ghost use Rattle.acdm_sessions.specs.Run.{AnswersLine, ServesAll, ServesWhole, ServesPart};
+ghost use Rattle.acdm_sessions.specs.Run.{ServesAll, ServesWhole, ServesPart};
+ghost use Rattle.acdm_sessions.specs.Stream.{AnswersLine, AnswersAll, AnswersWhole, AnswersPart};
 
-use crate::answer::answer_line;
+use crate::answerer::Answerer;
 use crate::counted::Counted;
 use crate::lines::{Ending, Lines};
 use crate::reply::write_reply;
@@ -13,16 +14,59 @@ use std::alloc::Global;
 use std::io::{Read, Write};
 
 // Answers one line, and lets its reply go.
-fn serve_line<W: Write, H: Helpers + Drop>(
+fn serve_line<W: Write, A: Answerer>(
     alloc: Global,
     line: &[u8],
     writer: &mut Counted<W>,
-    desk: &mut Desk<H>,
+    who: &mut A,
 ) -> Result<(), RunError>
-    ensures { AnswersLine W.contents writer.old writer.new desk.old desk.new line.now result }
+    ensures { AnswersLine A.may W.contents writer.old writer.new who.old who.new line.now result }
 {
-    let answer = answer_line(alloc, line, desk);
+    let answer = who.answer(alloc, line);
     write_reply(writer, &answer)?;
+    who.replied();
+    Ok(())
+}
+
+/// Answers each line that is read, at once, until the input ends. A reply is written and flushed
+/// before more is read. The errors are those of `run`.
+pub(crate) fn serve_lines<R: Read, W: Write, A: Answerer>(
+    alloc: Global,
+    reader: &mut Counted<R>,
+    writer: &mut Counted<W>,
+    who: &mut A,
+) -> Result<(), RunError>
+    requires reads { reader.old.faults < 2 ^ 64 - 1 }
+    requires writes { writer.old.faults < 2 ^ 64 - 1 }
+    ensures output { OnOk result (AnswersAll A.may
+        (R.remaining reader.old.inner) (R.remaining reader.new.inner) who.old who.new
+        (W.contents writer.old.inner) (W.contents writer.new.inner)) }
+    ensures read_well { OnOk result (reader.new.faults ≡ reader.old.faults) }
+    ensures wrote_well { OnOk result (writer.new.faults ≡ writer.old.faults) }
+    ensures flushed { OnOk result (writer.old.waits ≡ false → writer.new.waits ≡ false) }
+    ensures read { result ≡ Err RunError.Read → AnswersWhole A.may
+        (R.remaining reader.old.inner) (R.remaining reader.new.inner)
+        reader.old.faults reader.new.faults who.old who.new
+        (W.contents writer.old.inner) (W.contents writer.new.inner) }
+    ensures read_alone { result ≡ Err RunError.Read → writer.new.faults ≡ writer.old.faults }
+    ensures write { result ≡ Err RunError.Write → writer.new.faults ≡ writer.old.faults + 1 }
+    ensures write_alone { result ≡ Err RunError.Write → reader.new.faults ≡ reader.old.faults }
+    ensures written_in_part { result ≡ Err RunError.Write → AnswersPart A.may
+        (R.remaining reader.old.inner) (R.remaining reader.new.inner) who.old who.new
+        (W.contents writer.old.inner) (W.contents writer.new.inner) }
+    ensures memory { result ≡ Err RunError.Memory →
+        (reader.new ≡ reader.old) × (writer.new ≡ writer.old) × (who.new ≡ who.old) }
+{
+    let Ok(mut lines) = Lines::new(alloc) else {
+        return Err(RunError::Memory);
+    };
+    while let Ending::LineFeed = lines.next(reader)? {
+        serve_line(alloc, lines.line.as_slice(), writer, who)?;
+    }
+    if lines.line.as_slice().is_empty() {
+        return Ok(());
+    }
+    serve_line(alloc, lines.line.as_slice(), writer, who)?;
     Ok(())
 }
 
@@ -72,15 +116,6 @@ pub fn run<R: Read, W: Write, H: Helpers + Drop>(
     ensures memory { result ≡ Err RunError.Memory →
         (reader.new ≡ reader.old) × (writer.new ≡ writer.old) × (desk.new ≡ desk.old) }
 {
-    let Ok(mut lines) = Lines::new(alloc) else {
-        return Err(RunError::Memory);
-    };
-    while let Ending::LineFeed = lines.next(reader)? {
-        serve_line(alloc, lines.line.as_slice(), writer, desk)?;
-    }
-    if lines.line.as_slice().is_empty() {
-        return Ok(());
-    }
-    serve_line(alloc, lines.line.as_slice(), writer, desk)?;
+    serve_lines(alloc, reader, writer, desk)?;
     Ok(())
 }

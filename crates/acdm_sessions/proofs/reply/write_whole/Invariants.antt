@@ -1,4 +1,4 @@
-use Rattle.std.proofs.Common.{◌≡◌, ◌-◌, ◌≤◌, length, take}
+use Rattle.std.proofs.Common.{◌-◌, ◌≤◌, length, take}
 use Rattle.acdm_sessions.specs.Reply.{Wrote}
 use Rattle.acdm_sessions.proofs.reply.write_whole.Given as goal
 

@@ -1,0 +1,16 @@
+use Rattle.std.specs.Prelude.{◌≡◌, ◌+◌, ◌≤◌, ◌++◌, map, vec_len, vec_capacity, sum_by}
+use Rattle.std.specs.Vec.Iter.{into_iter_len, into_iter_items}
+use Rattle.acdm_sessions.specs.Sessions.{told}
+use Rattle.acdm_sessions.proofs.sessions.gathered.Given as goal
+
+abbrev pub invariant-loop-one : goal.invariant-loop-one
+invariant-loop-one g l = record {
+  count : vec_len l.ended + into_iter_len l.one-iterator ≡ vec_len l.fn.served;
+  room : vec_len l.fn.served ≤ vec_capacity l.ended;
+  parts : l.all.parts ≡ l.fn.all.parts + vec_len l.ended;
+  amount : l.all.amount ≡ l.fn.all.amount + sum_by (λ e. e.calls) l.ended.items;
+  told : map (λ e. told e.number e.role e.calls e.end)
+      l.ended.items
+      ++ map (λ s. told s.number s.role s.caller.calls s.end) (into_iter_items l.one-iterator)
+      ≡ map (λ s. told s.number s.role s.caller.calls s.end) l.fn.served.items;
+}

@@ -1,0 +1,63 @@
+-- What a line of a session asks to be done, and when.
+use Rattle.std.specs.Prelude.{ℕ, ◌≡◌, Bool, true, false, if◌then◌else◌, nat_le, length}
+use Rattle.std.specs.Prelude.{List, Option, Some, None, Result, Ok, Err}
+use Rattle.bpf_helpers.specs.Promise.{Promise}
+use Rattle.acdm_step.specs.declared.command.Command.{Command}
+use Rattle.acdm_sessions.specs.declared.fault.Fault.{Fault}
+use Rattle.acdm_sessions.specs.declared.fault.Fault.TheVariants.{TooLong}
+use Rattle.acdm_sessions.specs.declared.fault.Bad.{Bad}
+use Rattle.acdm_sessions.specs.declared.fault.Bad.TheVariants.{Faulty, NoMinute, NoMemory}
+use Rattle.acdm_sessions.specs.declared.request.Asked.{Asked}
+use Rattle.acdm_sessions.specs.Meant.{◌>>=◌, demand, most_line, json_of, command_of}
+use Rattle.acdm_sessions.specs.Reading.{Reading}
+use Rattle.acdm_sessions.specs.Output.{IsReadingFor, command_with}
+use Rattle.acdm_sessions.specs.declared.order.Order.{Order}
+
+-- what a line asks for, or its first fault
+unfoldable pub asked_of : List ℕ → Result Asked Fault
+asked_of line = do
+  _ ← demand TooLong (nat_le (length line) most_line)
+  d ← json_of line
+  command_of d
+
+-- What is told of a line beside its bytes: whether memory was refused for it, the minute that the
+-- clock gave, and how the bytes of its program are read.
+pub record OrderTold : Type 0 where
+  pub short : Bool
+  pub minute : Option ℕ
+  pub program : Reading
+
+abbrev pub order_at : ℕ → Result Command Bad → Result Order Bad
+order_at minute (Err b) = Err b
+order_at minute (Ok c) = Ok record { moment = minute; command = c }
+
+abbrev pub order_asked : Option ℕ → Reading → Result Asked Fault → Result Order Bad
+order_asked minute reading (Err f) = Err (Faulty f)
+order_asked None reading (Ok asked) = Err NoMinute
+order_asked (Some m) reading (Ok asked) = order_at m (command_with reading asked)
+
+-- what the line asks to be done, and when: the order of tests is 105, 101, 102, the fields, 106, and
+-- then the program
+abbrev pub order_of : OrderTold → List ℕ → Result Order Bad
+order_of told line =
+    if told.short then Err NoMemory
+    else order_asked told.minute told.program (asked_of line)
+
+-- the bytes of a program are read so, where the clock gave a minute
+abbrev pub IsReadingAt : List (ℕ × Promise) → Option ℕ → Result Asked Fault → Reading
+    → Type 0
+IsReadingAt sigs None asked reading = Unit {0}
+IsReadingAt sigs (Some m) (Err f) reading = Unit {0}
+IsReadingAt sigs (Some m) (Ok asked) reading = IsReadingFor sigs asked reading
+
+abbrev pub MayBe : (ℕ → Bool) → Option ℕ → Type 0
+MayBe gives None = Unit {0}
+MayBe gives (Some m) = gives m ≡ true
+
+-- what a function returned is what the line asks for, with a minute that the clock may give
+pub record Orders (gives : ℕ → Bool) (sigs : List (ℕ × Promise)) (line : List ℕ)
+    (result : Result Order Bad) : Type 0 where
+  pub told : OrderTold
+  pub minute : MayBe gives told.minute
+  pub reading : told.short ≡ false → IsReadingAt sigs told.minute (asked_of line) told.program
+  pub is : result ≡ order_of told line

@@ -1,0 +1,114 @@
+-- How the lines of a stream are answered, by whoever answers them.
+use Rattle.std.specs.Prelude.{ℕ, ◌≡◌, ◌+◌, ◌^◌, ◌≤◌, ◌⊎◌, true, false, List, [], ◌∷◌, ◌++◌}
+use Rattle.std.specs.Prelude.{length, Option, Result, Ok, Err}
+use Rattle.std.specs.Io.KnownBytes.{Appends, Consumes, IsAtEnd}
+use Rattle.acdm_sessions.specs.declared.answer.Answer.{Answer}
+use Rattle.acdm_sessions.specs.declared.run_error.RunError.{RunError}
+use Rattle.acdm_sessions.specs.declared.run_error.RunError.TheVariants.{Write}
+use Rattle.acdm_sessions.specs.Counted.{Watched, faults_after}
+use Rattle.acdm_sessions.specs.Lines.{IsLine, IsWhole, lines_of, kept}
+use Rattle.acdm_sessions.specs.Output.{reply_text}
+use Rattle.acdm_sessions.specs.Reply.{AppendsPart}
+
+-- A line may be answered so by one who answers: the one before, the one after, the line and the
+-- answer.
+abbrev pub Answering : Type 0 → Type 1
+Answering A = A → A → List ℕ → Answer → Type 0
+
+-- ---- one line
+
+-- a line was answered, and no byte of its reply waits for a flush
+pub record Answered {A W : Type 0} (may : Answering A) (contents : W → Option (List ℕ))
+    (old new : Watched W) (before after : A) (line : List ℕ) : Type 0 where
+  pub answer : Answer
+  pub is_right : may before after line answer
+  pub wrote : Appends (contents old.inner) (contents new.inner) (reply_text answer)
+  pub well : new.faults ≡ old.faults
+  pub flushed : new.waits ≡ false
+
+-- the writer failed once more, after a first part of the reply to a line
+pub record AnsweredInPart {A W : Type 0} (may : Answering A) (contents : W → Option (List ℕ))
+    (old new : Watched W) (before after : A) (line : List ℕ) (error : RunError) : Type 0 where
+  pub answer : Answer
+  pub is_right : may before after line answer
+  pub wrote : AppendsPart (contents old.inner) (contents new.inner) (reply_text answer)
+  pub fault : new.faults ≡ faults_after true old.faults
+  pub kind : error ≡ Write
+
+-- what comes of answering a line
+abbrev pub AnswersLine : {A W T : Type 0} → Answering A → (W → Option (List ℕ)) → Watched W
+    → Watched W → A → A → List ℕ → Result T RunError → Type 0
+AnswersLine may contents old new before after line (Ok x) =
+    Answered may contents old new before after line
+AnswersLine may contents old new before after line (Err e) =
+    AnsweredInPart may contents old new before after line e
+
+-- ---- all lines
+
+-- Lines were answered one after the other, with these answers. Of a line as much is looked at as
+-- is kept of it.
+abbrev pub AnswersEach : {A : Type 0} → Answering A → A → A → List (List ℕ) → List Answer → Type 0
+AnswersEach may before after [] [] = before ≡ after
+AnswersEach {A = A} may before after (l ∷ ls) (x ∷ xs) =
+    (middle : A) × may before middle (kept l) x × AnswersEach may middle after ls xs
+AnswersEach may before after [] (x ∷ xs) = ⊥
+AnswersEach may before after (l ∷ ls) [] = ⊥
+
+-- the replies, one after the other
+abbrev pub replies_text : List Answer → List ℕ
+replies_text [] = []
+replies_text (x ∷ xs) = reply_text x ++ replies_text xs
+
+-- the lines of a text were answered, and their replies were written
+pub record AnswersText {A : Type 0} (may : Answering A) (text : List ℕ) (before after : A)
+    (old new : Option (List ℕ)) : Type 0 where
+  pub answers : List Answer
+  pub are_right : AnswersEach may before after (lines_of text) answers
+  pub wrote : Appends old new (replies_text answers)
+
+-- ---- how it ends
+
+-- The reader gave a text and has ended, and the lines of that text were answered. Where it was
+-- known what the reader has left, the text is all of that (`Consumes`, `IsAtEnd`).
+pub record AnswersAll {A : Type 0} (may : Answering A) (left left_after : Option (List ℕ))
+    (before after : A) (old new : Option (List ℕ)) : Type 0 where
+  pub text : List ℕ
+  pub consumed : Consumes left left_after text
+  pub ended : IsAtEnd left_after
+  pub served : AnswersText may text before after old new
+
+-- a reader failed once more, or not, but gave so much that each of 2^40 reads gave a part of it
+abbrev pub FailsOrEndless : ℕ → ℕ → List ℕ → Type 0
+FailsOrEndless before after text =
+    (after ≡ before + 1) ⊎ ((after ≡ before) × (2 ^ 40 ≤ length text))
+
+-- No more could be read: the reader gave whole lines and a part of one, and then failed or was
+-- endless. The whole lines were answered, and nothing else was done.
+pub record AnswersWhole {A : Type 0} (may : Answering A) (left left_after : Option (List ℕ))
+    (faults later_faults : ℕ) (before after : A) (old new : Option (List ℕ)) : Type 0 where
+  pub whole : List ℕ
+  pub part : List ℕ
+  pub is_whole : IsWhole whole
+  pub is_part : IsLine part
+  pub consumed : Consumes left left_after (whole ++ part)
+  pub why : FailsOrEndless faults later_faults (whole ++ part)
+  pub served : AnswersText may whole before after old new
+
+-- A reply could not be written: the reader gave whole lines, a line, and what follows it. The whole
+-- lines were answered, and so was the line, of whose reply a first part was written. Of the other
+-- lines none was answered.
+pub record AnswersPart {A : Type 0} (may : Answering A) (left left_after : Option (List ℕ))
+    (before after : A) (old new : Option (List ℕ)) : Type 0 where
+  pub whole : List ℕ
+  pub line : List ℕ
+  pub later : List ℕ
+  pub others : List (List ℕ)
+  pub is_whole : IsWhole whole
+  pub is_next : lines_of (line ++ later) ≡ line ∷ others
+  pub consumed : Consumes left left_after (whole ++ (line ++ later))
+  pub middle : A
+  pub between : Option (List ℕ)
+  pub served : AnswersText may whole before middle old between
+  pub answer : Answer
+  pub is_right : may middle after (kept line) answer
+  pub in_hand : AppendsPart between new (reply_text answer)

@@ -1,0 +1,171 @@
+//! One session, from its first line to its last reply.
+ghost use Rattle.std.specs.Prelude.{◌≡◌, ◌+◌, ◌-◌, ◌≤◌, ◌<◌, ◌^◌, false, IfOk};
+ghost use Rattle.acdm_board.specs.Desk.{is_foreign};
+ghost use Rattle.acdm_sessions.specs.Orders.{Orders};
+ghost use Rattle.acdm_sessions.specs.Sessions.{CallAnswers, EndsAs, told};
+
+use crate::answer::Answer;
+use crate::answerer::Answerer;
+use crate::clock::{Clock, Gate};
+use crate::fault::Bad;
+use crate::locked::{Locked, Naming};
+use crate::order::{Order, order_in};
+use crate::run_error::RunError;
+use crate::session::{Caller, End, Seat, Served};
+use crate::stream::serve_lines;
+use acdm_board::DeskError;
+use bpf_helpers::Helpers;
+use std::alloc::Global;
+use std::io::{Read, Write};
+use std::sync::{Mutex, Wait};
+
+impl<C: Clock + Drop, J: Naming> Caller<C, J> {
+    // What a line asks to be done, at the minute that the session's clock tells.
+    fn order(&mut self, alloc: Global, line: &[u8]) -> Result<Order, Bad>
+        ensures orders { Orders (C.gives self.old.clock) J.sigs line.now result }
+        ensures from_one { IfOk result (λ order. 1 ≤ order.moment) }
+        ensures checked { IfOk result (λ order. is_foreign J.sigs order.command ≡ false) }
+        ensures calls { self.new.calls ≡ self.old.calls }
+        ensures number { self.new.number ≡ self.old.number }
+        ensures role { self.new.role ≡ self.old.role }
+        ensures clock { C.gives self.new.clock ≡ C.gives self.old.clock }
+    {
+        order_in(alloc, line, &self.sigs, &mut self.clock)
+    }
+
+    // Calls the desk under the lock.
+    fn call<H: Helpers + Drop, Rt: Wait>(
+        &mut self,
+        rt: &Rt,
+        shared: &Mutex<Locked<H, J>>,
+        order: Order,
+    ) -> Answer
+        requires moment_given { 1 ≤ order.moment }
+        requires checked { is_foreign J.sigs order.command ≡ false }
+        ensures answers { CallAnswers self.old.calls self.new.calls result }
+        ensures number { self.new.number ≡ self.old.number }
+        ensures role { self.new.role ≡ self.old.role }
+        ensures clock { C.gives self.new.clock ≡ C.gives self.old.clock }
+    {
+        let Caller {
+            number,
+            role,
+            share,
+            calls,
+            ..
+        } = self;
+        match shared.lock(rt).call(*number, *role, order, share) {
+            Ok(reply) => {
+                *calls += 1;
+                Answer::Entered(reply)
+            }
+            Err(DeskError::Memory) => Answer::Rejected(Bad::NoMemory),
+            Err(DeskError::Full) => Answer::Rejected(Bad::FullJournal),
+            Err(DeskError::OtherSignatures) => unreachable!(),
+        }
+    }
+}
+
+// A session at the desk, which lies behind its lock.
+#[derive(Drop)]
+struct AtDesk<'s, C: Drop, H: Helpers + Drop, J: Naming, G, Rt> {
+    rt: &'s Rt,
+    shared: &'s Mutex<Locked<H, J>>,
+    gate: &'s G,
+    caller: Caller<C, J>,
+    // Its calls of the desk, also those that made no entry.
+    turn: u64,
+    // Whether the last line was one.
+    called: bool,
+}
+
+impl<'s, C: Clock + Drop, H: Helpers + Drop, J: Naming, G: Gate, Rt: Wait> Answerer
+    for AtDesk<'s, C, H, J, G, Rt> {
+    ghost use Rattle.acdm_sessions.specs.Sessions.{SessionAnswers};
+
+    ghost may = { λ before after line answer. SessionAnswers
+        (C.gives before.caller.clock) (C.gives after.caller.clock)
+        before.caller.number after.caller.number before.caller.role after.caller.role
+        J.sigs before.caller.calls after.caller.calls line answer };
+
+    fn answer(&mut self, alloc: Global, line: &[u8]) -> Answer {
+        self.called = false;
+        match self.caller.order(alloc, line) {
+            Ok(order) => {
+                self.called = true;
+                self.turn = self.turn.saturating_add(1);
+                self.gate.enter(self.caller.number, self.turn);
+                self.caller.call(self.rt, self.shared, order)
+            }
+            Err(bad) => Answer::Rejected(bad),
+        }
+    }
+
+    fn replied(&self) {
+        if self.called {
+            self.gate.answered(self.caller.number, self.turn);
+        }
+    }
+}
+
+// A session from its beginning to its end. With no leave to begin it ends at once.
+pub(crate) fn serve<
+    R: Read + Drop,
+    W: Write + Drop,
+    C: Clock + Drop,
+    H: Helpers + Drop,
+    J: Naming,
+    G: Gate,
+    Rt: Wait,
+>(
+    rt: &Rt,
+    alloc: Global,
+    shared: &Mutex<Locked<H, J>>,
+    gate: &G,
+    seat: Seat<R, W, C, J>,
+    begins: bool,
+) -> Served<R, W, C, J>
+    ensures { EndsAs seat.number seat.role
+        (told result.number result.role result.caller.calls result.end) }
+{
+    let Seat {
+        number,
+        role,
+        caller,
+        mut reader,
+        mut writer,
+    } = seat;
+    if !begins {
+        return Served {
+            number,
+            role,
+            caller,
+            reader,
+            writer,
+            end: End::Start,
+        };
+    }
+    let mut at_desk = AtDesk {
+        rt,
+        shared,
+        gate,
+        caller,
+        turn: 0,
+        called: false,
+    };
+    let end = match serve_lines(alloc, &mut reader, &mut writer, &mut at_desk) {
+        Ok(()) => End::End,
+        Err(RunError::Read) => End::Read,
+        Err(RunError::Write) => End::Write,
+        Err(RunError::Memory) => End::Memory,
+    };
+    let AtDesk { caller, .. } = at_desk;
+    Served {
+        number,
+        role,
+        caller,
+        reader,
+        writer,
+        end,
+    }
+}

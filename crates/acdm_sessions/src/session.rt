@@ -1,0 +1,109 @@
+//! Sessions: before they begin, and when they have ended.
+ghost use Rattle.std.specs.Prelude.{◌≡◌, ◌≤◌, ◌<◌, ◌-◌, ◌^◌};
+
+use crate::counted::Counted;
+use crate::locked::Naming;
+use acdm_board::Desk;
+use acdm_milestones::Role;
+use bpf_helpers::{Helpers, Sigs};
+use std::sync::ledger::Share;
+
+/// What a session is opened with.
+#[derive(Drop)]
+pub struct Session<R: Drop, W: Drop, C: Drop> {
+    /// The role of who is at the other end.
+    pub role: Role,
+    /// Where its lines come from.
+    pub reader: Counted<R>,
+    /// Where its replies go.
+    pub writer: Counted<W>,
+    /// Which tells the moment of each of its commands.
+    pub clock: C,
+    // The counts of faults are below their last value.
+    ghost reads: { reader.faults < 2 ^ 64 - 1 },
+    ghost writes: { writer.faults < 2 ^ 64 - 1 },
+}
+
+/// How a session ended.
+#[derive(Clone, Copy, Debug, PartialEq, Eq)]
+pub enum End {
+    /// Its input ended.
+    End,
+    /// Its reader failed, or gave 2^40 reads and no end.
+    Read,
+    /// Its writer failed.
+    Write,
+    /// There was no memory for its buffers, and nothing was read.
+    Memory,
+    /// No thread could be started for it, and nothing was read.
+    Start,
+}
+
+/// A session, once it has ended.
+#[derive(Drop)]
+pub struct Ended<R: Drop, W: Drop, C: Drop> {
+    /// Its number, from 1.
+    pub number: u8,
+    /// Its role.
+    pub role: Role,
+    /// Its reader, after all that was read.
+    pub reader: Counted<R>,
+    /// Its writer, after all that was written.
+    pub writer: Counted<W>,
+    /// Its clock.
+    pub clock: C,
+    /// How many of its calls of the desk made an entry.
+    pub calls: u64,
+    /// How it ended.
+    pub end: End,
+}
+
+/// A desk whose sessions have ended.
+#[derive(Drop)]
+pub struct Closed<H: Helpers + Drop, R: Drop, W: Drop, C: Drop> {
+    /// The desk, with the entries that the sessions made.
+    pub desk: Desk<H>,
+    /// The sessions, in the order of their numbers.
+    pub sessions: Vec<Ended<R, W, C>>,
+}
+
+/// Who calls: a session with its clock, and its part of the ledger.
+#[derive(Drop)]
+pub(crate) struct Caller<C: Drop, J: Naming> {
+    pub(crate) number: u8,
+    pub(crate) role: Role,
+    pub(crate) clock: C,
+    pub(crate) sigs: Sigs,
+    /// Its calls that made an entry.
+    pub(crate) calls: u64,
+    pub(crate) share: Share<J>,
+    ghost given: { 1 ≤ number },
+    ghost few: { number ≤ 64 },
+    ghost one_part: { share.parts ≡ 1 },
+    ghost counted: { share.amount ≡ calls },
+    ghost of_run: { sigs ≡ J.sigs },
+}
+
+/// A session that has not begun.
+#[derive(Drop)]
+pub(crate) struct Seat<R: Drop, W: Drop, C: Drop, J: Naming> {
+    pub(crate) number: u8,
+    pub(crate) role: Role,
+    pub(crate) caller: Caller<C, J>,
+    pub(crate) reader: Counted<R>,
+    pub(crate) writer: Counted<W>,
+    ghost none_yet: { caller.calls ≡ 0 },
+    ghost reads: { reader.faults < 2 ^ 64 - 1 },
+    ghost writes: { writer.faults < 2 ^ 64 - 1 },
+}
+
+/// A session that has ended, with its part of the ledger.
+#[derive(Drop)]
+pub(crate) struct Served<R: Drop, W: Drop, C: Drop, J: Naming> {
+    pub(crate) number: u8,
+    pub(crate) role: Role,
+    pub(crate) caller: Caller<C, J>,
+    pub(crate) reader: Counted<R>,
+    pub(crate) writer: Counted<W>,
+    pub(crate) end: End,
+}

@@ -1,0 +1,360 @@
+//! All sessions at once, each on a thread of its own.
+ghost use Rattle.std.specs.Prelude.{◌≡◌, ◌+◌, ◌<◌, ◌≤◌, [], length, map, IfOk, IfErr, OnOk, vec_len, vec_capacity, sum_by};
+ghost use Rattle.acdm_jobs.specs.Each.{Each};
+ghost use Rattle.acdm_sessions.specs.Sessions.{HaveEnded, numbered, told};
+
+use crate::at_desk::serve;
+use crate::clock::{Clock, Gate};
+use crate::locked::{Locked, Naming};
+use crate::session::{Caller, Closed, Ended, Seat, Served, Session};
+use acdm_board::Desk;
+use acdm_jobs::{Crew, Job};
+use acdm_milestones::Role;
+use bpf_helpers::{Helpers, Sigs};
+use std::alloc::{AllocError, Global};
+use std::io::{Read, Write};
+use std::marker::Brand;
+use std::sync::ledger::{Blank, Share};
+use std::sync::{Mutex, Wait};
+use std::thread::Threads;
+
+// A session, and what it is served with.
+#[derive(Drop)]
+struct Work<'s, R: Drop, W: Drop, C: Drop, H: Helpers + Drop, J: Naming, G, Rt> {
+    rt: &'s Rt,
+    alloc: Global,
+    shared: &'s Mutex<Locked<H, J>>,
+    gate: &'s G,
+    seat: Seat<R, W, C, J>,
+}
+
+impl<
+    's,
+    R: Read + Drop + Send,
+    W: Write + Drop + Send,
+    C: Clock + Drop + Send,
+    H: Helpers + Drop + Send,
+    J: Naming + Send + Sync,
+    G: Gate + Sync,
+    Rt: Wait + Sync,
+> Job<Served<R, W, C, J>> for Work<'s, R, W, C, H, J, G, Rt> {
+    ghost use Rattle.acdm_sessions.specs.Sessions.{EndsAs, told};
+
+    ghost gives = { λ work served. EndsAs work.seat.number work.seat.role
+        (told served.number served.role served.caller.calls served.end) };
+
+    fn run(self, begins: bool) -> Served<R, W, C, J> {
+        let Work {
+            rt,
+            alloc,
+            shared,
+            gate,
+            seat,
+        } = self;
+        serve(rt, alloc, shared, gate, seat, begins)
+    }
+}
+
+// Work for each seat, in order.
+fn filled<
+    's,
+    R: Read + Drop + Send,
+    W: Write + Drop + Send,
+    C: Clock + Drop + Send,
+    H: Helpers + Drop + Send,
+    J: Naming + Send + Sync,
+    G: Gate + Sync,
+    Rt: Wait + Sync,
+>(
+    rt: &'s Rt,
+    alloc: Global,
+    shared: &'s Mutex<Locked<H, J>>,
+    gate: &'s G,
+    seats: Vec<Seat<R, W, C, J>>,
+    mut crew: Crew<Work<'s, R, W, C, H, J, G, Rt>, Served<R, W, C, J>>,
+) -> Crew<Work<'s, R, W, C, H, J, G, Rt>, Served<R, W, C, J>>
+    requires { (crew.jobs ≡ []) × (vec_len seats ≤ crew.room) }
+    ensures seats { map (λ work. work.seat) result.jobs ≡ seats.items }
+    ensures len { length result.jobs ≡ vec_len seats }
+{
+    for seat in seats {
+        crew.add(Work {
+            rt,
+            alloc,
+            shared,
+            gate,
+            seat,
+        });
+    }
+    crew
+}
+
+// A seat for each session, in order, with a part of the ledger each.
+fn seated<R: Drop, W: Drop, C: Drop, J: Naming>(
+    sessions: Vec<Session<R, W, C>>,
+    sigs: &Sigs,
+    all: &mut Share<J>,
+    mut seats: Vec<Seat<R, W, C, J>>,
+) -> Result<Vec<Seat<R, W, C, J>>, AllocError>
+    requires sigs { sigs.now ≡ J.sigs }
+    requires few { vec_len sessions ≤ 64 }
+    requires parts { vec_len sessions < all.old.parts }
+    requires room { (vec_len seats ≡ 0) × (vec_len sessions ≤ vec_capacity seats) }
+    ensures len { IfOk result (λ v. vec_len v ≡ vec_len sessions) }
+    ensures seats { IfOk result (λ v. map (λ s. (s.number, s.role)) v.items
+        ≡ numbered 1 (map (λ s. s.role) sessions.items)) }
+    ensures parts { OnOk result (all.new.parts + vec_len sessions ≡ all.old.parts) }
+    ensures amount { OnOk result (all.new.amount ≡ all.old.amount) }
+{
+    let mut number = 0u8;
+    for session in sessions {
+        let sigs = sigs.copy()?;
+        number += 1;
+        let share = all.split_off(1, 0);
+        seats.push_reserved(seat_of(number, session, sigs, share));
+    }
+    Ok(seats)
+}
+
+// The seat of a session.
+fn seat_of<R: Drop, W: Drop, C: Drop, J: Naming>(
+    number: u8,
+    session: Session<R, W, C>,
+    sigs: Sigs,
+    share: Share<J>,
+) -> Seat<R, W, C, J>
+    requires sigs { sigs ≡ J.sigs }
+    requires part { (share.parts ≡ 1) × (share.amount ≡ 0) }
+    requires given { 1 ≤ number }
+    requires few { number ≤ 64 }
+    ensures number { result.number ≡ number }
+    ensures role { result.role ≡ session.role }
+{
+    let Session {
+        role,
+        reader,
+        writer,
+        clock,
+    } = session;
+    let caller = Caller {
+        number,
+        role,
+        clock,
+        sigs,
+        calls: 0,
+        share,
+    };
+    Seat {
+        number,
+        role,
+        caller,
+        reader,
+        writer,
+    }
+}
+
+// Gathers the share of a session that has ended.
+fn left_by<R: Drop, W: Drop, C: Drop, J: Naming>(
+    one: Served<R, W, C, J>,
+    all: &mut Share<J>,
+) -> Ended<R, W, C>
+    ensures told { told result.number result.role result.calls result.end
+        ≡ told one.number one.role one.caller.calls one.end }
+    ensures parts { all.new.parts ≡ all.old.parts + 1 }
+    ensures amount { all.new.amount ≡ all.old.amount + result.calls }
+{
+    let Served {
+        number,
+        role,
+        caller,
+        reader,
+        writer,
+        end,
+    } = one;
+    let Caller {
+        clock,
+        calls,
+        share,
+        ..
+    } = caller;
+    all.merge(share);
+    Ended {
+        number,
+        role,
+        reader,
+        writer,
+        clock,
+        calls,
+        end,
+    }
+}
+
+// Gathers the shares of all, and what else the sessions left.
+fn gathered<R: Drop, W: Drop, C: Drop, J: Naming>(
+    served: Vec<Served<R, W, C, J>>,
+    all: &mut Share<J>,
+    mut ended: Vec<Ended<R, W, C>>,
+) -> Vec<Ended<R, W, C>>
+    requires { (vec_len ended ≡ 0) × (vec_len served ≤ vec_capacity ended) }
+    ensures len { vec_len result ≡ vec_len served }
+    ensures told { map (λ e. told e.number e.role e.calls e.end) result.items
+        ≡ map (λ s. told s.number s.role s.caller.calls s.end) served.items }
+    ensures parts { all.new.parts ≡ all.old.parts + vec_len served }
+    ensures amount { all.new.amount
+        ≡ all.old.amount + sum_by (λ e. e.calls) result.items }
+{
+    for one in served {
+        ended.push_reserved(left_by(one, all));
+    }
+    ended
+}
+
+// Takes the desk from under the lock, and holds the ledger's book against all shares.
+fn close<R: Drop, W: Drop, C: Drop, H: Helpers + Drop, J: Naming>(
+    locked: Locked<H, J>,
+    mut all: Share<J>,
+    served: Vec<Served<R, W, C, J>>,
+    ended: Vec<Ended<R, W, C>>,
+) -> Closed<H, R, W, C>
+    requires parts { all.parts + vec_len served ≡ J.parts }
+    requires room { (vec_len ended ≡ 0) × (vec_len served ≤ vec_capacity ended) }
+    ensures sum { length result.desk.history
+        ≡ all.amount + sum_by (λ e. e.calls) result.sessions.items }
+    ensures told { map (λ e. told e.number e.role e.calls e.end) result.sessions.items
+        ≡ map (λ s. told s.number s.role s.caller.calls s.end) served.items }
+{
+    let Locked { desk, mut book } = locked;
+    let sessions = gathered(served, &mut all, ended);
+    book.audit(&mut all);
+    Closed { desk, sessions }
+}
+
+// All that a run has before its threads begin.
+#[derive(Drop)]
+struct Opened<R: Drop, W: Drop, C: Drop, H: Helpers + Drop, J: Naming> {
+    locked: Locked<H, J>,
+    all: Share<J>,
+    seats: Vec<Seat<R, W, C, J>>,
+    ended: Vec<Ended<R, W, C>>,
+}
+
+// Opens the ledger over the desk, and seats the sessions.
+fn open<R: Drop, W: Drop, C: Drop, H: Helpers + Drop, J: Naming>(
+    alloc: Global,
+    blank: Blank,
+    desk: Desk<H>,
+    sessions: Vec<Session<R, W, C>>,
+) -> Result<Opened<R, W, C, H, J>, Desk<H>>
+    requires name { blank.name ≡ J.name }
+    requires parts { blank.parts ≡ J.parts }
+    requires sigs { desk.sigs ≡ J.sigs }
+    requires all { blank.parts ≡ vec_len sessions + 1 }
+    requires few { vec_len sessions ≤ 64 }
+    ensures len { IfOk result (λ o. vec_len o.seats ≡ vec_len sessions) }
+    ensures seats { IfOk result (λ o. map (λ s. (s.number, s.role)) o.seats.items
+        ≡ numbered 1 (map (λ s. s.role) sessions.items)) }
+    ensures parts { IfOk result (λ o. o.all.parts + vec_len sessions ≡ J.parts) }
+    ensures amount { IfOk result (λ o. o.all.amount ≡ length desk.history) }
+    ensures room { IfOk result (λ o. (vec_len o.ended ≡ 0)
+        × (vec_len sessions ≤ vec_capacity o.ended)) }
+    ensures err { IfErr result (λ d. d ≡ desk) }
+{
+    let count = sessions.len();
+    let Ok(seats) = Vec::with_capacity(alloc, count) else {
+        return Err(desk);
+    };
+    let Ok(ended) = Vec::with_capacity(alloc, count) else {
+        return Err(desk);
+    };
+    let (mut book, mut all) = blank.open::<J>();
+    book.add(&mut all, desk.len());
+    let Ok(seats) = seated(sessions, desk.sigs(), &mut all, seats) else {
+        return Err(desk);
+    };
+    Ok(Opened {
+        locked: Locked { desk, book },
+        all,
+        seats,
+        ended,
+    })
+}
+
+// Serves the sessions under a ledger of this run's own.
+fn run_named<
+    J: Naming + Send + Sync,
+    R: Read + Drop + Send,
+    W: Write + Drop + Send,
+    C: Clock + Drop + Send,
+    H: Helpers + Drop + Send,
+    G: Gate + Sync,
+    Rt: Threads + Wait + Sync,
+>(
+    rt: &Rt,
+    alloc: Global,
+    blank: Blank,
+    desk: Desk<H>,
+    sessions: Vec<Session<R, W, C>>,
+    gate: &G,
+) -> Result<Closed<H, R, W, C>, Desk<H>>
+    requires name { blank.name ≡ J.name }
+    requires parts { blank.parts ≡ J.parts }
+    requires sigs { desk.sigs ≡ J.sigs }
+    requires all { blank.parts ≡ vec_len sessions + 1 }
+    requires few { vec_len sessions ≤ 64 }
+    ensures sum { IfOk result (λ c. length c.desk.history
+        ≡ length desk.history + sum_by (λ e. e.calls) c.sessions.items) }
+    ensures sessions { IfOk result (λ c. HaveEnded 1 (map (λ s. s.role) sessions.items)
+        (map (λ e. told e.number e.role e.calls e.end)
+        c.sessions.items)) }
+    ensures err { IfErr result (λ d. d ≡ desk) }
+{
+    let Ok(crew) = Crew::new(alloc, sessions.len()) else {
+        return Err(desk);
+    };
+    let Opened {
+        locked,
+        all,
+        seats,
+        ended,
+    } = open::<R, W, C, H, J>(alloc, blank, desk, sessions)?;
+    let shared = Mutex::new(locked);
+    let crew = filled(rt, alloc, &shared, gate, seats, crew);
+    let served = crew.run(rt);
+    Ok(close(shared.into_inner(), all, served, ended))
+}
+
+/// Serves all sessions at once, each on a thread of its own, and waits for all. Session k, from 1, is
+/// the k-th, at most 64. All call one desk, behind one lock; lines are read, decoded and verified
+/// outside of it, and replies are written outside of it too.
+///
+/// A line of a session is JSON (RFC 8259); the moment of its command is the minute that the session's
+/// clock tells when the line was read, and `bad 106` is answered where it tells none. Replies are
+/// those of `run`. A session whose reader or writer fails ends alone; one that no thread can be
+/// started for ends as `Start`, and the others run.
+///
+/// `Err` only where memory was refused before any session started: the desk is as it was.
+pub fn run_sessions<
+    R: Read + Drop + Send,
+    W: Write + Drop + Send,
+    C: Clock + Drop + Send,
+    H: Helpers + Drop + Send,
+    G: Gate + Sync,
+    Rt: Threads + Wait + Sync,
+>(
+    rt: &Rt,
+    alloc: Global,
+    desk: Desk<H>,
+    sessions: Vec<Session<R, W, C>>,
+    gate: &G,
+) -> Result<Closed<H, R, W, C>, Desk<H>>
+    requires few { vec_len sessions ≤ 64 }
+    ensures sum { IfOk result (λ c. length c.desk.history
+        ≡ length desk.history + sum_by (λ e. e.calls) c.sessions.items) }
+    ensures sessions { IfOk result (λ c. HaveEnded 1 (map (λ s. s.role) sessions.items)
+        (map (λ e. told e.number e.role e.calls e.end)
+        c.sessions.items)) }
+    ensures err { IfErr result (λ d. d ≡ desk) }
+{
+    let parts = sessions.len() as u64 + 1;
+    run_named::<Brand, R, W, C, H, G, Rt>(rt, alloc, Blank::new(parts), desk, sessions, gate)
+}
