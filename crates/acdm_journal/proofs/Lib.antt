@@ -5,4 +5,8 @@ pub mod ReadBack
 pub mod NoSpaces
 pub mod OneLine
 pub mod Pieces
+pub mod Unanswered
+pub mod Checked
+pub mod Judging
+pub mod NextEntry
 pub mod TextRows

@@ -2,3 +2,4 @@ pub mod Text
 pub mod Spaced
 pub mod Ranges
 pub mod Reading
+pub mod Audit

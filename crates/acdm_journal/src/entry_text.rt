@@ -45,7 +45,7 @@ fn name_of_kind(kind: Kind) -> &'static str
     }
 }
 
-fn code_of(verdict: Verdict) -> u64
+pub(crate) fn code_of(verdict: Verdict) -> u64
     ensures { result ≡ outcome_code verdict }
 {
     match verdict {
