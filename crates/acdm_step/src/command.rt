@@ -1,5 +1,6 @@
 //! What partners ask for.
 ghost use Rattle.std.specs.Prelude.{◌≡◌, ◌≤◌, IsTrue};
+ghost use Rattle.std.specs.Option.{option_copied};
 ghost use Rattle.acdm_step.specs.Facts.{has_its_plan, has_its_time};
 
 use acdm_milestones::Milestone;
@@ -69,6 +70,56 @@ impl Schedule {
             stand,
         }
     }
+
+    /// The flight.
+    pub fn flight(&self) -> u64
+        ensures { result ≡ self.now.flight }
+    {
+        let Schedule { flight, .. } = self;
+        *flight
+    }
+
+    /// What is planned for it.
+    pub fn plan(&self) -> &Plan
+        ensures { result.now ≡ self.now.plan }
+    {
+        &self.plan
+    }
+
+    /// SOBT, in minutes since 1970-01-01T00:00Z.
+    pub fn sobt(&self) -> u32
+        ensures { result ≡ self.now.sobt }
+    {
+        self.sobt
+    }
+
+    /// MTTT in minutes.
+    pub fn mttt(&self) -> u16
+        ensures { result ≡ self.now.mttt }
+    {
+        self.mttt
+    }
+
+    /// EXIT in minutes.
+    pub fn exit(&self) -> u8
+        ensures { result ≡ self.now.exit }
+    {
+        self.exit
+    }
+
+    /// EXOT in minutes.
+    pub fn exot(&self) -> u16
+        ensures { result ≡ self.now.exot }
+    {
+        self.exot
+    }
+
+    /// The stand.
+    pub fn stand(&self) -> u16
+        ensures { result ≡ self.now.stand }
+    {
+        self.stand
+    }
 }
 
 /// Reports a milestone of a flight.
@@ -107,6 +158,34 @@ impl Report {
             time,
             plan,
         }
+    }
+
+    /// The flight.
+    pub fn flight(&self) -> u64
+        ensures { result ≡ self.now.flight }
+    {
+        self.flight
+    }
+
+    /// The milestone.
+    pub fn milestone(&self) -> Milestone
+        ensures { result ≡ self.now.milestone }
+    {
+        self.milestone
+    }
+
+    /// The time in minutes since 1970-01-01T00:00Z, 0 for no time.
+    pub fn time(&self) -> u32
+        ensures { result ≡ self.now.time }
+    {
+        self.time
+    }
+
+    /// What is planned, with milestone 1.
+    pub fn plan(&self) -> Option<&Plan>
+        ensures { option_copied result ≡ self.now.plan }
+    {
+        self.plan.as_ref()
     }
 }
 

@@ -1,0 +1,12 @@
+pub mod Splitting
+pub mod Numbers
+pub mod Parts
+pub mod ReadBack
+pub mod NoSpaces
+pub mod OneLine
+pub mod Pieces
+pub mod Unanswered
+pub mod Checked
+pub mod Judging
+pub mod NextEntry
+pub mod TextRows

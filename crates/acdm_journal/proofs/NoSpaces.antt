@@ -1,0 +1,188 @@
+-- No word of a line has a space.
+use Rattle.std.proofs.Common.{◌≡◌, ℕ, ◌/◌, ◌%◌, ◌<◌, Bool, true, false, not, List, [], ◌∷◌, ◌++◌, length, map, codes, Option, Some, None, refl, sym, ap, ◌∙◌, arith, inl, inr}
+use Rattle.std.specs.Prelude.{slice_index}
+use Rattle.std.specs.Fmt.{decimal}
+use Rattle.std.specs.List.{AllByRecursion, list_all}
+use Rattle.std.proofs.lemmas.Bool.{eqb-true}
+use Rattle.std.proofs.lemmas.Bool.Decides.{nat_tests}
+use Rattle.std.proofs.lemmas.Option.{cond_some}
+use Rattle.hex.specs.Hex.{encode_lower, encode_with, lower_digits, hex_digit_value}
+use Rattle.hex.proofs.HexLemmas.{IsDigits-lower_digits}
+use Rattle.acdm_record.specs.Bools.{and_left, and_right}
+use Rattle.acdm_record.specs.Fields.{is_text, is_text_byte}
+use Rattle.acdm_milestones.specs.declared.role.Role.{Role}
+use Rattle.acdm_milestones.specs.declared.role.Role.TheVariants.{NetworkManager, AirTrafficControl, AirportOperator, AircraftOperator, GroundHandler}
+use Rattle.acdm_milestones.specs.Tables.{number}
+use Rattle.acdm_slots.specs.declared.kind.Kind as kinds
+use Rattle.acdm_slots.specs.declared.kind.Kind.TheVariants.{Tobt, Alert}
+use Rattle.acdm_step.specs.declared.command.Plan.{Plan}
+use Rattle.acdm_step.specs.declared.command.Command.TheVariants as commands
+use Rattle.acdm_journal.specs.declared.stated.Stated.{Stated}
+use Rattle.acdm_journal.specs.declared.stated.Asked.{Asked}
+use Rattle.acdm_journal.specs.declared.stated.Asked.TheVariants.{Plain, Load}
+use Rattle.acdm_journal.specs.Text.{plan_words, plan_words_of, asked_words, answer_words, line_words, role_name, kind_name}
+use Rattle.acdm_journal.specs.Ranges.{IsText, IsPlan, IsPlanOf, IsWord, IsByte, IsAsked, IsStated}
+use Rattle.acdm_journal.specs.Reading.{Words, is_space}
+use Rattle.acdm_journal.proofs.Numbers.{decimal-lacks}
+use Rattle.acdm_journal.proofs.Parts.{is_numbered}
+use Rattle.acdm_journal.proofs.Splitting.{Lacks, AllLack, cases_of}
+
+-- ---- a word
+
+by_test : (w : List ℕ) → list_all (λ b. not (is_space b)) w ≡ true → Lacks w
+by_test [] h = tt
+by_test (b ∷ bs) h = (
+  not_space (is_space b) (and_left _ _ h),
+  by_test bs (and_right _ _ h),
+)
+  where
+    not_space : (t : Bool) → not t ≡ true → t ≡ false
+    not_space true e = absurd (cc)
+    not_space false e = refl
+
+printable_lacks : (t : List ℕ) → is_text t ≡ true → Lacks t
+printable_lacks [] h = tt
+printable_lacks (b ∷ bs) h =
+    let here : is_text_byte b ≡ true = and_left _ _ h in
+    (printable b here, printable_lacks bs (and_right _ _ h))
+  where
+    printable : (c : ℕ) → is_text_byte c ≡ true → is_space c ≡ false
+    printable c e = grind (arith, nat_tests)
+
+text_lacks : (most : ℕ) (t : List ℕ) → IsText most t → Lacks t
+text_lacks most t is =
+    let test = (cond_some _ t t is).0 in
+    printable_lacks t (and_right _ _ (and_right _ _ test))
+
+role_lacks : (r : Role) → Lacks (role_name r)
+role_lacks NetworkManager = by_test (codes "NM") refl
+role_lacks AirTrafficControl = by_test (codes "ATC") refl
+role_lacks AirportOperator = by_test (codes "APT") refl
+role_lacks AircraftOperator = by_test (codes "AO") refl
+role_lacks GroundHandler = by_test (codes "GH") refl
+
+kind_lacks : (k : kinds.Kind) → Lacks (kind_name k)
+kind_lacks Tobt = by_test (codes "tobt") refl
+kind_lacks Alert = by_test (codes "alert") refl
+
+digit_lacks : (c d : ℕ) → hex_digit_value c ≡ Some d → is_space c ≡ false
+digit_lacks c d h =
+    elim (cases_of (is_space c)) [
+      | inl is ↦
+          let none : hex_digit_value 32 ≡ None = refl in
+          let some : hex_digit_value 32 ≡ Some d = sym (ap hex_digit_value (eqb-true c 32 is)) ∙ h in
+          absurd (cc (sym none ∙ some))
+      | inr isnt ↦ isnt
+    ]
+
+bytes_lack : (bytes : List ℕ) → AllByRecursion IsByte bytes → Lacks (encode_lower bytes)
+unfolding encode_with
+bytes_lack [] all = tt
+bytes_lack (b ∷ bs) all =
+    let small : b < 256 = all.0 in
+    let high : b / 16 < 16 = omega arith in
+    let low : b % 16 < 16 = omega arith in (
+      digit_lacks (slice_index lower_digits (b / 16)) (b / 16) (IsDigits-lower_digits (b / 16) high),
+      (
+        digit_lacks (slice_index lower_digits (b % 16)) (b % 16) (IsDigits-lower_digits (b % 16) low),
+        bytes_lack bs all.1,
+      ),
+    )
+
+-- ---- words
+
+both_lack : (us vs : Words) → AllLack us → AllLack vs → AllLack (us ++ vs)
+both_lack [] vs a b = b
+both_lack (u ∷ us) vs a b = (a.0, both_lack us vs a.1 b)
+
+plan_lacks : (p : Plan) → IsPlan p → AllLack (plan_words p)
+plan_lacks p is = (
+  text_lacks 8 p.callsign is.callsign,
+  (
+    text_lacks 4 p.aircraft is.aircraft,
+    (text_lacks 8 p.registration is.registration, (text_lacks 4 p.destination is.destination, tt)),
+  ),
+)
+
+plan_of_lacks : (p : Option Plan) → IsPlanOf p → AllLack (plan_words_of p)
+plan_of_lacks None is = tt
+plan_of_lacks (Some p) is = plan_lacks p is
+
+asked_lacks : (a : Asked) → IsAsked a → AllLack (asked_words a)
+asked_lacks (Plain (commands.Schedule s)) is =
+    let l = is.1 in (
+      by_test (codes "schedule") refl,
+      (
+        decimal-lacks s.flight l.flight,
+        both_lack (plan_words s.plan)
+            (decimal s.sobt ∷ decimal s.mttt ∷ decimal s.exit ∷ decimal s.exot ∷ decimal s.stand ∷ [])
+            (plan_lacks s.plan l.plan) (
+              decimal-lacks s.sobt (omega (arith, l.sobt)),
+              (
+                decimal-lacks s.mttt (omega (arith, l.kept.mttt_in_range)),
+                (
+                  decimal-lacks s.exit (omega (arith, l.exit)),
+                  (
+                    decimal-lacks s.exot (omega (arith, l.kept.exot_in_range)),
+                    (decimal-lacks s.stand (omega (arith, l.stand)), tt),
+                  ),
+                ),
+              ),
+            ),
+      ),
+    )
+asked_lacks (Plain (commands.Report r)) is =
+    let l = is.1 in
+    let n = is_numbered r.milestone in (
+      by_test (codes "report") refl,
+      (
+        decimal-lacks r.flight l.flight,
+        (
+          decimal-lacks (number r.milestone) (omega (arith, n.most)),
+          (decimal-lacks r.time (omega (arith, l.time)), plan_of_lacks r.plan l.plan),
+        ),
+      ),
+    )
+asked_lacks (Plain (commands.Load l)) is = absurd (cc is.0)
+asked_lacks (Plain (commands.Unload u)) is =
+    let n = is_numbered u.milestone in (
+      by_test (codes "unload") refl,
+      (decimal-lacks (number u.milestone) (omega (arith, n.most)), (kind_lacks u.kind, tt)),
+    )
+asked_lacks (Plain commands.Tick) is = (by_test (codes "tick") refl, tt)
+asked_lacks (Plain (commands.Show f)) is =
+    (by_test (codes "show") refl, (decimal-lacks f is.1.1, tt))
+asked_lacks (Plain commands.Alerts) is = (by_test (codes "alerts") refl, tt)
+asked_lacks (Load l) is =
+    let n = is_numbered l.milestone in (
+      by_test (codes "load") refl,
+      (
+        decimal-lacks (number l.milestone) (omega (arith, n.most)),
+        (kind_lacks l.kind, (bytes_lack l.program is, tt)),
+      ),
+    )
+
+numbers_lack : (ns : List ℕ) → AllByRecursion IsWord ns → AllLack (map decimal ns)
+numbers_lack [] are = tt
+numbers_lack (n ∷ ns) are = (decimal-lacks n are.0, numbers_lack ns are.1)
+
+pub line_lacks : (s : Stated) → IsStated s → AllLack (line_words s)
+line_lacks s is =
+    let w = is.where_and_when in (
+      decimal-lacks s.number is.number,
+      (
+        decimal-lacks s.session (omega (arith, w.few_sessions)),
+        (
+          decimal-lacks s.moment (omega (arith, w.few_minutes)),
+          (
+            role_lacks s.role,
+            (
+              decimal-lacks s.outcome is.outcome,
+              both_lack (answer_words s.answers) (asked_words s.asked)
+                  (decimal-lacks (length s.answers) is.few_answers, numbers_lack s.answers is.answers)
+                  (asked_lacks s.asked is.asked),
+            ),
+          ),
+        ),
+      ),
+    )

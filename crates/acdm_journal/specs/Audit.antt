@@ -1,0 +1,123 @@
+-- What an audit says of the lines of a journal (this project's profile).
+use Rattle.std.specs.Prelude.{ℕ, ◌≡◌, ◌≢◌, ◌≤◌, Bool, true, false, List, [], ◌∷◌, length, Some, Result, Ok, Err}
+use Rattle.bpf_decode.specs.declared.op.Op.{Op}
+use Rattle.bpf_decode.specs.Encoding.{Encodes}
+use Rattle.bpf_helpers.specs.Promise.{Promise}
+use Rattle.bpf_regstate.specs.States.{Accepts}
+use Rattle.bpf_verifier.specs.Verdict.{Verified}
+use Rattle.acdm_milestones.specs.declared.role.Role.{Role}
+use Rattle.acdm_milestones.specs.declared.refusal.Refusal.TheVariants.{Unanswered}
+use Rattle.acdm_step.specs.declared.entry.Verdict.{Verdict}
+use Rattle.acdm_step.specs.declared.entry.Verdict.TheVariants.{Refused}
+use Rattle.acdm_step.specs.declared.command.Command.{Command}
+use Rattle.acdm_step.specs.declared.command.Command.TheVariants as commands
+use Rattle.acdm_step.specs.declared.entry.Entry.{Entry}
+use Rattle.acdm_step.specs.History.{History, Board, IsLegal, replay, after, verdict_of, is_accepted, left_by}
+use Rattle.acdm_journal.specs.declared.stated.Stated.{Stated}
+use Rattle.acdm_journal.specs.declared.stated.Asked.{Asked}
+use Rattle.acdm_journal.specs.declared.stated.Asked.TheVariants.{Plain, Load}
+use Rattle.acdm_journal.specs.declared.judge.Clause.{Clause}
+use Rattle.acdm_journal.specs.declared.judge.Clause.TheVariants as clauses
+use Rattle.acdm_journal.specs.declared.judge.AuditError.{AuditError}
+use Rattle.acdm_journal.specs.declared.judge.AuditError.TheVariants.{Memory, Faulty}
+use Rattle.acdm_journal.specs.Text.{line_of, stated_in, outcome_code}
+use Rattle.acdm_journal.specs.Ranges.{IsStated}
+
+-- the numbers of the clauses, in the order of their tests
+abbrev pub clause_code : Clause → ℕ
+clause_code clauses.Unreadable = 401
+clause_code clauses.Number = 402
+clause_code clauses.Program = 403
+clause_code clauses.Answers = 404
+clause_code clauses.Outcome = 405
+
+-- the command that is asked for; the program of a load is the one that its bytes encode, and no slot of it has a fault
+abbrev pub IsCommandOf : List (ℕ × Promise) → Asked → Command → Type 0
+IsCommandOf sigs (Plain c) command = command ≡ c
+IsCommandOf sigs (Load l) command =
+    (ops : List Op) × Encodes l.program ops × Accepts 128 ops sigs
+    × (command ≡ commands.Load record { milestone = l.milestone; kind = l.kind; program = record { ops = ops; sigs = sigs } })
+
+-- the answers are those that the programs of an accepted command use, and there are none where it is refused
+pub record UsesAnswers (sigs : List (ℕ × Promise)) (J : History) (role : Role) (moment : ℕ) (c : Command) (answers : List ℕ)
+    : Type 0 where
+  pub used : is_accepted (verdict_of sigs J role c) ≡ true → left_by J c moment answers ≡ Some []
+  pub unused : is_accepted (verdict_of sigs J role c) ≡ false → answers ≡ []
+
+-- a line states this
+pub record States (line : List ℕ) (s : Stated) : Type 0 where
+  pub line_is : line ≡ line_of s
+  pub is : IsStated s
+
+-- what a line states, numbered as the next entry
+pub record StatesNext (J : History) (line : List ℕ) (s : Stated) : Type 0 where
+  pub states : States line s
+  pub number : s.number ≡ length J
+
+-- The clause that a line breaks first, after a legal history. Whether its answers are right is judged by the outcome
+-- that the history gives.
+abbrev pub Breaks : List (ℕ × Promise) → History → List ℕ → Clause → Type 0
+Breaks sigs J line clauses.Unreadable = length line ≤ 200000 → (s : Stated) → IsStated s → line ≢ line_of s
+Breaks sigs J line clauses.Number = (s : Stated) × States line s × (s.number ≢ length J)
+Breaks sigs J line clauses.Program =
+    (s : Stated) × StatesNext J line s × ((c : Command) → IsCommandOf sigs s.asked c → ⊥)
+Breaks sigs J line clauses.Answers =
+    (s : Stated) × (c : Command) × StatesNext J line s × IsCommandOf sigs s.asked c
+    × (UsesAnswers sigs J s.role s.moment c s.answers → ⊥)
+Breaks sigs J line clauses.Outcome =
+    (s : Stated) × (c : Command) × StatesNext J line s × IsCommandOf sigs s.asked c
+    × UsesAnswers sigs J s.role s.moment c s.answers × (s.outcome ≢ outcome_code (verdict_of sigs J s.role c))
+
+-- The line is that of an entry with which the history stays legal, and the board is its replay.
+pub record Continues (sigs : List (ℕ × Promise)) (J : History) (line : List ℕ) (board : Board) : Type 0 where
+  pub entry : Entry
+  pub line_is : line ≡ line_of (stated_in entry)
+  pub is : IsStated (stated_in entry)
+  pub short : length line ≤ 200000
+  pub legal : IsLegal sigs (entry ∷ J)
+  pub replays : board ≡ replay sigs (entry ∷ J)
+
+-- what comes of judging a line after a legal history, and the board then
+abbrev pub Judges : {T : Type 0} → List (ℕ × Promise) → History → List ℕ → Board → Result T AuditError → Type 0
+Judges sigs J line board (Ok x) = Continues sigs J line board
+Judges sigs J line board (Err Memory) = Unit {0}
+Judges sigs J line board (Err (Faulty clause)) = Breaks sigs J line clause
+
+-- ---- parts
+
+-- what comes of reading the bytes of a program
+abbrev pub GivesProgram : List (ℕ × Promise) → List ℕ → Result Verified AuditError → Type 0
+GivesProgram sigs bytes (Ok v) = Encodes bytes v.ops × Accepts 128 v.ops sigs × (v.sigs ≡ sigs)
+GivesProgram sigs bytes (Err Memory) = Unit {0}
+GivesProgram sigs bytes (Err (Faulty clause)) =
+    (clause ≡ clauses.Program) × ((ops : List Op) → Encodes bytes ops → Accepts 128 ops sigs → ⊥)
+
+-- an oracle left a question without an answer
+abbrev pub lacks_answer : Verdict → Bool
+lacks_answer (Refused Unanswered) = true
+lacks_answer _ = false
+
+-- what comes of reading the program of what is asked for
+abbrev pub Commands : List (ℕ × Promise) → Asked → Result Command AuditError → Type 0
+Commands sigs asked (Ok c) = IsCommandOf sigs asked c
+Commands sigs asked (Err Memory) = Unit {0}
+Commands sigs asked (Err (Faulty clause)) =
+    (clause ≡ clauses.Program) × ((c : Command) → IsCommandOf sigs asked c → ⊥)
+
+-- a command was entered with these answers and this outcome
+pub record Enters (sigs : List (ℕ × Promise)) (J : History) (role : Role) (moment : ℕ) (c : Command) (answers : List ℕ)
+    (outcome : ℕ) (board : Board) : Type 0 where
+  pub uses : UsesAnswers sigs J role moment c answers
+  pub outcome_is : outcome ≡ outcome_code (verdict_of sigs J role c)
+  pub replays : (session : ℕ) → board ≡ replay sigs (after J session role moment c (verdict_of sigs J role c) answers)
+
+-- what comes of judging the answers and the outcome of a command
+abbrev pub JudgesCommand : {T : Type 0} → List (ℕ × Promise) → History → Role → ℕ → Command → List ℕ → ℕ → Board
+    → Result T AuditError → Type 0
+JudgesCommand sigs J role moment c answers outcome board (Ok x) = Enters sigs J role moment c answers outcome board
+JudgesCommand sigs J role moment c answers outcome board (Err Memory) = Unit {0}
+JudgesCommand sigs J role moment c answers outcome board (Err (Faulty clauses.Answers)) =
+    UsesAnswers sigs J role moment c answers → ⊥
+JudgesCommand sigs J role moment c answers outcome board (Err (Faulty clauses.Outcome)) =
+    UsesAnswers sigs J role moment c answers × (outcome ≢ outcome_code (verdict_of sigs J role c))
+JudgesCommand sigs J role moment c answers outcome board (Err (Faulty clause)) = ⊥

@@ -1,0 +1,5 @@
+pub mod Text
+pub mod Spaced
+pub mod Ranges
+pub mod Reading
+pub mod Audit

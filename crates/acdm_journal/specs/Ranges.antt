@@ -1,0 +1,72 @@
+-- Which values the parts of a line may have (this project's profile).
+use Rattle.std.specs.Prelude.{ℕ, ◌≡◌, ◌≤◌, ◌<◌, ◌^◌, false, List, [], ◌∷◌, length, Option, Some, None}
+use Rattle.std.specs.List.{AllByRecursion}
+use Rattle.acdm_record.specs.Texts.{text_from}
+use Rattle.acdm_step.specs.Facts.{IsSchedule, IsReport, ScheduleFacts, ReportFacts}
+use Rattle.acdm_step.specs.declared.command.Plan.{Plan}
+use Rattle.acdm_step.specs.declared.command.Command.{Command}
+use Rattle.acdm_step.specs.declared.command.Command.TheVariants as commands
+use Rattle.acdm_step.specs.History.{History, IsInRange, is_load}
+use Rattle.acdm_journal.specs.declared.stated.Stated.{Stated}
+use Rattle.acdm_journal.specs.declared.stated.Asked.{Asked}
+use Rattle.acdm_journal.specs.declared.stated.Asked.TheVariants.{Plain, Load}
+use Rattle.acdm_journal.specs.Text.{stated_in}
+
+-- a text of 1 to so many printable bytes
+abbrev pub IsText : ℕ → List ℕ → Type 0
+IsText most t = text_from most t ≡ Some t
+
+pub record IsPlan (p : Plan) : Type 0 where
+  pub callsign : IsText 8 p.callsign
+  pub aircraft : IsText 4 p.aircraft
+  pub registration : IsText 8 p.registration
+  pub destination : IsText 4 p.destination
+
+abbrev pub IsPlanOf : Option Plan → Type 0
+IsPlanOf None = Unit {0}
+IsPlanOf (Some p) = IsPlan p
+
+abbrev pub IsWord : ℕ → Type 0
+IsWord n = n < 2 ^ 64
+
+abbrev pub IsByte : ℕ → Type 0
+IsByte b = b < 256
+
+-- what a command keeps, and the widths of its numbers
+pub record IsScheduleLine (s : ScheduleFacts) : Type 0 where
+  pub kept : IsSchedule s.flight s.sobt s.mttt s.exot
+  pub flight : IsWord s.flight
+  pub plan : IsPlan s.plan
+  pub sobt : s.sobt < 2 ^ 32
+  pub exit : s.exit < 2 ^ 8
+  pub stand : s.stand < 2 ^ 16
+
+pub record IsReportLine (r : ReportFacts) : Type 0 where
+  pub kept : IsReport r.flight r.milestone r.time r.plan
+  pub flight : IsWord r.flight
+  pub time : r.time < 2 ^ 32
+  pub plan : IsPlanOf r.plan
+
+abbrev pub IsCommandLine : Command → Type 0
+IsCommandLine (commands.Schedule s) = IsScheduleLine s
+IsCommandLine (commands.Report r) = IsReportLine r
+IsCommandLine (commands.Show f) = (1 ≤ f) × IsWord f
+IsCommandLine _ = Unit {0}
+
+abbrev pub IsAsked : Asked → Type 0
+IsAsked (Plain c) = (is_load c ≡ false) × IsCommandLine c
+IsAsked (Load l) = AllByRecursion IsByte l.program
+
+-- what a line may state
+pub record IsStated (s : Stated) : Type 0 where
+  pub number : IsWord s.number
+  pub where_and_when : IsInRange s.session s.moment
+  pub outcome : IsWord s.outcome
+  pub few_answers : IsWord (length s.answers)
+  pub answers : AllByRecursion IsWord s.answers
+  pub asked : IsAsked s.asked
+
+-- the line of each entry may state what it does
+abbrev pub AreStated : History → Type 0
+AreStated [] = Unit {0}
+AreStated (e ∷ J) = AreStated J × IsStated (stated_in e)

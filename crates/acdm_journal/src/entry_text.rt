@@ -1,0 +1,212 @@
+//! The text of an entry, and its writing.
+ghost use Rattle.std.specs.Prelude.{◌≡◌, ◌∷◌, ◌++◌, [], map, Err, OnOk, IfOk};
+ghost use Rattle.std.specs.Fmt.{decimal};
+ghost use Rattle.std.specs.Io.KnownBytes.{Appends};
+ghost use Rattle.bpf_decode.specs.Encoding.{encoding};
+ghost use Rattle.acdm_milestones.specs.Tables.{number as number_in};
+ghost use Rattle.acdm_journal.specs.Text.{role_name, kind_name, outcome_code, plan_words, plan_words_of, schedule_words, report_words, load_words, command_words, answer_words, head_words, time_words, stated_in, entry_text};
+ghost use Rattle.acdm_journal.specs.Spaced.{spaced};
+
+use acdm_milestones::{Milestone, Role};
+use acdm_slots::Kind;
+use acdm_step::{Command, Entry, Load, Plan, Report, Schedule, Verdict};
+use bpf_decode::encode;
+use itoa::Buffer;
+use std::alloc::{AllocError, Global};
+use std::io::Write;
+
+/// Why an entry was not written.
+#[derive(Clone, Copy, Debug, PartialEq, Eq)]
+pub enum WriteError {
+    /// There was no memory for its text.
+    Memory,
+    /// The writer failed.
+    Write,
+}
+
+fn name_of_role(role: Role) -> &'static str
+    ensures { result.now ≡ role_name role }
+{
+    match role {
+        Role::NetworkManager => "NM",
+        Role::AirTrafficControl => "ATC",
+        Role::AirportOperator => "APT",
+        Role::AircraftOperator => "AO",
+        Role::GroundHandler => "GH",
+    }
+}
+
+fn name_of_kind(kind: Kind) -> &'static str
+    ensures { result.now ≡ kind_name kind }
+{
+    match kind {
+        Kind::Tobt => "tobt",
+        Kind::Alert => "alert",
+    }
+}
+
+pub(crate) fn code_of(verdict: Verdict) -> u64
+    ensures { result ≡ outcome_code verdict }
+{
+    match verdict {
+        Verdict::Accepted => 0,
+        Verdict::Refused(refusal) => u64::from(refusal.code()),
+    }
+}
+
+// Adds a space and a word.
+fn push_word(text: &mut Vec<u8>, word: &[u8]) -> Result<(), AllocError>
+    ensures { OnOk result (text.new.items ≡ text.old.items ++ 32 ∷ word.now) }
+{
+    text.push(b' ')?;
+    text.extend_from_slice(word)?;
+    Ok(())
+}
+
+fn push_number(text: &mut Vec<u8>, number: u64) -> Result<(), AllocError>
+    ensures { OnOk result (text.new.items ≡ text.old.items ++ 32 ∷ decimal number) }
+{
+    let mut digits = Buffer::new();
+    push_word(text, digits.format(number).as_bytes())
+}
+
+fn push_milestone(text: &mut Vec<u8>, milestone: Milestone) -> Result<(), AllocError>
+    ensures { OnOk result (text.new.items ≡ text.old.items ++ 32 ∷ decimal (number_in milestone)) }
+{
+    push_number(text, u64::from(milestone.number()))
+}
+
+fn push_plan(text: &mut Vec<u8>, plan: &Plan) -> Result<(), AllocError>
+    ensures { OnOk result (text.new.items ≡ text.old.items ++ spaced (plan_words plan.now)) }
+{
+    push_word(text, plan.callsign.as_bytes())?;
+    push_word(text, plan.aircraft.as_bytes())?;
+    push_word(text, plan.registration.as_bytes())?;
+    push_word(text, plan.destination.as_bytes())?;
+    Ok(())
+}
+
+fn push_schedule(text: &mut Vec<u8>, schedule: &Schedule) -> Result<(), AllocError>
+    ensures { OnOk result (text.new.items ≡ text.old.items ++ spaced (schedule_words schedule.now)) }
+{
+    push_word(text, b"schedule")?;
+    push_number(text, schedule.flight())?;
+    push_plan(text, schedule.plan())?;
+    push_times(text, schedule)?;
+    Ok(())
+}
+
+// SOBT, MTTT, EXIT, EXOT and the stand.
+fn push_times(text: &mut Vec<u8>, schedule: &Schedule) -> Result<(), AllocError>
+    ensures { OnOk result (text.new.items ≡ text.old.items ++ spaced (time_words schedule.now)) }
+{
+    push_number(text, u64::from(schedule.sobt()))?;
+    push_number(text, u64::from(schedule.mttt()))?;
+    push_number(text, u64::from(schedule.exit()))?;
+    push_number(text, u64::from(schedule.exot()))?;
+    push_number(text, u64::from(schedule.stand()))?;
+    Ok(())
+}
+
+fn push_report(text: &mut Vec<u8>, report: &Report) -> Result<(), AllocError>
+    ensures { OnOk result (text.new.items ≡ text.old.items ++ spaced (report_words report.now)) }
+{
+    push_word(text, b"report")?;
+    push_number(text, report.flight())?;
+    push_milestone(text, report.milestone())?;
+    push_number(text, u64::from(report.time()))?;
+    if let Some(plan) = report.plan() {
+        push_plan(text, plan)?;
+    }
+    Ok(())
+}
+
+fn push_load(text: &mut Vec<u8>, load: &Load) -> Result<(), AllocError>
+    ensures { OnOk result (text.new.items ≡ text.old.items ++ spaced (
+        load_words load.now.milestone load.now.kind (encoding load.now.program.ops))) }
+{
+    let alloc = *text.allocator();
+    let bytes = encode(alloc, load.program.program())?;
+    let digits = hex::encode(alloc, bytes.as_slice())?;
+    push_word(text, b"load")?;
+    push_milestone(text, load.milestone)?;
+    push_word(text, name_of_kind(load.kind).as_bytes())?;
+    push_word(text, digits.as_bytes())?;
+    Ok(())
+}
+
+fn push_command(text: &mut Vec<u8>, command: &Command) -> Result<(), AllocError>
+    ensures { OnOk result (text.new.items ≡ text.old.items ++ spaced (command_words command.now)) }
+{
+    match command {
+        Command::Schedule(schedule) => push_schedule(text, schedule),
+        Command::Report(report) => push_report(text, report),
+        Command::Load(load) => push_load(text, load),
+        Command::Unload(unload) => {
+            push_word(text, b"unload")?;
+            push_milestone(text, unload.milestone)?;
+            push_word(text, name_of_kind(unload.kind).as_bytes())
+        }
+        Command::Tick => push_word(text, b"tick"),
+        Command::Show(flight) => {
+            push_word(text, b"show")?;
+            push_number(text, flight.get())
+        }
+        Command::Alerts => push_word(text, b"alerts"),
+    }
+}
+
+// How many answers there are, and then each.
+fn push_answers(text: &mut Vec<u8>, answers: &[u64]) -> Result<(), AllocError>
+    ensures { OnOk result (text.new.items ≡ text.old.items ++ spaced (answer_words answers.now)) }
+{
+    push_number(text, answers.len() as u64)?;
+    let mut rest = answers;
+    while let Some((answer, more)) = rest.split_first() {
+        push_number(text, *answer)?;
+        rest = more;
+    }
+    Ok(())
+}
+
+// The session, the moment, the role and the outcome.
+fn push_head(text: &mut Vec<u8>, entry: &Entry) -> Result<(), AllocError>
+    ensures { OnOk result (text.new.items ≡ text.old.items ++ spaced (head_words (stated_in entry.now))) }
+{
+    push_number(text, u64::from(entry.session))?;
+    push_number(text, u64::from(entry.moment))?;
+    push_word(text, name_of_role(entry.role).as_bytes())?;
+    push_number(text, code_of(entry.verdict))?;
+    Ok(())
+}
+
+fn text_of(alloc: Global, entry: &Entry) -> Result<Vec<u8>, AllocError>
+    ensures { IfOk result (λ text. text.items ≡ entry_text entry.now) }
+{
+    let mut digits = Buffer::new();
+    let mut text = Vec::from_slice(alloc, digits.format(entry.number).as_bytes())?;
+    push_head(&mut text, entry)?;
+    push_answers(&mut text, entry.answers.as_slice())?;
+    push_command(&mut text, &entry.command)?;
+    text.push(b'\n')?;
+    Ok(text)
+}
+
+/// Writes the text of an entry: `N SESSION MINUTE ROLE OUT K A1 .. AK COMMAND` and a line feed, with OUT 0 or the number
+/// of the refusal and K the count of the answers that its programs used (this project's profile).
+///
+/// `Memory` where there was no room for the text, and then nothing was written; `Write` where the writer failed, which may
+/// have taken a part of it.
+pub fn write_entry<W: Write>(alloc: Global, entry: &Entry, writer: &mut W) -> Result<(), WriteError>
+    ensures written { OnOk result
+        (Appends (W.contents writer.old) (W.contents writer.new) (entry_text entry.now)) }
+    ensures memory { result ≡ Err WriteError.Memory → writer.new ≡ writer.old }
+{
+    let Ok(text) = text_of(alloc, entry) else {
+        return Err(WriteError::Memory);
+    };
+    match writer.write_all(text.as_slice()) {
+        Ok(()) => Ok(()),
+        Err(_) => Err(WriteError::Write),
+    }
+}

@@ -1,0 +1,17 @@
+//! Laws of lines. Each function does nothing when it runs; its contract is the law.
+
+ghost use Rattle.std.specs.Prelude.{◌≡◌, Some};
+ghost use Rattle.acdm_step.specs.declared.entry.Entry.{Entry};
+ghost use Rattle.acdm_journal.specs.declared.stated.Stated.{Stated};
+ghost use Rattle.acdm_journal.specs.Text.{line_of, stated_in};
+ghost use Rattle.acdm_journal.specs.Ranges.{IsStated};
+ghost use Rattle.acdm_journal.specs.Reading.{stated_of};
+
+/// A line states what it was written for, and nothing else.
+pub fn a_line_is_read_as_it_was_written()
+    // What a line may state is read back from it, and so is each entry that lies in the ranges of its parts.
+    ensures read_back { (s : Stated) → IsStated s → stated_of (line_of s) ≡ Some s }
+    ensures entry { (e : Entry) → IsStated (stated_in e) → stated_of (line_of (stated_in e)) ≡ Some (stated_in e) }
+    // No two have the same line.
+    ensures one { (s t : Stated) → IsStated s → IsStated t → line_of s ≡ line_of t → s ≡ t }
+{}

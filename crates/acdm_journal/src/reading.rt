@@ -1,0 +1,361 @@
+//! The reading of a line.
+ghost use Rattle.std.specs.Prelude.{◌≡◌, ◌≢◌, ◌≤◌, length, IfOk, OnOk, IsTrue, Err};
+ghost use Rattle.acdm_step.specs.Facts.{has_its_plan, has_its_time};
+ghost use Rattle.acdm_journal.specs.Reading.{Gives, GivesLine, natural_of, number_at, text_at, role_named, role_at, kind_named, kind_at, milestone_at, bytes_at, plan_at, plan_for, least_time, schedule_at, report_at, load_at, unload_at, show_at, command_named, asked_at, answers_at, stated_at, stated_of};
+ghost use Rattle.acdm_journal.specs.declared.stated.Stated.{Stated};
+ghost use Rattle.acdm_journal.specs.Text.{line_of};
+ghost use Rattle.acdm_journal.specs.Ranges.{IsStated};
+
+use crate::stated::{Asked, LineError, LoadLine, ProgramBytes, Stated};
+use crate::words::Words;
+use acdm_milestones::{Milestone, Role};
+use acdm_record::Text;
+use acdm_slots::Kind;
+use acdm_step::{Answers, Command, FlightNumber, Plan, Report, Schedule, Unload};
+use hex::FromHexError;
+use std::alloc::Global;
+
+// A number without leading zeros.
+#[tactic(auto, unfolding(crate::specs::Reading::natural_of))]
+fn natural_in(word: &[u8]) -> Option<u128>
+    ensures { result ≡ natural_of word.now }
+{
+    if word.is_empty() || word.len() > 20 {
+        return None;
+    }
+    if word[0] == b'0' && word.len() > 1 {
+        return None;
+    }
+    let mut number = 0u128;
+    for byte in word {
+        if !byte.is_ascii_digit() {
+            return None;
+        }
+        number = number * 10 + u128::from(*byte - b'0');
+    }
+    Some(number)
+}
+
+// A number within these bounds.
+#[tactic(auto, unfolding(crate::specs::Reading::number_at))]
+fn number_in(words: &mut Words<'_>, low: u64, high: u64) -> Result<u64, LineError>
+    ensures reads { Gives result words.new (number_at low high words.old) }
+    ensures within { IfOk result (λ n. (low ≤ n) × (n ≤ high)) }
+{
+    let word = words.next()?;
+    let Some(number) = natural_in(word) else {
+        return Err(LineError::Unreadable);
+    };
+    if u128::from(low) <= number && number <= u128::from(high) {
+        Ok(number as u64)
+    } else {
+        Err(LineError::Unreadable)
+    }
+}
+
+// A text of 1 to N printable bytes.
+#[tactic(auto, unfolding(crate::specs::Reading::text_at))]
+fn text_in<const N: usize>(words: &mut Words<'_>) -> Result<Text<N>, LineError>
+    ensures { Gives result words.new (text_at N words.old) }
+{
+    let word = words.next()?;
+    let Some(text) = Text::from_bytes(word) else {
+        return Err(LineError::Unreadable);
+    };
+    Ok(text)
+}
+
+fn role_of(word: &[u8]) -> Option<Role>
+    ensures { result ≡ role_named word.now }
+{
+    if word == b"NM".as_slice() {
+        Some(Role::NetworkManager)
+    } else if word == b"ATC".as_slice() {
+        Some(Role::AirTrafficControl)
+    } else if word == b"APT".as_slice() {
+        Some(Role::AirportOperator)
+    } else if word == b"AO".as_slice() {
+        Some(Role::AircraftOperator)
+    } else if word == b"GH".as_slice() {
+        Some(Role::GroundHandler)
+    } else {
+        None
+    }
+}
+
+#[tactic(auto, unfolding(crate::specs::Reading::role_at))]
+fn role_in(words: &mut Words<'_>) -> Result<Role, LineError>
+    ensures { Gives result words.new (role_at words.old) }
+{
+    let word = words.next()?;
+    let Some(role) = role_of(word) else {
+        return Err(LineError::Unreadable);
+    };
+    Ok(role)
+}
+
+fn kind_of(word: &[u8]) -> Option<Kind>
+    ensures { result ≡ kind_named word.now }
+{
+    if word == b"tobt".as_slice() {
+        Some(Kind::Tobt)
+    } else if word == b"alert".as_slice() {
+        Some(Kind::Alert)
+    } else {
+        None
+    }
+}
+
+#[tactic(auto, unfolding(crate::specs::Reading::kind_at))]
+fn kind_in(words: &mut Words<'_>) -> Result<Kind, LineError>
+    ensures { Gives result words.new (kind_at words.old) }
+{
+    let word = words.next()?;
+    let Some(kind) = kind_of(word) else {
+        return Err(LineError::Unreadable);
+    };
+    Ok(kind)
+}
+
+#[tactic(auto, unfolding(crate::specs::Reading::milestone_at))]
+fn milestone_in(words: &mut Words<'_>) -> Result<Milestone, LineError>
+    ensures { Gives result words.new (milestone_at words.old) }
+{
+    let number = number_in(words, 1, 16)?;
+    let Some(milestone) = Milestone::from_number(number) else {
+        return Err(LineError::Unreadable);
+    };
+    Ok(milestone)
+}
+
+// The bytes of hexadecimal text in lower case.
+#[tactic(auto, unfolding(crate::specs::Reading::bytes_at))]
+fn bytes_in(alloc: Global, words: &mut Words<'_>) -> Result<ProgramBytes, LineError>
+    ensures { Gives result words.new (bytes_at words.old) }
+{
+    let word = words.next()?;
+    let bytes = match hex::decode(alloc, word) {
+        Ok(bytes) => bytes,
+        Err(FromHexError::OutOfMemory) => return Err(LineError::Memory),
+        Err(_) => return Err(LineError::Unreadable),
+    };
+    let Ok(text) = hex::encode(alloc, bytes.as_slice()) else {
+        return Err(LineError::Memory);
+    };
+    if text.as_bytes() == word {
+        Ok(ProgramBytes::from(bytes))
+    } else {
+        Err(LineError::Unreadable)
+    }
+}
+
+#[tactic(auto, unfolding(crate::specs::Reading::plan_at))]
+fn plan_in(words: &mut Words<'_>) -> Result<Plan, LineError>
+    ensures { Gives result words.new (plan_at words.old) }
+{
+    let callsign = text_in(words)?;
+    let aircraft = text_in(words)?;
+    let registration = text_in(words)?;
+    let destination = text_in(words)?;
+    Ok(Plan {
+        callsign,
+        aircraft,
+        registration,
+        destination,
+    })
+}
+
+// A plan comes with the first milestone alone.
+fn plan_of(words: &mut Words<'_>, milestone: Milestone) -> Result<Option<Plan>, LineError>
+    ensures reads { Gives result words.new (plan_for milestone words.old) }
+    ensures with_first { IfOk result (λ p. IsTrue (has_its_plan milestone p)) }
+{
+    match milestone {
+        Milestone::FlightPlanActivated => Ok(Some(plan_in(words)?)),
+        _ => Ok(None),
+    }
+}
+
+fn least_time_of(milestone: Milestone) -> u64
+    ensures { result ≡ least_time milestone }
+{
+    match milestone {
+        Milestone::TwoHoursBeforeEobt | Milestone::TobtUpdate => 0,
+        _ => 1,
+    }
+}
+
+#[tactic(auto, unfolding(crate::specs::Reading::schedule_at))]
+fn schedule_in(words: &mut Words<'_>) -> Result<Asked, LineError>
+    ensures { Gives result words.new (schedule_at words.old) }
+{
+    let flight = number_in(words, 1, u64::MAX)?;
+    let plan = plan_in(words)?;
+    let sobt = number_in(words, 1, 4_294_967_295)?;
+    let mttt = number_in(words, 0, 1440)?;
+    let exit = number_in(words, 0, 255)?;
+    let exot = number_in(words, 0, 1440)?;
+    let stand = number_in(words, 0, 65_535)?;
+    Ok(Asked::Plain(Command::Schedule(Schedule::new(
+        flight,
+        plan,
+        sobt as u32,
+        mttt as u16,
+        exit as u8,
+        exot as u16,
+        stand as u16,
+    ))))
+}
+
+// The time of a report.
+fn time_in(words: &mut Words<'_>, milestone: Milestone) -> Result<u32, LineError>
+    ensures reads { Gives result words.new (number_at (least_time milestone) 4294967295 words.old) }
+    ensures timed { IfOk result (λ t. IsTrue (has_its_time milestone t)) }
+{
+    let time = number_in(words, least_time_of(milestone), 4_294_967_295)?;
+    Ok(time as u32)
+}
+
+#[tactic(auto, unfolding(crate::specs::Reading::report_at))]
+fn report_in(words: &mut Words<'_>) -> Result<Asked, LineError>
+    ensures { Gives result words.new (report_at words.old) }
+{
+    let flight = number_in(words, 1, u64::MAX)?;
+    let milestone = milestone_in(words)?;
+    let time = time_in(words, milestone)?;
+    let plan = plan_of(words, milestone)?;
+    Ok(Asked::Plain(Command::Report(Report::new(flight, milestone, time, plan))))
+}
+
+#[tactic(auto, unfolding(crate::specs::Reading::load_at))]
+fn load_in(alloc: Global, words: &mut Words<'_>) -> Result<Asked, LineError>
+    ensures { Gives result words.new (load_at words.old) }
+{
+    let milestone = milestone_in(words)?;
+    let kind = kind_in(words)?;
+    let program = bytes_in(alloc, words)?;
+    Ok(Asked::Load(LoadLine {
+        milestone,
+        kind,
+        program,
+    }))
+}
+
+#[tactic(auto, unfolding(crate::specs::Reading::unload_at))]
+fn unload_in(words: &mut Words<'_>) -> Result<Asked, LineError>
+    ensures { Gives result words.new (unload_at words.old) }
+{
+    let milestone = milestone_in(words)?;
+    let kind = kind_in(words)?;
+    Ok(Asked::Plain(Command::Unload(Unload { milestone, kind })))
+}
+
+#[tactic(auto, unfolding(crate::specs::Reading::show_at))]
+fn show_in(words: &mut Words<'_>) -> Result<Asked, LineError>
+    ensures { Gives result words.new (show_at words.old) }
+{
+    let flight = number_in(words, 1, u64::MAX)?;
+    Ok(Asked::Plain(Command::Show(FlightNumber::new(flight))))
+}
+
+// The command of this name.
+#[tactic(auto, unfolding(crate::specs::Reading::command_named))]
+fn command_of(alloc: Global, name: &[u8], words: &mut Words<'_>) -> Result<Asked, LineError>
+    ensures { Gives result words.new (command_named name.now words.old) }
+{
+    if name == b"schedule".as_slice() {
+        schedule_in(words)
+    } else if name == b"report".as_slice() {
+        report_in(words)
+    } else if name == b"load".as_slice() {
+        load_in(alloc, words)
+    } else if name == b"unload".as_slice() {
+        unload_in(words)
+    } else if name == b"tick".as_slice() {
+        Ok(Asked::Plain(Command::Tick))
+    } else if name == b"show".as_slice() {
+        show_in(words)
+    } else if name == b"alerts".as_slice() {
+        Ok(Asked::Plain(Command::Alerts))
+    } else {
+        Err(LineError::Unreadable)
+    }
+}
+
+#[tactic(auto, unfolding(crate::specs::Reading::asked_at))]
+fn asked_in(alloc: Global, words: &mut Words<'_>) -> Result<Asked, LineError>
+    ensures { Gives result words.new (asked_at words.old) }
+{
+    let name = words.next()?;
+    command_of(alloc, name, words)
+}
+
+// How many answers there are, and then each.
+#[tactic(auto, unfolding(crate::specs::Reading::answers_at))]
+fn answers_in(alloc: Global, words: &mut Words<'_>) -> Result<Answers, LineError>
+    ensures { Gives result words.new (answers_at words.old) }
+{
+    let mut left = number_in(words, 0, u64::MAX)?;
+    let mut given = Vec::new(alloc);
+    while left > 0 {
+        let answer = number_in(words, 0, u64::MAX)?;
+        if given.push(answer).is_err() {
+            return Err(LineError::Memory);
+        }
+        left -= 1;
+    }
+    Ok(Answers::from(given))
+}
+
+#[tactic(auto, unfolding(crate::specs::Reading::stated_at))]
+fn stated_in(alloc: Global, words: &mut Words<'_>) -> Result<Stated, LineError>
+    ensures { Gives result words.new (stated_at words.old) }
+{
+    let number = number_in(words, 0, u64::MAX)?;
+    let session = number_in(words, 1, 64)?;
+    let moment = number_in(words, 1, 4_294_967_295)?;
+    let role = role_in(words)?;
+    let outcome = number_in(words, 0, u64::MAX)?;
+    let answers = answers_in(alloc, words)?;
+    let asked = asked_in(alloc, words)?;
+    Ok(Stated {
+        number,
+        session: session as u8,
+        moment: moment as u32,
+        role,
+        outcome,
+        answers,
+        asked,
+    })
+}
+
+// The reading of a line that is not too long.
+#[tactic(auto, unfolding(crate::specs::Reading::stated_of))]
+fn stated_alone(alloc: Global, line: &[u8]) -> Result<Stated, LineError>
+    ensures { GivesLine result (stated_of line.now) }
+{
+    let mut words = Words::of(line);
+    let stated = stated_in(alloc, &mut words)?;
+    if words.is_empty() {
+        Ok(stated)
+    } else {
+        Err(LineError::Unreadable)
+    }
+}
+
+/// What a line states. The line stands without its line feed.
+///
+/// `Unreadable` where it has more than 200,000 bytes or is the line of nothing that may be stated: numbers are decimal
+/// without leading zeros, words have single spaces between them, hexadecimal is in lower case. `Memory` where there was
+/// no room for the answers or the bytes of the program in it.
+pub fn read_line(alloc: Global, line: &[u8]) -> Result<Stated, LineError>
+    ensures states { IfOk result (λ s. (line.now ≡ line_of s) × IsStated s) }
+    ensures short { OnOk result (length line.now ≤ 200000) }
+    ensures nothing { result ≡ Err LineError.Unreadable → length line.now ≤ 200000 →
+        (s : Stated) → IsStated s → line.now ≢ line_of s }
+{
+    if line.len() > 200_000 {
+        return Err(LineError::Unreadable);
+    }
+    stated_alone(alloc, line)
+}

@@ -1,0 +1,83 @@
+//! What a line of a journal states.
+ghost use Rattle.std.specs.Prelude.{◌≡◌};
+
+use acdm_milestones::{Milestone, Role};
+use acdm_slots::Kind;
+use acdm_step::{Answers, Command};
+use std::marker::Model;
+
+/// The bytes of a program that is loaded, whether they encode one or not.
+#[derive(Drop)]
+pub struct ProgramBytes {
+    items: Vec<u8>,
+}
+
+impl Model for ProgramBytes {
+    ghost use Rattle.std.specs.Prelude.{ℕ, List};
+
+    ghost Value = { List ℕ };
+
+    ghost view = { λ p. p.items.items };
+}
+
+impl ProgramBytes {
+    /// The bytes.
+    pub fn as_slice(&self) -> &[u8]
+        ensures { result.now ≡ self.now }
+    {
+        self.items.as_slice()
+    }
+}
+
+impl From<Vec<u8>> for ProgramBytes {
+    ghost from_gives = { λ items bytes. bytes ≡ items.items };
+
+    fn from(items: Vec<u8>) -> ProgramBytes {
+        ProgramBytes { items }
+    }
+}
+
+/// To load the program of these bytes into a slot, in place of what stands there.
+#[derive(Drop)]
+pub struct LoadLine {
+    pub milestone: Milestone,
+    pub kind: Kind,
+    pub program: ProgramBytes,
+}
+
+/// What a line asks for, before the bytes of a program are read.
+#[derive(Drop)]
+pub enum Asked {
+    /// This command, which is no load.
+    Plain(Command),
+    /// To load a program.
+    Load(LoadLine),
+}
+
+/// What a line states of an entry, before it is judged.
+#[derive(Drop)]
+pub struct Stated {
+    /// Its number.
+    pub number: u64,
+    /// The session, from 1 to 64.
+    pub session: u8,
+    /// The minute since 1970-01-01T00:00Z, from 1.
+    pub moment: u32,
+    /// The role that asked.
+    pub role: Role,
+    /// 0 where it was accepted, else the number of the refusal.
+    pub outcome: u64,
+    /// The answers of helpers that its programs used.
+    pub answers: Answers,
+    /// What was asked for.
+    pub asked: Asked,
+}
+
+/// Why a line states nothing.
+#[derive(Clone, Copy, Debug, PartialEq, Eq)]
+pub enum LineError {
+    /// There was no memory to read it.
+    Memory,
+    /// It is the line of no entry.
+    Unreadable,
+}
