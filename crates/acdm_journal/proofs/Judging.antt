@@ -23,7 +23,7 @@ use Rattle.acdm_step.specs.declared.outcome.Outcome.{Outcome}
 use Rattle.acdm_step.specs.Laws.{verdict_in-outcome_of}
 use Rattle.acdm_step.specs.Ran.{Ran}
 use Rattle.acdm_step.specs.Running.{ComesOf, answered_so, unanswered_so}
-use Rattle.acdm_step.specs.History.{History, IsLegal, flight_of, bit_of, told, reported, programs_of, is_accepted, verdict_of, verdict_for, verdict_in, verdict_from, outcome_of, most_flights, exists, flights, record_of, is_ready, left_by, left_after}
+use Rattle.acdm_step.specs.History.{History, IsLegal, flight_of, bit_of, summary, reported, programs_of, is_accepted, verdict_of, verdict_for, verdict_in, verdict_from, outcome_of, most_flights, exists, flights, record_of, is_ready, left_by, left_after}
 use Rattle.acdm_step.proofs.Saying.{say_said, left_ran, ran_left}
 use Rattle.acdm_journal.specs.Audit.{UsesAnswers, lacks_answer}
 use Rattle.acdm_journal.proofs.Checked.{tobt_checked, alert_checked}
@@ -127,9 +127,9 @@ module _ (sigs : List (ℕ × Promise)) (J : History) (role : Role) (moment : �
       (ap lacks_answer (is_verdict is)
       ∙ verdict_answers (exists J (flight_of c)) (length (flights J)) (record_of J (flight_of c)) (is_ready sigs J c) role c)
   asked (unanswered_so is accepted asks) lacks uses =
-      not_these sigs answers (programs_of J c) (reported (flight_of c) c (told J (flight_of c))) moment (bit_of c) before after left
+      not_these sigs answers (programs_of J c) (reported (flight_of c) c (summary J (flight_of c))) moment (bit_of c) before after left
       (tobt_checked sigs J c legal) (alert_checked sigs J c legal) reads all asks
-      (left_ran (programs_of J c) (reported (flight_of c) c (told J (flight_of c))) moment (bit_of c) answers (uses.used accepted))
+      (left_ran (programs_of J c) (reported (flight_of c) c (summary J (flight_of c))) moment (bit_of c) answers (uses.used accepted))
 
   -- the answers that were used, and those that are left
   parts : (used : List ℕ) → Gained before after used → used ++ left ≡ answers
@@ -144,9 +144,9 @@ module _ (sigs : List (ℕ × Promise)) (J : History) (role : Role) (moment : �
       elim (cases_of (is_accepted (verdict_of sigs J role c))) [
         | inl accepted ↦
             let r = ran accepted in
-            let said = say_said (programs_of J c) (reported (flight_of c) c (told J (flight_of c))) moment (bit_of c) used r.0 r.1 left in
+            let effect = say_said (programs_of J c) (reported (flight_of c) c (summary J (flight_of c))) moment (bit_of c) used r.0 r.1 left in
             let rest : left_by J c moment answers ≡ Some left =
-            ap (left_by J c moment) (sym (parts used gained)) ∙ ap left_after said in
+            ap (left_by J c moment) (sym (parts used gained)) ∙ ap left_after effect in
             some (same_Some left [] (sym rest ∙ uses.used accepted))
         | inr refused ↦
             some (ap (λ l. l ++ left) (sym (none refused)) ∙ parts used gained ∙ uses.unused refused)
@@ -166,8 +166,8 @@ module _ (sigs : List (ℕ × Promise)) (J : History) (role : Role) (moment : �
       record {
         uses = record {
           used = λ accepted.
-              ran_left (programs_of J c) (reported (flight_of c) c (told J (flight_of c))) moment (bit_of c) answers
-              (subst (λ us. Ran (programs_of J c) (reported (flight_of c) c (told J (flight_of c))) moment (bit_of c) us) these (ran accepted));
+              ran_left (programs_of J c) (reported (flight_of c) c (summary J (flight_of c))) moment (bit_of c) answers
+              (subst (λ us. Ran (programs_of J c) (reported (flight_of c) c (summary J (flight_of c))) moment (bit_of c) us) these (ran accepted));
           unused = λ refused. sym these ∙ no_answer refused;
         };
         verdict_is = is_verdict is;

@@ -122,20 +122,20 @@ alerted-push (r ∷ rs) w (suc p) = alerted-push rs w p ∙ ap (λ b. cond b (ha
 pub alerted_inside : (rs : List Fields) (p : ℕ) → is_alerted rs p ≡ true → p < length rs
 alerted_inside rs p h = before_or_in p (length rs) (λ b. b) (λ b. absurd (cc (h, ap has_alert (get_or_past rs p (new_record 0) b), none_new)))
 
-abbrev pub told : Fields → Alerted
-told r = record { flight = number_of r Flight; alerts = number_of r Alerts }
+abbrev pub listing : Fields → Alerted
+listing r = record { flight = number_of r Flight; alerts = number_of r Alerts }
 
 without : (r : Fields) → has_alert r ≡ false → alerted r ≡ []
 without r h = by (number_of r Alerts == 0) h
   where
-    by : (b : Bool) → not b ≡ false → cond b [] (told r ∷ []) ≡ []
+    by : (b : Bool) → not b ≡ false → cond b [] (listing r ∷ []) ≡ []
     by true e = refl
     by false e = absurd (cc)
 
-with_one : (r : Fields) → has_alert r ≡ true → alerted r ≡ told r ∷ []
+with_one : (r : Fields) → has_alert r ≡ true → alerted r ≡ listing r ∷ []
 with_one r h = by (number_of r Alerts == 0) h
   where
-    by : (b : Bool) → not b ≡ true → cond b [] (told r ∷ []) ≡ told r ∷ []
+    by : (b : Bool) → not b ≡ true → cond b [] (listing r ∷ []) ≡ listing r ∷ []
     by true e = absurd (cc)
     by false e = refl
 
@@ -155,9 +155,9 @@ skip rs (suc k) from h =
 pub skipped : (rs : List Fields) (from n : ℕ) → from ≤ n → ((p : ℕ) → from ≤ p → p < n → is_alerted rs p ≡ false) → alert_list (drop from rs) ≡ alert_list (drop n rs)
 skipped rs from n e h = skip rs (n - from) from (λ p a b. h p a (omega (arith, b, e))) ∙ ap (λ m. alert_list (drop m rs)) (omega (arith, e))
 
-pub taken : (rs : List Fields) (p : ℕ) (r : Fields) → slice_get rs p ≡ Some r → is_alerted rs p ≡ true → alert_list (drop p rs) ≡ told r ∷ alert_list (drop (suc p) rs)
+pub taken : (rs : List Fields) (p : ℕ) (r : Fields) → slice_get rs p ≡ Some r → is_alerted rs p ≡ true → alert_list (drop p rs) ≡ listing r ∷ alert_list (drop (suc p) rs)
 taken [] p r e h = absurd (cc)
-taken (s ∷ rs) zero r e h = ap (λ l. l ++ alert_list rs) (with_one s h) ∙ ap (λ x. told x ∷ alert_list rs) (ap (λ o. unwrap_or o s) e)
+taken (s ∷ rs) zero r e h = ap (λ l. l ++ alert_list rs) (with_one s h) ∙ ap (λ x. listing x ∷ alert_list rs) (ap (λ o. unwrap_or o s) e)
 taken (s ∷ rs) (suc p) r e h = taken rs p r e h
 
 none_more : (rs : List Fields) (from : ℕ) → ((p : ℕ) → from ≤ p → is_alerted rs p ≡ false) → alert_list (drop from rs) ≡ []
@@ -169,12 +169,12 @@ none_more (r ∷ rs) (suc n) h = none_more rs n (λ p k. h (suc p) (omega (arith
 pub listed_all : (items : List Alerted) (rs : List Fields) (from : ℕ) → items ++ alert_list (drop from rs) ≡ alert_list rs → ((p : ℕ) → from ≤ p → is_alerted rs p ≡ false) → items ≡ alert_list rs
 listed_all items rs from e none = sym (append-nil items) ∙ ap (λ l. items ++ l) (sym (none_more rs from none)) ∙ e
 
-pub listed_more : (items all : List Alerted) (rs : List Fields) (from p : ℕ) (r : Fields) (x : Alerted) → all ≡ items ++ x ∷ [] → x ≡ told r → slice_get rs p ≡ Some r → is_alerted rs p ≡ true
+pub listed_more : (items all : List Alerted) (rs : List Fields) (from p : ℕ) (r : Fields) (x : Alerted) → all ≡ items ++ x ∷ [] → x ≡ listing r → slice_get rs p ≡ Some r → is_alerted rs p ≡ true
     → from ≤ p → ((q : ℕ) → from ≤ q → q < p → is_alerted rs q ≡ false) → items ++ alert_list (drop from rs) ≡ alert_list rs → all ++ alert_list (drop (p + 1) rs) ≡ alert_list rs
 listed_more items all rs from p r x is one at on after none so_far =
     let next : p + 1 ≡ suc p = omega arith in
     ap (λ l. l ++ alert_list (drop (p + 1) rs)) is ∙ push_front items x (alert_list (drop (p + 1) rs))
-    ∙ ap (λ l. items ++ l) (ap (λ y. y ∷ alert_list (drop (p + 1) rs)) one ∙ ap (λ n. told r ∷ alert_list (drop n rs)) next ∙ sym (taken rs p r at on) ∙ sym (skipped rs from p after none))
+    ∙ ap (λ l. items ++ l) (ap (λ y. y ∷ alert_list (drop (p + 1) rs)) one ∙ ap (λ n. listing r ∷ alert_list (drop n rs)) next ∙ sym (taken rs p r at on) ∙ sym (skipped rs from p after none))
     ∙ so_far
   where
     push_front : (xs : List Alerted) (y : Alerted) (ys : List Alerted) → (xs ++ y ∷ []) ++ ys ≡ xs ++ y ∷ ys

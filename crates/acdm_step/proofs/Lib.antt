@@ -4,7 +4,7 @@ pub mod Replay
 pub mod Runs
 pub mod Saying
 pub mod Steps
-pub mod Told
+pub mod Lifting
 pub mod Marking
 pub mod Kept
 pub mod Numbers

@@ -13,7 +13,7 @@ use Rattle.acdm_alerts.specs.Conditions.{alert_word}
 use Rattle.acdm_milestones.specs.Tables.{marked}
 use Rattle.acdm_milestones.specs.declared.role.Role.{Role}
 use Rattle.bpf_helpers.specs.Oracles.{OracleView}
-use Rattle.acdm_step.specs.Programs.{Programs, Suggestion, Nothing, Usable, Unusable, Said, with_suggestion, with_local_alerts, with_said}
+use Rattle.acdm_step.specs.Programs.{Programs, Suggestion, Nothing, Usable, Unusable, Effect, with_suggestion, with_local_alerts, with_effect}
 use Rattle.acdm_milestones.specs.declared.refusal.Refusal.TheVariants.{NotOwner, UnknownFlight, AlreadyPlanned, FullBoard}
 use Rattle.acdm_step.specs.declared.entry.Verdict.{Verdict}
 use Rattle.acdm_step.specs.declared.entry.Verdict.TheVariants.{Accepted, Refused}
@@ -52,10 +52,10 @@ local : (o : Option ℕ) (r : Fields) → number (with_local_alerts o r) ≡ num
 local None r = refl
 local (Some k) r = set_alerts r _
 
-pub number-changed : (s : Said) (r : Fields) (moment : ℕ) (c : Command) → number (touched moment (with_said s (assigned_to r c))) ≡ number r
+pub number-changed : (s : Effect) (r : Fields) (moment : ℕ) (c : Command) → number (touched moment (with_effect s (assigned_to r c))) ≡ number r
 number-changed s r moment c =
     let a : Fields = assigned_to r c in
-    set_alerts (with_said s a) (alert_word (with_said s a) moment) ∙ local s.locals (with_suggestion s.tobt a) ∙ suggested s.tobt a ∙ set_reached (with_all r (assigned_by c)) _
+    set_alerts (with_effect s a) (alert_word (with_effect s a) moment) ∙ local s.locals (with_suggestion s.tobt a) ∙ suggested s.tobt a ∙ set_reached (with_all r (assigned_by c)) _
     ∙ all_plain r (assigned_by c) (plain_command c)
 
 module _ (b : List Fields) (ps : Programs) (moment : ℕ) (c : Command) (from to : OracleView) (flight place : ℕ) (r s : Fields) (at : place ≡ place_of b flight) (is : r ≡ record_on b flight) (h : ChangesTo ps r moment c from to s) where

@@ -18,12 +18,12 @@ use Rattle.acdm_alerts.proofs.DecidedBits.{kept_bits-decided, with_rejection-dec
 use Rattle.acdm_milestones.specs.declared.milestone.Milestone.{Milestone}
 use Rattle.acdm_milestones.specs.declared.milestone.Milestone.TheVariants.{FlightPlanActivated, TobtUpdate}
 use Rattle.acdm_milestones.specs.Tables.{times_of, marked, has_reached}
-use Rattle.acdm_step.specs.Programs.{Programs, Suggestion, Nothing, Usable, Unusable, Said, said, with_suggestion, with_local_alerts, with_said}
+use Rattle.acdm_step.specs.Programs.{Programs, Suggestion, Nothing, Usable, Unusable, Effect, effect, with_suggestion, with_local_alerts, with_effect}
 use Rattle.acdm_step.specs.declared.command.Plan.{Plan}
 use Rattle.acdm_step.specs.declared.command.Command.{Command}
 use Rattle.acdm_step.specs.declared.command.Command.TheVariants.{Schedule, Report}
 use Rattle.acdm_step.specs.declared.entry.Entry.{Entry}
-use Rattle.acdm_step.specs.History.{History, Told, onto, with_command, with_tick, tell, told, planned, assigned_by, bit_of, flight_of, changes_flight, creates, is_of, ticks, is_accepted, record_with, computed_at, alerts_from, record_from, record_of, reported, said_on, with_tobt, with_ninth, rejects, number_or, gives_tobt, reaches, has_come_to, programs_of, created, with_flight, flights, exists}
+use Rattle.acdm_step.specs.History.{History, Summary, onto, with_command, with_tick, summary_after, summary, planned, assigned_by, bit_of, flight_of, changes_flight, creates, is_of, ticks, is_accepted, record_with, computed_at, alerts_from, record_from, record_of, reported, effect_on, with_tobt, with_ninth, rejects, number_or, gives_tobt, reaches, has_come_to, programs_of, created, with_flight, flights, exists}
 use Rattle.acdm_step.specs.Board.{assigned_to, changed, touched}
 
 -- ---- one assignment
@@ -82,9 +82,9 @@ module _ (f x : ℕ) (computed : IsComputed x) where
   with_local_alerts-record_with None ps rs b l = refl
   with_local_alerts-record_with (Some k) ps rs b l = ap (record_with f ps rs) (with_locals-decided x computed b l k)
 
-  with_said-record_with : (s : Said) (ps : List Assignment) (rs : ℕ) (b : Bool) (l : ℕ)
-      → with_said s (record_with f ps rs (decided_word b l + x)) ≡ record_with f (with_tobt s.tobt ps) (with_ninth s.tobt rs) (decided_word (rejects s.tobt b) (number_or s.locals l) + x)
-  with_said-record_with s ps rs b l =
+  with_effect-record_with : (s : Effect) (ps : List Assignment) (rs : ℕ) (b : Bool) (l : ℕ)
+      → with_effect s (record_with f ps rs (decided_word b l + x)) ≡ record_with f (with_tobt s.tobt ps) (with_ninth s.tobt rs) (decided_word (rejects s.tobt b) (number_or s.locals l) + x)
+  with_effect-record_with s ps rs b l =
       ap (with_local_alerts s.locals) (with_suggestion-record_with s.tobt ps rs b l)
       ∙ with_local_alerts-record_with s.locals (with_tobt s.tobt ps) (with_ninth s.tobt rs) (rejects s.tobt b) l
 
@@ -111,28 +111,28 @@ plain_command (Report r) = plain-append (times_of r.milestone r.time) (planned r
 plain_command _ = refl
 
 -- what a command assigns and reaches
-pub assigned-reported : (f : ℕ) (t : Told) (c : Command) → assigned_to (record_from f t) c ≡ reported f c t
+pub assigned-reported : (f : ℕ) (t : Summary) (c : Command) → assigned_to (record_from f t) c ≡ reported f c t
 assigned-reported f t c = ap (λ r. marked r (bit_of c)) (with_all-record_with f (assigned_by c) t.assigned t.reached (alerts_from f t) (plain_command c))
 
-changed-record_from : (ps : Programs) (f : ℕ) (t : Told) (moment : ℕ) (c : Command) (answers : List ℕ)
-    → changed ps (record_from f t) moment c answers ≡ record_from f (with_command c moment (said ps (reported f c t) moment (bit_of c) answers) t)
+changed-record_from : (ps : Programs) (f : ℕ) (t : Summary) (moment : ℕ) (c : Command) (answers : List ℕ)
+    → changed ps (record_from f t) moment c answers ≡ record_from f (with_command c moment (effect ps (reported f c t) moment (bit_of c) answers) t)
 changed-record_from ps f t moment c answers =
-    let s : Said = said ps (reported f c t) moment (bit_of c) answers in
+    let s : Effect = effect ps (reported f c t) moment (bit_of c) answers in
     let x : ℕ = computed_at f t.assigned t.reached t.touch in
     let is = computed_at-computed f t.assigned t.reached t.touch in
-    ap (λ r. touched moment (with_said (said ps r moment (bit_of c) answers) r)) (assigned-reported f t c)
-    ∙ ap (touched moment) (with_said-record_with f x is s (onto (assigned_by c) t.assigned) (bit_or t.reached (2 ^ bit_of c)) t.rejected t.locals)
+    ap (λ r. touched moment (with_effect (effect ps r moment (bit_of c) answers) r)) (assigned-reported f t c)
+    ∙ ap (touched moment) (with_effect-record_with f x is s (onto (assigned_by c) t.assigned) (bit_or t.reached (2 ^ bit_of c)) t.rejected t.locals)
     ∙ touched-record_with f x is (with_tobt s.tobt (onto (assigned_by c) t.assigned)) (with_ninth s.tobt (bit_or t.reached (2 ^ bit_of c))) moment (rejects s.tobt t.rejected) (number_or s.locals t.locals)
 
 -- what an entry adds where it is of the flight
-abbrev added : Entry → History → ℕ → Told
-added e J g = with_command e.command e.moment (said_on (programs_of J e.command) e g (told J g)) (told J g)
+abbrev added : Entry → History → ℕ → Summary
+added e J g = with_command e.command e.moment (effect_on (programs_of J e.command) e g (summary J g)) (summary J g)
 
 -- an entry that is no tick, and is refused or of another flight, leaves a record as it is
 pub record_same : (e : Entry) (J : History) (g : ℕ) → is_of g e ≡ false → ticks e ≡ false → record_of (e ∷ J) g ≡ record_of J g
 record_same e J g h k =
-    ap (λ b. record_from g (cond b (added e J g) (cond (ticks e) (with_tick e.moment (told J g)) (told J g)))) h
-    ∙ ap (λ b. record_from g (cond b (with_tick e.moment (told J g)) (told J g))) k
+    ap (λ b. record_from g (cond b (added e J g) (cond (ticks e) (with_tick e.moment (summary J g)) (summary J g)))) h
+    ∙ ap (λ b. record_from g (cond b (with_tick e.moment (summary J g)) (summary J g))) k
 
 -- an accepted entry changes the record of its flight
 pub record_changed : (e : Entry) (J : History) → is_accepted e.verdict ≡ true → changes_flight e.command ≡ true
@@ -140,11 +140,11 @@ pub record_changed : (e : Entry) (J : History) → is_accepted e.verdict ≡ tru
 record_changed e J h k =
     let f : ℕ = flight_of e.command in
     let both : is_of f e ≡ true = ap (λ b. b && (changes_flight e.command && flight_of e.command == f)) h ∙ ap (λ b. b && flight_of e.command == f) k ∙ eq-eqb f f refl in
-    ap (λ b. record_from f (cond b (added e J f) (cond (ticks e) (with_tick e.moment (told J f)) (told J f)))) both
-    ∙ sym (changed-record_from (programs_of J e.command) f (told J f) e.moment e.command e.answers)
+    ap (λ b. record_from f (cond b (added e J f) (cond (ticks e) (with_tick e.moment (summary J f)) (summary J f)))) both
+    ∙ sym (changed-record_from (programs_of J e.command) f (summary J f) e.moment e.command e.answers)
 
 -- a flight that was touched is touched by a tick
-with_tick-record : (f m : ℕ) (t : Told) → is_some t.touch ≡ true → record_from f (with_tick m t) ≡ touched m (record_from f t)
+with_tick-record : (f m : ℕ) (t : Summary) → is_some t.touch ≡ true → record_from f (with_tick m t) ≡ touched m (record_from f t)
 with_tick-record f m t h = go t.assigned t.reached t.touch t.rejected t.locals h
   where
     go : (ps : List Assignment) (rs : ℕ) (touch : Option ℕ) (b : Bool) (l : ℕ) → is_some touch ≡ true
@@ -152,16 +152,16 @@ with_tick-record f m t h = go t.assigned t.reached t.touch t.rejected t.locals h
     go ps rs None b l h = absurd (cc)
     go ps rs (Some n) b l h = sym (touched-record_with f (computed_at f ps rs (Some n)) (computed_at-computed f ps rs (Some n)) ps rs m b l)
 
-pub record_ticked : (e : Entry) (J : History) (g : ℕ) → is_of g e ≡ false → ticks e ≡ true → is_some (told J g).touch ≡ true → record_of (e ∷ J) g ≡ touched e.moment (record_of J g)
+pub record_ticked : (e : Entry) (J : History) (g : ℕ) → is_of g e ≡ false → ticks e ≡ true → is_some (summary J g).touch ≡ true → record_of (e ∷ J) g ≡ touched e.moment (record_of J g)
 record_ticked e J g h k t =
-    ap (λ b. record_from g (cond b (added e J g) (cond (ticks e) (with_tick e.moment (told J g)) (told J g)))) h
-    ∙ ap (λ b. record_from g (cond b (with_tick e.moment (told J g)) (told J g))) k
-    ∙ with_tick-record g e.moment (told J g) t
+    ap (λ b. record_from g (cond b (added e J g) (cond (ticks e) (with_tick e.moment (summary J g)) (summary J g)))) h
+    ∙ ap (λ b. record_from g (cond b (with_tick e.moment (summary J g)) (summary J g))) k
+    ∙ with_tick-record g e.moment (summary J g) t
 
 -- what was touched stays so
-touch_kept : (ps : Programs) (e : Entry) (f : ℕ) (t : Told) → is_some t.touch ≡ true → is_some (tell ps e f t).touch ≡ true
+touch_kept : (ps : Programs) (e : Entry) (f : ℕ) (t : Summary) → is_some t.touch ≡ true → is_some (summary_after ps e f t).touch ≡ true
 touch_kept ps e f t h =
-    elim (is_of f e) as (λ b. is_some (cond b (with_command e.command e.moment (said_on ps e f t) t) (cond (ticks e) (with_tick e.moment t) t)).touch ≡ true) [
+    elim (is_of f e) as (λ b. is_some (cond b (with_command e.command e.moment (effect_on ps e f t) t) (cond (ticks e) (with_tick e.moment t) t)).touch ≡ true) [
       | true ↦ refl
       | false ↦ elim (ticks e) as (λ b. is_some (cond b (with_tick e.moment t) t).touch ≡ true) [
         | true ↦ some_map t.touch h
@@ -195,23 +195,23 @@ has_push f fs (Some x) h =
           | false ↦ λ q. at_end gs q
         ] e
 
-pub touched-there : (J : History) (f : ℕ) → exists J f ≡ true → is_some (told J f).touch ≡ true
+pub touched-there : (J : History) (f : ℕ) → exists J f ≡ true → is_some (summary J f).touch ≡ true
 touched-there [] f h = h
 touched-there (e ∷ J) f h =
     elim (has_push f (flights J) (created e) h) [
-      | inl there ↦ touch_kept (programs_of J e.command) e f (told J f) (touched-there J f there)
+      | inl there ↦ touch_kept (programs_of J e.command) e f (summary J f) (touched-there J f there)
       | inr made ↦ new made
     ]
   where
-    new : created e ≡ Some f → is_some (told (e ∷ J) f).touch ≡ true
+    new : created e ≡ Some f → is_some (summary (e ∷ J) f).touch ≡ true
     new made =
-        elim (is_accepted e.verdict && creates e.command) as (λ b. (is_accepted e.verdict && creates e.command) ≡ b → cond b (Some (flight_of e.command)) None ≡ Some f → is_some (told (e ∷ J) f).touch ≡ true) [
+        elim (is_accepted e.verdict && creates e.command) as (λ b. (is_accepted e.verdict && creates e.command) ≡ b → cond b (Some (flight_of e.command)) None ≡ Some f → is_some (summary (e ∷ J) f).touch ≡ true) [
           | true ↦ λ d s.
               let done : is_accepted e.verdict ≡ true = and_left (is_accepted e.verdict) (creates e.command) d in
               let makes : changes_flight e.command ≡ true = creates_changes e.command (and_right (is_accepted e.verdict) (creates e.command) d) in
               let same : flight_of e.command ≡ f = cc in
               let of : is_of f e ≡ true = ap (λ b. b && (changes_flight e.command && flight_of e.command == f)) done ∙ ap (λ b. b && flight_of e.command == f) makes ∙ eq-eqb (flight_of e.command) f same in
-              ap (λ b. is_some (cond b (added e J f) (cond (ticks e) (with_tick e.moment (told J f)) (told J f))).touch) of
+              ap (λ b. is_some (cond b (added e J f) (cond (ticks e) (with_tick e.moment (summary J f)) (summary J f))).touch) of
           | false ↦ λ d s. absurd (cc)
         ] refl made
 
@@ -252,16 +252,16 @@ ninth_bit Nothing n m = or_comm false (bit_at n m == 1)
 ninth_bit Unusable n m = or_comm false (bit_at n m == 1)
 
 -- a bit of the reached word is set exactly where an accepted entry of the flight reached it
-pub reached-told : (J : History) (f m : ℕ) → has_reached (record_of J f) m ≡ has_come_to J f m
-reached-told [] f m = ap (λ n. n == 1) (bit_at-zero m)
-reached-told (e ∷ J) f m =
-    let s : Suggestion = (said_on (programs_of J e.command) e f (told J f)).tobt in
+pub reached-summary : (J : History) (f m : ℕ) → has_reached (record_of J f) m ≡ has_come_to J f m
+reached-summary [] f m = ap (λ n. n == 1) (bit_at-zero m)
+reached-summary (e ∷ J) f m =
+    let s : Suggestion = (effect_on (programs_of J e.command) e f (summary J f)).tobt in
     let ninth : Bool = gives_tobt s && 9 == m in
-    elim (is_of f e) as (λ b. (bit_at (cond b (added e J f) (cond (ticks e) (with_tick e.moment (told J f)) (told J f))).reached m == 1) ≡ ((b && reaches J e f m) || has_come_to J f m)) [
+    elim (is_of f e) as (λ b. (bit_at (cond b (added e J f) (cond (ticks e) (with_tick e.moment (summary J f)) (summary J f))).reached m == 1) ≡ ((b && reaches J e f m) || has_come_to J f m)) [
       | true ↦
-          ninth_bit s (bit_or (told J f).reached (2 ^ bit_of e.command)) m
-          ∙ ap (λ b. b || ninth) (or_bit (told J f).reached (bit_of e.command) m)
+          ninth_bit s (bit_or (summary J f).reached (2 ^ bit_of e.command)) m
+          ∙ ap (λ b. b || ninth) (or_bit (summary J f).reached (bit_of e.command) m)
           ∙ or_left (has_reached (record_of J f) m) (bit_of e.command == m) ninth
-          ∙ ap (λ b. (bit_of e.command == m || ninth) || b) (reached-told J f m)
-      | false ↦ elim (ticks e) as (λ b. (bit_at (cond b (with_tick e.moment (told J f)) (told J f)).reached m == 1) ≡ has_come_to J f m) [ true ↦ reached-told J f m | false ↦ reached-told J f m ]
+          ∙ ap (λ b. (bit_of e.command == m || ninth) || b) (reached-summary J f m)
+      | false ↦ elim (ticks e) as (λ b. (bit_at (cond b (with_tick e.moment (summary J f)) (summary J f)).reached m == 1) ≡ has_come_to J f m) [ true ↦ reached-summary J f m | false ↦ reached-summary J f m ]
     ]

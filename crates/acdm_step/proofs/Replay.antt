@@ -22,7 +22,7 @@ use Rattle.acdm_step.specs.declared.outcome.Outcome.TheVariants as outcomes
 use Rattle.acdm_step.specs.declared.entry.Verdict.{Verdict}
 use Rattle.acdm_step.specs.declared.entry.Verdict.TheVariants.{Refused}
 use Rattle.acdm_step.specs.declared.entry.Entry.{Entry}
-use Rattle.acdm_step.specs.History.{History, nothing_told, with_command, with_tick, flight_of, bit_of, changes_flight, is_tick, is_load, is_of, ticks, is_accepted, creates, created, told, reported, said_on, record_from, record_of, slot_change, changed_or, program_in, programs_of, size_of, with_slots, slots_of, with_flight, flights, exists, is_ready, verdict_for, verdict_of, answer, outcome_with, outcome_of, IsAnswered, IsLegal, replay, after, is_alerts, needs_memory}
+use Rattle.acdm_step.specs.History.{History, empty_summary, with_command, with_tick, flight_of, bit_of, changes_flight, is_tick, is_load, is_of, ticks, is_accepted, creates, created, summary, reported, effect_on, record_from, record_of, slot_change, changed_or, program_in, programs_of, size_of, with_slots, slots_of, with_flight, flights, exists, is_ready, verdict_for, verdict_of, answer, outcome_with, outcome_of, IsAnswered, IsLegal, replay, after, is_alerts, needs_memory}
 use Rattle.acdm_step.specs.Board.{changed, touched, place_of, is_there, record_on, put, assigned_to, programs_on, ready_on, board_verdict, board_creates, board_loads, board_answer, board_outcome, board_changed, board_after}
 use Rattle.acdm_step.specs.Ran.{Ran}
 use Rattle.acdm_step.specs.Running.{AsksIn}
@@ -92,20 +92,20 @@ module _ (sigs : List (ℕ × Promise)) (f : ℕ) (e : Entry) (J : History) (rig
   unset : is_of f e ≡ false
   unset = not_all (is_accepted e.verdict) (changes_flight e.command) (flight_of e.command == f) not_named
 
-nothing-told : (sigs : List (ℕ × Promise)) (f : ℕ) (J : History) → IsLegal sigs J → exists J f ≡ false → told J f ≡ nothing_told
-nothing-told sigs f [] l h = refl
-nothing-told sigs f (e ∷ J) l h =
-    let before = nothing-told sigs f J l.0 (grows f (flights J) (created e) h) in
-    ap (λ b. cond b (with_command e.command e.moment (said_on (programs_of J e.command) e f (told J f)) (told J f)) (cond (ticks e) (with_tick e.moment (told J f)) (told J f)))
+nothing-summary : (sigs : List (ℕ × Promise)) (f : ℕ) (J : History) → IsLegal sigs J → exists J f ≡ false → summary J f ≡ empty_summary
+nothing-summary sigs f [] l h = refl
+nothing-summary sigs f (e ∷ J) l h =
+    let before = nothing-summary sigs f J l.0 (grows f (flights J) (created e) h) in
+    ap (λ b. cond b (with_command e.command e.moment (effect_on (programs_of J e.command) e f (summary J f)) (summary J f)) (cond (ticks e) (with_tick e.moment (summary J f)) (summary J f)))
     (unset sigs f e J (is_right sigs J e.role e.moment e.command e.verdict e.answers l.4) h)
     ∙ ap (λ t. cond (ticks e) (with_tick e.moment t) t) before ∙ either (ticks e)
   where
-    either : (b : Bool) → cond b (with_tick e.moment nothing_told) nothing_told ≡ nothing_told
+    either : (b : Bool) → cond b (with_tick e.moment empty_summary) empty_summary ≡ empty_summary
     either true = refl
     either false = refl
 
 nothing_set : (sigs : List (ℕ × Promise)) (f : ℕ) (J : History) → IsLegal sigs J → exists J f ≡ false → record_of J f ≡ new_record f
-nothing_set sigs f J l h = ap (record_from f) (nothing-told sigs f J l h)
+nothing_set sigs f J l h = ap (record_from f) (nothing-summary sigs f J l h)
 
 -- ---- the programs in the slots
 
@@ -196,14 +196,14 @@ verdict-replay sigs J role c l =
 
 -- the record with what a command assigns, on the board and after the history
 assigned-replay : (sigs : List (ℕ × Promise)) (J : History) (c : Command) → IsLegal sigs J
-    → assigned_to (record_on (records_of J) (flight_of c)) c ≡ reported (flight_of c) c (told J (flight_of c))
+    → assigned_to (record_on (records_of J) (flight_of c)) c ≡ reported (flight_of c) c (summary J (flight_of c))
 assigned-replay sigs J c l =
-    ap (λ r. assigned_to r c) (record_on-replay sigs J (flight_of c) l) ∙ assigned-reported (flight_of c) (told J (flight_of c)) c
+    ap (λ r. assigned_to r c) (record_on-replay sigs J (flight_of c) l) ∙ assigned-reported (flight_of c) (summary J (flight_of c)) c
 
 -- programs that ran on the board ran after it
 pub ran-replay : (sigs : List (ℕ × Promise)) (J : History) (c : Command) (moment : ℕ) (used : List ℕ) → IsLegal sigs J
     → Ran (programs_on (slots_of sigs J) c) (assigned_to (record_on (records_of J) (flight_of c)) c) moment (bit_of c) used
-    → Ran (programs_of J c) (reported (flight_of c) c (told J (flight_of c))) moment (bit_of c) used
+    → Ran (programs_of J c) (reported (flight_of c) c (summary J (flight_of c))) moment (bit_of c) used
 ran-replay sigs J c moment used l h =
     subst (λ x. Ran (programs_of J c) x moment (bit_of c) used) (assigned-replay sigs J c l)
     (subst (λ p. Ran p (assigned_to (record_on (records_of J) (flight_of c)) c) moment (bit_of c) used) (programs-replay sigs J c) h)
@@ -211,7 +211,7 @@ ran-replay sigs J c moment used l h =
 -- and a program that is left without an answer on the board is so after it
 pub asks-replay : (sigs : List (ℕ × Promise)) (J : History) (c : Command) (moment : ℕ) (from to : OracleView) → IsLegal sigs J
     → AsksIn (programs_on (slots_of sigs J) c) (assigned_to (record_on (records_of J) (flight_of c)) c) moment (bit_of c) from to
-    → AsksIn (programs_of J c) (reported (flight_of c) c (told J (flight_of c))) moment (bit_of c) from to
+    → AsksIn (programs_of J c) (reported (flight_of c) c (summary J (flight_of c))) moment (bit_of c) from to
 asks-replay sigs J c moment from to l h =
     subst (λ x. AsksIn (programs_of J c) x moment (bit_of c) from to) (assigned-replay sigs J c l)
     (subst (λ p. AsksIn p (assigned_to (record_on (records_of J) (flight_of c)) c) moment (bit_of c) from to) (programs-replay sigs J c) h)

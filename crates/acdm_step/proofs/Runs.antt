@@ -14,10 +14,10 @@ use Rattle.acdm_slots.specs.Loaded.{Loaded}
 use Rattle.acdm_step.specs.declared.command.Command.{Command}
 use Rattle.acdm_step.specs.declared.command.Command.TheVariants.{Schedule}
 use Rattle.acdm_step.specs.Facts.{ScheduleFacts}
-use Rattle.acdm_step.specs.Programs.{Programs, nothing_said, suggestion, with_suggestion, local_alerts, with_local_alerts, with_said}
+use Rattle.acdm_step.specs.Programs.{Programs, no_effect, suggestion, with_suggestion, local_alerts, with_local_alerts, with_effect}
 use Rattle.acdm_step.specs.History.{bit_of, size_of}
 use Rattle.acdm_step.specs.Board.{assigned_to, touched, programs_on}
-use Rattle.acdm_step.specs.Ran.{EndsWith, Say}
+use Rattle.acdm_step.specs.Ran.{EndsWith, HasEffect}
 use Rattle.acdm_step.specs.Running.{EndsAt, AsksAt, EndsIn, AsksIn, first, second, ChangesTo}
 use Rattle.acdm_step.proofs.Saying.{none_ran}
 
@@ -74,7 +74,7 @@ module _ (ps : Programs) (r next : Fields) (moment m : ℕ) (from between to : O
       parts = refl;
       tobt_ends = ends.2;
       alert_ends = subst (λ x. EndsWith ps.alert x moment m h.0 more) is h.2;
-      said = refl;
+      effect = refl;
     },
     e ∙ ap (with_local_alerts (local_alerts more)) is,
     h.4 ∙ ends.4,
@@ -87,8 +87,8 @@ changes_to ps r a s new moment m c from to ea em h e = (
   h.0,
   h.1,
   h.2,
-  subst (λ n. Say ps (assigned_to r c) moment n h.0 h.1) em (subst (λ x. Say ps x moment m h.0 h.1) ea h.3),
-  e ∙ ap (touched moment) (h.4 ∙ ap (with_said h.1) ea),
+  subst (λ n. HasEffect ps (assigned_to r c) moment n h.0 h.1) em (subst (λ x. HasEffect ps x moment m h.0 h.1) ea h.3),
+  e ∙ ap (touched moment) (h.4 ∙ ap (with_effect h.1) ea),
   h.5,
 )
 
@@ -98,4 +98,4 @@ pub changes_scheduled : (l : Loaded) (r a new : Fields) (moment : ℕ) (c : Comm
     → ChangesTo (programs_on l c) r moment c from to new
 changes_scheduled l r a new moment c s from to is ea e same =
     subst (λ x. ChangesTo (programs_on l x) r moment x from to new) (sym is)
-    ([], nothing_said, same.log ∙ sym (append-nil from.log), none_ran (assigned_to r (Schedule s)) moment (bit_of (Schedule s)), e ∙ ap (touched moment) ea, same.refusals)
+    ([], no_effect, same.log ∙ sym (append-nil from.log), none_ran (assigned_to r (Schedule s)) moment (bit_of (Schedule s)), e ∙ ap (touched moment) ea, same.refusals)

@@ -19,7 +19,7 @@ use Rattle.acdm_step.specs.declared.entry.Verdict.{Verdict}
 use Rattle.acdm_step.specs.declared.entry.Verdict.TheVariants.{Accepted, Refused}
 use Rattle.acdm_step.specs.History.{Board, flight_of, bit_of, is_accepted, is_tick, changes_flight, is_alerts, verdict_for, load_verdict, unload_verdict, tick_verdict, show_verdict, alert_list, outcome_with, with_slots}
 use Rattle.acdm_step.specs.Board.{board_of, assigned_to, touched, place_of, is_there, record_on, put, changed, programs_on, ready_on, board_verdict, board_creates, board_loads, board_outcome, board_changed, board_after}
-use Rattle.acdm_step.specs.Programs.{nothing_said, said_with, what_is_said, with_said}
+use Rattle.acdm_step.specs.Programs.{no_effect, effect_with, effect_or_none, with_effect}
 use Rattle.acdm_step.specs.Ran.{Ran}
 use Rattle.acdm_step.proofs.Saying.{none_ran, say_said}
 use Rattle.acdm_step.specs.Running.{ChangesTo, AsksIn, Comes, answered, unanswered}
@@ -85,7 +85,7 @@ accepted_is (Refused x) h = absurd (cc)
 no_runs : (l : Loaded) (c : Command) (r : Fields) (moment : ℕ) → changes_flight c ≡ false → Ran (programs_on l c) r moment (bit_of c) []
 no_runs l (Schedule s) r moment h = absurd (cc)
 no_runs l (Report x) r moment h = absurd (cc)
-no_runs l _ r moment h = (nothing_said, none_ran r moment 0)
+no_runs l _ r moment h = (no_effect, none_ran r moment 0)
 
 nothing_gained : (from to : OracleView) → Unasked from to → Gained from to []
 nothing_gained from to e = e.log ∙ sym (append-nil from.log)
@@ -122,10 +122,10 @@ module _ (b : Board) (role : Role) (moment : ℕ) (c : Command) where
         let yes : is_accepted (board_verdict b role c) ≡ true = sym (ap is_accepted e) ∙ d in
         let h' : ChangesTo (programs_on b.slots c) (record_on b.records (flight_of c)) moment c from to s = subst (λ x. ChangesTo (programs_on b.slots c) x moment c from to s) is h in
         let x : Fields = assigned_to (record_on b.records (flight_of c)) c in
-        let all : said_with (programs_on b.slots c) x moment (bit_of c) h'.0 ≡ Some (h'.1, []) =
-        ap (said_with (programs_on b.slots c) x moment (bit_of c)) (sym (append-nil h'.0)) ∙ say_said (programs_on b.slots c) x moment (bit_of c) h'.0 h'.1 h'.3 [] in
+        let all : effect_with (programs_on b.slots c) x moment (bit_of c) h'.0 ≡ Some (h'.1, []) =
+        ap (effect_with (programs_on b.slots c) x moment (bit_of c)) (sym (append-nil h'.0)) ∙ say_said (programs_on b.slots c) x moment (bit_of c) h'.0 h'.1 h'.3 [] in
         let record_is : s ≡ changed (programs_on b.slots c) (record_on b.records (flight_of c)) moment c h'.0 =
-        h'.4 ∙ ap (λ o. touched moment (with_said (what_is_said o) x)) (sym all) in
+        h'.4 ∙ ap (λ o. touched moment (with_effect (effect_or_none o) x)) (sym all) in
         let here : List Fields = put b.records (flight_of c) (changed (programs_on b.slots c) (record_on b.records (flight_of c)) moment c h'.0) in
         let records : rs ≡ board_changed b moment c h'.0 =
         stored ∙ ap (put b.records (flight_of c)) record_is

@@ -17,7 +17,7 @@ use Rattle.acdm_step.specs.declared.command.Command.TheVariants as commands
 use Rattle.acdm_step.specs.declared.entry.Verdict.{Verdict}
 use Rattle.acdm_step.specs.declared.outcome.Outcome.{Outcome}
 use Rattle.acdm_step.specs.declared.outcome.Outcome.TheVariants as outcomes
-use Rattle.acdm_step.specs.Programs.{Programs, no_programs, said, with_said}
+use Rattle.acdm_step.specs.Programs.{Programs, no_programs, effect, with_effect}
 use Rattle.acdm_step.specs.History.{Board, assigned_by, bit_of, flight_of, is_tick, is_load, changes_flight, is_accepted, verdict_for, alert_list, outcome_with, with_slots}
 
 -- records and slots together
@@ -34,7 +34,7 @@ assigned_to r c = marked (with_all r (assigned_by c)) (bit_of c)
 
 -- the record of a flight after an accepted command of it, with what these programs say with these answers
 abbrev pub changed : Programs → Fields → ℕ → Command → List ℕ → Fields
-changed ps r moment c answers = touched moment (with_said (said ps (assigned_to r c) moment (bit_of c) answers) (assigned_to r c))
+changed ps r moment c answers = touched moment (with_effect (effect ps (assigned_to r c) moment (bit_of c) answers) (assigned_to r c))
 
 -- the place of a flight's record, or how many there are
 abbrev pub has_number : ℕ → Fields → Bool

@@ -24,7 +24,7 @@ use Rattle.bpf_verifier.specs.Verdict.{Verified}
 use Rattle.acdm_slots.specs.declared.kind.Kind.{Kind}
 use Rattle.acdm_slots.specs.declared.kind.Kind.TheVariants as kinds
 use Rattle.acdm_slots.specs.Loaded.{Loaded, loaded, place, with_program}
-use Rattle.acdm_step.specs.Programs.{Programs, no_programs, Suggestion, Nothing, Usable, Unusable, Said, said, said_with}
+use Rattle.acdm_step.specs.Programs.{Programs, no_programs, Suggestion, Nothing, Usable, Unusable, Effect, effect, effect_with}
 use Rattle.acdm_step.specs.declared.command.Plan.{Plan}
 use Rattle.acdm_step.specs.declared.command.Command.{Command}
 use Rattle.acdm_step.specs.declared.command.Command.TheVariants.{Schedule, Report, Load, Unload, Tick, Show}
@@ -152,7 +152,7 @@ slots_of sigs J = loaded sigs (program_in J)
 -- all that was assigned, the last first, the bits that were reached, the moment of its last touch (an accepted schedule or
 -- report of it, or an accepted tick after its creation), and what programs decided last: whether a TOBT was rejected, and the
 -- local alerts
-pub record Told : Type 0 where
+pub record Summary : Type 0 where
   pub assigned : List Assignment
   pub reached : ℕ
   pub touch : Option ℕ
@@ -186,10 +186,10 @@ abbrev pub computed_at : ℕ → List Assignment → ℕ → Option ℕ → ℕ
 computed_at f assigned reached None = 0
 computed_at f assigned reached (Some moment) = conditions (record_with f assigned reached 0) moment
 
-abbrev pub alerts_from : ℕ → Told → ℕ
+abbrev pub alerts_from : ℕ → Summary → ℕ
 alerts_from f t = decided_word t.rejected t.locals + computed_at f t.assigned t.reached t.touch
 
-abbrev pub record_from : ℕ → Told → Fields
+abbrev pub record_from : ℕ → Summary → Fields
 record_from f t = record_with f t.assigned t.reached (alerts_from f t)
 
 -- new assignments before earlier ones, the last of them first
@@ -198,12 +198,12 @@ onto [] earlier = earlier
 onto (a ∷ more) earlier = onto more (a ∷ earlier)
 
 -- what a command assigns and reaches, while the alerts are still those before it
-abbrev pub reported : ℕ → Command → Told → Fields
+abbrev pub reported : ℕ → Command → Summary → Fields
 reported f c t = record_with f (onto (assigned_by c) t.assigned) (bit_or t.reached (2 ^ bit_of c)) (alerts_from f t)
 
 -- what programs say of that
-abbrev pub said_on : Programs → Entry → ℕ → Told → Said
-said_on ps e f t = said ps (reported f e.command t) e.moment (bit_of e.command) e.answers
+abbrev pub effect_on : Programs → Entry → ℕ → Summary → Effect
+effect_on ps e f t = effect ps (reported f e.command t) e.moment (bit_of e.command) e.answers
 
 -- a TOBT that a program gave is assigned too, and reaches milestone 9
 abbrev pub with_tobt : Suggestion → List Assignment → List Assignment
@@ -224,7 +224,7 @@ number_or None before = before
 number_or (Some n) before = n
 
 -- what an accepted command of the flight adds at its moment, with what programs said
-abbrev pub with_command : Command → ℕ → Said → Told → Told
+abbrev pub with_command : Command → ℕ → Effect → Summary → Summary
 with_command c moment s t = record {
   assigned = with_tobt s.tobt (onto (assigned_by c) t.assigned);
   reached = with_ninth s.tobt (bit_or t.reached (2 ^ bit_of c));
@@ -234,23 +234,23 @@ with_command c moment s t = record {
 }
 
 -- a tick touches a flight that was touched before, by its creation
-abbrev pub with_tick : ℕ → Told → Told
+abbrev pub with_tick : ℕ → Summary → Summary
 with_tick moment t = record t { touch = option_map (λ m. moment) t.touch }
 
 -- what one entry adds, with the programs that stood when it came; a refused entry, or one of another flight, adds nothing
-abbrev pub tell : Programs → Entry → ℕ → Told → Told
-tell ps e f t = if is_of f e then with_command e.command e.moment (said_on ps e f t) t else (if ticks e then with_tick e.moment t else t)
+abbrev pub summary_after : Programs → Entry → ℕ → Summary → Summary
+summary_after ps e f t = if is_of f e then with_command e.command e.moment (effect_on ps e f t) t else (if ticks e then with_tick e.moment t else t)
 
-abbrev pub nothing_told : Told
-nothing_told = record { assigned = []; reached = 0; touch = None; rejected = false; locals = 0 }
+abbrev pub empty_summary : Summary
+empty_summary = record { assigned = []; reached = 0; touch = None; rejected = false; locals = 0 }
 
-abbrev pub told : History → ℕ → Told
-told [] f = nothing_told
-told (e ∷ J) f = tell (programs_of J e.command) e f (told J f)
+abbrev pub summary : History → ℕ → Summary
+summary [] f = empty_summary
+summary (e ∷ J) f = summary_after (programs_of J e.command) e f (summary J f)
 
 -- the record of a flight
 abbrev pub record_of : History → ℕ → Fields
-record_of J f = record_from f (told J f)
+record_of J f = record_from f (summary J f)
 
 -- whether a program gave a TOBT
 abbrev pub gives_tobt : Suggestion → Bool
@@ -259,7 +259,7 @@ gives_tobt _ = false
 
 -- the bits that an accepted entry of the flight reached: its own, and 9 where a program gave a TOBT
 abbrev pub reaches : History → Entry → ℕ → ℕ → Bool
-reaches J e f m = bit_of e.command == m || (gives_tobt (said_on (programs_of J e.command) e f (told J f)).tobt && 9 == m)
+reaches J e f m = bit_of e.command == m || (gives_tobt (effect_on (programs_of J e.command) e f (summary J f)).tobt && 9 == m)
 
 -- whether an accepted entry of the flight reached this bit: what a bit of the reached word means
 abbrev pub has_come_to : History → ℕ → ℕ → Bool
@@ -375,11 +375,11 @@ IsChecked sigs (Load l) = (l.program.sigs ≡ sigs) × Accepts 128 l.program.ops
 IsChecked sigs _ = Unit {0}
 
 -- the answers that are left of those that an accepted command was given, once its programs have ended
-abbrev pub left_after : Option (Said × List ℕ) → Option (List ℕ)
+abbrev pub left_after : Option (Effect × List ℕ) → Option (List ℕ)
 left_after s = option_map (λ x. x.1) s
 
 abbrev pub left_by : History → Command → ℕ → List ℕ → Option (List ℕ)
-left_by J c moment answers = left_after (said_with (programs_of J c) (reported (flight_of c) c (told J (flight_of c))) moment (bit_of c) answers)
+left_by J c moment answers = left_after (effect_with (programs_of J c) (reported (flight_of c) c (summary J (flight_of c))) moment (bit_of c) answers)
 
 -- the verdict is that of the tests, and the answers are those that the programs of an accepted command use
 pub record IsAnswered (sigs : List (ℕ × Promise)) (J : History) (role : Role) (moment : ℕ) (c : Command) (verdict : Verdict) (answers : List ℕ) : Type 0 where

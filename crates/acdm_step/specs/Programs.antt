@@ -54,12 +54,12 @@ with_local_alerts (Some locals) r = set_number r Alerts (with_locals locals (num
 
 -- ---- both
 
-pub record Said : Type 0 where
+pub record Effect : Type 0 where
   pub tobt : Suggestion
   pub locals : Option ℕ
 
-abbrev pub nothing_said : Said
-nothing_said = record { tobt = Nothing; locals = None }
+abbrev pub no_effect : Effect
+no_effect = record { tobt = Nothing; locals = None }
 
 -- r0 of the program, if there is one, on a record with the first of these answers, and the answers that are left; None where
 -- it comes to no end with them
@@ -68,22 +68,22 @@ r0_of None r moment m answers = Some (None, answers)
 r0_of (Some p) r moment m answers = option_map (λ e. (Some e.0, e.1)) (result_of p.ops p.sigs (bytes_of r) moment m answers)
 
 -- the alert program comes after what the TOBT program said, with the answers that this one left
-abbrev pub said_then : Programs → Fields → ℕ → ℕ → Option ℕ × List ℕ → Option (Said × List ℕ)
-said_then ps r moment m first =
+abbrev pub effect_then : Programs → Fields → ℕ → ℕ → Option ℕ × List ℕ → Option (Effect × List ℕ)
+effect_then ps r moment m first =
     option_map (λ second. (record { tobt = suggestion r moment first.0; locals = local_alerts second.0 }, second.1))
     (r0_of ps.alert (with_suggestion (suggestion r moment first.0) r) moment m first.1)
 
 -- what both say on a record, and the answers that are left
-abbrev pub said_with : Programs → Fields → ℕ → ℕ → List ℕ → Option (Said × List ℕ)
-said_with ps r moment m answers = option_and_then (said_then ps r moment m) (r0_of ps.tobt r moment m answers)
+abbrev pub effect_with : Programs → Fields → ℕ → ℕ → List ℕ → Option (Effect × List ℕ)
+effect_with ps r moment m answers = option_and_then (effect_then ps r moment m) (r0_of ps.tobt r moment m answers)
 
-abbrev pub what_is_said : Option (Said × List ℕ) → Said
-what_is_said None = nothing_said
-what_is_said (Some s) = s.0
+abbrev pub effect_or_none : Option (Effect × List ℕ) → Effect
+effect_or_none None = no_effect
+effect_or_none (Some s) = s.0
 
-abbrev pub said : Programs → Fields → ℕ → ℕ → List ℕ → Said
-said ps r moment m answers = what_is_said (said_with ps r moment m answers)
+abbrev pub effect : Programs → Fields → ℕ → ℕ → List ℕ → Effect
+effect ps r moment m answers = effect_or_none (effect_with ps r moment m answers)
 
 -- a record with what was said
-abbrev pub with_said : Said → Fields → Fields
-with_said s r = with_local_alerts s.locals (with_suggestion s.tobt r)
+abbrev pub with_effect : Effect → Fields → Fields
+with_effect s r = with_local_alerts s.locals (with_suggestion s.tobt r)

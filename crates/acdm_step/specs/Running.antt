@@ -10,9 +10,9 @@ use Rattle.bpf_machine.specs.Outcome.{AsksOver}
 use Rattle.acdm_step.specs.declared.command.Command.{Command}
 use Rattle.acdm_step.specs.declared.outcome.Outcome.{Outcome}
 use Rattle.acdm_step.specs.declared.outcome.Outcome.TheVariants as outcomes
-use Rattle.acdm_step.specs.Programs.{Programs, Said, suggestion, with_suggestion, with_said}
-use Rattle.acdm_step.specs.Ran.{EndsWith, Say, Ran}
-use Rattle.acdm_step.specs.History.{History, Board, flight_of, bit_of, is_accepted, told, reported, programs_of, size_of, verdict_of, outcome_of}
+use Rattle.acdm_step.specs.Programs.{Programs, Effect, suggestion, with_suggestion, with_effect}
+use Rattle.acdm_step.specs.Ran.{EndsWith, HasEffect, Ran}
+use Rattle.acdm_step.specs.History.{History, Board, flight_of, bit_of, is_accepted, summary, reported, programs_of, size_of, verdict_of, outcome_of}
 use Rattle.acdm_step.specs.Board.{record_on, programs_on, assigned_to, touched, board_verdict, board_outcome, board_after}
 
 -- the program that may stand in a slot ends with r0, with the answers that were gained, no more than it has instructions
@@ -38,14 +38,14 @@ pub data AsksIn (ps : Programs) (r : Fields) (moment m : ℕ) (before after : Or
 -- both end, and the record is the one with what they said
 abbrev pub EndsIn : Programs → Fields → ℕ → ℕ → OracleView → OracleView → Fields → Type 0
 EndsIn ps r moment m before after new =
-    (used : List ℕ) × (s : Said) × Gained before after used × Say ps r moment m used s × (new ≡ with_said s r)
+    (used : List ℕ) × (s : Effect) × Gained before after used × HasEffect ps r moment m used s × (new ≡ with_effect s r)
     × (after.refusals ≡ before.refusals)
 
 -- an accepted command has changed a record, with all of the answers that were gained
 abbrev pub ChangesTo : Programs → Fields → ℕ → Command → OracleView → OracleView → Fields → Type 0
 ChangesTo ps r moment c before after new =
-    (used : List ℕ) × (s : Said) × Gained before after used × Say ps (assigned_to r c) moment (bit_of c) used s
-    × (new ≡ touched moment (with_said s (assigned_to r c))) × (after.refusals ≡ before.refusals)
+    (used : List ℕ) × (s : Effect) × Gained before after used × HasEffect ps (assigned_to r c) moment (bit_of c) used s
+    × (new ≡ touched moment (with_effect s (assigned_to r c))) × (after.refusals ≡ before.refusals)
 
 -- What comes of a command on a board: the outcome of the tests, with the answers that the programs of an accepted command use;
 -- or the tests accept it, but the oracle leaves a question of a program without an answer.
@@ -61,8 +61,8 @@ pub data Comes (b : Board) (role : Role) (moment : ℕ) (c : Command) (before af
 -- the same after a history
 pub data ComesOf (sigs : List (ℕ × Promise)) (J : History) (role : Role) (moment : ℕ) (c : Command) (before after : OracleView) (outcome : Outcome) : Type 0 where
   answered_so : (used : List ℕ) → Gained before after used → after.refusals ≡ before.refusals → outcome ≡ outcome_of sigs J role c
-      → (is_accepted (verdict_of sigs J role c) ≡ true → Ran (programs_of J c) (reported (flight_of c) c (told J (flight_of c))) moment (bit_of c) used)
+      → (is_accepted (verdict_of sigs J role c) ≡ true → Ran (programs_of J c) (reported (flight_of c) c (summary J (flight_of c))) moment (bit_of c) used)
       → (is_accepted (verdict_of sigs J role c) ≡ false → used ≡ []) → ComesOf sigs J role moment c before after outcome
   unanswered_so : outcome ≡ outcomes.Refused Unanswered → is_accepted (verdict_of sigs J role c) ≡ true
-      → AsksIn (programs_of J c) (reported (flight_of c) c (told J (flight_of c))) moment (bit_of c) before after
+      → AsksIn (programs_of J c) (reported (flight_of c) c (summary J (flight_of c))) moment (bit_of c) before after
       → ComesOf sigs J role moment c before after outcome

@@ -7,21 +7,21 @@ ghost use Rattle.bpf_helpers.specs.Promise.{Promise};
 ghost use Rattle.acdm_slots.specs.declared.kind.Kind.{Kind};
 ghost use Rattle.acdm_slots.specs.Loaded as loaded;
 ghost use Rattle.acdm_step.specs.declared.entry.Entry.{Entry};
-ghost use Rattle.acdm_step.specs.Programs.{Programs, Said, said_with};
-ghost use Rattle.acdm_step.specs.Ran.{Ran, Say};
-ghost use Rattle.acdm_step.specs.History.{History, IsLegal, is_accepted, flight_of, bit_of, program_in, programs_of, reported, slots_of, told};
+ghost use Rattle.acdm_step.specs.Programs.{Programs, Effect, effect_with};
+ghost use Rattle.acdm_step.specs.Ran.{Ran, HasEffect};
+ghost use Rattle.acdm_step.specs.History.{History, IsLegal, is_accepted, flight_of, bit_of, program_in, programs_of, reported, slots_of, summary};
 
 /// What a history computes of the programs of a report is what their runs end with.
 pub fn programs_say_what_their_runs_end_with()
     // What is computed is what two runs say that end, which used the answers that are not left.
-    ensures computed { (ps : Programs) (r : Fields) (moment m : ℕ) (answers : List ℕ) (s : Said) (left : List ℕ) →
-        said_with ps r moment m answers ≡ Some (s, left) → (used : List ℕ) × (answers ≡ used ++ left) × Say ps r moment m used s }
+    ensures computed { (ps : Programs) (r : Fields) (moment m : ℕ) (answers : List ℕ) (s : Effect) (left : List ℕ) →
+        effect_with ps r moment m answers ≡ Some (s, left) → (used : List ℕ) × (answers ≡ used ++ left) × HasEffect ps r moment m used s }
     // What two runs say that end is computed, and the answers that they did not use are left.
-    ensures complete { (ps : Programs) (r : Fields) (moment m : ℕ) (used : List ℕ) (s : Said) →
-        Say ps r moment m used s → (left : List ℕ) → said_with ps r moment m (used ++ left) ≡ Some (s, left) }
+    ensures complete { (ps : Programs) (r : Fields) (moment m : ℕ) (used : List ℕ) (s : Effect) →
+        HasEffect ps r moment m used s → (left : List ℕ) → effect_with ps r moment m (used ++ left) ≡ Some (s, left) }
     // In a legal history the programs of each accepted entry ran, and ended with exactly the answers that the entry keeps.
     ensures legal { (sigs : List (ℕ × Promise)) (J : History) (e : Entry) → IsLegal sigs (e ∷ J) → is_accepted e.verdict ≡ true →
-        Ran (programs_of J e.command) (reported (flight_of e.command) e.command (told J (flight_of e.command))) e.moment (bit_of e.command) e.answers }
+        Ran (programs_of J e.command) (reported (flight_of e.command) e.command (summary J (flight_of e.command))) e.moment (bit_of e.command) e.answers }
 {}
 
 /// The programs in the slots of a board are those of the last accepted loads and unloads of its history.

@@ -2,7 +2,7 @@ use Rattle.std.proofs.Common.{◌≡◌, true, ◌||◌, sym, subst, ◌∙◌}
 use Rattle.acdm_step.specs.History.{Board, is_alerts}
 use Rattle.acdm_step.specs.Board.{board_loads, board_creates}
 use Rattle.acdm_step.proofs.Steps.{on_err}
-use Rattle.acdm_step.proofs.Told.{told_of, board_told, comes_sigs}
+use Rattle.acdm_step.proofs.Lifting.{told_of, board_told, comes_sigs}
 use Rattle.acdm_step.proofs.Planned.{committed}
 use Rattle.acdm_step.proofs.Replay.{memory-replay}
 use Rattle.acdm_step.proofs.state.Core.apply.Goals as goal

@@ -3,7 +3,7 @@ use Rattle.std.proofs.lemmas.Option.{get_or_from_slice_get}
 use Rattle.acdm_milestones.specs.Tables.{has_reached}
 use Rattle.acdm_record.specs.Fields.{Fields}
 use Rattle.acdm_step.specs.History.{Board, record_of, exists}
-use Rattle.acdm_step.proofs.Records.{reached-told}
+use Rattle.acdm_step.proofs.Records.{reached-summary}
 use Rattle.acdm_step.proofs.Replay.{records_of, exists_by_place, record_by_place}
 use Rattle.acdm_step.proofs.Steps.{is_lt, no_lt}
 use Rattle.acdm_step.proofs.state.Core.record_of.Goals as goal
@@ -25,7 +25,7 @@ returns-then-place-len-clause-reached c sigs J eq bit =
     ∙ is_lt c.place-place.result (length rs) (subst (λ n. c.place-place.result < n) c.len.ensures c.if-place-len.true) in
     ap (λ r. has_reached r bit)
     (sym (get_or_from_slice_get rs c.place-place.result c.at.result.now c.at.result.now c.at.ensures) ∙ record_by_place J c.args.flight c.place-place.result rs is c.place-place.ensures there c.at.result.now)
-    ∙ reached-told J c.args.flight bit
+    ∙ reached-summary J c.args.flight bit
 
 pub returns-else-place-len-clause-record : goal.returns-else-place-len-clause-record
 returns-else-place-len-clause-record c sigs J eq =
