@@ -9,4 +9,5 @@ pub mod Unanswered
 pub mod Checked
 pub mod Judging
 pub mod NextEntry
+pub mod OneVerdict
 pub mod TextRows

@@ -81,6 +81,7 @@ module _ (sigs : List (ℕ × Promise)) (J : History) (line : List ℕ) (s : Sta
               checked_is sigs s.asked c states.is.asked is,
               record { verdict_is = refl; used = e.uses.used; unused = e.uses.unused },
             );
+            command = subst (λ a. IsCommandOf sigs a c) (sym (asked_is sigs s.asked c states.is.asked is)) is;
             replays = e.replays s.session;
           }
 

@@ -20,7 +20,7 @@ use Rattle.acdm_journal.specs.declared.judge.Clause.{Clause}
 use Rattle.acdm_journal.specs.declared.judge.Clause.TheVariants as clauses
 use Rattle.acdm_journal.specs.declared.judge.AuditError.{AuditError}
 use Rattle.acdm_journal.specs.declared.judge.AuditError.TheVariants.{Memory, Faulty}
-use Rattle.acdm_journal.specs.Text.{line_of, stated_in, outcome_code}
+use Rattle.acdm_journal.specs.Text.{line_of, stated_in, asked_in, outcome_code}
 use Rattle.acdm_journal.specs.Ranges.{IsStated}
 
 -- the numbers of the clauses, in the order of their tests
@@ -31,7 +31,8 @@ clause_code clauses.Program = 403
 clause_code clauses.Answers = 404
 clause_code clauses.Outcome = 405
 
--- the command that is asked for; the program of a load is the one that its bytes encode, and no slot of it has a fault
+-- the command that is asked for; the program of a load is the one that its bytes encode, and no slot
+-- of it has a fault
 abbrev pub IsCommandOf : List (ℕ × Promise) → Asked → Command → Type 0
 IsCommandOf sigs (Plain c) command = command ≡ c
 IsCommandOf sigs (Load l) command =
@@ -75,6 +76,7 @@ pub record Continues (sigs : List (ℕ × Promise)) (J : History) (line : List �
   pub is : IsStated (stated_in entry)
   pub short : length line ≤ 200000
   pub legal : IsLegal sigs (entry ∷ J)
+  pub command : IsCommandOf sigs (asked_in entry.command) entry.command
   pub replays : board ≡ replay sigs (entry ∷ J)
 
 -- what comes of judging a line after a legal history, and the board then

@@ -87,7 +87,8 @@ fn push_plan(text: &mut Vec<u8>, plan: &Plan) -> Result<(), AllocError>
 }
 
 fn push_schedule(text: &mut Vec<u8>, schedule: &Schedule) -> Result<(), AllocError>
-    ensures { OnOk result (text.new.items ≡ text.old.items ++ spaced (schedule_words schedule.now)) }
+    ensures { OnOk result (text.new.items
+        ≡ text.old.items ++ spaced (schedule_words schedule.now)) }
 {
     push_word(text, b"schedule")?;
     push_number(text, schedule.flight())?;
@@ -171,7 +172,8 @@ fn push_answers(text: &mut Vec<u8>, answers: &[u64]) -> Result<(), AllocError>
 
 // The session, the moment, the role and the outcome.
 fn push_head(text: &mut Vec<u8>, entry: &Entry) -> Result<(), AllocError>
-    ensures { OnOk result (text.new.items ≡ text.old.items ++ spaced (head_words (stated_in entry.now))) }
+    ensures { OnOk result (text.new.items
+        ≡ text.old.items ++ spaced (head_words (stated_in entry.now))) }
 {
     push_number(text, u64::from(entry.session))?;
     push_number(text, u64::from(entry.moment))?;
@@ -192,11 +194,12 @@ fn text_of(alloc: Global, entry: &Entry) -> Result<Vec<u8>, AllocError>
     Ok(text)
 }
 
-/// Writes the text of an entry: `N SESSION MINUTE ROLE OUT K A1 .. AK COMMAND` and a line feed, with OUT 0 or the number
-/// of the refusal and K the count of the answers that its programs used (this project's profile).
+/// Writes the text of an entry: `N SESSION MINUTE ROLE OUT K A1 .. AK COMMAND` and a line feed, with
+/// OUT 0 or the number of the refusal and K the count of the answers that its programs used (this
+/// project's profile).
 ///
-/// `Memory` where there was no room for the text, and then nothing was written; `Write` where the writer failed, which may
-/// have taken a part of it.
+/// `Memory` where there was no room for the text, and then nothing was written; `Write` where the
+/// writer failed, which may have taken a part of it.
 pub fn write_entry<W: Write>(alloc: Global, entry: &Entry, writer: &mut W) -> Result<(), WriteError>
     ensures written { OnOk result
         (Appends (W.contents writer.old) (W.contents writer.new) (entry_text entry.now)) }

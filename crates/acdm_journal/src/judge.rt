@@ -22,7 +22,8 @@ pub enum Clause {
     Number,
     /// 403: the bytes of a program that it loads encode one that is accepted.
     Program,
-    /// 404: the answers of helpers are those that its programs use, each promised, and none where it is refused.
+    /// 404: the answers of helpers are those that its programs use, each promised, and none where it
+    /// is refused.
     Answers,
     /// 405: its outcome is that of the entries before it.
     Outcome,
@@ -127,12 +128,13 @@ fn judge_command(
     Ok(())
 }
 
-/// Judges the next line of a journal, by the board of the entries before it, which then is the board with its entry too. The
-/// line stands without its line feed, and is number `number`, from 0; programs are checked against these signatures.
+/// Judges the next line of a journal, by the board of the entries before it, which then is the board
+/// with its entry too. The line stands without its line feed, and is number `number`, from 0; programs
+/// are checked against these signatures.
 ///
-/// `Faulty` with the first clause that the entry breaks, in the order of their numbers; the answers are judged by the
-/// outcome that the entries before it give, whatever the line says of it. `Memory` where there was no room. After an
-/// error the board is of no use.
+/// `Faulty` with the first clause that the entry breaks, in the order of their numbers; the answers are
+/// judged by the outcome that the entries before it give, whatever the line says of it. `Memory` where
+/// there was no room. After an error the board is of no use.
 pub fn judge_line(
     alloc: Global,
     core: &mut Core,
@@ -141,8 +143,8 @@ pub fn judge_line(
     line: &[u8],
 ) -> Result<(), AuditError>
     requires { core.old.slots.sigs ≡ sigs.now }
-    ensures judges { (J : History) → IsLegal sigs.now J → length J ≡ number → core.old ≡ replay sigs.now J →
-        Judges sigs.now J line.now core.new result }
+    ensures judges { (J : History) → IsLegal sigs.now J → length J ≡ number →
+        core.old ≡ replay sigs.now J → Judges sigs.now J line.now core.new result }
     ensures sigs { core.new.slots.sigs ≡ core.old.slots.sigs }
 {
     let stated = match read_line(alloc, line) {

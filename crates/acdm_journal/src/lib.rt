@@ -1,4 +1,5 @@
-//! The journal as text: the line of an entry, the reading of lines, and the judging of one after those before it.
+//! The journal as text: the line of an entry, the reading of lines, and the judging of one after
+//! those before it.
 #![tactic(auto)]
 
 mod entry_text;

@@ -345,9 +345,9 @@ fn stated_alone(alloc: Global, line: &[u8]) -> Result<Stated, LineError>
 
 /// What a line states. The line stands without its line feed.
 ///
-/// `Unreadable` where it has more than 200,000 bytes or is the line of nothing that may be stated: numbers are decimal
-/// without leading zeros, words have single spaces between them, hexadecimal is in lower case. `Memory` where there was
-/// no room for the answers or the bytes of the program in it.
+/// `Unreadable` where it has more than 200,000 bytes or is the line of nothing that may be stated:
+/// numbers are decimal without leading zeros, words have single spaces between them, hexadecimal is in
+/// lower case. `Memory` where there was no room for the answers or the bytes of the program in it.
 pub fn read_line(alloc: Global, line: &[u8]) -> Result<Stated, LineError>
     ensures states { IfOk result (λ s. (line.now ≡ line_of s) × IsStated s) }
     ensures short { OnOk result (length line.now ≤ 200000) }
