@@ -2,7 +2,7 @@
 use Rattle.std.proofs.Common.{◌≡◌, ℕ, ◌+◌, List, [], ◌∷◌, map, length, refl, sym, ap, subst, ◌∙◌, arith}
 use Rattle.acdm_milestones.specs.declared.role.Role.{Role}
 use Rattle.acdm_jobs.specs.Each.{Each}
-use Rattle.acdm_sessions.specs.Sessions.{Told, numbered, HaveEnded, EndsAs}
+use Rattle.acdm_sessions.specs.Sessions.{SessionEnd, numbered, HaveEnded, EndsAs}
 
 pub empty_of : {X : Type 0} (xs : List X) → length xs ≡ 0 → xs ≡ []
 empty_of [] h = refl
@@ -17,26 +17,26 @@ each_through f P [] (z ∷ zs) e = absurd e
 each_through f P (x ∷ xs) [] e = absurd e
 
 -- sessions that sat on numbered seats have ended
-pub have_ended : {Y : Type 0} (told : Y → Told) (n : ℕ) (roles : List Role) (ys : List Y)
-    → Each (λ s y. EndsAs s.0 s.1 (told y)) (numbered n roles) ys → HaveEnded n roles (map told ys)
-have_ended told n [] [] e = tt
-have_ended told n (r ∷ rs) (y ∷ ys) e =
-    (e.0.same_number, e.0.same_role, e.0.not_started, have_ended told (n + 1) rs ys e.1)
-have_ended told n [] (y ∷ ys) e = absurd e
-have_ended told n (r ∷ rs) [] e = absurd e
+pub have_ended : {Y : Type 0} (session_end : Y → SessionEnd) (n : ℕ) (roles : List Role) (ys : List Y)
+    → Each (λ s y. EndsAs s.0 s.1 (session_end y)) (numbered n roles) ys → HaveEnded n roles (map session_end ys)
+have_ended session_end n [] [] e = tt
+have_ended session_end n (r ∷ rs) (y ∷ ys) e =
+    (e.0.same_number, e.0.same_role, e.0.not_started, have_ended session_end (n + 1) rs ys e.1)
+have_ended session_end n [] (y ∷ ys) e = absurd e
+have_ended session_end n (r ∷ rs) [] e = absurd e
 
 -- sessions that worked on seats of these roles have ended
-pub sessions_ended : {S W Y : Type 0} (seat : W → S) (place : S → ℕ × Role) (told_of : Y → Told)
-    (works : List W) (seats : List S) (ys : List Y) (roles : List Role) (ts : List Told)
-    → Each (λ w y. EndsAs (place (seat w)).0 (place (seat w)).1 (told_of y)) works ys
-    → map seat works ≡ seats → map place seats ≡ numbered 1 roles → ts ≡ map told_of ys
+pub sessions_ended : {S W Y : Type 0} (seat : W → S) (place : S → ℕ × Role) (end_of : Y → SessionEnd)
+    (works : List W) (seats : List S) (ys : List Y) (roles : List Role) (ts : List SessionEnd)
+    → Each (λ w y. EndsAs (place (seat w)).0 (place (seat w)).1 (end_of y)) works ys
+    → map seat works ≡ seats → map place seats ≡ numbered 1 roles → ts ≡ map end_of ys
     → HaveEnded 1 roles ts
-sessions_ended {S} {W} {Y} seat place told_of works seats ys roles ts e on placed same =
-    let P : ℕ × Role → Y → Type 0 = λ p y. EndsAs p.0 p.1 (told_of y) in
+sessions_ended {S} {W} {Y} seat place end_of works seats ys roles ts e on placed same =
+    let P : ℕ × Role → Y → Type 0 = λ p y. EndsAs p.0 p.1 (end_of y) in
     let first : Each (λ s y. P (place s) y) (map seat works) ys =
     each_through seat (λ s y. P (place s) y) works ys e in
     let second : Each P (map place (map seat works)) ys =
     each_through place P (map seat works) ys first in
     let third : Each P (numbered 1 roles) ys =
     subst (λ ps. Each P ps ys) (ap (map place) on ∙ placed) second in
-    subst (HaveEnded 1 roles) (sym same) (have_ended told_of 1 roles ys third)
+    subst (HaveEnded 1 roles) (sym same) (have_ended end_of 1 roles ys third)

@@ -22,7 +22,7 @@ asked_of line = do
 
 -- What is told of a line beside its bytes: whether memory was refused for it, the minute that the
 -- clock gave, and how the bytes of its program are read.
-pub record OrderTold : Type 0 where
+pub record OrderFacts : Type 0 where
   pub short : Bool
   pub minute : Option ℕ
   pub program : Reading
@@ -38,10 +38,10 @@ order_asked (Some m) reading (Ok asked) = order_at m (command_with reading asked
 
 -- what the line asks to be done, and when: the order of tests is 105, 101, 102, the fields, 106, and
 -- then the program
-abbrev pub order_of : OrderTold → List ℕ → Result Order Bad
-order_of told line =
-    if told.short then Err NoMemory
-    else order_asked told.minute told.program (asked_of line)
+abbrev pub order_of : OrderFacts → List ℕ → Result Order Bad
+order_of facts line =
+    if facts.short then Err NoMemory
+    else order_asked facts.minute facts.program (asked_of line)
 
 -- the bytes of a program are read so, where the clock gave a minute
 abbrev pub IsReadingAt : List (ℕ × Promise) → Option ℕ → Result Asked Fault → Reading
@@ -57,7 +57,7 @@ MayBe gives (Some m) = gives m ≡ true
 -- what a function returned is what the line asks for, with a minute that the clock may give
 pub record Orders (gives : ℕ → Bool) (sigs : List (ℕ × Promise)) (line : List ℕ)
     (result : Result Order Bad) : Type 0 where
-  pub told : OrderTold
-  pub minute : MayBe gives told.minute
-  pub reading : told.short ≡ false → IsReadingAt sigs told.minute (asked_of line) told.program
-  pub is : result ≡ order_of told line
+  pub facts : OrderFacts
+  pub minute : MayBe gives facts.minute
+  pub reading : facts.short ≡ false → IsReadingAt sigs facts.minute (asked_of line) facts.program
+  pub is : result ≡ order_of facts line

@@ -40,14 +40,14 @@ pub record SessionAnswers (gives later_gives : ℕ → Bool) (number later_numbe
 
 -- what is told of a session that has ended: its number, its role, its calls that made an entry, and
 -- how it ended
-pub record Told : Type 0 where
+pub record SessionEnd : Type 0 where
   pub number : ℕ
   pub role : Role
   pub calls : ℕ
   pub end : End
 
-abbrev pub told : ℕ → Role → ℕ → End → Told
-told number role calls end =
+abbrev pub session_end : ℕ → Role → ℕ → End → SessionEnd
+session_end number role calls end =
     record { number = number; role = role; calls = calls; end = end }
 
 -- roles with their numbers, one after the other from this one on
@@ -57,7 +57,7 @@ numbered n (r ∷ rs) = (n, r) ∷ numbered (n + 1) rs
 
 -- Sessions of these roles have ended, numbered from here on. One that was not started made no
 -- entry.
-abbrev pub HaveEnded : ℕ → List Role → List Told → Type 0
+abbrev pub HaveEnded : ℕ → List Role → List SessionEnd → Type 0
 HaveEnded n [] [] = Unit {0}
 HaveEnded n (r ∷ rs) (t ∷ ts) =
     (t.number ≡ n) × (t.role ≡ r) × (t.end ≡ Start → t.calls ≡ 0) × HaveEnded (n + 1) rs ts
@@ -65,7 +65,7 @@ HaveEnded n [] (t ∷ ts) = ⊥
 HaveEnded n (r ∷ rs) [] = ⊥
 
 -- a session that was opened with this number and role is told of so
-pub record EndsAs (number : ℕ) (role : Role) (t : Told) : Type 0 where
+pub record EndsAs (number : ℕ) (role : Role) (t : SessionEnd) : Type 0 where
   pub same_number : t.number ≡ number
   pub same_role : t.role ≡ role
   pub not_started : t.end ≡ Start → t.calls ≡ 0

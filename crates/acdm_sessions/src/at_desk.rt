@@ -2,7 +2,7 @@
 ghost use Rattle.std.specs.Prelude.{◌≡◌, ◌+◌, ◌-◌, ◌≤◌, ◌<◌, ◌^◌, false, IfOk};
 ghost use Rattle.acdm_board.specs.Desk.{is_foreign};
 ghost use Rattle.acdm_sessions.specs.Orders.{Orders};
-ghost use Rattle.acdm_sessions.specs.Sessions.{CallAnswers, EndsAs, told};
+ghost use Rattle.acdm_sessions.specs.Sessions.{CallAnswers, EndsAs, session_end};
 
 use crate::answer::Answer;
 use crate::answerer::Answerer;
@@ -126,7 +126,7 @@ pub(crate) fn serve<
     begins: bool,
 ) -> Served<R, W, C, J>
     ensures { EndsAs seat.number seat.role
-        (told result.number result.role result.caller.calls result.end) }
+        (session_end result.number result.role result.caller.calls result.end) }
 {
     let Seat {
         number,

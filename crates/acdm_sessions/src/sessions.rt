@@ -1,7 +1,7 @@
 //! All sessions at once, each on a thread of its own.
 ghost use Rattle.std.specs.Prelude.{◌≡◌, ◌+◌, ◌<◌, ◌≤◌, [], length, map, IfOk, IfErr, OnOk, vec_len, vec_capacity, sum_by};
 ghost use Rattle.acdm_jobs.specs.Each.{Each};
-ghost use Rattle.acdm_sessions.specs.Sessions.{HaveEnded, numbered, told};
+ghost use Rattle.acdm_sessions.specs.Sessions.{HaveEnded, numbered, session_end};
 
 use crate::at_desk::serve;
 use crate::clock::{Clock, Gate};
@@ -38,10 +38,10 @@ impl<
     G: Gate + Sync,
     Rt: Wait + Sync,
 > Job<Served<R, W, C, J>> for Work<'s, R, W, C, H, J, G, Rt> {
-    ghost use Rattle.acdm_sessions.specs.Sessions.{EndsAs, told};
+    ghost use Rattle.acdm_sessions.specs.Sessions.{EndsAs, session_end};
 
     ghost gives = { λ work served. EndsAs work.seat.number work.seat.role
-        (told served.number served.role served.caller.calls served.end) };
+        (session_end served.number served.role served.caller.calls served.end) };
 
     fn run(self, begins: bool) -> Served<R, W, C, J> {
         let Work {
@@ -158,8 +158,8 @@ fn left_by<R: Drop, W: Drop, C: Drop, J: Naming>(
     one: Served<R, W, C, J>,
     all: &mut Share<J>,
 ) -> Ended<R, W, C>
-    ensures told { told result.number result.role result.calls result.end
-        ≡ told one.number one.role one.caller.calls one.end }
+    ensures session_end { session_end result.number result.role result.calls result.end
+        ≡ session_end one.number one.role one.caller.calls one.end }
     ensures parts { all.new.parts ≡ all.old.parts + 1 }
     ensures amount { all.new.amount ≡ all.old.amount + result.calls }
 {
@@ -197,8 +197,8 @@ fn gathered<R: Drop, W: Drop, C: Drop, J: Naming>(
 ) -> Vec<Ended<R, W, C>>
     requires { (vec_len ended ≡ 0) × (vec_len served ≤ vec_capacity ended) }
     ensures len { vec_len result ≡ vec_len served }
-    ensures told { map (λ e. told e.number e.role e.calls e.end) result.items
-        ≡ map (λ s. told s.number s.role s.caller.calls s.end) served.items }
+    ensures session_end { map (λ e. session_end e.number e.role e.calls e.end) result.items
+        ≡ map (λ s. session_end s.number s.role s.caller.calls s.end) served.items }
     ensures parts { all.new.parts ≡ all.old.parts + vec_len served }
     ensures amount { all.new.amount
         ≡ all.old.amount + sum_by (λ e. e.calls) result.items }
@@ -220,8 +220,8 @@ fn close<R: Drop, W: Drop, C: Drop, H: Helpers + Drop, J: Naming>(
     requires room { (vec_len ended ≡ 0) × (vec_len served ≤ vec_capacity ended) }
     ensures sum { length result.desk.history
         ≡ all.amount + sum_by (λ e. e.calls) result.sessions.items }
-    ensures told { map (λ e. told e.number e.role e.calls e.end) result.sessions.items
-        ≡ map (λ s. told s.number s.role s.caller.calls s.end) served.items }
+    ensures session_end { map (λ e. session_end e.number e.role e.calls e.end) result.sessions.items
+        ≡ map (λ s. session_end s.number s.role s.caller.calls s.end) served.items }
 {
     let Locked { desk, mut book } = locked;
     let sessions = gathered(served, &mut all, ended);
@@ -304,7 +304,7 @@ fn run_named<
     ensures sum { IfOk result (λ c. length c.desk.history
         ≡ length desk.history + sum_by (λ e. e.calls) c.sessions.items) }
     ensures sessions { IfOk result (λ c. HaveEnded 1 (map (λ s. s.role) sessions.items)
-        (map (λ e. told e.number e.role e.calls e.end)
+        (map (λ e. session_end e.number e.role e.calls e.end)
         c.sessions.items)) }
     ensures err { IfErr result (λ d. d ≡ desk) }
 {
@@ -351,7 +351,7 @@ pub fn run_sessions<
     ensures sum { IfOk result (λ c. length c.desk.history
         ≡ length desk.history + sum_by (λ e. e.calls) c.sessions.items) }
     ensures sessions { IfOk result (λ c. HaveEnded 1 (map (λ s. s.role) sessions.items)
-        (map (λ e. told e.number e.role e.calls e.end)
+        (map (λ e. session_end e.number e.role e.calls e.end)
         c.sessions.items)) }
     ensures err { IfErr result (λ d. d ≡ desk) }
 {

@@ -1,6 +1,6 @@
 use Rattle.std.specs.Prelude.{◌≡◌, ◌+◌, ◌≤◌, ◌++◌, map, vec_len, vec_capacity, sum_by}
 use Rattle.std.specs.Vec.Iter.{into_iter_len, into_iter_items}
-use Rattle.acdm_sessions.specs.Sessions.{told}
+use Rattle.acdm_sessions.specs.Sessions.{session_end}
 use Rattle.acdm_sessions.proofs.sessions.gathered.Given as goal
 
 abbrev pub invariant-loop-one : goal.invariant-loop-one
@@ -9,8 +9,8 @@ invariant-loop-one g l = record {
   room : vec_len l.fn.served ≤ vec_capacity l.ended;
   parts : l.all.parts ≡ l.fn.all.parts + vec_len l.ended;
   amount : l.all.amount ≡ l.fn.all.amount + sum_by (λ e. e.calls) l.ended.items;
-  told : map (λ e. told e.number e.role e.calls e.end)
+  session_end : map (λ e. session_end e.number e.role e.calls e.end)
       l.ended.items
-      ++ map (λ s. told s.number s.role s.caller.calls s.end) (into_iter_items l.one-iterator)
-      ≡ map (λ s. told s.number s.role s.caller.calls s.end) l.fn.served.items;
+      ++ map (λ s. session_end s.number s.role s.caller.calls s.end) (into_iter_items l.one-iterator)
+      ≡ map (λ s. session_end s.number s.role s.caller.calls s.end) l.fn.served.items;
 }
