@@ -4,10 +4,11 @@ use Rattle.std.specs.Str.{bytes_eq}
 use Rattle.std.specs.Str.Parse.{IsNumeral, digits_value, without_leading_plus}
 use Rattle.clap.specs.Words.{App, Row, Rule, Text, first_of, new_app, new_rule, subcommand_of, with_rule, with_subcommand}
 use Rattle.clap.specs.Takes.{takes}
+use Rattle.clap.specs.declared.builder.action.ArgAction.TheVariants.{Append}
 use Rattle.clap.specs.declared.error.kind.ErrorKind.{ErrorKind}
 use Rattle.clap.specs.declared.error.kind.ErrorKind.TheVariants.{OutOfMemory}
 use Rattle.acdm.specs.declared.command_line.Line.{Line}
-use Rattle.acdm.specs.declared.command_line.Line.TheVariants.{Run, Verify}
+use Rattle.acdm.specs.declared.command_line.Line.TheVariants.{Run, Serve, Verify}
 
 -- `--journal N`, 100000 where it is not given
 abbrev pub journal_rule : Rule
@@ -15,6 +16,17 @@ journal_rule = record (new_rule (codes "journal")) { long = Some (codes "journal
 
 abbrev pub run_app : App
 run_app = with_rule (new_app (codes "run")) journal_rule
+
+-- `serve [--journal N] ROLE=ADDR...`, of at least one address
+abbrev pub partners_rule : Rule
+partners_rule = record (new_rule (codes "partners")) {
+  value_names = 1;
+  action = Some Append;
+  required = true;
+}
+
+abbrev pub serve_app : App
+serve_app = with_rule (with_rule (new_app (codes "serve")) journal_rule) partners_rule
 
 -- `verify FILE`
 abbrev pub file_rule : Rule
@@ -28,7 +40,9 @@ required a = record a { top = record a.top { subcommand_required = true } }
 
 -- the program, of which one subcommand is wanted
 abbrev pub program : App
-program = with_subcommand (with_subcommand (required (new_app (codes "acdm"))) run_app.top) verify_app.top
+program =
+    with_subcommand (with_subcommand (with_subcommand (required (new_app (codes "acdm"))) run_app.top)
+    serve_app.top) verify_app.top
 
 -- the first value of an argument of the subcommand of a name
 abbrev pub value_in : List ℕ → List ℕ → Option (Text × List Row) → Option Text
@@ -46,23 +60,29 @@ abbrev pub IsJournal : Text → Type 0
 IsJournal text =
     IsNumeral 10 (without_leading_plus text) × (1 ≤ number_of text) × (number_of text ≤ 1000000)
 
--- the words ask for `run` with this text for its journal, or for `verify` of this file
+-- the words ask for `run` or `serve` with this text for its journal, or for `verify` of this file
 abbrev pub RunsWith : List Text → Text → Type 0
 RunsWith words text = value_of (codes "run") (codes "journal") words ≡ Some text
+
+abbrev pub ServesWith : List Text → Text → Type 0
+ServesWith words text = value_of (codes "serve") (codes "journal") words ≡ Some text
 
 abbrev pub Verifies : List Text → Text → Type 0
 Verifies words file = value_of (codes "verify") (codes "file") words ≡ Some file
 
--- the words ask for `run` with the journal that they name, or for `verify` of their file
+-- the words ask for `run` or `serve` with the journal that they name, or for `verify` of their file
 abbrev pub AsksFor : List Text → Line → Type 0
 AsksFor words (Run journal) =
     (text : Text) × RunsWith words text × IsJournal text × (journal ≡ number_of text)
+AsksFor words (Serve journal partners) =
+    (text : Text) × ServesWith words text × IsJournal text × (journal ≡ number_of text)
 AsksFor words (Verify file) = Verifies words file.now
 
--- `clap` takes the words, and they ask for one of the two
+-- `clap` takes the words, and they ask for one of the three
 pub record IsRight (words : List Text) : Type 0 where
   pub taken : takes program words ≡ true
   pub asks : ((text : Text) × RunsWith words text × IsJournal text)
+      ⊎ ((text : Text) × ServesWith words text × IsJournal text)
       ⊎ ((file : Text) × Verifies words file)
 
 -- right words are refused only where there is no memory

@@ -1,10 +1,17 @@
--- What keeps a command from its work, by the error of a run.
+-- What keeps a command from its work, by the error of a run or of `serve`.
 use Rattle.acdm_sessions.specs.declared.run_error.RunError.{RunError}
 use Rattle.acdm_sessions.specs.declared.run_error.RunError.TheVariants as errors
 use Rattle.acdm.specs.declared.failure.Failure.{Failure}
-use Rattle.acdm.specs.declared.failure.Failure.TheVariants.{Read, Write, Memory}
+use Rattle.acdm.specs.declared.failure.Failure.TheVariants.{Read, Write, Memory, Accept}
+use Rattle.acdm.specs.declared.partners.ServeError.{ServeError}
+use Rattle.acdm.specs.declared.partners.ServeError.TheVariants as serve_errors
 
 abbrev pub failure_of : RunError → Failure
 failure_of errors.Read = Read
 failure_of errors.Write = Write
 failure_of errors.Memory = Memory
+
+abbrev pub failure_of_serve : ServeError → Failure
+failure_of_serve (serve_errors.Accept number) = Accept number
+failure_of_serve serve_errors.Write = Write
+failure_of_serve serve_errors.Memory = Memory

@@ -2,38 +2,71 @@
 ghost use Rattle.std.specs.Prelude.{◌≡◌, false, IfOk, IfErr, map, codes, option_map};
 ghost use Rattle.std.specs.Option.{SomeIff};
 ghost use Rattle.clap.specs.Values.{kind_of};
-ghost use Rattle.clap.specs.Words.{app_of, subcommand_rows_of};
+ghost use Rattle.clap.specs.Words.{app_of, rule_of, subcommand_rows_of};
 ghost use Rattle.clap.specs.declared.builder.Command.TheViews.{out-Command as fields_of};
-ghost use Rattle.acdm.specs.CommandLine.{program as the_program, run_app, verify_app, value_in};
+ghost use Rattle.acdm.specs.CommandLine.{program as the_program, run_app, serve_app, verify_app};
+ghost use Rattle.acdm.specs.CommandLine.{journal_rule, value_in};
 ghost use Rattle.acdm.specs.CommandLine.{number_of, IsJournal, AsksFor, Refuses};
 
 use clap::error::ErrorKind;
-use clap::{Arg, ArgMatches, Command, Error};
+use clap::{Arg, ArgAction, ArgMatches, Command, Error};
 use std::alloc::{AllocError, Global};
 
 const MOST_ENTRIES: usize = 1_000_000;
 
 /// What the words of a command line ask for.
-#[derive(Clone, Copy, Debug, PartialEq, Eq)]
+#[derive(Debug, Drop, PartialEq, Eq)]
 pub enum Line<'a> {
     /// `run`, with room for so many entries in the journal, from 1 to 1,000,000.
-    Run { journal: usize },
+    Run {
+        journal: usize,
+    },
+    /// `serve`, with room for so many entries in the journal, from 1 to 1,000,000, for the partners
+    /// of these words, as they stand.
+    Serve {
+        journal: usize,
+        partners: Vec<&'a str>,
+    },
     /// `verify`, of the program in this file.
-    Verify { file: &'a str },
+    Verify {
+        file: &'a str,
+    },
+}
+
+// `--journal N`.
+fn journal<'a>(alloc: Global) -> Arg<'a>
+    ensures rule { rule_of result ≡ journal_rule }
+    ensures optional { (result.required ≡ false) × (result.global ≡ false) }
+{
+    Arg::new(alloc, "journal")
+        .long("journal")
+        .value_name("N")
+        .default_value("100000")
+        .help("How many entries the journal takes, 1 to 1000000")
 }
 
 fn run_command<'a>(alloc: Global) -> Result<Command<'a>, AllocError>
     ensures shape { IfOk result (λ c. app_of c ≡ run_app) }
     ensures local { IfOk result (λ c. (fields_of c).has_globals ≡ false) }
 {
-    let journal = Arg::new(alloc, "journal")
-        .long("journal")
-        .value_name("N")
-        .default_value("100000")
-        .help("How many entries the journal takes, 1 to 1000000");
     Command::new(alloc, "run")
         .about("Answers the lines of standard input on standard output")
-        .arg(journal)
+        .arg(journal(alloc))
+}
+
+fn serve_command<'a>(alloc: Global) -> Result<Command<'a>, AllocError>
+    ensures shape { IfOk result (λ c. app_of c ≡ serve_app) }
+    ensures local { IfOk result (λ c. (fields_of c).has_globals ≡ false) }
+{
+    let partners = Arg::new(alloc, "partners")
+        .value_name("ROLE=ADDR")
+        .action(ArgAction::Append)
+        .required(true)
+        .help("A role, NM, ATC, APT, AO or GH, and the IP address and port where it connects");
+    Command::new(alloc, "serve")
+        .about("Accepts a partner at each address, and serves all at once")
+        .arg(journal(alloc))?
+        .arg(partners)
 }
 
 fn verify_command<'a>(alloc: Global) -> Result<Command<'a>, AllocError>
@@ -53,11 +86,13 @@ fn program<'a>(alloc: Global) -> Result<Command<'a>, AllocError>
     ensures { IfOk result (λ c. app_of c ≡ the_program) }
 {
     let run = run_command(alloc)?;
+    let serve = serve_command(alloc)?;
     let verify = verify_command(alloc)?;
     Command::new(alloc, "acdm")
         .about("The shared board of an A-CDM airport")
         .subcommand_required(true)
         .subcommand(run)?
+        .subcommand(serve)?
         .subcommand(verify)
 }
 
@@ -83,6 +118,17 @@ fn value<'a>(matches: &ArgMatches<'a>, name: &str, id: &str) -> Option<&'a str>
     inner.get_str(id)
 }
 
+// The words that name partners.
+fn partners_in<'a>(alloc: Global, matches: &ArgMatches<'a>) -> Result<Vec<&'a str>, AllocError> {
+    let mut partners = Vec::new(alloc);
+    if let Some((_, inner)) = matches.subcommand() {
+        if let Some(words) = inner.get_strs("partners") {
+            partners.extend_from_slice(words)?;
+        }
+    }
+    Ok(partners)
+}
+
 /// What these words ask for; the first is the program's name.
 ///
 /// The journal is what `--journal` says, else 100,000. Words that name no such command are refused by
@@ -100,6 +146,12 @@ pub fn parse<'a>(alloc: Global, words: &'a [&'a str]) -> Result<Line<'a>, Error>
     if let Some(text) = value(&matches, "run", "journal") {
         if let Some(journal) = entries_in(text) {
             return Ok(Line::Run { journal });
+        }
+    }
+    if let Some(text) = value(&matches, "serve", "journal") {
+        if let Some(journal) = entries_in(text) {
+            let partners = partners_in(alloc, &matches)?;
+            return Ok(Line::Serve { journal, partners });
         }
     }
     Err(command.error(

@@ -1,27 +1,38 @@
 //! The commands, over the files, the reader and the writers that they are handed.
 use crate::command_line::{Line, parse};
 use crate::failure::Failure;
+use crate::serve_command::serve_words;
 use crate::serving::run_on;
 use crate::verifying::verify_on;
 use std::alloc::Global;
 use std::fs::{self, Files};
 use std::io::{Read, Write};
+use std::net::{Net, TcpListener, TcpStream};
+use std::sync::Wait;
+use std::thread::Threads;
+use std::time::Clock as SystemClock;
 
 /// Does what the words ask for; the first is the program's name.
 ///
 /// The status is that of the command, and 2 where the words ask for none or their file can't be
 /// opened. What is wrong is told on the errors' writer; where that fails, the status alone says it.
-pub fn complete<F: Files, R: Read + Drop, W: Write + Drop, E: Write + Drop>(
-    alloc: Global,
-    files: &F,
-    words: &[&str],
-    input: R,
-    output: W,
-    mut errors: E,
-) -> u8 {
+pub fn complete<
+    Rt: Files
+        + Net<Listener = TcpListener, Stream = TcpStream>
+        + SystemClock
+        + Threads
+        + Wait
+        + Sync,
+    R: Read + Drop,
+    W: Write + Drop,
+    E: Write + Drop,
+>(alloc: Global, rt: &Rt, words: &[&str], input: R, output: W, mut errors: E) -> u8 {
     match parse(alloc, words) {
         Ok(Line::Run { journal }) => run_on(alloc, journal, input, output, errors),
-        Ok(Line::Verify { file }) => match fs::open(files, file) {
+        Ok(Line::Serve { journal, partners }) => {
+            serve_words(rt, alloc, journal, partners.as_slice(), output, errors)
+        }
+        Ok(Line::Verify { file }) => match fs::open(rt, file) {
             Ok(file) => verify_on(alloc, file, output, errors),
             Err(_) => Failure::Read.complain(errors),
         },

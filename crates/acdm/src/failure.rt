@@ -1,4 +1,5 @@
 //! What keeps a command from its work.
+use crate::partners::ServeError;
 use acdm_sessions::RunError;
 use std::alloc::{AllocError, AllocFailed};
 use std::io::Write;
@@ -12,18 +13,26 @@ pub enum Failure {
     Write,
     /// Memory was refused.
     Memory,
+    /// The role of the partner of this number, from 1, is none.
+    Role(usize),
+    /// The address of the partner of this number is none, or can't be listened at.
+    Address(usize),
+    /// The partner of this number can't be accepted.
+    Accept(usize),
 }
 
 impl Failure {
     /// Says what failed, as one line, and answers the status 2. Where the line can't be written either, the status
     /// alone says it.
     pub fn complain<E: Write + Drop>(self, mut errors: E) -> u8 {
-        let text = match self {
-            Failure::Read => "acdm: read failed\n",
-            Failure::Write => "acdm: write failed\n",
-            Failure::Memory => "acdm: no memory\n",
+        let _ = match self {
+            Failure::Read => writeln!(errors, "acdm: read failed"),
+            Failure::Write => writeln!(errors, "acdm: write failed"),
+            Failure::Memory => writeln!(errors, "acdm: no memory"),
+            Failure::Role(number) => writeln!(errors, "acdm: role {number}"),
+            Failure::Address(number) => writeln!(errors, "acdm: address {number}"),
+            Failure::Accept(number) => writeln!(errors, "acdm: accept {number}"),
         };
-        let _ = errors.write_all(text.as_bytes());
         2
     }
 }
@@ -39,6 +48,21 @@ impl From<RunError> for Failure {
             RunError::Read => Failure::Read,
             RunError::Write => Failure::Write,
             RunError::Memory => Failure::Memory,
+        }
+    }
+}
+
+impl From<ServeError> for Failure {
+    ghost use Rattle.std.specs.Prelude.{◌≡◌};
+    ghost use Rattle.acdm.specs.Failures.{failure_of_serve};
+
+    ghost from_gives = { λ error failure. failure ≡ failure_of_serve error };
+
+    fn from(error: ServeError) -> Failure {
+        match error {
+            ServeError::Accept(number) => Failure::Accept(number),
+            ServeError::Write => Failure::Write,
+            ServeError::Memory => Failure::Memory,
         }
     }
 }

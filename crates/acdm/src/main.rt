@@ -1,10 +1,16 @@
 //! The program `acdm`: the shared board of an A-CDM airport.
 #![tactic(auto)]
 
+mod addresses;
 mod command_line;
 mod commands;
 mod failure;
 mod helpers;
+mod minutes;
+mod partners;
+mod serve_command;
+#[cfg(test)]
+mod serve_tests;
 mod serving;
 #[cfg(test)]
 mod tests;

@@ -9,8 +9,12 @@ use bpf_helpers::{Bank, Helpers};
 use std::alloc::Global;
 use std::fs::Files;
 use std::io::{self, Read, Write};
+use std::net::{Net, TcpListener, TcpStream};
 use std::process::Abort;
+use std::sync::Wait;
 use std::test::Fail;
+use std::thread::Threads;
+use std::time::Clock;
 
 // At 2025-02-20T07:00Z the airport schedules flight 7, and the network manager activates its flight plan.
 const SCHEDULE: &str =
@@ -97,24 +101,24 @@ fn a_run_ends_with_its_status(rt: HostRuntime) -> Result<(), Fail> {
 const TICK: &str = "1 29000580 APT {\"cmd\":\"tick\"}\n";
 
 // What the program writes and answers for these words and this input.
-fn completes<F: Files>(
-    rt: &impl Abort,
+fn completes<
+    Rt: Files
+        + Net<Listener = TcpListener, Stream = TcpStream>
+        + Clock
+        + Threads
+        + Wait
+        + Abort
+        + Sync,
+>(
+    rt: &Rt,
     alloc: Global,
-    files: &F,
     words: &[&str],
     input: &str,
     expected: (u8, &str, &str),
 ) -> Result<(), Fail> {
     let mut output = Vec::new(alloc);
     let mut errors = Vec::new(alloc);
-    let status = complete(
-        alloc,
-        files,
-        words,
-        input.as_bytes(),
-        &mut output,
-        &mut errors,
-    );
+    let status = complete(alloc, rt, words, input.as_bytes(), &mut output, &mut errors);
     let (wanted, replies, complaint) = expected;
     assert_eq!(rt; status, wanted);
     assert_eq!(rt; output.as_slice(), replies.as_bytes());
@@ -132,7 +136,6 @@ fn a_journal_takes_just_as_many_entries_as_it_says(rt: HostRuntime) -> Result<()
     completes(
         &rt,
         rt.alloc(),
-        &rt,
         &["acdm", "run", "--journal", "4"],
         ticks.as_str(),
         (0, "ok 0\nok 1\nok 2\nok 3\nbad 502\n", ""),
@@ -140,7 +143,6 @@ fn a_journal_takes_just_as_many_entries_as_it_says(rt: HostRuntime) -> Result<()
     completes(
         &rt,
         rt.alloc(),
-        &rt,
         &["acdm", "run"],
         ticks.as_str(),
         (0, "ok 0\nok 1\nok 2\nok 3\nok 4\n", ""),
@@ -152,7 +154,6 @@ fn words_and_files_that_fail_are_told_as_errors(rt: HostRuntime) -> Result<(), F
     completes(
         &rt,
         rt.alloc(),
-        &rt,
         &["acdm", "verify", "no-such-folder/no-such-file"],
         TICK,
         (2, "", "acdm: read failed\n"),

@@ -1,0 +1,157 @@
+//! The command `serve`, over the listeners that it is handed.
+ghost use Rattle.std.specs.Prelude.{◌≡◌, ◌+◌, ◌≤◌, IfOk, length, map, sum_by, vec_len};
+ghost use Rattle.acdm_sessions.specs.Sessions.{HaveEnded, told};
+
+use acdm_board::Desk;
+use acdm_milestones::Role;
+use acdm_sessions::{Clock, Closed, Counted, End, Gate, Session, name_of, run_sessions};
+use bpf_helpers::Helpers;
+use std::alloc::Global;
+use std::io::Write;
+use std::net::{TcpListener, TcpStream};
+use std::sync::Wait;
+use std::thread::Threads;
+
+/// Why `serve` did not end as it should.
+#[derive(Clone, Copy, Debug, PartialEq, Eq)]
+pub enum ServeError {
+    /// The partner of this number, from 1, could not be accepted.
+    Accept(usize),
+    /// A line could not be written.
+    Write,
+    /// Memory was refused.
+    Memory,
+}
+
+// Holds nobody up.
+#[derive(Drop)]
+struct Open;
+
+impl Gate for Open {
+    fn enter(&self, _session: u8, _call: u64) {}
+
+    fn answered(&self, _session: u8, _call: u64) {}
+}
+
+/// Accepts one partner on each listener, in order, serves all at once against one desk, and tells on
+/// the writer what it does: `listen K ROLE ADDR` for each listener, K from 1, then, once all partners
+/// are gone, `session K CALLS END` for each session and `closed N` with the number of entries.
+///
+/// `Accept` where a listener has no address or a partner can't be accepted; `Write` where the writer
+/// failed, which may be after the sessions; `Memory` where it was refused before they began.
+pub fn serve_on<
+    Rt: Threads + Wait + Sync,
+    H: Helpers + Drop + Send,
+    C: Clock + Drop + Send,
+    W: Write,
+>(
+    rt: &Rt,
+    alloc: Global,
+    partners: Vec<(Role, TcpListener, C)>,
+    desk: Desk<H>,
+    writer: &mut W,
+) -> Result<Closed<H, TcpStream, TcpStream, C>, ServeError>
+    requires few { vec_len partners ≤ 64 }
+    ensures sum { IfOk result (λ c. length c.desk.history
+        ≡ length desk.history + sum_by (λ e. e.calls) c.sessions.items) }
+    ensures sessions { IfOk result (λ c. HaveEnded 1 (map (λ p. p.0) partners.items)
+        (map (λ e. told e.number e.role e.calls e.end) c.sessions.items)) }
+{
+    announce(&partners, writer)?;
+    let sessions = accept_all(alloc, partners)?;
+    let closed = match run_sessions(rt, alloc, desk, sessions, &Open) {
+        Ok(closed) => closed,
+        Err(_desk) => return Err(ServeError::Memory),
+    };
+    tell(&closed, writer)?;
+    Ok(closed)
+}
+
+// Writes the line of each listener.
+fn announce<C, W: Write>(
+    partners: &[(Role, TcpListener, C)],
+    writer: &mut W,
+) -> Result<(), ServeError> {
+    for (at, (role, listener, _)) in partners.iter().enumerate() {
+        let number = at + 1;
+        let Ok(address) = listener.local_addr() else {
+            return Err(ServeError::Accept(number));
+        };
+        let role = name_of(*role);
+        if writeln!(writer, "listen {number} {role} {address}").is_err() {
+            return Err(ServeError::Write);
+        }
+    }
+    writer.flush().map_err(|_| ServeError::Write)
+}
+
+// Accepts a partner on each listener, in order.
+fn accept_all<C: Drop>(
+    alloc: Global,
+    partners: Vec<(Role, TcpListener, C)>,
+) -> Result<Vec<Session<TcpStream, TcpStream, C>>, ServeError>
+    ensures len { IfOk result (λ sessions. vec_len sessions ≡ vec_len partners) }
+    ensures roles { IfOk result (λ sessions. map (λ s. s.role) sessions.items
+        ≡ map (λ p. p.0) partners.items) }
+{
+    let Ok(mut sessions) = Vec::with_capacity(alloc, partners.len()) else {
+        return Err(ServeError::Memory);
+    };
+    for partner in partners {
+        let number = sessions.len() + 1;
+        sessions.push_reserved(accept(number, partner)?);
+    }
+    Ok(sessions)
+}
+
+// Accepts a partner.
+fn accept<C: Drop>(
+    number: usize,
+    partner: (Role, TcpListener, C),
+) -> Result<Session<TcpStream, TcpStream, C>, ServeError>
+    ensures { IfOk result (λ session. session.role ≡ partner.0) }
+{
+    let (role, listener, clock) = partner;
+    let Ok((stream, _)) = listener.accept() else {
+        return Err(ServeError::Accept(number));
+    };
+    let Ok(same) = stream.try_clone() else {
+        return Err(ServeError::Accept(number));
+    };
+    // Where replies can't go at once they go later.
+    let _ = stream.set_nodelay(true);
+    Ok(Session {
+        role,
+        reader: Counted::new(stream),
+        writer: Counted::new(same),
+        clock,
+    })
+}
+
+// The name of an end.
+fn end_name(end: End) -> &'static str {
+    match end {
+        End::End => "end",
+        End::Read => "read",
+        End::Write => "write",
+        End::Memory => "memory",
+        End::Start => "start",
+    }
+}
+
+// Writes the line of each session, and how many entries there are.
+fn tell<H: Helpers + Drop, C: Drop, W: Write>(
+    closed: &Closed<H, TcpStream, TcpStream, C>,
+    writer: &mut W,
+) -> Result<(), ServeError> {
+    for session in &closed.sessions {
+        let end = end_name(session.end);
+        if writeln!(writer, "session {} {} {end}", session.number, session.calls).is_err() {
+            return Err(ServeError::Write);
+        }
+    }
+    if writeln!(writer, "closed {}", closed.desk.len()).is_err() {
+        return Err(ServeError::Write);
+    }
+    writer.flush().map_err(|_| ServeError::Write)
+}

@@ -1,0 +1,62 @@
+//! The command `serve`, from its words on.
+use crate::addresses::listen;
+use crate::failure::Failure;
+use crate::helpers::{bank_of, minutes_later, taxi_minutes, turn_round_minutes};
+use crate::partners::serve_on;
+use acdm_board::Desk;
+use bpf_helpers::{Code, Helpers};
+use std::alloc::Global;
+use std::io::Write;
+use std::net::{Net, TcpListener, TcpStream};
+use std::sync::Wait;
+use std::thread::Threads;
+use std::time::Clock as SystemClock;
+
+/// Serves a partner for each word `ROLE=ADDR`, at most 64, all at once, with room for so many
+/// entries in the journal, and tells on the writer what it does.
+///
+/// The status is 0 where all was told, else 2, with a line on the errors' writer.
+pub(crate) fn serve_words<
+    Rt: Net<Listener = TcpListener, Stream = TcpStream> + SystemClock + Threads + Wait + Sync,
+    W: Write + Drop,
+    E: Write + Drop,
+>(rt: &Rt, alloc: Global, journal: usize, words: &[&str], writer: W, errors: E) -> u8 {
+    match serve(rt, alloc, journal, words, writer) {
+        Ok(()) => 0,
+        Err(failure) => failure.complain(errors),
+    }
+}
+
+// Makes the known helpers.
+fn serve<
+    Rt: Net<Listener = TcpListener, Stream = TcpStream> + SystemClock + Threads + Wait + Sync,
+    W: Write + Drop,
+>(rt: &Rt, alloc: Global, journal: usize, words: &[&str], writer: W) -> Result<(), Failure> {
+    let kinds: Code = Box::new(alloc, turn_round_minutes)?;
+    let stands: Code = Box::new(alloc, taxi_minutes)?;
+    let minutes: Code = Box::new(alloc, minutes_later)?;
+    let bank = bank_of(alloc, kinds, stands, minutes)?;
+    serve_with(rt, alloc, bank, journal, words, writer)
+}
+
+// Serves a desk that is empty at first.
+fn serve_with<
+    Rt: Net<Listener = TcpListener, Stream = TcpStream> + SystemClock + Threads + Wait + Sync,
+    H: Helpers + Drop + Send,
+    W: Write + Drop,
+>(
+    rt: &Rt,
+    alloc: Global,
+    helpers: H,
+    journal: usize,
+    words: &[&str],
+    mut writer: W,
+) -> Result<(), Failure> {
+    let desk = Desk::new(alloc, helpers, journal)?;
+    let partners = listen(rt, alloc, words)?;
+    if partners.len() > 64 {
+        return Err(Failure::Address(65));
+    }
+    let _closed = serve_on(rt, alloc, partners, desk, &mut writer)?;
+    Ok(())
+}
