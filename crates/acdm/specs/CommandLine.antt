@@ -39,10 +39,12 @@ abbrev required : App → App
 required a = record a { top = record a.top { subcommand_required = true } }
 
 -- the program, of which one subcommand is wanted
+abbrev pub serving_app : App
+serving_app =
+    with_subcommand (with_subcommand (required (new_app (codes "acdm"))) run_app.top) serve_app.top
+
 abbrev pub program : App
-program =
-    with_subcommand (with_subcommand (with_subcommand (required (new_app (codes "acdm"))) run_app.top)
-    serve_app.top) verify_app.top
+program = with_subcommand serving_app verify_app.top
 
 -- the first value of an argument of the subcommand of a name
 abbrev pub value_in : List ℕ → List ℕ → Option (Text × List Row) → Option Text

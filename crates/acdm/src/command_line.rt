@@ -4,7 +4,7 @@ ghost use Rattle.std.specs.Option.{SomeIff};
 ghost use Rattle.clap.specs.Values.{kind_of};
 ghost use Rattle.clap.specs.Words.{app_of, rule_of, subcommand_rows_of};
 ghost use Rattle.clap.specs.declared.builder.Command.TheViews.{out-Command as fields_of};
-ghost use Rattle.acdm.specs.CommandLine.{program as the_program, run_app, serve_app, verify_app};
+ghost use Rattle.acdm.specs.CommandLine.{program as the_program, run_app, serve_app, serving_app, verify_app};
 ghost use Rattle.acdm.specs.CommandLine.{journal_rule, value_in};
 ghost use Rattle.acdm.specs.CommandLine.{number_of, IsJournal, AsksFor, Refuses};
 
@@ -82,18 +82,25 @@ fn verify_command<'a>(alloc: Global) -> Result<Command<'a>, AllocError>
         .arg(file)
 }
 
-fn program<'a>(alloc: Global) -> Result<Command<'a>, AllocError>
-    ensures { IfOk result (λ c. app_of c ≡ the_program) }
+// The program with the two subcommands that serve.
+fn serving_program<'a>(alloc: Global) -> Result<Command<'a>, AllocError>
+    ensures shape { IfOk result (λ c. app_of c ≡ serving_app) }
+    ensures local { IfOk result (λ c. (fields_of c).has_globals ≡ false) }
 {
     let run = run_command(alloc)?;
     let serve = serve_command(alloc)?;
-    let verify = verify_command(alloc)?;
     Command::new(alloc, "acdm")
         .about("The shared board of an A-CDM airport")
         .subcommand_required(true)
         .subcommand(run)?
-        .subcommand(serve)?
-        .subcommand(verify)
+        .subcommand(serve)
+}
+
+fn program<'a>(alloc: Global) -> Result<Command<'a>, AllocError>
+    ensures { IfOk result (λ c. app_of c ≡ the_program) }
+{
+    let verify = verify_command(alloc)?;
+    serving_program(alloc)?.subcommand(verify)
 }
 
 // The number of entries that a text names, from 1 to 1,000,000.

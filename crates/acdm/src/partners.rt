@@ -1,6 +1,6 @@
 //! The command `serve`, over the listeners that it is handed.
 ghost use Rattle.std.specs.Prelude.{◌≡◌, ◌+◌, ◌≤◌, IfOk, length, map, sum_by, vec_len};
-ghost use Rattle.acdm_sessions.specs.Sessions.{HaveEnded, told};
+ghost use Rattle.acdm_sessions.specs.Sessions.{HaveEnded, session_end};
 
 use acdm_board::Desk;
 use acdm_milestones::Role;
@@ -55,7 +55,7 @@ pub fn serve_on<
     ensures sum { IfOk result (λ c. length c.desk.history
         ≡ length desk.history + sum_by (λ e. e.calls) c.sessions.items) }
     ensures sessions { IfOk result (λ c. HaveEnded 1 (map (λ p. p.0) partners.items)
-        (map (λ e. told e.number e.role e.calls e.end) c.sessions.items)) }
+        (map (λ e. session_end e.number e.role e.calls e.end) c.sessions.items)) }
 {
     announce(&partners, writer)?;
     let sessions = accept_all(alloc, partners)?;
