@@ -9,8 +9,6 @@ mod helpers;
 mod minutes;
 mod partners;
 mod serve_command;
-#[cfg(test)]
-mod serve_tests;
 mod serving;
 #[cfg(test)]
 mod tests;

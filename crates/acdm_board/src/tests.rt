@@ -1,8 +1,8 @@
 //! A helper that is asked through the desk, and what its entry keeps.
-ghost use Rattle.std.specs.Prelude.{◌≡◌, ◌+◌, ◌<◌, ◌^◌, IfOk};
+ghost use Rattle.std.specs.Prelude.{◌≡◌, ◌+◌, ◌<◌, ◌≤◌, ◌^◌, IfOk};
 ghost use Rattle.bpf_helpers.specs.Known.{sum};
 
-use crate::{Desk, DeskError};
+use crate::{Desk, DeskError, Reply};
 use acdm_milestones::{Milestone, Role};
 use acdm_record::{Field, Text};
 use acdm_slots::Kind;
@@ -82,6 +82,53 @@ fn no_sigs(alloc: Global) -> Result<Sigs, Fail> {
     Ok(bank.sigs()?)
 }
 
+// A call that makes an entry.
+fn entered<H: Helpers + Drop>(
+    desk: &mut Desk<H>,
+    session: u8,
+    role: Role,
+    command: Command,
+) -> Result<Reply, Fail>
+    requires session_given { 1 ≤ session }
+    requires few_sessions { session ≤ 64 }
+{
+    Ok(
+        desk.call(session, role, NINE, command)
+            .map_err(|_| "refused")?,
+    )
+}
+
+// A call of session 1 that makes none.
+fn refused<H: Helpers + Drop>(desk: &mut Desk<H>, command: Command) -> Option<DeskError> {
+    desk.call(1, Role::AirportOperator, NINE, command).err()
+}
+
+// The TOBT of flight 7.
+fn tobt_on<H: Helpers + Drop>(desk: &Desk<H>) -> Option<u64> {
+    Some(desk.core().record_of(7)?.get(Field::Tobt))
+}
+
+// Whether an entry has this number and this one answer.
+fn has_answer<H: Helpers + Drop>(desk: &Desk<H>, number: u64, answer: u64) -> bool {
+    match desk.entry(number) {
+        Some(entry) => entry.number == number && entry.answers.as_slice() == [answer].as_slice(),
+        None => false,
+    }
+}
+
+// The in-block report of flight 7, after all that has to come before it.
+fn in_block<H: Helpers + Drop>(desk: &mut Desk<H>) -> Result<Reply, Fail> {
+    entered(desk, 1, Role::AirportOperator, scheduled()?)?;
+    entered(desk, 2, Role::NetworkManager, planned()?)?;
+    entered(
+        desk,
+        3,
+        Role::AirTrafficControl,
+        at_nine(Milestone::Landed)?,
+    )?;
+    entered(desk, 1, Role::AirportOperator, at_nine(Milestone::InBlock)?)
+}
+
 // The TOBT of flight 7 is five minutes after its in-block report, as helper 3 says it.
 fn five_minutes_later<H: Helpers + Drop>(
     rt: &impl Abort,
@@ -90,46 +137,23 @@ fn five_minutes_later<H: Helpers + Drop>(
 ) -> Result<(), Fail> {
     let mut desk = Desk::new(alloc, helpers, 6)?;
     let load = loaded(alloc, &FIVE_LATER, desk.sigs())?;
-    desk.call(1, Role::AirportOperator, NINE, load)
-        .map_err(|_| "refused")?;
-    desk.call(1, Role::AirportOperator, NINE, scheduled()?)
-        .map_err(|_| "refused")?;
-    desk.call(2, Role::NetworkManager, NINE, planned()?)
-        .map_err(|_| "refused")?;
-    desk.call(
-        3,
-        Role::AirTrafficControl,
-        NINE,
-        at_nine(Milestone::Landed)?,
-    )
-    .map_err(|_| "refused")?;
-    let reply = desk
-        .call(1, Role::AirportOperator, NINE, at_nine(Milestone::InBlock)?)
-        .map_err(|_| "refused")?;
+    entered(&mut desk, 1, Role::AirportOperator, load)?;
+    let reply = in_block(&mut desk)?;
     assert_eq!(rt; reply.number, 4);
     assert_eq!(rt; reply.outcome.verdict(), Verdict::Accepted);
-    let record = desk.core().record_of(7).ok_or("no flight")?;
-    assert_eq!(rt; record.get(Field::Tobt), 29_000_705);
+    assert_eq!(rt; tobt_on(&desk), Some(29_000_705));
     assert_eq!(rt; desk.len(), 5);
-    let entry = desk.entry(4).ok_or("no entry")?;
-    assert_eq!(rt; entry.number, 4);
-    assert_eq!(rt; entry.answers.as_slice().len(), 1);
-    assert_eq!(rt; entry.answers.as_slice()[0], 29_000_705);
+    assert!(rt; has_answer(&desk, 4, 29_000_705));
     assert!(rt; desk.entry(5).is_none());
     let empty = no_sigs(alloc)?;
     let foreign = loaded(alloc, &NOTHING, &empty)?;
     assert_eq!(rt;
-        desk.call(1, Role::AirportOperator, NINE, foreign).err(),
+        refused(&mut desk, foreign),
         Some(DeskError::OtherSignatures)
     );
     assert_eq!(rt; desk.len(), 5);
-    desk.call(1, Role::AirportOperator, NINE, Command::Tick)
-        .map_err(|_| "refused")?;
-    assert_eq!(rt;
-        desk.call(1, Role::AirportOperator, NINE, Command::Tick)
-            .err(),
-        Some(DeskError::Full)
-    );
+    entered(&mut desk, 1, Role::AirportOperator, Command::Tick)?;
+    assert_eq!(rt; refused(&mut desk, Command::Tick), Some(DeskError::Full));
     Ok(())
 }
 

@@ -13,8 +13,3 @@ pub use entry_text::{WriteError, write_entry};
 pub use judge::{AuditError, Clause, judge_line};
 pub use reading::read_line;
 pub use stated::{Asked, LineError, LoadLine, ProgramBytes, Stated};
-
-#[cfg(test)]
-mod judge_tests;
-#[cfg(test)]
-mod tests;

@@ -45,8 +45,6 @@ mod board_tests;
 #[cfg(test)]
 mod program_tests;
 #[cfg(test)]
-mod sessions_tests;
-#[cfg(test)]
 mod tests;
 #[cfg(test)]
 mod wire_tests;
