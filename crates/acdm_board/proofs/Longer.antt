@@ -10,7 +10,11 @@ use Rattle.acdm_step.specs.declared.entry.Entry.{Entry}
 use Rattle.acdm_step.specs.declared.entry.Verdict.{Verdict}
 use Rattle.acdm_step.specs.declared.outcome.Outcome.{Outcome}
 use Rattle.acdm_step.specs.Programs.{Programs}
-use Rattle.acdm_step.specs.History.{Board, IsChecked, IsInRange, IsLegal, IsAnswered, replay, after, flight_of, bit_of, summary, reported, programs_of, room_of, left_by, is_accepted, verdict_of, outcome_of, verdict_in}
+use Rattle.acdm_step.specs.Commands.{flight_of, bit_of, is_accepted}
+use Rattle.acdm_step.specs.InSlots.{programs_of, room_of}
+use Rattle.acdm_step.specs.Summaries.{run_record_of}
+use Rattle.acdm_step.specs.Verdicts.{verdict_of, outcome_of, verdict_in}
+use Rattle.acdm_step.specs.History.{Board, IsChecked, IsInRange, IsLegal, IsAnswered, replay, after, left_by}
 use Rattle.acdm_step.specs.Laws.{verdict_in-outcome_of}
 use Rattle.acdm_step.specs.Running.{AsksIn, first, second, ComesOf, answered_so, unanswered_so}
 use Rattle.acdm_step.proofs.Runs.{asked_few}
@@ -36,12 +40,12 @@ module _ (old new : Board) (xs ys : List Entry) (capacity n session moment : ℕ
     (comes : ComesOf old.slots.sigs (reverse xs) role moment c from to outcome)
     (board : (us : List ℕ) → (is_accepted (verdict_in outcome) ≡ true → to.log ≡ from.log ++ us) → new ≡ replay old.slots.sigs (after (reverse xs) session role moment c (verdict_in outcome) us)) where
   -- with so much room no question is left without an answer
-  answered_all : AsksIn (programs_of (reverse xs) c) (reported (flight_of c) c (summary (reverse xs) (flight_of c))) moment (bit_of c) from to → ⊥
+  answered_all : AsksIn (programs_of (reverse xs) c) (run_record_of (reverse xs) c) moment (bit_of c) from to → ⊥
   answered_all h =
-      let few = asked_few (programs_of (reverse xs) c) (reported (flight_of c) c (summary (reverse xs) (flight_of c))) moment (bit_of c) from to h in
+      let few = asked_few (programs_of (reverse xs) c) (run_record_of (reverse xs) c) moment (bit_of c) from to h in
       let none : length from.log ≡ 0 = ap length begins in
       too_few (room_of (reverse xs) c) (length to.log)
-      (declined_full (programs_of (reverse xs) c) (reported (flight_of c) c (summary (reverse xs) (flight_of c))) moment (bit_of c) (room_of (reverse xs) c) from to rule h)
+      (declined_full (programs_of (reverse xs) c) (run_record_of (reverse xs) c) moment (bit_of c) (room_of (reverse xs) c) from to rule h)
       (omega (arith, few, none))
 
   -- so what comes of the command is what the tests say
@@ -61,7 +65,7 @@ module _ (old new : Board) (xs ys : List Entry) (capacity n session moment : ℕ
   right : ComesOf old.slots.sigs (reverse xs) role moment c from to outcome → IsAnswered old.slots.sigs (reverse xs) role moment c (verdict_in outcome) answers
   right (answered_so used gained counts is ran none) =
       let all : to.log ≡ used = gained ∙ ap (λ l. l ++ used) begins in
-      let r = reported (flight_of c) c (summary (reverse xs) (flight_of c)) in
+      let r = run_record_of (reverse xs) c in
       record {
         verdict_is = verdict_here;
         used = λ d.

@@ -7,7 +7,8 @@ use Rattle.acdm_step.specs.declared.command.Command.{Command}
 use Rattle.acdm_step.specs.declared.command.Command.TheVariants.{Load}
 use Rattle.acdm_step.specs.declared.entry.Entry.{Entry}
 use Rattle.acdm_step.specs.declared.outcome.Outcome.{Outcome}
-use Rattle.acdm_step.specs.History.{Board, IsLegal, replay, after, outcome_of, verdict_of}
+use Rattle.acdm_step.specs.Verdicts.{outcome_of, verdict_of}
+use Rattle.acdm_step.specs.History.{Board, IsLegal, replay, after}
 
 -- the entries, the newest first, how many there may be, and the signatures of the helpers
 pub record DeskView : Type 0 where

@@ -3,7 +3,10 @@ ghost use Rattle.std.specs.Prelude.{◌≡◌, ◌<◌, ◌≤◌, [], true, fal
 ghost use Rattle.std.specs.Option.{option_copied};
 ghost use Rattle.bpf_helpers.specs.Same.{same_sigs};
 ghost use Rattle.bpf_regstate.specs.States.{Accepts};
-ghost use Rattle.acdm_step.specs.History.{IsChecked, IsLegal, replay, room_of, is_accepted, verdict_in};
+ghost use Rattle.acdm_step.specs.Commands.{is_accepted};
+ghost use Rattle.acdm_step.specs.InSlots.{room_of};
+ghost use Rattle.acdm_step.specs.Verdicts.{verdict_in};
+ghost use Rattle.acdm_step.specs.History.{IsChecked, IsLegal, replay};
 ghost use Rattle.acdm_board.specs.Desk.{DeskView, Enters, is_foreign as has_other_sigs};
 
 use acdm_milestones::Role;

@@ -6,7 +6,7 @@ use crate::{Desk, DeskError, Reply};
 use acdm_milestones::{Milestone, Role};
 use acdm_record::{Field, Text};
 use acdm_slots::Kind;
-use acdm_step::{Command, Load, Plan, Report, Schedule, Verdict};
+use acdm_step::{Command, FlightCommand, Load, Plan, Report, Schedule, Verdict};
 use bpf_decode::decode;
 use bpf_helpers::{Bank, Code, Helper, Helpers, Range, Signature, Sigs};
 use bpf_verifier::verify;
@@ -52,18 +52,18 @@ fn plan() -> Result<Plan, Fail> {
 }
 
 fn scheduled() -> Result<Command, Fail> {
-    Ok(Command::Schedule(Schedule::new(7, plan()?, TEN, 40, 5, 10, 12)))
+    Ok(Command::Flight(FlightCommand::Schedule(Schedule::new(7, plan()?, TEN, 40, 5, 10, 12))))
 }
 
 fn planned() -> Result<Command, Fail> {
-    Ok(Command::Report(Report::new(7, Milestone::FlightPlanActivated, TEN, Some(plan()?))))
+    Ok(Command::Flight(FlightCommand::Report(Report::new(7, Milestone::FlightPlanActivated, TEN, Some(plan()?)))))
 }
 
 fn at_nine(milestone: Milestone) -> Result<Command, Fail> {
     if matches!(milestone, Milestone::FlightPlanActivated) {
         return Err("no plan".into());
     }
-    Ok(Command::Report(Report::new(7, milestone, NINE, None)))
+    Ok(Command::Flight(FlightCommand::Report(Report::new(7, milestone, NINE, None))))
 }
 
 // A load of these bytes, checked against these signatures.

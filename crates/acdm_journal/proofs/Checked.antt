@@ -9,8 +9,12 @@ use Rattle.acdm_slots.specs.declared.kind.Kind as kinds
 use Rattle.acdm_slots.specs.declared.kind.Kind.TheVariants.{Tobt, Alert}
 use Rattle.acdm_slots.specs.Loaded.{place}
 use Rattle.acdm_step.specs.declared.command.Command.{Command}
-use Rattle.acdm_step.specs.declared.command.Command.TheVariants.{Schedule, Report, Load, Unload, Tick, Show, Alerts}
-use Rattle.acdm_step.specs.History.{History, IsLegal, IsChecked, is_accepted, slot_change, changed_or, program_in, programs_of}
+use Rattle.acdm_step.specs.declared.command.Command.TheVariants.{Load, Unload, Tick, Show, Alerts}
+use Rattle.acdm_step.specs.declared.command.Command.TheVariants as commands
+use Rattle.acdm_step.specs.declared.command.FlightCommand.TheVariants.{Schedule, Report}
+use Rattle.acdm_step.specs.Commands.{History, is_accepted}
+use Rattle.acdm_step.specs.InSlots.{slot_change, changed_or, program_in, programs_of}
+use Rattle.acdm_step.specs.History.{IsLegal, IsChecked}
 
 put_in : (b : Bool) (put before : Option Verified) (v : Verified) (sigs : List (ℕ × Promise))
     → (put ≡ Some v → v.sigs ≡ sigs) → (before ≡ Some v → v.sigs ≡ sigs)
@@ -26,8 +30,8 @@ changed_in sigs a k v (Load l) checked before then h =
     (λ e. sym (ap (λ (x : Verified). x.sigs) (same_Some l.program v e)) ∙ checked.0) then h
 changed_in sigs a k v (Unload u) checked before then h =
     put_in (place u.milestone u.kind == place a k) None before v sigs (λ e. absurd (cc e)) then h
-changed_in sigs a k v (Schedule s) checked before then h = then h
-changed_in sigs a k v (Report r) checked before then h = then h
+changed_in sigs a k v (commands.Flight (Schedule s)) checked before then h = then h
+changed_in sigs a k v (commands.Flight (Report r)) checked before then h = then h
 changed_in sigs a k v Tick checked before then h = then h
 changed_in sigs a k v (Show f) checked before then h = then h
 changed_in sigs a k v Alerts checked before then h = then h
@@ -48,10 +52,10 @@ checked_in sigs (e ∷ J) a k v legal h =
 -- those that a command runs
 pub tobt_checked : (sigs : List (ℕ × Promise)) (J : History) (c : Command) → IsLegal sigs J
     → (v : Verified) → (programs_of J c).tobt ≡ Some v → v.sigs ≡ sigs
-tobt_checked sigs J (Report r) legal v h = checked_in sigs J r.milestone Tobt v legal h
+tobt_checked sigs J (commands.Flight (Report r)) legal v h = checked_in sigs J r.milestone Tobt v legal h
 tobt_checked sigs J _ legal v h = absurd (cc)
 
 pub alert_checked : (sigs : List (ℕ × Promise)) (J : History) (c : Command) → IsLegal sigs J
     → (v : Verified) → (programs_of J c).alert ≡ Some v → v.sigs ≡ sigs
-alert_checked sigs J (Report r) legal v h = checked_in sigs J r.milestone Alert v legal h
+alert_checked sigs J (commands.Flight (Report r)) legal v h = checked_in sigs J r.milestone Alert v legal h
 alert_checked sigs J _ legal v h = absurd (cc)

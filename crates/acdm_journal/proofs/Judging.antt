@@ -16,14 +16,20 @@ use Rattle.acdm_milestones.specs.declared.role.Action.TheVariants as actions
 use Rattle.acdm_milestones.specs.Tables.{admission, owns, number, has_reached, needs, bar, is_set, needs_set, is_in_order, times_of}
 use Rattle.acdm_record.specs.Assign.{with_all}
 use Rattle.acdm_step.specs.declared.command.Command.{Command}
-use Rattle.acdm_step.specs.declared.command.Command.TheVariants.{Schedule, Report, Load, Unload, Tick, Show, Alerts}
+use Rattle.acdm_step.specs.declared.command.Command.TheVariants.{Load, Unload, Tick, Show, Alerts}
+use Rattle.acdm_step.specs.declared.command.Command.TheVariants as commands
+use Rattle.acdm_step.specs.declared.command.FlightCommand.TheVariants.{Schedule, Report}
 use Rattle.acdm_step.specs.declared.entry.Verdict.{Verdict}
 use Rattle.acdm_step.specs.declared.entry.Verdict.TheVariants.{Accepted, Refused}
 use Rattle.acdm_step.specs.declared.outcome.Outcome.{Outcome}
 use Rattle.acdm_step.specs.Laws.{verdict_in-outcome_of}
 use Rattle.acdm_step.specs.Ran.{Ran}
 use Rattle.acdm_step.specs.Running.{ComesOf, answered_so, unanswered_so}
-use Rattle.acdm_step.specs.History.{History, IsLegal, flight_of, bit_of, summary, reported, programs_of, is_accepted, verdict_of, verdict_for, verdict_in, verdict_from, outcome_of, most_flights, exists, flights, record_of, is_ready, left_by, left_after}
+use Rattle.acdm_step.specs.Commands.{History, flight_of, bit_of, is_accepted, most_flights}
+use Rattle.acdm_step.specs.InSlots.{programs_of}
+use Rattle.acdm_step.specs.Summaries.{exists, flights, record_of, run_record_of}
+use Rattle.acdm_step.specs.Verdicts.{verdict_of, verdict_for, verdict_in, verdict_from, outcome_of, is_ready}
+use Rattle.acdm_step.specs.History.{IsLegal, left_by, left_after}
 use Rattle.acdm_step.proofs.Saying.{say_said, left_ran, ran_left}
 use Rattle.acdm_journal.specs.Audit.{UsesAnswers, lacks_answer}
 use Rattle.acdm_journal.proofs.Checked.{tobt_checked, alert_checked}
@@ -73,10 +79,10 @@ one_test false x y p q = q
 
 verdict_answers : (there : Bool) (count : ℕ) (r : Fields) (ready : Bool) (role : Role) (c : Command)
     → lacks_answer (verdict_for there count r ready role c) ≡ false
-verdict_answers there count r ready role (Schedule s) =
+verdict_answers there count r ready role (commands.Flight (Schedule s)) =
     schedule_tests (not (owns role actions.Schedule)) (has_reached r 0 && has_reached r 1)
     (not there && not (nat_lt count most_flights))
-verdict_answers there count r ready role (Report p) =
+verdict_answers there count r ready role (commands.Flight (Report p)) =
     report_tests (not (owns role (actions.Report p.milestone))) (not there && not (number p.milestone == 1))
     (not there && not (nat_lt count most_flights)) (verdict_from (admission r role p.milestone p.time))
     (admission_answers r role p.milestone p.time)
@@ -127,9 +133,9 @@ module _ (sigs : List (ℕ × Promise)) (J : History) (role : Role) (moment : �
       (ap lacks_answer (is_verdict is)
       ∙ verdict_answers (exists J (flight_of c)) (length (flights J)) (record_of J (flight_of c)) (is_ready sigs J c) role c)
   asked (unanswered_so is accepted asks) lacks uses =
-      not_these sigs answers (programs_of J c) (reported (flight_of c) c (summary J (flight_of c))) moment (bit_of c) before after left
+      not_these sigs answers (programs_of J c) (run_record_of J c) moment (bit_of c) before after left
       (tobt_checked sigs J c legal) (alert_checked sigs J c legal) reads all asks
-      (left_ran (programs_of J c) (reported (flight_of c) c (summary J (flight_of c))) moment (bit_of c) answers (uses.used accepted))
+      (left_ran (programs_of J c) (run_record_of J c) moment (bit_of c) answers (uses.used accepted))
 
   -- the answers that were used, and those that are left
   parts : (used : List ℕ) → Gained before after used → used ++ left ≡ answers
@@ -144,7 +150,7 @@ module _ (sigs : List (ℕ × Promise)) (J : History) (role : Role) (moment : �
       elim (cases_of (is_accepted (verdict_of sigs J role c))) [
         | inl accepted ↦
             let r = ran accepted in
-            let effect = say_said (programs_of J c) (reported (flight_of c) c (summary J (flight_of c))) moment (bit_of c) used r.0 r.1 left in
+            let effect = say_said (programs_of J c) (run_record_of J c) moment (bit_of c) used r.0 r.1 left in
             let rest : left_by J c moment answers ≡ Some left =
             ap (left_by J c moment) (sym (parts used gained)) ∙ ap left_after effect in
             some (same_Some left [] (sym rest ∙ uses.used accepted))
@@ -166,8 +172,8 @@ module _ (sigs : List (ℕ × Promise)) (J : History) (role : Role) (moment : �
       record {
         uses = record {
           used = λ accepted.
-              ran_left (programs_of J c) (reported (flight_of c) c (summary J (flight_of c))) moment (bit_of c) answers
-              (subst (λ us. Ran (programs_of J c) (reported (flight_of c) c (summary J (flight_of c))) moment (bit_of c) us) these (ran accepted));
+              ran_left (programs_of J c) (run_record_of J c) moment (bit_of c) answers
+              (subst (λ us. Ran (programs_of J c) (run_record_of J c) moment (bit_of c) us) these (ran accepted));
           unused = λ refused. sym these ∙ no_answer refused;
         };
         verdict_is = is_verdict is;

@@ -4,7 +4,9 @@ use Rattle.bpf_helpers.specs.Promise.{Promise}
 use Rattle.acdm_step.specs.declared.command.Command.{Command}
 use Rattle.acdm_step.specs.declared.command.Command.TheVariants as commands
 use Rattle.acdm_step.specs.declared.entry.Entry.{Entry}
-use Rattle.acdm_step.specs.History.{History, Board, IsLegal, IsChecked, is_load, verdict_of}
+use Rattle.acdm_step.specs.Commands.{History, is_load}
+use Rattle.acdm_step.specs.Verdicts.{verdict_of}
+use Rattle.acdm_step.specs.History.{Board, IsLegal, IsChecked}
 use Rattle.acdm_journal.specs.declared.stated.Stated.{Stated}
 use Rattle.acdm_journal.specs.declared.stated.Asked.{Asked}
 use Rattle.acdm_journal.specs.declared.stated.Asked.TheVariants.{Plain, Load}

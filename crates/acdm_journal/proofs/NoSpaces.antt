@@ -17,6 +17,7 @@ use Rattle.acdm_slots.specs.declared.kind.Kind as kinds
 use Rattle.acdm_slots.specs.declared.kind.Kind.TheVariants.{Tobt, Alert}
 use Rattle.acdm_step.specs.declared.command.Plan.{Plan}
 use Rattle.acdm_step.specs.declared.command.Command.TheVariants as commands
+use Rattle.acdm_step.specs.declared.command.FlightCommand.TheVariants.{Schedule, Report}
 use Rattle.acdm_journal.specs.declared.stated.Stated.{Stated}
 use Rattle.acdm_journal.specs.declared.stated.Asked.{Asked}
 use Rattle.acdm_journal.specs.declared.stated.Asked.TheVariants.{Plain, Load}
@@ -109,7 +110,7 @@ plan_of_lacks None is = tt
 plan_of_lacks (Some p) is = plan_lacks p is
 
 asked_lacks : (a : Asked) → IsAsked a → AllLack (asked_words a)
-asked_lacks (Plain (commands.Schedule s)) is =
+asked_lacks (Plain (commands.Flight (Schedule s))) is =
     let l = is.1 in (
       by_test (codes "schedule") refl,
       (
@@ -131,7 +132,7 @@ asked_lacks (Plain (commands.Schedule s)) is =
             ),
       ),
     )
-asked_lacks (Plain (commands.Report r)) is =
+asked_lacks (Plain (commands.Flight (Report r))) is =
     let l = is.1 in
     let n = is_numbered r.milestone in (
       by_test (codes "report") refl,

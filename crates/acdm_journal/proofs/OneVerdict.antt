@@ -5,7 +5,9 @@ use Rattle.bpf_decode.specs.declared.op.Op.{Op}
 use Rattle.bpf_helpers.specs.Promise.{Promise}
 use Rattle.acdm_step.specs.declared.command.Command.{Command}
 use Rattle.acdm_step.specs.declared.command.Command.TheVariants as commands
-use Rattle.acdm_step.specs.History.{History, Board, IsAnswered, is_accepted, verdict_of}
+use Rattle.acdm_step.specs.Commands.{History, is_accepted}
+use Rattle.acdm_step.specs.Verdicts.{verdict_of}
+use Rattle.acdm_step.specs.History.{Board, IsAnswered}
 use Rattle.acdm_journal.specs.declared.stated.Stated.{Stated}
 use Rattle.acdm_journal.specs.declared.stated.Asked.{Asked}
 use Rattle.acdm_journal.specs.declared.stated.Asked.TheVariants.{Plain, Load}

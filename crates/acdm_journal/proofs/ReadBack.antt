@@ -13,7 +13,8 @@ use Rattle.acdm_step.specs.Facts.{ScheduleFacts, ReportFacts, has_its_plan, has_
 use Rattle.acdm_step.specs.declared.command.Plan.{Plan}
 use Rattle.acdm_step.specs.declared.command.Command.{Command}
 use Rattle.acdm_step.specs.declared.command.Command.TheVariants as commands
-use Rattle.acdm_step.specs.History.{is_load}
+use Rattle.acdm_step.specs.declared.command.FlightCommand.TheVariants.{Schedule, Report}
+use Rattle.acdm_step.specs.Commands.{is_load}
 use Rattle.acdm_journal.specs.declared.stated.Stated.{Stated}
 use Rattle.acdm_journal.specs.declared.stated.LoadLine.{LoadLine}
 use Rattle.acdm_journal.specs.declared.stated.Asked.{Asked}
@@ -87,7 +88,7 @@ pub record ReadsAsked (ws : Words) (a : Asked) (left : Words) : Type 0 where
   pub is : IsAsked a
 
 schedule_at-is : (s : ScheduleFacts) → IsScheduleLine s
-    → asked_at (schedule_words s) ≡ Some (Plain (commands.Schedule s), [])
+    → asked_at (schedule_words s) ≡ Some (Plain (commands.Flight (Schedule s)), [])
 unfolding asked_at command_named schedule_at
 schedule_at-is s is =
     let k = is.kept in
@@ -156,7 +157,7 @@ least_back _ zero h = absurd (omega arith)
 least_back _ (suc n) h = grind (arith, nat_tests)
 
 report_at-is : (r : ReportFacts) → IsReportLine r
-    → asked_at (report_words r) ≡ Some (Plain (commands.Report r), [])
+    → asked_at (report_words r) ≡ Some (Plain (commands.Flight (Report r)), [])
 unfolding asked_at command_named report_at
 report_at-is r is =
     let k = is.kept in
@@ -245,8 +246,8 @@ show_at-back ws a left h =
 
 pub asked_at-is : (a : Asked) → IsAsked a → asked_at (asked_words a) ≡ Some (a, [])
 unfolding asked_at command_named unload_at show_at
-asked_at-is (Plain (commands.Schedule s)) is = schedule_at-is s is.1
-asked_at-is (Plain (commands.Report r)) is = report_at-is r is.1
+asked_at-is (Plain (commands.Flight (Schedule s))) is = schedule_at-is s is.1
+asked_at-is (Plain (commands.Flight (Report r))) is = report_at-is r is.1
 asked_at-is (Plain (commands.Load l)) is = absurd (cc is.0)
 asked_at-is (Plain (commands.Unload u)) is =
     bind_is _ _ _ (milestone_at-is u.milestone _) ∙ bind_is _ _ _ (kind_at-is u.kind [])

@@ -12,7 +12,9 @@ use Rattle.acdm_step.specs.declared.entry.Verdict.TheVariants.{Refused}
 use Rattle.acdm_step.specs.declared.command.Command.{Command}
 use Rattle.acdm_step.specs.declared.command.Command.TheVariants as commands
 use Rattle.acdm_step.specs.declared.entry.Entry.{Entry}
-use Rattle.acdm_step.specs.History.{History, Board, IsLegal, replay, after, verdict_of, is_accepted, left_by}
+use Rattle.acdm_step.specs.Commands.{History, is_accepted}
+use Rattle.acdm_step.specs.Verdicts.{verdict_of}
+use Rattle.acdm_step.specs.History.{Board, IsLegal, replay, after, left_by}
 use Rattle.acdm_journal.specs.declared.stated.Stated.{Stated}
 use Rattle.acdm_journal.specs.declared.stated.Asked.{Asked}
 use Rattle.acdm_journal.specs.declared.stated.Asked.TheVariants.{Plain, Load}

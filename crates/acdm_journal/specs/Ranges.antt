@@ -6,7 +6,9 @@ use Rattle.acdm_step.specs.Facts.{IsSchedule, IsReport, ScheduleFacts, ReportFac
 use Rattle.acdm_step.specs.declared.command.Plan.{Plan}
 use Rattle.acdm_step.specs.declared.command.Command.{Command}
 use Rattle.acdm_step.specs.declared.command.Command.TheVariants as commands
-use Rattle.acdm_step.specs.History.{History, IsInRange, is_load}
+use Rattle.acdm_step.specs.declared.command.FlightCommand.TheVariants.{Schedule, Report}
+use Rattle.acdm_step.specs.Commands.{History, is_load}
+use Rattle.acdm_step.specs.History.{IsInRange}
 use Rattle.acdm_journal.specs.declared.stated.Stated.{Stated}
 use Rattle.acdm_journal.specs.declared.stated.Asked.{Asked}
 use Rattle.acdm_journal.specs.declared.stated.Asked.TheVariants.{Plain, Load}
@@ -48,8 +50,8 @@ pub record IsReportLine (r : ReportFacts) : Type 0 where
   pub plan : IsPlanOf r.plan
 
 abbrev pub IsCommandLine : Command → Type 0
-IsCommandLine (commands.Schedule s) = IsScheduleLine s
-IsCommandLine (commands.Report r) = IsReportLine r
+IsCommandLine (commands.Flight (Schedule s)) = IsScheduleLine s
+IsCommandLine (commands.Flight (Report r)) = IsReportLine r
 IsCommandLine (commands.Show f) = (1 ≤ f) × IsWord f
 IsCommandLine _ = Unit {0}
 

@@ -15,6 +15,7 @@ use Rattle.acdm_slots.specs.declared.kind.Kind as kinds
 use Rattle.acdm_slots.specs.declared.kind.Kind.TheVariants.{Tobt, Alert}
 use Rattle.acdm_step.specs.declared.command.Plan.{Plan}
 use Rattle.acdm_step.specs.declared.command.Command.TheVariants as commands
+use Rattle.acdm_step.specs.declared.command.FlightCommand.TheVariants.{Schedule, Report}
 use Rattle.acdm_journal.specs.declared.stated.Stated.{Stated}
 use Rattle.acdm_journal.specs.declared.stated.Asked.{Asked}
 use Rattle.acdm_journal.specs.declared.stated.Asked.TheVariants.{Plain, Load}
@@ -170,7 +171,7 @@ schedule_at ws = do
   exit ← number_at 0 255 mttt.1
   exot ← number_at 0 1440 exit.1
   stand ← number_at 0 65535 exot.1
-  Some (Plain (commands.Schedule record { flight = flight.0; plan = plan.0; sobt = sobt.0; mttt = mttt.0; exit = exit.0; exot = exot.0; stand = stand.0 }), stand.1)
+  Some (Plain (commands.Flight (Schedule record { flight = flight.0; plan = plan.0; sobt = sobt.0; mttt = mttt.0; exit = exit.0; exot = exot.0; stand = stand.0 })), stand.1)
 
 unfoldable pub report_at : Words → Option (Asked × Words)
 report_at ws = do
@@ -178,7 +179,7 @@ report_at ws = do
   milestone ← milestone_at flight.1
   time ← number_at (least_time milestone.0) most_minute milestone.1
   plan ← plan_for milestone.0 time.1
-  Some (Plain (commands.Report record { flight = flight.0; milestone = milestone.0; time = time.0; plan = plan.0 }), plan.1)
+  Some (Plain (commands.Flight (Report record { flight = flight.0; milestone = milestone.0; time = time.0; plan = plan.0 })), plan.1)
 
 unfoldable pub load_at : Words → Option (Asked × Words)
 load_at ws = do

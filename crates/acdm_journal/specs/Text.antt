@@ -15,10 +15,11 @@ use Rattle.acdm_step.specs.Facts.{ScheduleFacts, ReportFacts}
 use Rattle.acdm_step.specs.declared.command.Plan.{Plan}
 use Rattle.acdm_step.specs.declared.command.Command.{Command}
 use Rattle.acdm_step.specs.declared.command.Command.TheVariants as commands
+use Rattle.acdm_step.specs.declared.command.FlightCommand.TheVariants.{Schedule, Report}
 use Rattle.acdm_step.specs.declared.entry.Verdict.{Verdict}
 use Rattle.acdm_step.specs.declared.entry.Verdict.TheVariants.{Accepted, Refused}
 use Rattle.acdm_step.specs.declared.entry.Entry.{Entry}
-use Rattle.acdm_step.specs.History.{History}
+use Rattle.acdm_step.specs.Commands.{History}
 use Rattle.acdm_journal.specs.declared.stated.Stated.{Stated}
 use Rattle.acdm_journal.specs.declared.stated.Asked.{Asked}
 use Rattle.acdm_journal.specs.declared.stated.Asked.TheVariants.{Plain, Load}
@@ -71,8 +72,8 @@ load_words m kind bytes =
     codes "load" ∷ decimal (number m) ∷ kind_name kind ∷ encode_lower bytes ∷ []
 
 abbrev pub command_words : Command → List (List ℕ)
-command_words (commands.Schedule s) = schedule_words s
-command_words (commands.Report r) = report_words r
+command_words (commands.Flight (Schedule s)) = schedule_words s
+command_words (commands.Flight (Report r)) = report_words r
 command_words (commands.Load l) = load_words l.milestone l.kind (encoding l.program.ops)
 command_words (commands.Unload u) =
     codes "unload" ∷ decimal (number u.milestone) ∷ kind_name u.kind ∷ []

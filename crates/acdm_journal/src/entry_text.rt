@@ -9,7 +9,7 @@ ghost use Rattle.acdm_journal.specs.Spaced.{spaced};
 
 use acdm_milestones::{Milestone, Role};
 use acdm_slots::Kind;
-use acdm_step::{Command, Entry, Load, Plan, Report, Schedule, Verdict};
+use acdm_step::{Command, Entry, FlightCommand, Load, Plan, Report, Schedule, Verdict};
 use bpf_decode::encode;
 use itoa::Buffer;
 use std::alloc::{AllocError, Global};
@@ -140,8 +140,8 @@ fn push_command(text: &mut Vec<u8>, command: &Command) -> Result<(), AllocError>
     ensures { OnOk result (text.new.items ≡ text.old.items ++ spaced (command_words command.now)) }
 {
     match command {
-        Command::Schedule(schedule) => push_schedule(text, schedule),
-        Command::Report(report) => push_report(text, report),
+        Command::Flight(FlightCommand::Schedule(schedule)) => push_schedule(text, schedule),
+        Command::Flight(FlightCommand::Report(report)) => push_report(text, report),
         Command::Load(load) => push_load(text, load),
         Command::Unload(unload) => {
             push_word(text, b"unload")?;

@@ -1,6 +1,7 @@
 //! The judging of one line of a journal, after those before it.
 ghost use Rattle.std.specs.Prelude.{◌≡◌, ℕ, List, length, IfOk, OnOk};
-ghost use Rattle.acdm_step.specs.History.{History, IsLegal, replay};
+ghost use Rattle.acdm_step.specs.Commands.{History};
+ghost use Rattle.acdm_step.specs.History.{IsLegal, replay};
 ghost use Rattle.acdm_journal.specs.Audit.{Commands, GivesProgram, lacks_answer, JudgesCommand, Judges, clause_code};
 
 use crate::entry_text::code_of;

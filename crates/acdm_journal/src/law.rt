@@ -2,7 +2,8 @@
 
 ghost use Rattle.std.specs.Prelude.{◌≡◌, ℕ, List, Some};
 ghost use Rattle.bpf_helpers.specs.Promise.{Promise};
-ghost use Rattle.acdm_step.specs.History.{History, Board};
+ghost use Rattle.acdm_step.specs.Commands.{History};
+ghost use Rattle.acdm_step.specs.History.{Board};
 ghost use Rattle.acdm_journal.specs.declared.judge.Clause.{Clause};
 ghost use Rattle.acdm_journal.specs.Audit.{Continues, Breaks};
 ghost use Rattle.acdm_step.specs.declared.entry.Entry.{Entry};

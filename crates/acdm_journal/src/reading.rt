@@ -11,7 +11,7 @@ use crate::words::Words;
 use acdm_milestones::{Milestone, Role};
 use acdm_record::Text;
 use acdm_slots::Kind;
-use acdm_step::{Answers, Command, FlightNumber, Plan, Report, Schedule, Unload};
+use acdm_step::{Answers, Command, FlightCommand, FlightNumber, Plan, Report, Schedule, Unload};
 use hex::FromHexError;
 use std::alloc::Global;
 
@@ -196,7 +196,7 @@ fn schedule_in(words: &mut Words<'_>) -> Result<Asked, LineError>
     let exit = number_in(words, 0, 255)?;
     let exot = number_in(words, 0, 1440)?;
     let stand = number_in(words, 0, 65_535)?;
-    Ok(Asked::Plain(Command::Schedule(Schedule::new(
+    Ok(Asked::Plain(Command::Flight(FlightCommand::Schedule(Schedule::new(
         flight,
         plan,
         sobt as u32,
@@ -204,7 +204,7 @@ fn schedule_in(words: &mut Words<'_>) -> Result<Asked, LineError>
         exit as u8,
         exot as u16,
         stand as u16,
-    ))))
+    )))))
 }
 
 // The time of a report.
@@ -224,7 +224,7 @@ fn report_in(words: &mut Words<'_>) -> Result<Asked, LineError>
     let milestone = milestone_in(words)?;
     let time = time_in(words, milestone)?;
     let plan = plan_of(words, milestone)?;
-    Ok(Asked::Plain(Command::Report(Report::new(flight, milestone, time, plan))))
+    Ok(Asked::Plain(Command::Flight(FlightCommand::Report(Report::new(flight, milestone, time, plan)))))
 }
 
 #[tactic(auto, unfolding(crate::specs::Reading::load_at))]

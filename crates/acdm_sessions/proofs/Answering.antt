@@ -5,7 +5,7 @@ use Rattle.std.proofs.lemmas.Bool.{false≢true, ne_eqb}
 use Rattle.bpf_helpers.specs.Promise.{Promise}
 use Rattle.acdm_step.specs.declared.command.Command.{Command}
 use Rattle.acdm_step.specs.declared.outcome.Outcome.{Outcome}
-use Rattle.acdm_step.specs.History.{outcome_of}
+use Rattle.acdm_step.specs.Verdicts.{outcome_of}
 use Rattle.acdm_board.specs.Desk.{DeskView, entered}
 use Rattle.acdm_sessions.specs.declared.fault.Fault.{Fault}
 use Rattle.acdm_sessions.specs.declared.fault.Bad.{Bad}

@@ -6,14 +6,16 @@ use Rattle.jiff.proofs.OnLiterals.{jiff_on_literals}
 use Rattle.hex.proofs.OnLiterals.{hex_on_literals}
 use Rattle.acdm_milestones.specs.declared.role.Role.TheVariants.{AirTrafficControl, AirportOperator}
 use Rattle.acdm_milestones.specs.declared.milestone.Milestone.TheVariants.{Landed, InBlock, TobtUpdate}
-use Rattle.acdm_step.specs.declared.command.Command.TheVariants.{Schedule, Report, Unload}
+use Rattle.acdm_step.specs.declared.command.Command.TheVariants.{Unload}
+use Rattle.acdm_step.specs.declared.command.Command.TheVariants as commands
+use Rattle.acdm_step.specs.declared.command.FlightCommand.TheVariants.{Schedule, Report}
 use Rattle.acdm_slots.specs.declared.kind.Kind.TheVariants.{Tobt, Alert}
 use Rattle.acdm_sessions.specs.declared.request.Asked.TheVariants.{Plain, Load}
 use Rattle.acdm_sessions.specs.declared.fault.Fault.TheVariants.{Prefix, NoJson, Kind, Range}
 use Rattle.acdm_sessions.specs.Meant.{meant, head_of, natural_of, number_field, text_field, time_field, time_or_null, plan_field, schedule_field, milestone_field, report_field, show_field, kind_field, program_field, load_field, unload_field, plain_named, command_named, command_of, json_of}
 
 landed_line : meant (codes "3 29000700 ATC {\"cmd\":\"report\",\"flight\":7,\"milestone\":6,\"time\":\"2025-02-20T09:00:00Z\"}")
-    ≡ Ok record { session = 3; moment = 29000700; role = AirTrafficControl; asked = Plain (Report record { flight = 7; milestone = Landed; time = 29000700; plan = None }) }
+    ≡ Ok record { session = 3; moment = 29000700; role = AirTrafficControl; asked = Plain (commands.Flight (Report record { flight = 7; milestone = Landed; time = 29000700; plan = None })) }
 unfolding meant head_of natural_of number_field text_field time_field plan_field schedule_field time_or_null milestone_field report_field show_field kind_field program_field load_field unload_field plain_named command_named command_of json_of is_utf8 chars serde_json_on_literals jiff_on_literals hex_on_literals
 landed_line = refl
 
@@ -26,7 +28,7 @@ unfolding meant head_of natural_of number_field text_field time_field plan_field
 no_json = refl
 
 schedule_line : meant (codes "1 29000580 APT {\"cmd\":\"schedule\",\"flight\":7,\"callsign\":\"DLH7\",\"type\":\"A320\",\"reg\":\"DAIBC\",\"dest\":\"EDDM\",\"sobt\":\"2025-02-20T10:00:00Z\",\"mttt\":40,\"exit\":5,\"exot\":10,\"stand\":12}")
-    ≡ Ok record { session = 1; moment = 29000580; role = AirportOperator; asked = Plain (Schedule record { flight = 7; plan = record { callsign = codes "DLH7"; aircraft = codes "A320"; registration = codes "DAIBC"; destination = codes "EDDM" }; sobt = 29000760; mttt = 40; exit = 5; exot = 10; stand = 12 }) }
+    ≡ Ok record { session = 1; moment = 29000580; role = AirportOperator; asked = Plain (commands.Flight (Schedule record { flight = 7; plan = record { callsign = codes "DLH7"; aircraft = codes "A320"; registration = codes "DAIBC"; destination = codes "EDDM" }; sobt = 29000760; mttt = 40; exit = 5; exot = 10; stand = 12 })) }
 unfolding meant head_of natural_of number_field text_field time_field plan_field schedule_field time_or_null milestone_field report_field show_field kind_field program_field load_field unload_field plain_named command_named command_of json_of is_utf8 chars serde_json_on_literals jiff_on_literals hex_on_literals
 schedule_line = refl
 

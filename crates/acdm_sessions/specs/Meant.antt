@@ -18,8 +18,10 @@ use Rattle.acdm_slots.specs.declared.kind.Kind as kinds
 use Rattle.acdm_slots.specs.declared.kind.Kind.TheVariants.{Tobt, Alert}
 use Rattle.acdm_step.specs.declared.command.Plan.{Plan}
 use Rattle.acdm_step.specs.declared.command.Command.{Command}
-use Rattle.acdm_step.specs.declared.command.Command.TheVariants.{Schedule, Report, Unload, Tick, Show, Alerts}
-use Rattle.acdm_step.specs.History.{is_load}
+use Rattle.acdm_step.specs.declared.command.Command.TheVariants.{Unload, Tick, Show, Alerts}
+use Rattle.acdm_step.specs.declared.command.Command.TheVariants as commands
+use Rattle.acdm_step.specs.declared.command.FlightCommand.TheVariants.{Schedule, Report}
+use Rattle.acdm_step.specs.Commands.{is_load}
 use Rattle.acdm_sessions.specs.declared.fault.Fault.{Fault}
 use Rattle.acdm_sessions.specs.declared.fault.Fault.TheVariants.{Prefix, NoJson, UnknownCommand, Kind, Range, TooLong}
 use Rattle.acdm_sessions.specs.declared.request.LineError.{LineError}
@@ -177,7 +179,7 @@ schedule_field d = do
   exit ← number_field (codes "exit") 0 255 d
   exot ← number_field (codes "exot") 0 1440 d
   stand ← number_field (codes "stand") 0 65535 d
-  Ok (Schedule record { flight = flight; plan = plan; sobt = sobt; mttt = mttt; exit = exit; exot = exot; stand = stand })
+  Ok (commands.Flight (Schedule record { flight = flight; plan = plan; sobt = sobt; mttt = mttt; exit = exit; exot = exot; stand = stand }))
 
 -- a plan comes with the first milestone alone
 abbrev pub plan_for : Milestone → Data → Result (Option Plan) Fault
@@ -191,7 +193,7 @@ report_field d = do
   milestone ← milestone_field d
   time ← time_for milestone d
   plan ← plan_for milestone d
-  Ok (Report record { flight = flight; milestone = milestone; time = time; plan = plan })
+  Ok (commands.Flight (Report record { flight = flight; milestone = milestone; time = time; plan = plan }))
 
 -- the flight of which the record is asked
 unfoldable pub show_field : Data → Result Command Fault

@@ -1,7 +1,7 @@
 //! The fields of a command.
 ghost use Rattle.std.specs.Prelude.{◌≡◌, ◌≤◌, true, false, IfOk, IsTrue};
 ghost use Rattle.acdm_step.specs.Facts.{has_its_plan, has_its_time};
-ghost use Rattle.acdm_step.specs.History.{is_load};
+ghost use Rattle.acdm_step.specs.Commands.{is_load};
 ghost use Rattle.serde_json.specs.View.{view};
 ghost use Rattle.acdm_sessions.specs.Meant.{Gives, GivesView, number_field, text_field, minute_of, time_field, time_or_null, time_for, plan_field, plan_for, milestone_of, milestone_field, schedule_field, report_field, show_field, kind_named, kind_field, slot_field, program_field, load_field, unload_field, plain_named, command_of, is_plain, json_of};
 
@@ -11,7 +11,7 @@ use crate::request::{Asked, LineError, LoadRequest};
 use acdm_milestones::Milestone;
 use acdm_record::Text;
 use acdm_slots::Kind;
-use acdm_step::{Command, FlightNumber, Plan, Report, Schedule, Unload};
+use acdm_step::{Command, FlightCommand, FlightNumber, Plan, Report, Schedule, Unload};
 use hex::FromHexError;
 use jiff::Timestamp;
 use serde_json::Value;
@@ -139,7 +139,7 @@ fn schedule_in(value: &Value) -> Result<Command, Fault>
     let exit = number_in(value, "exit", 0, 255)?;
     let exot = number_in(value, "exot", 0, 1440)?;
     let stand = number_in(value, "stand", 0, 65535)?;
-    Ok(Command::Schedule(Schedule::new(
+    Ok(Command::Flight(FlightCommand::Schedule(Schedule::new(
         flight,
         plan,
         sobt,
@@ -147,7 +147,7 @@ fn schedule_in(value: &Value) -> Result<Command, Fault>
         exit as u8,
         exot as u16,
         stand as u16,
-    )))
+    ))))
 }
 
 fn plan_of(value: &Value, milestone: Milestone) -> Result<Option<Plan>, Fault>
@@ -169,7 +169,7 @@ fn report_in(value: &Value) -> Result<Command, Fault>
     let milestone = milestone_in(value)?;
     let time = time_of(value, milestone)?;
     let plan = plan_of(value, milestone)?;
-    Ok(Command::Report(Report::new(flight, milestone, time, plan)))
+    Ok(Command::Flight(FlightCommand::Report(Report::new(flight, milestone, time, plan))))
 }
 
 #[tactic(auto, unfolding(crate::specs::Meant::show_field))]

@@ -5,7 +5,8 @@ use Rattle.std.proofs.lemmas.Bool.Decides.{nat_tests}
 use Rattle.std.specs.List.{list_any, position_or_len}
 use Rattle.acdm_record.specs.Bools.{and_left, and_right}
 use Rattle.acdm_record.specs.Fields.{Fields}
-use Rattle.acdm_step.specs.History.{History, with_flight, created, flights}
+use Rattle.acdm_step.specs.Commands.{History, created}
+use Rattle.acdm_step.specs.Summaries.{with_flight, flights}
 
 abbrev pub is_it : ℕ → ℕ → Bool
 is_it f g = g == f

@@ -14,7 +14,7 @@ use Rattle.acdm_record.specs.Fields.{Fields, number_of, new_record}
 use Rattle.acdm_alerts.specs.Conditions.{alert_word}
 use Rattle.acdm_step.specs.declared.outcome.Alerted.{Alerted}
 use Rattle.acdm_step.specs.Board.{place_of, touched}
-use Rattle.acdm_step.specs.History.{alerted, alert_list}
+use Rattle.acdm_step.specs.Verdicts.{alerted, alert_list}
 use Rattle.acdm_step.specs.Marked.{is_marked, is_alerted, AreFlights, Keeps}
 use Rattle.acdm_step.proofs.Marking.{before_or_in}
 

@@ -6,7 +6,10 @@ use Rattle.bpf_helpers.specs.Promise.{Promise}
 use Rattle.bpf_helpers.specs.Oracles.{OracleView, Gained}
 use Rattle.acdm_step.specs.declared.command.Command.{Command}
 use Rattle.acdm_step.specs.declared.outcome.Outcome.{Outcome}
-use Rattle.acdm_step.specs.History.{History, Board, IsLegal, replay, after, is_accepted, verdict_of, verdict_in, with_slots}
+use Rattle.acdm_step.specs.Commands.{History, is_accepted}
+use Rattle.acdm_step.specs.InSlots.{with_slots}
+use Rattle.acdm_step.specs.Verdicts.{verdict_of, verdict_in}
+use Rattle.acdm_step.specs.History.{Board, IsLegal, replay, after}
 use Rattle.acdm_step.specs.Board.{board_verdict, board_changed, board_after}
 use Rattle.acdm_step.specs.Laws.{verdict_in-outcome_of}
 use Rattle.acdm_step.specs.Running.{Comes, answered, unanswered, ComesOf, answered_so, unanswered_so}

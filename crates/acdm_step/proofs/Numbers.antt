@@ -18,8 +18,10 @@ use Rattle.acdm_milestones.specs.declared.refusal.Refusal.TheVariants.{NotOwner,
 use Rattle.acdm_step.specs.declared.entry.Verdict.{Verdict}
 use Rattle.acdm_step.specs.declared.entry.Verdict.TheVariants.{Accepted, Refused}
 use Rattle.acdm_step.specs.declared.command.Command.{Command}
-use Rattle.acdm_step.specs.declared.command.Command.TheVariants.{Schedule, Report}
-use Rattle.acdm_step.specs.History.{assigned_by, is_accepted, changes_flight, verdict_for}
+use Rattle.acdm_step.specs.declared.command.Command.TheVariants as commands
+use Rattle.acdm_step.specs.declared.command.FlightCommand.TheVariants.{Schedule, Report}
+use Rattle.acdm_step.specs.Commands.{assigned_by, is_accepted, changes_flight}
+use Rattle.acdm_step.specs.Verdicts.{verdict_for}
 use Rattle.acdm_step.specs.Board.{assigned_to, touched, has_number, place_of, record_on}
 use Rattle.acdm_step.specs.Running.{ChangesTo}
 use Rattle.acdm_step.specs.Marked.{Keeps}
@@ -88,6 +90,6 @@ below : (count : ℕ) → nat_lt count 4096 ≡ true → count < 4096
 below count h = grind (arith, nat_tests)
 
 pub room_left : (c : Command) (count : ℕ) (r : Fields) (role : Role) → changes_flight c ≡ true → is_accepted (verdict_for false count r true role c) ≡ true → count < 4096
-room_left (Schedule s) count r role k h = below count (room_of_schedule _ _ (nat_lt count 4096) h)
-room_left (Report p) count r role k h = below count (room_of_report _ _ (nat_lt count 4096) _ h)
+room_left (commands.Flight (Schedule s)) count r role k h = below count (room_of_schedule _ _ (nat_lt count 4096) h)
+room_left (commands.Flight (Report p)) count r role k h = below count (room_of_report _ _ (nat_lt count 4096) _ h)
 room_left _ count r role k h = absurd (cc)

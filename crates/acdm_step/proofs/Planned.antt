@@ -9,7 +9,10 @@ use Rattle.acdm_milestones.specs.Tables.{owns}
 use Rattle.bpf_verifier.specs.Verdict.{Verified}
 use Rattle.acdm_slots.specs.Loaded.{program_in}
 use Rattle.acdm_step.specs.declared.command.Command.{Command}
-use Rattle.acdm_step.specs.declared.command.Command.TheVariants.{Schedule, Report, Load, Unload, Tick}
+use Rattle.acdm_step.specs.declared.command.Command.TheVariants.{Load, Unload, Tick}
+use Rattle.acdm_step.specs.declared.command.Command.TheVariants as commands
+use Rattle.acdm_step.specs.declared.command.FlightCommand.{FlightCommand}
+use Rattle.acdm_step.specs.declared.command.FlightCommand.TheVariants.{Schedule, Report}
 use Rattle.acdm_step.specs.declared.command.Load as command_load
 use Rattle.acdm_step.specs.declared.command.Unload as command_unload
 use Rattle.acdm_step.specs.declared.entry.Verdict.{Verdict}
@@ -18,7 +21,10 @@ use Rattle.acdm_step.specs.declared.outcome.Outcome.{Outcome}
 use Rattle.acdm_step.specs.declared.outcome.Outcome.TheVariants as outcomes
 use Rattle.acdm_step.specs.declared.prepare.Change.{Change}
 use Rattle.acdm_step.specs.declared.prepare.Change.TheVariants as changes
-use Rattle.acdm_step.specs.History.{Board, is_accepted, changes_flight, load_verdict, unload_verdict, tick_verdict, outcome_with, with_slots}
+use Rattle.acdm_step.specs.Commands.{is_accepted, changes_flight}
+use Rattle.acdm_step.specs.InSlots.{with_slots}
+use Rattle.acdm_step.specs.Verdicts.{load_verdict, unload_verdict, tick_verdict, outcome_with}
+use Rattle.acdm_step.specs.History.{Board}
 use Rattle.acdm_step.specs.Board.{board_of, touched, board_verdict}
 use Rattle.acdm_step.specs.Running.{Comes}
 use Rattle.acdm_step.specs.Prepared.{owns_change, after_change, Fits}
@@ -28,17 +34,21 @@ refuses : (own : Bool) (rest : Verdict) → own ≡ false → Refused NotOwner �
 refuses own rest h = sym (ap (λ t. cond (not t) (Refused NotOwner) rest) h)
 
 -- whoever does not own a command is refused, whatever stands on the board
-pub not_owned : (b : Board) (role : Role) (c : Command) → changes_flight c ≡ true → owns_change role c ≡ false → Refused NotOwner ≡ board_verdict b role c
+pub not_owned : (b : Board) (role : Role) (k : FlightCommand) → owns_change role k ≡ false → Refused NotOwner ≡ board_verdict b role (commands.Flight k)
 unfolding board_verdict
-not_owned b role (Schedule s) k h = refuses (owns role actions.Schedule) _ h
-not_owned b role (Report r) k h = refuses (owns role (actions.Report r.milestone)) _ h
-not_owned b role _ k h = absurd (cc)
+not_owned b role (Schedule s) h = refuses (owns role actions.Schedule) _ h
+not_owned b role (Report r) h = refuses (owns role (actions.Report r.milestone)) _ h
 
 -- a plan on an equal board, for an equal command
 pub planned_as : (b other : Board) (role : Role) (moment : ℕ) (c same : Command) (from to : OracleView) (outcome : Outcome) (change : Change) → b ≡ other → same ≡ c
     → Comes b role moment c from to outcome (after_change b change) → Comes other role moment same from to outcome (after_change other change)
 planned_as b other role moment c same from to outcome change e f h =
     subst (λ x. Comes x role moment same from to outcome (after_change x change)) e (subst (λ x. Comes b role moment x from to outcome (after_change b change)) (sym f) h)
+
+-- a plan that leaves the board as it is
+pub left_so : (b : Board) (role : Role) (moment : ℕ) (c : Command) (from to : OracleView) (outcome : Outcome) (change : Change)
+    → change ≡ changes.Nothing → Comes b role moment c from to outcome b → Comes b role moment c from to outcome (after_change b change)
+left_so b role moment c from to outcome change e h = subst (λ x. Comes b role moment c from to outcome (after_change b x)) (sym e) h
 
 -- a plan that was committed
 pub committed : (b new : Board) (role : Role) (moment : ℕ) (c : Command) (from to : OracleView) (planned outcome : Outcome) (change : Change) → outcome ≡ planned → new ≡ after_change b change
@@ -47,8 +57,8 @@ committed b new role moment c from to planned outcome change e f h =
     subst (λ o. Comes b role moment c from to o new) (sym e) (subst (λ x. Comes b role moment c from to planned x) (sym f) h)
 
 module _ (b : Board) (role : Role) (moment : ℕ) (from to : OracleView) (outcome : Outcome) (same : Unasked from to) where
-  pub plans_nothing : (c : Command) → changes_flight c ≡ true → owns_change role c ≡ false → outcome ≡ outcomes.Refused NotOwner → Comes b role moment c from to outcome b
-  plans_nothing c k h out = comes_refused b role moment c from to outcome (Refused NotOwner) k (not_owned b role c k h) refl same out
+  pub plans_nothing : (k : FlightCommand) → owns_change role k ≡ false → outcome ≡ outcomes.Refused NotOwner → Comes b role moment (commands.Flight k) from to outcome b
+  plans_nothing k h out = comes_refused b role moment (commands.Flight k) from to outcome (Refused NotOwner) refl (not_owned b role k h) refl same out
 
   pub plans_tick : (change : Change) → outcome ≡ outcome_with outcomes.Done (tick_verdict role) → change ≡ cond (is_accepted (tick_verdict role)) (changes.Touch moment) changes.Nothing
       → Comes b role moment Tick from to outcome (after_change b change)

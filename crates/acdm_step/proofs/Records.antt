@@ -21,10 +21,13 @@ use Rattle.acdm_milestones.specs.Tables.{times_of, marked, has_reached}
 use Rattle.acdm_step.specs.Programs.{Programs, Suggestion, Nothing, Usable, Unusable, Effect, effect, with_suggestion, with_local_alerts, with_effect}
 use Rattle.acdm_step.specs.declared.command.Plan.{Plan}
 use Rattle.acdm_step.specs.declared.command.Command.{Command}
-use Rattle.acdm_step.specs.declared.command.Command.TheVariants.{Schedule, Report}
+use Rattle.acdm_step.specs.declared.command.Command.TheVariants as commands
+use Rattle.acdm_step.specs.declared.command.FlightCommand.TheVariants.{Schedule, Report}
 use Rattle.acdm_step.specs.declared.entry.Entry.{Entry}
-use Rattle.acdm_step.specs.History.{History, Summary, onto, with_command, with_tick, summary_after, summary, planned, assigned_by, bit_of, flight_of, changes_flight, creates, is_of, ticks, is_accepted, record_with, computed_at, alerts_from, record_from, record_of, reported, effect_on, with_tobt, with_ninth, rejects, number_or, gives_tobt, reaches, has_come_to, programs_of, created, with_flight, flights, exists}
-use Rattle.acdm_step.specs.Board.{assigned_to, changed, touched}
+use Rattle.acdm_step.specs.Commands.{History, plan_assignments, assigned_by, bit_of, flight_of, changes_flight, creates, is_of, ticks, is_accepted, created}
+use Rattle.acdm_step.specs.InSlots.{programs_of}
+use Rattle.acdm_step.specs.Summaries.{Summary, onto, with_command, with_tick, summary_after, summary, record_with, computed_at, alerts_from, record_from, record_of, run_record, effect_on, with_tobt, with_ninth, rejects, number_or, gives_tobt, reaches, has_come_to, with_flight, flights, exists}
+use Rattle.acdm_step.specs.Board.{assigned_to, record_after, touched}
 
 -- ---- one assignment
 
@@ -101,23 +104,23 @@ plain_times TobtUpdate time = elim (time == 0) as (λ b. are_plain (number_is To
 plain_times FlightPlanActivated time = refl
 plain_times _ time = refl
 
-plain_plan : (p : Option Plan) → are_plain (planned p) ≡ true
+plain_plan : (p : Option Plan) → are_plain (plan_assignments p) ≡ true
 plain_plan None = refl
 plain_plan (Some p) = refl
 
 pub plain_command : (c : Command) → are_plain (assigned_by c) ≡ true
-plain_command (Schedule s) = refl
-plain_command (Report r) = plain-append (times_of r.milestone r.time) (planned r.plan) (plain_times r.milestone r.time) (plain_plan r.plan)
+plain_command (commands.Flight (Schedule s)) = refl
+plain_command (commands.Flight (Report r)) = plain-append (times_of r.milestone r.time) (plan_assignments r.plan) (plain_times r.milestone r.time) (plain_plan r.plan)
 plain_command _ = refl
 
 -- what a command assigns and reaches
-pub assigned-reported : (f : ℕ) (t : Summary) (c : Command) → assigned_to (record_from f t) c ≡ reported f c t
+pub assigned-reported : (f : ℕ) (t : Summary) (c : Command) → assigned_to (record_from f t) c ≡ run_record f c t
 assigned-reported f t c = ap (λ r. marked r (bit_of c)) (with_all-record_with f (assigned_by c) t.assigned t.reached (alerts_from f t) (plain_command c))
 
 changed-record_from : (ps : Programs) (f : ℕ) (t : Summary) (moment : ℕ) (c : Command) (answers : List ℕ)
-    → changed ps (record_from f t) moment c answers ≡ record_from f (with_command c moment (effect ps (reported f c t) moment (bit_of c) answers) t)
+    → record_after ps (record_from f t) moment c answers ≡ record_from f (with_command c moment (effect ps (run_record f c t) moment (bit_of c) answers) t)
 changed-record_from ps f t moment c answers =
-    let s : Effect = effect ps (reported f c t) moment (bit_of c) answers in
+    let s : Effect = effect ps (run_record f c t) moment (bit_of c) answers in
     let x : ℕ = computed_at f t.assigned t.reached t.touch in
     let is = computed_at-computed f t.assigned t.reached t.touch in
     ap (λ r. touched moment (with_effect (effect ps r moment (bit_of c) answers) r)) (assigned-reported f t c)
@@ -136,7 +139,7 @@ record_same e J g h k =
 
 -- an accepted entry changes the record of its flight
 pub record_changed : (e : Entry) (J : History) → is_accepted e.verdict ≡ true → changes_flight e.command ≡ true
-    → record_of (e ∷ J) (flight_of e.command) ≡ changed (programs_of J e.command) (record_of J (flight_of e.command)) e.moment e.command e.answers
+    → record_of (e ∷ J) (flight_of e.command) ≡ record_after (programs_of J e.command) (record_of J (flight_of e.command)) e.moment e.command e.answers
 record_changed e J h k =
     let f : ℕ = flight_of e.command in
     let both : is_of f e ≡ true = ap (λ b. b && (changes_flight e.command && flight_of e.command == f)) h ∙ ap (λ b. b && flight_of e.command == f) k ∙ eq-eqb f f refl in
@@ -175,8 +178,8 @@ touch_kept ps e f t h =
 
 -- a flight that is there was touched
 creates_changes : (c : Command) → creates c ≡ true → changes_flight c ≡ true
-creates_changes (Schedule s) h = refl
-creates_changes (Report r) h = refl
+creates_changes (commands.Flight (Schedule s)) h = refl
+creates_changes (commands.Flight (Report r)) h = refl
 creates_changes _ h = h
 
 has_push : (f : ℕ) (fs : List ℕ) (o : Option ℕ) → list_any (λ g. g == f) (with_flight fs o) ≡ true → (list_any (λ g. g == f) fs ≡ true) ⊎ (o ≡ Some f)

@@ -17,15 +17,22 @@ use Rattle.acdm_slots.specs.Loaded.{Loaded, place}
 use Rattle.acdm_slots.specs.Loaded as loaded
 use Rattle.acdm_slots.proofs.PlaceLemmas.{given}
 use Rattle.acdm_step.specs.declared.command.Command.{Command}
-use Rattle.acdm_step.specs.declared.command.Command.TheVariants.{Schedule, Report, Load, Unload, Tick, Show}
+use Rattle.acdm_step.specs.declared.command.Command.TheVariants.{Load, Unload, Tick, Show}
+use Rattle.acdm_step.specs.declared.command.Command.TheVariants as commands
+use Rattle.acdm_step.specs.declared.command.FlightCommand.TheVariants.{Schedule, Report}
 use Rattle.acdm_step.specs.declared.outcome.Outcome.TheVariants as outcomes
 use Rattle.acdm_step.specs.declared.entry.Verdict.{Verdict}
 use Rattle.acdm_step.specs.declared.entry.Verdict.TheVariants.{Refused}
 use Rattle.acdm_step.specs.declared.entry.Entry.{Entry}
-use Rattle.acdm_step.specs.History.{History, empty_summary, with_command, with_tick, flight_of, bit_of, changes_flight, is_tick, is_load, is_of, ticks, is_accepted, creates, created, summary, reported, effect_on, record_from, record_of, slot_change, changed_or, program_in, programs_of, size_of, with_slots, slots_of, with_flight, flights, exists, is_ready, verdict_for, verdict_of, answer, outcome_with, outcome_of, IsAnswered, IsLegal, replay, after, is_alerts, needs_memory}
-use Rattle.acdm_step.specs.Board.{changed, touched, place_of, is_there, record_on, put, assigned_to, programs_on, ready_on, board_verdict, board_creates, board_loads, board_answer, board_outcome, board_changed, board_after}
+use Rattle.acdm_step.specs.Commands.{History, flight_of, bit_of, changes_flight, is_tick, is_load, is_of, ticks, is_accepted, creates, created, is_alerts}
+use Rattle.acdm_step.specs.InSlots.{slot_change, changed_or, program_in, programs_of, size_of, with_slots, slots_of}
+use Rattle.acdm_step.specs.Summaries.{empty_summary, with_command, with_tick, summary, effect_on, record_from, record_of, with_flight, flights, exists, run_record_of}
+use Rattle.acdm_step.specs.Verdicts.{is_ready, verdict_for, verdict_of, answer, outcome_with, outcome_of}
+use Rattle.acdm_step.specs.History.{IsAnswered, IsLegal, replay, after, needs_memory}
+use Rattle.acdm_step.specs.Board.{record_after, touched, place_of, is_there, record_on, put, assigned_to, programs_on, ready_on, board_verdict, board_creates, board_loads, board_answer, board_outcome, board_changed, board_after}
 use Rattle.acdm_step.specs.Ran.{Ran}
 use Rattle.acdm_step.specs.Running.{AsksIn}
+use Rattle.acdm_step.proofs.Steps.{change_no_tick}
 use Rattle.acdm_step.proofs.Records.{assigned-reported, record_same, record_changed, record_ticked, touched-there}
 use Rattle.acdm_step.proofs.Flights.{is_it, has, and_false, found, inside, outside, absent, updated, flights_distinct, grows, has-with_flight}
 
@@ -39,8 +46,8 @@ first_owned false false rest h = h
 
 -- a command that is accepted where its flight is not there creates it
 admitted_creates : (c : Command) (count : ℕ) (r : Fields) (ready : Bool) (role : Role) → changes_flight c ≡ true → is_accepted (verdict_for false count r ready role c) ≡ true → creates c ≡ true
-admitted_creates (Schedule s) count r ready role k h = refl
-admitted_creates (Report p) count r ready role k h = first_owned (owns role (actions.Report p.milestone)) (number p.milestone == 1) _ h
+admitted_creates (commands.Flight (Schedule s)) count r ready role k h = refl
+admitted_creates (commands.Flight (Report p)) count r ready role k h = first_owned (owns role (actions.Report p.milestone)) (number p.milestone == 1) _ h
 admitted_creates _ count r ready role k h = absurd (cc)
 
 -- what an accepted entry creates
@@ -53,11 +60,6 @@ creates_or_not fs false f h = refl
 tick_no_change : (c : Command) → is_tick c ≡ true → changes_flight c ≡ false
 tick_no_change Tick h = refl
 tick_no_change _ h = absurd (cc)
-
-pub change_no_tick : (c : Command) → changes_flight c ≡ true → is_tick c ≡ false
-change_no_tick (Schedule s) h = refl
-change_no_tick (Report r) h = refl
-change_no_tick _ h = absurd (cc)
 
 no_and : (a b : Bool) → a ≡ false → (a && b) ≡ false
 no_and true b h = absurd (cc)
@@ -148,7 +150,7 @@ with_slots-sigs (Unload c) l = refl
 with_slots-sigs _ l = refl
 
 pub programs-replay : (sigs : List (ℕ × Promise)) (J : History) (c : Command) → programs_on (slots_of sigs J) c ≡ programs_of J c
-programs-replay sigs J (Report r) =
+programs-replay sigs J (commands.Flight (Report r)) =
     let tobt = slot-replay sigs J r.milestone kinds.Tobt in
     let alert = slot-replay sigs J r.milestone kinds.Alert in
     λ i. record { tobt = tobt i; alert = alert i }
@@ -196,14 +198,14 @@ verdict-replay sigs J role c l =
 
 -- the record with what a command assigns, on the board and after the history
 assigned-replay : (sigs : List (ℕ × Promise)) (J : History) (c : Command) → IsLegal sigs J
-    → assigned_to (record_on (records_of J) (flight_of c)) c ≡ reported (flight_of c) c (summary J (flight_of c))
+    → assigned_to (record_on (records_of J) (flight_of c)) c ≡ run_record_of J c
 assigned-replay sigs J c l =
     ap (λ r. assigned_to r c) (record_on-replay sigs J (flight_of c) l) ∙ assigned-reported (flight_of c) (summary J (flight_of c)) c
 
 -- programs that ran on the board ran after it
 pub ran-replay : (sigs : List (ℕ × Promise)) (J : History) (c : Command) (moment : ℕ) (used : List ℕ) → IsLegal sigs J
     → Ran (programs_on (slots_of sigs J) c) (assigned_to (record_on (records_of J) (flight_of c)) c) moment (bit_of c) used
-    → Ran (programs_of J c) (reported (flight_of c) c (summary J (flight_of c))) moment (bit_of c) used
+    → Ran (programs_of J c) (run_record_of J c) moment (bit_of c) used
 ran-replay sigs J c moment used l h =
     subst (λ x. Ran (programs_of J c) x moment (bit_of c) used) (assigned-replay sigs J c l)
     (subst (λ p. Ran p (assigned_to (record_on (records_of J) (flight_of c)) c) moment (bit_of c) used) (programs-replay sigs J c) h)
@@ -211,7 +213,7 @@ ran-replay sigs J c moment used l h =
 -- and a program that is left without an answer on the board is so after it
 pub asks-replay : (sigs : List (ℕ × Promise)) (J : History) (c : Command) (moment : ℕ) (from to : OracleView) → IsLegal sigs J
     → AsksIn (programs_on (slots_of sigs J) c) (assigned_to (record_on (records_of J) (flight_of c)) c) moment (bit_of c) from to
-    → AsksIn (programs_of J c) (reported (flight_of c) c (summary J (flight_of c))) moment (bit_of c) from to
+    → AsksIn (programs_of J c) (run_record_of J c) moment (bit_of c) from to
 asks-replay sigs J c moment from to l h =
     subst (λ x. AsksIn (programs_of J c) x moment (bit_of c) from to) (assigned-replay sigs J c l)
     (subst (λ p. AsksIn p (assigned_to (record_on (records_of J) (flight_of c)) c) moment (bit_of c) from to) (programs-replay sigs J c) h)
@@ -249,8 +251,7 @@ module _ (sigs : List (ℕ × Promise)) (e : Entry) (J : History) (legal : IsLeg
       later false b h = h
 
   creates_none : (c : Command) → changes_flight c ≡ false → creates c ≡ false
-  creates_none (Schedule s) h = absurd (cc)
-  creates_none (Report r) h = absurd (cc)
+  creates_none (commands.Flight k) h = absurd (cc)
   creates_none _ h = refl
 
   -- what changes no flight creates none
@@ -296,12 +297,12 @@ module _ (sigs : List (ℕ × Promise)) (e : Entry) (J : History) (legal : IsLeg
         ∙ ap (λ b. cond b (flights J) (flights J ++ flight_of e.command ∷ [])) t
 
     accepted-replay : is_accepted e.verdict ≡ true
-        → put (records_of J) (flight_of e.command) (changed (programs_on (slots_of sigs J) e.command) (record_on (records_of J) (flight_of e.command)) e.moment e.command e.answers) ≡ records_of (e ∷ J)
+        → put (records_of J) (flight_of e.command) (record_after (programs_on (slots_of sigs J) e.command) (record_on (records_of J) (flight_of e.command)) e.moment e.command e.answers) ≡ records_of (e ∷ J)
     accepted-replay d =
         let f : ℕ = flight_of e.command in
-        let changed_now : changed (programs_on (slots_of sigs J) e.command) (record_on (records_of J) f) e.moment e.command e.answers ≡ record_of (e ∷ J) f =
-        ap (λ ps. changed ps (record_on (records_of J) f) e.moment e.command e.answers) (programs-replay sigs J e.command)
-        ∙ ap (λ r. changed (programs_of J e.command) r e.moment e.command e.answers) (record_on-replay sigs J f legal) ∙ sym (record_changed e J d k) in
+        let changed_now : record_after (programs_on (slots_of sigs J) e.command) (record_on (records_of J) f) e.moment e.command e.answers ≡ record_of (e ∷ J) f =
+        ap (λ ps. record_after ps (record_on (records_of J) f) e.moment e.command e.answers) (programs-replay sigs J e.command)
+        ∙ ap (λ r. record_after (programs_of J e.command) r e.moment e.command e.answers) (record_on-replay sigs J f legal) ∙ sym (record_changed e J d k) in
         ap (put (records_of J) f) changed_now ∙
         (elim (exists J f) as (λ b. exists J f ≡ b → put (records_of J) f (record_of (e ∷ J) f) ≡ records_of (e ∷ J)) [
           | true ↦ λ t.
@@ -332,7 +333,7 @@ module _ (sigs : List (ℕ × Promise)) (e : Entry) (J : History) (legal : IsLeg
       ] refl
     where
       here : List Fields
-      here = put (records_of J) (flight_of e.command) (changed (programs_on (slots_of sigs J) e.command) (record_on (records_of J) (flight_of e.command)) e.moment e.command e.answers)
+      here = put (records_of J) (flight_of e.command) (record_after (programs_on (slots_of sigs J) e.command) (record_on (records_of J) (flight_of e.command)) e.moment e.command e.answers)
 
   -- an accepted entry changes the board, and a refused one leaves it
   accepted-board : is_accepted e.verdict ≡ true → record { records = board_changed (replay sigs J) e.moment e.command e.answers; slots = with_slots e.command (slots_of sigs J) } ≡ replay sigs (e ∷ J)

@@ -19,13 +19,18 @@ use Rattle.acdm_slots.specs.declared.kind.Kind.{Kind}
 use Rattle.acdm_slots.specs.declared.kind.Kind.TheVariants.{Tobt as TobtProgram, Alert as AlertProgram}
 use Rattle.acdm_step.specs.declared.command.Plan.{Plan}
 use Rattle.acdm_step.specs.declared.command.Command.{Command}
-use Rattle.acdm_step.specs.declared.command.Command.TheVariants.{Schedule, Report, Load, Unload, Tick, Show}
+use Rattle.acdm_step.specs.declared.command.Command.TheVariants.{Load, Unload, Tick, Show}
+use Rattle.acdm_step.specs.declared.command.FlightCommand.TheVariants.{Schedule, Report}
 use Rattle.acdm_step.specs.declared.command.Command.TheVariants as commands
 use Rattle.acdm_step.specs.declared.outcome.Outcome.TheVariants as outcomes
 use Rattle.acdm_milestones.specs.declared.refusal.Refusal.TheVariants.{Barred, NotOwner, TimeOrder, NotSet, UnknownFlight, EmptySlot, OtherSignatures}
 use Rattle.acdm_step.specs.declared.entry.Verdict.{Verdict}
 use Rattle.acdm_step.specs.declared.entry.Verdict.TheVariants.{Accepted, Refused}
-use Rattle.acdm_step.specs.History.{History, after, record_of, verdict_of, outcome_of, left_by, program_in}
+use Rattle.acdm_step.specs.Commands.{History}
+use Rattle.acdm_step.specs.InSlots.{program_in}
+use Rattle.acdm_step.specs.Summaries.{record_of}
+use Rattle.acdm_step.specs.Verdicts.{verdict_of, outcome_of}
+use Rattle.acdm_step.specs.History.{after, left_by}
 
 -- one more command, on a board without helpers
 abbrev plus : History → ℕ → Role → ℕ → Command → History
@@ -35,16 +40,16 @@ abbrev the_plan : Plan
 the_plan = record { callsign = codes "DLH7"; aircraft = codes "A320"; registration = codes "DAIBC"; destination = codes "EDDM" }
 
 abbrev scheduled : Command
-scheduled = Schedule record { flight = 7; plan = the_plan; sobt = 29000760; mttt = 40; exit = 5; exot = 10; stand = 12 }
+scheduled = commands.Flight (Schedule record { flight = 7; plan = the_plan; sobt = 29000760; mttt = 40; exit = 5; exot = 10; stand = 12 })
 
 abbrev activated : Command
-activated = Report record { flight = 7; milestone = FlightPlanActivated; time = 29000760; plan = Some the_plan }
+activated = commands.Flight (Report record { flight = 7; milestone = FlightPlanActivated; time = 29000760; plan = Some the_plan })
 
 abbrev landed : ℕ → Command
-landed t = Report record { flight = 7; milestone = Landed; time = t; plan = None }
+landed t = commands.Flight (Report record { flight = 7; milestone = Landed; time = t; plan = None })
 
 abbrev in_block : ℕ → Command
-in_block t = Report record { flight = 7; milestone = InBlock; time = t; plan = None }
+in_block t = commands.Flight (Report record { flight = 7; milestone = InBlock; time = t; plan = None })
 
 abbrev pub first : History
 first = plus (plus (plus [] 1 AirportOperator 29000700 scheduled) 2 NetworkManager 29000700 activated) 3 AirTrafficControl 29000700 (landed 29000700)
@@ -124,7 +129,7 @@ abbrev begun : History
 begun = plus planned_alone 1 AirportOperator 29000580 scheduled
 
 abbrev reports : Milestone → ℕ → Command
-reports m time = Report record { flight = 7; milestone = m; time = time; plan = None }
+reports m time = commands.Flight (Report record { flight = 7; milestone = m; time = time; plan = None })
 
 abbrev deleted : History
 deleted = plus (plus (plus begun 5 GroundHandler 29000580 (reports TobtUpdate 29000760)) 3 AirTrafficControl 29000580 (reports TsatIssue 29000760)) 5 GroundHandler 29000580 (reports TobtUpdate 0)

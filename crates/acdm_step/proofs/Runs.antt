@@ -12,10 +12,13 @@ use Rattle.bpf_machine.specs.declared.outcome.Ended.{Ended}
 use Rattle.bpf_machine.specs.Outcome.{AsksOver, EndsOver}
 use Rattle.acdm_slots.specs.Loaded.{Loaded}
 use Rattle.acdm_step.specs.declared.command.Command.{Command}
-use Rattle.acdm_step.specs.declared.command.Command.TheVariants.{Schedule}
+use Rattle.acdm_step.specs.declared.command.Command.TheVariants as commands
+use Rattle.acdm_step.specs.declared.command.FlightCommand.{FlightCommand}
+use Rattle.acdm_step.specs.declared.command.FlightCommand.TheVariants.{Schedule}
 use Rattle.acdm_step.specs.Facts.{ScheduleFacts}
 use Rattle.acdm_step.specs.Programs.{Programs, no_effect, suggestion, with_suggestion, local_alerts, with_local_alerts, with_effect}
-use Rattle.acdm_step.specs.History.{bit_of, size_of}
+use Rattle.acdm_step.specs.Commands.{bit_of}
+use Rattle.acdm_step.specs.InSlots.{size_of}
 use Rattle.acdm_step.specs.Board.{assigned_to, touched, programs_on}
 use Rattle.acdm_step.specs.Ran.{EndsWith, HasEffect}
 use Rattle.acdm_step.specs.Running.{EndsAt, AsksAt, EndsIn, AsksIn, first, second, ChangesTo}
@@ -93,9 +96,9 @@ changes_to ps r a s new moment m c from to ea em h e = (
 )
 
 -- an accepted schedule has
-pub changes_scheduled : (l : Loaded) (r a new : Fields) (moment : ℕ) (c : Command) (s : ScheduleFacts) (from to : OracleView)
-    → c ≡ Schedule s → a ≡ assigned_to r (Schedule s) → new ≡ touched moment a → Unasked from to
-    → ChangesTo (programs_on l c) r moment c from to new
-changes_scheduled l r a new moment c s from to is ea e same =
-    subst (λ x. ChangesTo (programs_on l x) r moment x from to new) (sym is)
-    ([], no_effect, same.log ∙ sym (append-nil from.log), none_ran (assigned_to r (Schedule s)) moment (bit_of (Schedule s)), e ∙ ap (touched moment) ea, same.refusals)
+pub changes_scheduled : (l : Loaded) (r a new : Fields) (moment : ℕ) (k : FlightCommand) (s : ScheduleFacts) (from to : OracleView)
+    → k ≡ Schedule s → a ≡ assigned_to r (commands.Flight (Schedule s)) → new ≡ touched moment a → Unasked from to
+    → ChangesTo (programs_on l (commands.Flight k)) r moment (commands.Flight k) from to new
+changes_scheduled l r a new moment k s from to is ea e same =
+    subst (λ x. ChangesTo (programs_on l (commands.Flight x)) r moment (commands.Flight x) from to new) (sym is)
+    ([], no_effect, same.log ∙ sym (append-nil from.log), none_ran (assigned_to r (commands.Flight (Schedule s))) moment (bit_of (commands.Flight (Schedule s))), e ∙ ap (touched moment) ea, same.refusals)

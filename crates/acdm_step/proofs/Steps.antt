@@ -9,7 +9,7 @@ use Rattle.bpf_helpers.specs.Oracles.{OracleView, Gained, Unasked}
 use Rattle.bpf_helpers.specs.Same.{same_sigs}
 use Rattle.acdm_slots.specs.Loaded.{Loaded, program_in}
 use Rattle.acdm_step.specs.declared.command.Command.{Command}
-use Rattle.acdm_step.specs.declared.command.Command.TheVariants.{Schedule, Report, Load, Unload, Tick, Show}
+use Rattle.acdm_step.specs.declared.command.Command.TheVariants.{Load, Unload, Tick, Show}
 use Rattle.acdm_step.specs.declared.command.Command.TheVariants as commands
 use Rattle.acdm_step.specs.declared.command.Load as command_load
 use Rattle.acdm_step.specs.declared.command.Unload as command_unload
@@ -17,8 +17,11 @@ use Rattle.acdm_step.specs.declared.outcome.Outcome.{Outcome}
 use Rattle.acdm_step.specs.declared.outcome.Outcome.TheVariants as outcomes
 use Rattle.acdm_step.specs.declared.entry.Verdict.{Verdict}
 use Rattle.acdm_step.specs.declared.entry.Verdict.TheVariants.{Accepted, Refused}
-use Rattle.acdm_step.specs.History.{Board, flight_of, bit_of, is_accepted, is_tick, changes_flight, is_alerts, verdict_for, load_verdict, unload_verdict, tick_verdict, show_verdict, alert_list, outcome_with, with_slots}
-use Rattle.acdm_step.specs.Board.{board_of, assigned_to, touched, place_of, is_there, record_on, put, changed, programs_on, ready_on, board_verdict, board_creates, board_loads, board_outcome, board_changed, board_after}
+use Rattle.acdm_step.specs.Commands.{flight_of, bit_of, is_accepted, is_tick, changes_flight, is_alerts}
+use Rattle.acdm_step.specs.InSlots.{with_slots}
+use Rattle.acdm_step.specs.Verdicts.{verdict_for, load_verdict, unload_verdict, tick_verdict, show_verdict, alert_list, outcome_with}
+use Rattle.acdm_step.specs.History.{Board}
+use Rattle.acdm_step.specs.Board.{board_of, assigned_to, touched, place_of, is_there, record_on, put, record_after, programs_on, ready_on, board_verdict, board_creates, board_loads, board_outcome, board_changed, board_after}
 use Rattle.acdm_step.specs.Programs.{no_effect, effect_with, effect_or_none, with_effect}
 use Rattle.acdm_step.specs.Ran.{Ran}
 use Rattle.acdm_step.proofs.Saying.{none_ran, say_said}
@@ -57,24 +60,20 @@ record_absent b flight place s at outside is = is ∙ sym (ap (λ n. get_or b n 
 -- ---- commands by their kind
 
 pub change_no_tick : (c : Command) → changes_flight c ≡ true → is_tick c ≡ false
-change_no_tick (Schedule s) h = refl
-change_no_tick (Report r) h = refl
+change_no_tick (commands.Flight k) h = refl
 change_no_tick _ h = absurd (cc)
 
 change_keeps_slots : (c : Command) (l : Loaded) → changes_flight c ≡ true → with_slots c l ≡ l
-change_keeps_slots (Schedule s) l h = refl
-change_keeps_slots (Report r) l h = refl
+change_keeps_slots (commands.Flight k) l h = refl
 change_keeps_slots _ l h = absurd (cc)
 
 change_is_ready : (c : Command) (l : Loaded) → changes_flight c ≡ true → ready_on l c ≡ true
-change_is_ready (Schedule s) l h = refl
-change_is_ready (Report r) l h = refl
+change_is_ready (commands.Flight k) l h = refl
 change_is_ready _ l h = absurd (cc)
 
 change_outcome_is : (b : Board) (role : Role) (c : Command) → changes_flight c ≡ true → outcome_with outcomes.Done (board_verdict b role c) ≡ board_outcome b role c
 unfolding board_outcome
-change_outcome_is b role (Schedule s) k = refl
-change_outcome_is b role (Report r) k = refl
+change_outcome_is b role (commands.Flight x) k = refl
 change_outcome_is b role _ k = absurd (cc)
 
 accepted_is : (v : Verdict) → is_accepted v ≡ true → outcomes.Done ≡ outcome_with outcomes.Done v
@@ -83,8 +82,7 @@ accepted_is (Refused x) h = absurd (cc)
 
 -- where no program runs, no answer is used
 no_runs : (l : Loaded) (c : Command) (r : Fields) (moment : ℕ) → changes_flight c ≡ false → Ran (programs_on l c) r moment (bit_of c) []
-no_runs l (Schedule s) r moment h = absurd (cc)
-no_runs l (Report x) r moment h = absurd (cc)
+no_runs l (commands.Flight k) r moment h = absurd (cc)
 no_runs l _ r moment h = (no_effect, none_ran r moment 0)
 
 nothing_gained : (from to : OracleView) → Unasked from to → Gained from to []
@@ -124,9 +122,9 @@ module _ (b : Board) (role : Role) (moment : ℕ) (c : Command) where
         let x : Fields = assigned_to (record_on b.records (flight_of c)) c in
         let all : effect_with (programs_on b.slots c) x moment (bit_of c) h'.0 ≡ Some (h'.1, []) =
         ap (effect_with (programs_on b.slots c) x moment (bit_of c)) (sym (append-nil h'.0)) ∙ say_said (programs_on b.slots c) x moment (bit_of c) h'.0 h'.1 h'.3 [] in
-        let record_is : s ≡ changed (programs_on b.slots c) (record_on b.records (flight_of c)) moment c h'.0 =
+        let record_is : s ≡ record_after (programs_on b.slots c) (record_on b.records (flight_of c)) moment c h'.0 =
         h'.4 ∙ ap (λ o. touched moment (with_effect (effect_or_none o) x)) (sym all) in
-        let here : List Fields = put b.records (flight_of c) (changed (programs_on b.slots c) (record_on b.records (flight_of c)) moment c h'.0) in
+        let here : List Fields = put b.records (flight_of c) (record_after (programs_on b.slots c) (record_on b.records (flight_of c)) moment c h'.0) in
         let records : rs ≡ board_changed b moment c h'.0 =
         stored ∙ ap (put b.records (flight_of c)) record_is
         ∙ sym (ap (λ t. cond t (map (touched moment) b.records) (cond (changes_flight c) here b.records)) (change_no_tick c k) ∙ ap (λ t. cond t here b.records) k) in
@@ -148,7 +146,7 @@ module _ (b : Board) (role : Role) (moment : ℕ) (c : Command) where
       (λ i. record { records = (e ∙ same) i; slots = f i }) ∙ either (is_accepted (board_verdict b role c)) (board_changed b moment c []) same
     where
       here : List Fields
-      here = put b.records (flight_of c) (changed (programs_on b.slots c) (record_on b.records (flight_of c)) moment c [])
+      here = put b.records (flight_of c) (record_after (programs_on b.slots c) (record_on b.records (flight_of c)) moment c [])
 
       either : (v : Bool) (rs : List Fields) → b.records ≡ rs
           → record { records = rs; slots = cond v (with_slots c b.slots) b.slots } ≡ cond v (record { records = rs; slots = with_slots c b.slots }) b

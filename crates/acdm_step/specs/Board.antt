@@ -12,13 +12,17 @@ use Rattle.acdm_slots.specs.declared.kind.Kind.TheVariants as kinds
 use Rattle.acdm_slots.specs.Loaded.{Loaded}
 use Rattle.acdm_slots.specs.Loaded as slots
 use Rattle.acdm_step.specs.declared.command.Command.{Command}
-use Rattle.acdm_step.specs.declared.command.Command.TheVariants.{Report, Load, Unload, Show}
+use Rattle.acdm_step.specs.declared.command.Command.TheVariants.{Load, Unload, Show}
+use Rattle.acdm_step.specs.declared.command.FlightCommand.TheVariants.{Report}
 use Rattle.acdm_step.specs.declared.command.Command.TheVariants as commands
 use Rattle.acdm_step.specs.declared.entry.Verdict.{Verdict}
 use Rattle.acdm_step.specs.declared.outcome.Outcome.{Outcome}
 use Rattle.acdm_step.specs.declared.outcome.Outcome.TheVariants as outcomes
 use Rattle.acdm_step.specs.Programs.{Programs, no_programs, effect, with_effect}
-use Rattle.acdm_step.specs.History.{Board, assigned_by, bit_of, flight_of, is_tick, is_load, changes_flight, is_accepted, verdict_for, alert_list, outcome_with, with_slots}
+use Rattle.acdm_step.specs.Commands.{assigned_by, bit_of, flight_of, is_tick, is_load, changes_flight, is_accepted}
+use Rattle.acdm_step.specs.InSlots.{with_slots}
+use Rattle.acdm_step.specs.Verdicts.{verdict_for, alert_list, outcome_with}
+use Rattle.acdm_step.specs.History.{Board}
 
 -- records and slots together
 abbrev pub board_of : List Fields → Loaded → Board
@@ -33,8 +37,8 @@ abbrev pub assigned_to : Fields → Command → Fields
 assigned_to r c = marked (with_all r (assigned_by c)) (bit_of c)
 
 -- the record of a flight after an accepted command of it, with what these programs say with these answers
-abbrev pub changed : Programs → Fields → ℕ → Command → List ℕ → Fields
-changed ps r moment c answers = touched moment (with_effect (effect ps (assigned_to r c) moment (bit_of c) answers) (assigned_to r c))
+abbrev pub record_after : Programs → Fields → ℕ → Command → List ℕ → Fields
+record_after ps r moment c answers = touched moment (with_effect (effect ps (assigned_to r c) moment (bit_of c) answers) (assigned_to r c))
 
 -- the place of a flight's record, or how many there are
 abbrev pub has_number : ℕ → Fields → Bool
@@ -55,7 +59,7 @@ put board f r = if is_there board f then slice_set board (place_of board f) r el
 
 -- the programs that a command runs
 abbrev pub programs_on : Loaded → Command → Programs
-programs_on l (Report r) = record { tobt = slots.program_in l r.milestone kinds.Tobt; alert = slots.program_in l r.milestone kinds.Alert }
+programs_on l (commands.Flight (Report r)) = record { tobt = slots.program_in l r.milestone kinds.Tobt; alert = slots.program_in l r.milestone kinds.Alert }
 programs_on l _ = no_programs
 
 -- the last test of a load and of an unload
@@ -88,7 +92,7 @@ board_outcome b role c = outcome_with (board_answer b c) (board_verdict b role c
 abbrev pub board_changed : Board → ℕ → Command → List ℕ → List Fields
 board_changed b moment c answers =
     if is_tick c then map (touched moment) b.records
-    else (if changes_flight c then put b.records (flight_of c) (changed (programs_on b.slots c) (record_on b.records (flight_of c)) moment c answers) else b.records)
+    else (if changes_flight c then put b.records (flight_of c) (record_after (programs_on b.slots c) (record_on b.records (flight_of c)) moment c answers) else b.records)
 
 unfoldable pub board_after : Board → Role → ℕ → Command → List ℕ → Board
 board_after b role moment c answers = if is_accepted (board_verdict b role c) then record { records = board_changed b moment c answers; slots = with_slots c b.slots } else b

@@ -7,7 +7,8 @@ use Rattle.acdm_step.specs.declared.command.Command.TheVariants.{Show}
 use Rattle.acdm_step.specs.declared.command.Command.TheVariants as commands
 use Rattle.acdm_step.specs.declared.entry.Verdict.{Verdict}
 use Rattle.acdm_step.specs.declared.entry.Verdict.TheVariants.{Accepted, Refused}
-use Rattle.acdm_step.specs.History.{History, answer, outcome_with, outcome_of, verdict_of, verdict_in}
+use Rattle.acdm_step.specs.Commands.{History}
+use Rattle.acdm_step.specs.Verdicts.{answer, outcome_with, outcome_of, verdict_of, verdict_in}
 
 says : (J : History) (c : Command) (v : Verdict) → verdict_in (outcome_with (answer J c) v) ≡ v
 says J c (Refused x) = refl

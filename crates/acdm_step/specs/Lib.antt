@@ -1,5 +1,9 @@
 pub mod Facts
 pub mod Programs
+pub mod Commands
+pub mod InSlots
+pub mod Summaries
+pub mod Verdicts
 pub mod History
 pub mod Board
 pub mod Ran

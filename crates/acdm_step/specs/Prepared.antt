@@ -1,13 +1,13 @@
 -- A step in two parts: what a command would do to the board, and the board after that.
-use Rattle.std.specs.Prelude.{◌≡◌, ◌<◌, Bool, true, [], ◌∷◌, ◌++◌, map, length, slice_set, Some, None}
+use Rattle.std.specs.Prelude.{◌≡◌, ◌<◌, Bool, [], ◌∷◌, ◌++◌, map, length, slice_set, Some, None}
 use Rattle.acdm_record.specs.declared.field.Field.TheVariants.{Flight}
 use Rattle.acdm_record.specs.Fields.{number_of}
 use Rattle.acdm_milestones.specs.declared.role.Role.{Role}
 use Rattle.acdm_milestones.specs.declared.role.Action.TheVariants as actions
 use Rattle.acdm_milestones.specs.Tables.{owns}
 use Rattle.acdm_slots.specs.Loaded.{with_program, program_in}
-use Rattle.acdm_step.specs.declared.command.Command.{Command}
-use Rattle.acdm_step.specs.declared.command.Command.TheVariants as commands
+use Rattle.acdm_step.specs.declared.command.FlightCommand.{FlightCommand}
+use Rattle.acdm_step.specs.declared.command.FlightCommand.TheVariants.{Schedule, Report}
 use Rattle.acdm_step.specs.declared.prepare.Change.{Change}
 use Rattle.acdm_step.specs.declared.prepare.Change.TheVariants as changes
 use Rattle.acdm_step.specs.History.{Board}
@@ -15,10 +15,9 @@ use Rattle.acdm_step.specs.Board.{board_of, touched, place_of}
 use Rattle.acdm_step.specs.Marked.{Keeps}
 
 -- whether a role owns a command that changes a flight
-abbrev pub owns_change : Role → Command → Bool
-owns_change role (commands.Schedule s) = owns role actions.Schedule
-owns_change role (commands.Report r) = owns role (actions.Report r.milestone)
-owns_change role _ = true
+abbrev pub owns_change : Role → FlightCommand → Bool
+owns_change role (Schedule s) = owns role actions.Schedule
+owns_change role (Report r) = owns role (actions.Report r.milestone)
 
 -- the board after a change
 abbrev pub after_change : Board → Change → Board

@@ -12,7 +12,11 @@ use Rattle.acdm_step.specs.declared.outcome.Outcome.{Outcome}
 use Rattle.acdm_step.specs.declared.outcome.Outcome.TheVariants as outcomes
 use Rattle.acdm_step.specs.Programs.{Programs, Effect, suggestion, with_suggestion, with_effect}
 use Rattle.acdm_step.specs.Ran.{EndsWith, HasEffect, Ran}
-use Rattle.acdm_step.specs.History.{History, Board, flight_of, bit_of, is_accepted, summary, reported, programs_of, size_of, verdict_of, outcome_of}
+use Rattle.acdm_step.specs.Commands.{History, flight_of, bit_of, is_accepted}
+use Rattle.acdm_step.specs.InSlots.{programs_of, size_of}
+use Rattle.acdm_step.specs.Summaries.{run_record_of}
+use Rattle.acdm_step.specs.Verdicts.{verdict_of, outcome_of}
+use Rattle.acdm_step.specs.History.{Board}
 use Rattle.acdm_step.specs.Board.{record_on, programs_on, assigned_to, touched, board_verdict, board_outcome, board_after}
 
 -- the program that may stand in a slot ends with r0, with the answers that were gained, no more than it has instructions
@@ -61,8 +65,8 @@ pub data Comes (b : Board) (role : Role) (moment : ℕ) (c : Command) (before af
 -- the same after a history
 pub data ComesOf (sigs : List (ℕ × Promise)) (J : History) (role : Role) (moment : ℕ) (c : Command) (before after : OracleView) (outcome : Outcome) : Type 0 where
   answered_so : (used : List ℕ) → Gained before after used → after.refusals ≡ before.refusals → outcome ≡ outcome_of sigs J role c
-      → (is_accepted (verdict_of sigs J role c) ≡ true → Ran (programs_of J c) (reported (flight_of c) c (summary J (flight_of c))) moment (bit_of c) used)
+      → (is_accepted (verdict_of sigs J role c) ≡ true → Ran (programs_of J c) (run_record_of J c) moment (bit_of c) used)
       → (is_accepted (verdict_of sigs J role c) ≡ false → used ≡ []) → ComesOf sigs J role moment c before after outcome
   unanswered_so : outcome ≡ outcomes.Refused Unanswered → is_accepted (verdict_of sigs J role c) ≡ true
-      → AsksIn (programs_of J c) (reported (flight_of c) c (summary J (flight_of c))) moment (bit_of c) before after
+      → AsksIn (programs_of J c) (run_record_of J c) moment (bit_of c) before after
       → ComesOf sigs J role moment c before after outcome

@@ -3,12 +3,13 @@ ghost use Rattle.std.specs.Prelude.{◌≡◌, ◌<◌, ◌++◌, [], ◌∷◌,
 ghost use Rattle.acdm_record.specs.declared.field.Field.TheVariants.{Flight};
 ghost use Rattle.acdm_record.specs.Fields.{number_of};
 ghost use Rattle.acdm_step.specs.Board.{place_of, touched};
-ghost use Rattle.acdm_step.specs.History.{alert_list};
+ghost use Rattle.acdm_step.specs.Verdicts.{alert_list};
 ghost use Rattle.acdm_step.specs.Marked.{Keeps};
 
-use crate::change::{MOST_FLIGHTS, touch};
+use crate::change::touch;
 use crate::marks::Marks;
 use crate::outcome::{AlertList, Alerted};
+use crate::verdicts::MOST_FLIGHTS;
 use acdm_alerts::AlertSet;
 use acdm_record::{Field, Record};
 use indexmap::IndexMap;

@@ -239,13 +239,20 @@ pub struct Unload {
     pub kind: Kind,
 }
 
-/// What a partner asks for.
+/// What a partner asks of one flight, whose record changes where it is accepted.
 #[derive(Drop)]
-pub enum Command {
+pub enum FlightCommand {
     /// To create a flight, or to set what is scheduled of it.
     Schedule(Schedule),
     /// To report a milestone.
     Report(Report),
+}
+
+/// What a partner asks for.
+#[derive(Drop)]
+pub enum Command {
+    /// To change the record of a flight.
+    Flight(FlightCommand),
     /// To load a local program.
     Load(Load),
     /// To take one away.

@@ -1,6 +1,6 @@
 //! The journal's entries.
 ghost use Rattle.std.specs.Prelude.{◌≡◌, []};
-ghost use Rattle.acdm_step.specs.History.{is_accepted as was_accepted};
+ghost use Rattle.acdm_step.specs.Commands.{is_accepted as was_accepted};
 
 use crate::command::Command;
 use acdm_milestones::{Refusal, Role};

@@ -9,7 +9,10 @@ ghost use Rattle.acdm_slots.specs.Loaded as loaded;
 ghost use Rattle.acdm_step.specs.declared.entry.Entry.{Entry};
 ghost use Rattle.acdm_step.specs.Programs.{Programs, Effect, effect_with};
 ghost use Rattle.acdm_step.specs.Ran.{Ran, HasEffect};
-ghost use Rattle.acdm_step.specs.History.{History, IsLegal, is_accepted, flight_of, bit_of, program_in, programs_of, reported, slots_of, summary};
+ghost use Rattle.acdm_step.specs.Commands.{History, is_accepted, flight_of, bit_of};
+ghost use Rattle.acdm_step.specs.InSlots.{program_in, programs_of, slots_of};
+ghost use Rattle.acdm_step.specs.Summaries.{run_record_of};
+ghost use Rattle.acdm_step.specs.History.{IsLegal};
 
 /// What a history computes of the programs of a report is what their runs end with.
 pub fn programs_say_what_their_runs_end_with()
@@ -21,7 +24,7 @@ pub fn programs_say_what_their_runs_end_with()
         HasEffect ps r moment m used s → (left : List ℕ) → effect_with ps r moment m (used ++ left) ≡ Some (s, left) }
     // In a legal history the programs of each accepted entry ran, and ended with exactly the answers that the entry keeps.
     ensures legal { (sigs : List (ℕ × Promise)) (J : History) (e : Entry) → IsLegal sigs (e ∷ J) → is_accepted e.verdict ≡ true →
-        Ran (programs_of J e.command) (reported (flight_of e.command) e.command (summary J (flight_of e.command))) e.moment (bit_of e.command) e.answers }
+        Ran (programs_of J e.command) (run_record_of J e.command) e.moment (bit_of e.command) e.answers }
 {}
 
 /// The programs in the slots of a board are those of the last accepted loads and unloads of its history.

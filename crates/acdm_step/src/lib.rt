@@ -11,8 +11,9 @@ mod outcome;
 mod prepare;
 mod programs;
 mod state;
+mod verdicts;
 
-pub use command::{Command, FlightNumber, Load, Plan, Report, Schedule, Unload};
+pub use command::{Command, FlightCommand, FlightNumber, Load, Plan, Report, Schedule, Unload};
 pub use entry::{Answers, Entry, Verdict};
 pub use outcome::{AlertList, Alerted, Outcome};
 pub use state::Core;

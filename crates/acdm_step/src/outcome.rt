@@ -1,6 +1,6 @@
 //! What comes of a command.
 ghost use Rattle.std.specs.Prelude.{◌≡◌, ◌++◌, IfOk, IsTrue, OnErr};
-ghost use Rattle.acdm_step.specs.History.{verdict_in, outcome_with, is_list};
+ghost use Rattle.acdm_step.specs.Verdicts.{verdict_in, outcome_with, is_list};
 
 use crate::entry::Verdict;
 use acdm_alerts::AlertSet;

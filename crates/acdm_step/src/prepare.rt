@@ -3,17 +3,22 @@ ghost use Rattle.std.specs.Prelude.{◌≡◌, ◌↔◌, IsTrue, IfOk, OnErr, i
 ghost use Rattle.bpf_helpers.specs.Oracles.{MayBeAsked, SameRule};
 ghost use Rattle.bpf_helpers.specs.Same.{same_sigs};
 ghost use Rattle.acdm_slots.specs.Loaded.{program_in};
-ghost use Rattle.acdm_step.specs.History.{changes_flight, is_accepted, load_verdict, outcome_with, show_verdict, tick_verdict, unload_verdict};
+ghost use Rattle.acdm_step.specs.Commands.{is_accepted};
+ghost use Rattle.acdm_step.specs.Verdicts.{load_verdict, outcome_with, show_verdict, tick_verdict, unload_verdict};
 ghost use Rattle.acdm_step.specs.Board.{board_of, is_there, place_of, record_on};
 ghost use Rattle.acdm_step.specs.Running.{Comes};
 ghost use Rattle.acdm_step.specs.Prepared.{Fits, after_change};
 
 use crate::by_flight::Flights;
-use crate::change::{change, flight_of_command, is_owner, verdict, verdict_on_tick};
-use crate::command::{Command, Load, Unload};
+use crate::change::change;
+use crate::command::{Command, FlightCommand, Load, Unload};
 use crate::entry::Verdict;
 use crate::outcome::Outcome;
-use acdm_milestones::{Action, Milestone, Refusal, Role, owns};
+use crate::verdicts::{
+    flight_of_command, is_owner, verdict, verdict_on_load, verdict_on_show, verdict_on_tick,
+    verdict_on_unload,
+};
+use acdm_milestones::{Milestone, Refusal, Role};
 use acdm_record::Record;
 use acdm_slots::{Kind, Slots};
 use bpf_helpers::Oracle;
@@ -44,6 +49,17 @@ pub(crate) struct Prepared {
     pub(crate) change: Change,
 }
 
+// What comes of a refused command.
+fn refused(refusal: Refusal) -> Prepared
+    ensures outcome { result.outcome ≡ Outcome.Refused refusal }
+    ensures change { result.change ≡ Change.Nothing }
+{
+    Prepared {
+        outcome: Outcome::Refused(refusal),
+        change: Change::Nothing,
+    }
+}
+
 // The record at a flight's place, or the one that it begins with.
 fn record_at(flights: &Flights, place: usize, flight: u64) -> Record
     requires { place ≡ place_of flights.now flight }
@@ -63,20 +79,16 @@ pub(crate) fn prepare_flight<O: Oracle>(
     oracle: &mut O,
     role: Role,
     moment: u32,
-    command: &Command,
+    command: &FlightCommand,
 ) -> Prepared
-    requires changes { IsTrue (changes_flight command.now) }
     requires oracle { MayBeAsked slots.now.sigs (O.view oracle.old) }
-    ensures comes { Comes (board_of flights.now slots.now) role moment command.now (O.view oracle.old) (O.view oracle.new)
+    ensures comes { Comes (board_of flights.now slots.now) role moment (Command.Flight command.now) (O.view oracle.old) (O.view oracle.new)
         result.outcome (after_change (board_of flights.now slots.now) result.change) }
     ensures fits { Fits (board_of flights.now slots.now) result.change }
     ensures same_rule { SameRule (O.view oracle.old) (O.view oracle.new) }
 {
     if !is_owner(role, command) {
-        return Prepared {
-            outcome: Outcome::Refused(Refusal::NotOwner),
-            change: Change::Nothing,
-        };
+        return refused(Refusal::NotOwner);
     }
     let flight = flight_of_command(command);
     let place = flights.place(flight);
@@ -90,10 +102,7 @@ pub(crate) fn prepare_flight<O: Oracle>(
         };
     }
     if change(&mut record, slots, moment, command, oracle).is_err() {
-        return Prepared {
-            outcome: Outcome::Refused(Refusal::Unanswered),
-            change: Change::Nothing,
-        };
+        return refused(Refusal::Unanswered);
     }
     if place < count {
         Prepared {
@@ -108,14 +117,6 @@ pub(crate) fn prepare_flight<O: Oracle>(
     }
 }
 
-// Whether a program was checked against the signatures of the board.
-fn is_checked_here(slots: &Slots, load: &Load) -> bool
-    ensures test { result ≡ same_sigs load.now.program.sigs slots.now.sigs }
-    ensures same { IsTrue result ↔ (load.now.program.sigs ≡ slots.now.sigs) }
-{
-    load.program.sigs().is_same(slots.sigs())
-}
-
 /// A load: a copy of its program comes into its slot. `Err` only where memory was refused.
 pub(crate) fn prepare_load(slots: &Slots, role: Role, load: &Load) -> Result<Prepared, AllocError>
     ensures outcome { IfOk result (λ p. p.outcome ≡ outcome_with Outcome.Done (load_verdict (same_sigs load.now.program.sigs slots.now.sigs) role)) }
@@ -126,23 +127,16 @@ pub(crate) fn prepare_load(slots: &Slots, role: Role, load: &Load) -> Result<Pre
         load.now.program.sigs ≡ slots.now.sigs) }
     ensures loading { OnErr result (IsTrue (is_accepted (load_verdict (same_sigs load.now.program.sigs slots.now.sigs) role))) }
 {
-    if !owns(role, Action::Load) {
-        return Ok(Prepared {
-            outcome: Outcome::Refused(Refusal::NotOwner),
-            change: Change::Nothing,
-        });
+    match verdict_on_load(slots, role, load) {
+        Verdict::Refused(refusal) => Ok(refused(refusal)),
+        Verdict::Accepted => {
+            let program = load.program.copy()?;
+            Ok(Prepared {
+                outcome: Outcome::Done,
+                change: Change::Load(load.milestone, load.kind, program),
+            })
+        }
     }
-    if !is_checked_here(slots, load) {
-        return Ok(Prepared {
-            outcome: Outcome::Refused(Refusal::OtherSignatures),
-            change: Change::Nothing,
-        });
-    }
-    let program = load.program.copy()?;
-    Ok(Prepared {
-        outcome: Outcome::Done,
-        change: Change::Load(load.milestone, load.kind, program),
-    })
 }
 
 /// An unload: its slot becomes empty.
@@ -152,21 +146,12 @@ pub(crate) fn prepare_unload(slots: &Slots, role: Role, unload: &Unload) -> Prep
         (if is_accepted (unload_verdict (is_some (program_in slots.now unload.now.milestone unload.now.kind)) role)
         then Change.Unload unload.now.milestone unload.now.kind else Change.Nothing) }
 {
-    if !owns(role, Action::Unload) {
-        return Prepared {
-            outcome: Outcome::Refused(Refusal::NotOwner),
-            change: Change::Nothing,
-        };
-    }
-    if slots.get(unload.milestone, unload.kind).is_none() {
-        return Prepared {
-            outcome: Outcome::Refused(Refusal::EmptySlot),
-            change: Change::Nothing,
-        };
-    }
-    Prepared {
-        outcome: Outcome::Done,
-        change: Change::Unload(unload.milestone, unload.kind),
+    match verdict_on_unload(slots, role, unload) {
+        Verdict::Refused(refusal) => refused(refusal),
+        Verdict::Accepted => Prepared {
+            outcome: Outcome::Done,
+            change: Change::Unload(unload.milestone, unload.kind),
+        },
     }
 }
 
@@ -180,10 +165,7 @@ pub(crate) fn prepare_tick(role: Role, moment: u32) -> Prepared
             outcome: Outcome::Done,
             change: Change::Touch(moment),
         },
-        Verdict::Refused(refusal) => Prepared {
-            outcome: Outcome::Refused(refusal),
-            change: Change::Nothing,
-        },
+        Verdict::Refused(refusal) => refused(refusal),
     }
 }
 
@@ -192,9 +174,8 @@ pub(crate) fn show(flights: &Flights, flight: u64) -> Outcome
     ensures { result ≡ outcome_with (Outcome.Shown (record_on flights.now flight)) (show_verdict (is_there flights.now flight)) }
 {
     let place = flights.place(flight);
-    if place < flights.len() {
-        Outcome::Shown(flights.at(place).copy())
-    } else {
-        Outcome::Refused(Refusal::UnknownFlight)
+    match verdict_on_show(place < flights.len()) {
+        Verdict::Accepted => Outcome::Shown(flights.at(place).copy()),
+        Verdict::Refused(refusal) => Outcome::Refused(refusal),
     }
 }

@@ -5,7 +5,7 @@ ghost use Rattle.acdm_slots.specs.Loaded.{program_in};
 ghost use Rattle.bpf_helpers.specs.Oracles.{MayBeAsked, SameRule};
 ghost use Rattle.acdm_step.specs.Programs.{Programs, is_usable as may_be_set, rejecting, suggestion, with_suggestion, local_alerts, with_local_alerts};
 ghost use Rattle.bpf_regstate.specs.States.{instruction_count};
-ghost use Rattle.acdm_step.specs.History.{size_of};
+ghost use Rattle.acdm_step.specs.InSlots.{size_of};
 ghost use Rattle.acdm_step.specs.Running.{EndsAt, AsksAt, EndsIn, AsksIn};
 
 use acdm_alerts::AlertSet;

@@ -4,13 +4,17 @@ ghost use Rattle.std.specs.Option.{option_copied};
 ghost use Rattle.acdm_milestones.specs.Tables.{has_reached};
 ghost use Rattle.bpf_helpers.specs.Promise.{Promise};
 ghost use Rattle.bpf_helpers.specs.Oracles.{Gained, MayBeAsked, SameRule, Unasked};
-ghost use Rattle.acdm_step.specs.History.{History, IsLegal, replay, after, verdict_in, needs_memory, exists, record_of as record_in, has_come_to, is_accepted, is_alerts, room_of};
+ghost use Rattle.acdm_step.specs.Commands.{History, is_accepted, is_alerts};
+ghost use Rattle.acdm_step.specs.InSlots.{room_of};
+ghost use Rattle.acdm_step.specs.Summaries.{exists, record_of as record_in, has_come_to};
+ghost use Rattle.acdm_step.specs.Verdicts.{verdict_in};
+ghost use Rattle.acdm_step.specs.History.{IsLegal, replay, after, needs_memory};
 ghost use Rattle.acdm_step.specs.Board.{board_creates, board_loads};
 ghost use Rattle.acdm_step.specs.Running.{Comes, ComesOf};
 ghost use Rattle.acdm_step.specs.Prepared.{Fits, after_change};
 
 use crate::by_flight::Flights;
-use crate::command::Command;
+use crate::command::{Command, FlightCommand};
 use crate::outcome::Outcome;
 use crate::prepare::{
     Change, Prepared, prepare_flight, prepare_load, prepare_tick, prepare_unload, show,
@@ -77,12 +81,15 @@ impl Core {
     pub fn room(&self, command: &Command) -> u64
         ensures { (sigs : List (ℕ × Promise)) (J : History) → self.now ≡ replay sigs J → result ≡ room_of J command.now }
     {
+        let Command::Flight(command) = command else {
+            return 0;
+        };
         match command {
-            Command::Report(report) => {
+            FlightCommand::Report(report) => {
                 size_in(&self.slots, report.milestone, Kind::Tobt)
                     + size_in(&self.slots, report.milestone, Kind::Alert)
             }
-            _ => 0,
+            FlightCommand::Schedule(_) => 0,
         }
     }
 
@@ -105,7 +112,7 @@ impl Core {
         ensures memory { OnErr result (IsTrue (is_alerts command.now || (board_loads self.now role command.now || board_creates self.now role command.now))) }
     {
         match command {
-            Command::Schedule(_) | Command::Report(_) => Ok(prepare_flight(
+            Command::Flight(command) => Ok(prepare_flight(
                 &self.flights,
                 &self.slots,
                 oracle,

@@ -3,7 +3,8 @@ ghost use Rattle.std.specs.Prelude.{◌≡◌, IfOk};
 ghost use Rattle.bpf_helpers.specs.Known.{taxi, taxi_from};
 
 use crate::{
-    Answers, Command, Core, FlightNumber, Load, Outcome, Plan, Report, Schedule, Unload, Verdict,
+    Answers, Command, Core, FlightCommand, FlightNumber, Load, Outcome, Plan, Report, Schedule,
+    Unload, Verdict,
 };
 use acdm_milestones::{Milestone, Refusal, Role};
 use acdm_record::{Field, Text};
@@ -69,12 +70,12 @@ pub(crate) fn plan() -> Result<Plan, Fail> {
 // Flight 7, at 2025-02-20T10:00Z.
 fn scheduled() -> Result<Command, Fail> {
     let schedule = Schedule::new(7, plan()?, TEN, 40, 5, 10, 12);
-    Ok(Command::Schedule(schedule))
+    Ok(Command::Flight(FlightCommand::Schedule(schedule)))
 }
 
 fn planned() -> Result<Command, Fail> {
     let report = Report::new(7, Milestone::FlightPlanActivated, TEN, Some(plan()?));
-    Ok(Command::Report(report))
+    Ok(Command::Flight(FlightCommand::Report(report)))
 }
 
 // A report of flight 7 without a plan.
@@ -82,7 +83,7 @@ fn reported(milestone: Milestone, time: u32) -> Result<Command, Fail> {
     if matches!(milestone, Milestone::FlightPlanActivated) || time == 0 {
         return Err("a plan or no time".into());
     }
-    Ok(Command::Report(Report::new(7, milestone, time, None)))
+    Ok(Command::Flight(FlightCommand::Report(Report::new(7, milestone, time, None))))
 }
 
 // A load of these bytes, checked against these signatures.

@@ -1,6 +1,7 @@
 use Rattle.std.proofs.Common.{◌≡◌, ◌<◌, length, reverse, not, refl, ap, sym, subst, ◌∙◌}
 use Rattle.bpf_helpers.specs.Oracles.{is_full, view_of_live}
-use Rattle.acdm_step.specs.History.{IsChecked, room_of}
+use Rattle.acdm_step.specs.InSlots.{room_of}
+use Rattle.acdm_step.specs.History.{IsChecked}
 use Rattle.acdm_board.specs.Desk.{DeskView}
 use Rattle.acdm_board.proofs.Longer.{keeps-pushed, enters}
 use Rattle.acdm_board.proofs.book.Book.enter.Goals as goal

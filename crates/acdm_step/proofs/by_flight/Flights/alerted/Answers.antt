@@ -1,6 +1,6 @@
 use Rattle.std.proofs.Common.{◌≡◌, true, arith, ap, sym, ◌∙◌}
 use Rattle.std.specs.Map.{values_of}
-use Rattle.acdm_step.specs.History.{alert_list}
+use Rattle.acdm_step.specs.Verdicts.{alert_list}
 use Rattle.acdm_step.specs.Marked.{is_alerted}
 use Rattle.acdm_step.proofs.Kept.{listed_more, listed_all, alerted_inside, length-values}
 use Rattle.acdm_step.proofs.by_flight.Flights.alerted.Goals as goal

@@ -1,5 +1,6 @@
 use Rattle.std.proofs.Common.{◌≡◌, true, ◌||◌, sym, subst, ◌∙◌}
-use Rattle.acdm_step.specs.History.{Board, is_alerts}
+use Rattle.acdm_step.specs.Commands.{is_alerts}
+use Rattle.acdm_step.specs.History.{Board}
 use Rattle.acdm_step.specs.Board.{board_loads, board_creates}
 use Rattle.acdm_step.proofs.Steps.{on_err}
 use Rattle.acdm_step.proofs.Lifting.{told_of, board_told, comes_sigs}

@@ -4,7 +4,9 @@ use Rattle.bpf_helpers.specs.Oracles.{OracleView}
 use Rattle.bpf_helpers.specs.Same.{same_sigs}
 use Rattle.acdm_step.specs.declared.command.Command.{Command}
 use Rattle.acdm_step.specs.declared.outcome.Outcome.TheVariants as outcomes
-use Rattle.acdm_step.specs.History.{Board, is_accepted, is_alerts, load_verdict, show_verdict, outcome_with}
+use Rattle.acdm_step.specs.Commands.{is_accepted, is_alerts}
+use Rattle.acdm_step.specs.Verdicts.{load_verdict, show_verdict, outcome_with}
+use Rattle.acdm_step.specs.History.{Board}
 use Rattle.acdm_step.specs.Board.{is_there, record_on, board_loads, board_creates}
 use Rattle.acdm_step.specs.Prepared.{Fits}
 use Rattle.acdm_step.proofs.Steps.{comes_left, comes_show, comes_alerts, loading, on_err}

@@ -2,7 +2,8 @@ use Rattle.std.proofs.Common.{◌≡◌, ◌<◌, ◌≤◌, true, cond, List, l
 use Rattle.std.proofs.lemmas.Option.{get_or_from_slice_get}
 use Rattle.acdm_milestones.specs.Tables.{has_reached}
 use Rattle.acdm_record.specs.Fields.{Fields}
-use Rattle.acdm_step.specs.History.{Board, record_of, exists}
+use Rattle.acdm_step.specs.Summaries.{record_of, exists}
+use Rattle.acdm_step.specs.History.{Board}
 use Rattle.acdm_step.proofs.Records.{reached-summary}
 use Rattle.acdm_step.proofs.Replay.{records_of, exists_by_place, record_by_place}
 use Rattle.acdm_step.proofs.Steps.{is_lt, no_lt}

@@ -1,7 +1,7 @@
 use Rattle.std.proofs.Common.{ap, ◌∙◌}
 use Rattle.bpf_helpers.specs.Same.{same_sigs}
 use Rattle.bpf_helpers.proofs.SameSigs.{is_same_sigs}
-use Rattle.acdm_step.proofs.prepare.is_checked_here.Goals as goal
+use Rattle.acdm_step.proofs.verdicts.is_checked_here.Goals as goal
 
 pub returns-clause-test : goal.returns-clause-test
 returns-clause-test c =

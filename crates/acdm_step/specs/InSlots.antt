@@ -1,0 +1,56 @@
+-- Which programs stand in the slots after a history (this project's profile).
+use Rattle.std.specs.Prelude.{ℕ, ◌+◌, ◌==◌, if◌then◌else◌, List, [], ◌∷◌, Option, Some, None}
+use Rattle.acdm_record.specs.declared.field.Field.TheVariants.{Tobt}
+use Rattle.acdm_milestones.specs.declared.milestone.Milestone.{Milestone}
+use Rattle.bpf_helpers.specs.Promise.{Promise}
+use Rattle.bpf_regstate.specs.States.{instruction_count}
+use Rattle.bpf_verifier.specs.Verdict.{Verified}
+use Rattle.acdm_slots.specs.declared.kind.Kind.{Kind}
+use Rattle.acdm_slots.specs.declared.kind.Kind.TheVariants as kinds
+use Rattle.acdm_slots.specs.Loaded.{Loaded, loaded, place, with_program}
+use Rattle.acdm_step.specs.Programs.{Programs, no_programs}
+use Rattle.acdm_step.specs.declared.command.Command.{Command}
+use Rattle.acdm_step.specs.declared.command.Command.TheVariants.{Load, Unload}
+use Rattle.acdm_step.specs.declared.command.Command.TheVariants as commands
+use Rattle.acdm_step.specs.declared.command.FlightCommand.TheVariants.{Report}
+use Rattle.acdm_step.specs.Commands.{History, is_accepted}
+
+-- ---- the programs
+
+-- what an accepted command puts into a slot, where it loads or unloads that one
+abbrev pub slot_change : Milestone → Kind → Command → Option (Option Verified)
+slot_change m k (Load l) = if place l.milestone l.kind == place m k then Some (Some l.program) else None
+slot_change m k (Unload u) = if place u.milestone u.kind == place m k then Some None else None
+slot_change m k _ = None
+
+abbrev pub changed_or : Option (Option Verified) → Option Verified → Option Verified
+changed_or None before = before
+changed_or (Some after) before = after
+
+-- the program in a slot: that of the last accepted load or unload of the slot, or none
+abbrev pub program_in : History → Milestone → Kind → Option Verified
+program_in [] m k = None
+program_in (e ∷ J) m k = if is_accepted e.verdict then changed_or (slot_change m k e.command) (program_in J m k) else program_in J m k
+
+-- those that a command runs: a report the two of its milestone, any other command none
+abbrev pub programs_of : History → Command → Programs
+programs_of J (commands.Flight (Report r)) = record { tobt = program_in J r.milestone kinds.Tobt; alert = program_in J r.milestone kinds.Alert }
+programs_of J _ = no_programs
+
+-- how many answers they use at most: the instructions of both
+abbrev pub size_of : Option Verified → ℕ
+size_of None = 0
+size_of (Some p) = instruction_count p.ops
+
+abbrev pub room_of : History → Command → ℕ
+room_of J c = size_of (programs_of J c).tobt + size_of (programs_of J c).alert
+
+-- the slots after an accepted command
+abbrev pub with_slots : Command → Loaded → Loaded
+with_slots (Load l) slots = with_program slots l.milestone l.kind (Some l.program)
+with_slots (Unload u) slots = with_program slots u.milestone u.kind None
+with_slots _ slots = slots
+
+-- the slots of a board: in each the program that the history says
+abbrev pub slots_of : List (ℕ × Promise) → History → Loaded
+slots_of sigs J = loaded sigs (program_in J)
