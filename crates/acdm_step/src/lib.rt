@@ -19,4 +19,6 @@ pub use outcome::{AlertList, Alerted, Outcome};
 pub use state::Core;
 
 #[cfg(test)]
+mod board_tests;
+#[cfg(test)]
 mod tests;
