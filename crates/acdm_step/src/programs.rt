@@ -1,10 +1,9 @@
 //! The local programs of a report (this project's profile).
-ghost use Rattle.std.specs.Prelude.{◌≡◌, ◌+◌, ◌<◌, ◌≤◌, ◌^◌, length, OnOk, OnErr, IfOk, if◌then◌else◌, option_map};
+ghost use Rattle.std.specs.Prelude.{◌≡◌, ◌+◌, ◌<◌, ◌≤◌, ◌^◌, OnOk, OnErr, IfOk, if◌then◌else◌, option_map};
 ghost use Rattle.acdm_milestones.specs.Tables.{number};
 ghost use Rattle.acdm_slots.specs.Loaded.{program_in};
 ghost use Rattle.bpf_helpers.specs.Oracles.{MayBeAsked, SameRule};
 ghost use Rattle.acdm_step.specs.Programs.{Programs, is_usable as may_be_set, rejecting, suggestion, with_suggestion, local_alerts, with_local_alerts};
-ghost use Rattle.bpf_regstate.specs.States.{instruction_count};
 ghost use Rattle.acdm_step.specs.InSlots.{size_of};
 ghost use Rattle.acdm_step.specs.Running.{EndsAt, AsksAt, EndsIn, AsksIn};
 
@@ -12,7 +11,6 @@ use acdm_alerts::AlertSet;
 use acdm_milestones::{Milestone, mark_reached};
 use acdm_record::{Field, Record};
 use acdm_slots::{Kind, Slots};
-use bpf_decode::Op;
 use bpf_helpers::Oracle;
 use bpf_machine::{BadAnswer, run};
 
@@ -116,29 +114,13 @@ pub(crate) fn run_programs<O: Oracle>(
     Ok(())
 }
 
-// How many instructions there are in these slots of a program; a wide load is one, and takes two.
-fn count(ops: &[Op]) -> u64
-    ensures value { result ≡ instruction_count ops.now }
-    ensures few { result ≤ length ops.now }
-{
-    let mut counted = 0u64;
-    let mut rest = ops;
-    while let Some((op, more)) = rest.split_first() {
-        if !matches!(op, Op::Tail) {
-            counted += 1;
-        }
-        rest = more;
-    }
-    counted
-}
-
 /// How many instructions the program in a slot has, 0 where there is none.
 pub(crate) fn size_in(slots: &Slots, milestone: Milestone, kind: Kind) -> u64
     ensures value { result ≡ size_of (program_in slots.now milestone kind) }
     ensures few { result ≤ 4096 }
 {
     match slots.get(milestone, kind) {
-        Some(checked) => count(checked.program().ops()),
+        Some(checked) => checked.instructions(),
         None => 0,
     }
 }
