@@ -42,8 +42,14 @@ fn planned() -> Result<Command, Fail> {
     Ok(Command::Flight(FlightCommand::Report(report)))
 }
 
-fn reported(milestone: Milestone) -> Command {
-    Command::Flight(FlightCommand::Report(Report::new(7, milestone, TEN, None)))
+fn target_set() -> Command {
+    let report = Report::new(7, Milestone::TobtUpdate, TEN, None);
+    Command::Flight(FlightCommand::Report(report))
+}
+
+fn start_up_set() -> Command {
+    let report = Report::new(7, Milestone::TsatIssue, TEN, None);
+    Command::Flight(FlightCommand::Report(report))
 }
 
 // A program that answers 0.
@@ -136,7 +142,7 @@ fn a_journal_of_three_entries_is_written(rt: HostRuntime) -> Result<(), Fail> {
         &rt,
         alloc,
         (2, 3, Role::AirTrafficControl),
-        reported(Milestone::TsatIssue),
+        start_up_set(),
         Verdict::Refused(Refusal::NotSet),
         "2 3 29000580 ATC 205 0 report 7 10 29000760\n",
     );
@@ -146,7 +152,7 @@ fn a_journal_of_three_entries_is_written(rt: HostRuntime) -> Result<(), Fail> {
 #[test]
 fn answers_are_counted_and_written(rt: HostRuntime) -> Result<(), Fail> {
     let answers = Answers::from(vec![in rt.alloc(); 10]?);
-    let report = reported(Milestone::TobtUpdate);
+    let report = target_set();
     let entry = entry(
         3,
         5,
@@ -250,16 +256,12 @@ fn the_head_of_a_line_is_read(rt: HostRuntime) -> Result<(), Fail> {
     Ok(())
 }
 
-fn report_in(alloc: Global, line: &str) -> Result<Report, Fail> {
-    match read(alloc, line)?.asked {
-        Asked::Plain(Command::Flight(FlightCommand::Report(report))) => Ok(report),
-        _ => Err("no report".into()),
-    }
-}
-
 #[test]
 fn a_report_is_read(rt: HostRuntime) -> Result<(), Fail> {
-    let report = report_in(rt.alloc(), "3 5 29000580 GH 0 1 10 report 7 9 29000760")?;
+    let stated = read(rt.alloc(), "3 5 29000580 GH 0 1 10 report 7 9 29000760")?;
+    let Asked::Plain(Command::Flight(FlightCommand::Report(report))) = &stated.asked else {
+        return Err("no report".into());
+    };
     assert_eq!(rt; report.flight(), 7);
     assert_eq!(rt; report.milestone(), Milestone::TobtUpdate);
     assert_eq!(rt; report.time(), TEN);
@@ -267,17 +269,13 @@ fn a_report_is_read(rt: HostRuntime) -> Result<(), Fail> {
     Ok(())
 }
 
-fn schedule_in(alloc: Global, line: &str) -> Result<Schedule, Fail> {
-    match read(alloc, line)?.asked {
-        Asked::Plain(Command::Flight(FlightCommand::Schedule(schedule))) => Ok(schedule),
-        _ => Err("no schedule".into()),
-    }
-}
-
 #[test]
 fn a_schedule_is_read(rt: HostRuntime) -> Result<(), Fail> {
     let line = "0 1 29000580 APT 0 0 schedule 7 DLH7 A320 DAIBC EDDM 29000760 40 5 10 12";
-    let schedule = schedule_in(rt.alloc(), line)?;
+    let stated = read(rt.alloc(), line)?;
+    let Asked::Plain(Command::Flight(FlightCommand::Schedule(schedule))) = &stated.asked else {
+        return Err("no schedule".into());
+    };
     assert_eq!(rt; schedule.flight(), 7);
     assert_eq!(rt; schedule.sobt(), TEN);
     assert_eq!(rt; schedule.mttt(), 40);
