@@ -9,6 +9,8 @@ mod helpers;
 mod minutes;
 mod partners;
 mod serve_command;
+#[cfg(test)]
+mod serve_tests;
 mod serving;
 #[cfg(test)]
 mod tests;

@@ -224,7 +224,9 @@ fn report_in(words: &mut Words<'_>) -> Result<Asked, LineError>
     let milestone = milestone_in(words)?;
     let time = time_in(words, milestone)?;
     let plan = plan_of(words, milestone)?;
-    Ok(Asked::Plain(Command::Flight(FlightCommand::Report(Report::new(flight, milestone, time, plan)))))
+    Ok(Asked::Plain(Command::Flight(FlightCommand::Report(Report::new(
+        flight, milestone, time, plan,
+    )))))
 }
 
 #[tactic(auto, unfolding(crate::specs::Reading::load_at))]

@@ -45,6 +45,8 @@ mod board_tests;
 #[cfg(test)]
 mod program_tests;
 #[cfg(test)]
+mod sessions_tests;
+#[cfg(test)]
 mod tests;
 #[cfg(test)]
 mod wire_tests;

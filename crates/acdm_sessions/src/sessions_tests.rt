@@ -203,22 +203,37 @@ fn last_of(alloc: Global, sessions: &mut Vec<Left>) -> Result<String, Fail> {
     told_of(alloc, sessions.pop().ok_or("a session is lost")?)
 }
 
+// What two sessions that meet were told, the second first, and what stands on the desk then.
+fn meeting<H: Helpers + Drop + Send, Rt: Threads + Wait + Sync>(
+    rt: &Rt,
+    alloc: Global,
+    helpers: H,
+) -> Result<(String, String, Desk<H>), Fail> {
+    let desk = begun(alloc, helpers, 10)?;
+    let gate = Meeting::new();
+    let Closed { desk, mut sessions } = closed_by(rt, alloc, desk, both(alloc)?, &gate)?;
+    let second = last_of(alloc, &mut sessions)?;
+    let first = last_of(alloc, &mut sessions)?;
+    Ok((second, first, desk))
+}
+
+// Session 2 was answered first, and session 1 after it.
+fn in_their_order<H: Helpers + Drop>(desk: &Desk<H>) -> Result<bool, Fail> {
+    let third = stamp_of(desk, 2)?;
+    let fourth = stamp_of(desk, 3)?;
+    Ok(third == (2, 29_000_585) && fourth == (1, 29_000_590))
+}
+
 fn meet<H: Helpers + Drop + Send, Rt: Threads + Wait + Abort + Sync>(
     rt: &Rt,
     alloc: Global,
     helpers: H,
 ) -> Result<(), Fail> {
-    let desk = begun(alloc, helpers, 10)?;
-    let gate = Meeting::new();
-    let Closed { desk, mut sessions } = closed_by(rt, alloc, desk, both(alloc)?, &gate)?;
-    let told = last_of(alloc, &mut sessions)?;
-    assert_eq!(rt; told.as_str(), "2 1 End: ok 2\n");
-    let told = last_of(alloc, &mut sessions)?;
-    assert_eq!(rt; told.as_str(), "1 1 End: ok 3\n");
-    assert_eq!(rt; desk.len(), 4);
+    let (second, first, desk) = meeting(rt, alloc, helpers)?;
+    assert_eq!(rt; second.as_str(), "2 1 End: ok 2\n");
+    assert_eq!(rt; first.as_str(), "1 1 End: ok 3\n");
+    assert!(rt; desk.len() == 4 && in_their_order(&desk)?);
     assert_eq!(rt; target_of(&desk)?, 29_000_765);
-    assert!(rt; stamp_of(&desk, 2)? == (2, 29_000_585));
-    assert!(rt; stamp_of(&desk, 3)? == (1, 29_000_590));
     Ok(())
 }
 

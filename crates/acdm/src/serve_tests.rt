@@ -10,7 +10,6 @@ use std::alloc::Global;
 use std::fs::Files;
 use std::io::{Read, Write};
 use std::net::{Net, TcpListener, TcpStream};
-use std::process::Abort;
 use std::sync::Wait;
 use std::test::Fail;
 use std::thread;
@@ -37,33 +36,33 @@ impl Clock for Morning {
 }
 
 // Whether a line is replied to so.
-fn is_told(stream: &mut TcpStream, line: &str, reply: &[u8]) -> bool {
+fn is_told(stream: &mut TcpStream, line: &str, reply: &str) -> bool {
     let mut heard = [0u8; 9];
     if reply.len() > heard.len() || stream.write_all(line.as_bytes()).is_err() {
         return false;
     }
     let heard = &mut heard[..reply.len()];
-    stream.read_exact(heard).is_ok() && &*heard == reply
+    stream.read_exact(heard).is_ok() && &*heard == reply.as_bytes()
 }
 
 // The network manager files a plan and leaves; then the tower asks for another flight.
 fn talk(manager: TcpStream, tower: TcpStream) -> bool {
     let mut manager = manager;
     let mut tower = tower;
-    if !is_told(&mut manager, FLIGHT_PLAN, b"ok 0\n") {
+    if !is_told(&mut manager, FLIGHT_PLAN, "ok 0\n") {
         return false;
     }
     drop(manager);
-    is_told(&mut tower, UNKNOWN_FLIGHT, b"no 1 202\n")
+    is_told(&mut tower, UNKNOWN_FLIGHT, "no 1 202\n")
 }
 
 // One partner says nothing while another is served, and leaves in the middle of a line.
 fn keep_silent(silent: TcpStream, manager: TcpStream) -> bool {
     let mut silent = silent;
     let mut manager = manager;
-    let served = is_told(&mut manager, FLIGHT_PLAN, b"ok 0\n");
+    let served = is_told(&mut manager, FLIGHT_PLAN, "ok 0\n");
     drop(manager);
-    served && silent.write_all(b"{\"cmd\":\"ti").is_ok()
+    served && silent.write_all("{\"cmd\":\"ti".as_bytes()).is_ok()
 }
 
 // Listens on a port of its own, with a partner that is connected.
@@ -138,70 +137,76 @@ fn a_silent_partner_holds_nobody_up(rt: HostRuntime) -> Result<(), Fail> {
     Ok(())
 }
 
+// Whether these words ask to serve these partners with such a journal.
+fn asks_to_serve(alloc: Global, words: &[&str], wanted: usize, words_wanted: &[&str]) -> bool {
+    match parse(alloc, words) {
+        Ok(Line::Serve { journal, partners }) => {
+            journal == wanted && partners.as_slice() == words_wanted
+        }
+        _ => false,
+    }
+}
+
+fn is_refused(alloc: Global, words: &[&str]) -> bool {
+    parse(alloc, words).is_err()
+}
+
 #[test]
 fn words_of_serve_are_taken_as_they_stand(rt: HostRuntime) -> Result<(), Fail> {
     let alloc = rt.alloc();
     let words = ["acdm", "serve", "--journal", "5", "NM=one", "ATC=two"];
-    let line = parse(alloc, words.as_slice()).map_err(|_| "a command line is refused")?;
-    let Line::Serve { journal, partners } = line else {
-        return Err(Fail::from("another command"));
-    };
-    assert_eq!(rt; journal, 5);
-    assert_eq!(rt; partners.as_slice(), ["NM=one", "ATC=two"].as_slice());
-    let words = ["acdm", "serve", "GH="];
-    let line = parse(alloc, words.as_slice()).map_err(|_| "a command line is refused")?;
-    let Line::Serve { journal, partners } = line else {
-        return Err(Fail::from("another command"));
-    };
-    assert_eq!(rt; journal, 100_000);
-    assert_eq!(rt; partners.as_slice(), ["GH="].as_slice());
-    assert!(rt; parse(alloc, ["acdm", "serve"].as_slice()).is_err());
-    let none = ["acdm", "serve", "--journal", "0", "NM=one"];
-    assert!(rt; parse(alloc, none.as_slice()).is_err());
+    assert!(rt; asks_to_serve(alloc, &words, 5, &["NM=one", "ATC=two"]));
+    assert!(rt; asks_to_serve(alloc, &["acdm", "serve", "GH="], 100_000, &["GH="]));
+    assert!(rt; is_refused(alloc, &["acdm", "serve"]));
+    assert!(rt; is_refused(alloc, &["acdm", "serve", "--journal", "0", "NM=one"]));
     Ok(())
 }
 
-// These words end with the status 2, and this complaint.
+// Whether these words end with the status 2, and this complaint.
 fn complains<
     Rt: Files
         + Net<Listener = TcpListener, Stream = TcpStream>
         + SystemClock
         + Threads
         + Wait
-        + Abort
         + Sync,
->(rt: &Rt, alloc: Global, words: &[&str], complaint: &str) {
+>(rt: &Rt, alloc: Global, words: &[&str], complaint: &str) -> bool {
     let mut output = Vec::new(alloc);
     let mut errors = Vec::new(alloc);
-    let status = complete(alloc, rt, words, b"".as_slice(), &mut output, &mut errors);
-    assert_eq!(rt; status, 2);
-    assert!(rt; output.is_empty());
-    assert_eq!(rt; errors.as_slice(), complaint.as_bytes());
+    let status = complete(alloc, rt, words, "".as_bytes(), &mut output, &mut errors);
+    status == 2 && output.is_empty() && errors.as_slice() == complaint.as_bytes()
 }
 
 #[test]
 fn roles_and_addresses_that_are_none_are_told(rt: HostRuntime) -> Result<(), Fail> {
     let alloc = rt.alloc();
     let here = "NM=127.0.0.1:0";
-    for (words, complaint) in [
-        (["acdm", "serve", "XX=127.0.0.1:0", here], "acdm: role 1\n"),
-        (["acdm", "serve", here, "127.0.0.1:0"], "acdm: role 2\n"),
-        (["acdm", "serve", here, "nm=here"], "acdm: role 2\n"),
-        (["acdm", "serve", here, "GH=here"], "acdm: address 2\n"),
-        (["acdm", "serve", "GH=", here], "acdm: address 1\n"),
-        (
-            ["acdm", "serve", "AO=127.0.0.1", "XX="],
-            "acdm: address 1\n",
-        ),
+    for (first, second, complaint) in [
+        ("XX=127.0.0.1:0", here, "acdm: role 1\n"),
+        (here, "127.0.0.1:0", "acdm: role 2\n"),
+        (here, "nm=here", "acdm: role 2\n"),
+        (here, "GH=here", "acdm: address 2\n"),
+        ("GH=", here, "acdm: address 1\n"),
+        ("AO=127.0.0.1", "XX=", "acdm: address 1\n"),
     ] {
-        complains(&rt, alloc, words.as_slice(), complaint);
+        let words = ["acdm", "serve", first, second];
+        assert!(rt;
+            complains(&rt, alloc, words.as_slice(), complaint),
+            "{first} {second}"
+        );
     }
+    Ok(())
+}
+
+#[test]
+fn an_address_that_is_taken_is_told(rt: HostRuntime) -> Result<(), Fail> {
+    let alloc = rt.alloc();
     let listener = TcpListener::bind(&rt, "127.0.0.1:0").map_err(|_| "no port")?;
     let address = listener.local_addr().map_err(|_| "no address")?;
     drop(listener);
     let word = format!(in alloc; "ATC={address}")?;
     let twice = ["acdm", "serve", word.as_str(), word.as_str()];
-    complains(&rt, alloc, twice.as_slice(), "acdm: address 2\n");
+    assert!(rt; complains(&rt, alloc, twice.as_slice(), "acdm: address 2\n"));
     Ok(())
 }
 
@@ -220,6 +225,6 @@ fn words_for(alloc: Global, partners: usize) -> Result<Vec<&'static str>, Fail> 
 fn at_most_64_partners_are_taken(rt: HostRuntime) -> Result<(), Fail> {
     let alloc = rt.alloc();
     let more = words_for(alloc, 65)?;
-    complains(&rt, alloc, more.as_slice(), "acdm: address 65\n");
+    assert!(rt; complains(&rt, alloc, more.as_slice(), "acdm: address 65\n"));
     Ok(())
 }
