@@ -1,5 +1,5 @@
 -- A journal with one more entry.
-use Rattle.std.proofs.Common.{◌≡◌, ℕ, ◌+◌, ◌<◌, true, false, nat_le, List, [], ◌∷◌, ◌++◌, length, reverse, refl, sym, ap, subst, ◌∙◌, arith}
+use Rattle.std.proofs.Common.{◌≡◌, ℕ, ◌+◌, ◌<◌, true, false, cond, nat_le, List, [], ◌∷◌, ◌++◌, length, reverse, refl, sym, ap, subst, ◌∙◌, arith}
 use Rattle.std.proofs.lemmas.Bool.Decides.{nat_tests}
 use Rattle.std.proofs.lemmas.List.{reverse-append, length-reverse, length-append}
 use Rattle.acdm_milestones.specs.declared.role.Role.{Role}
@@ -11,13 +11,13 @@ use Rattle.acdm_step.specs.declared.entry.Verdict.{Verdict}
 use Rattle.acdm_step.specs.declared.outcome.Outcome.{Outcome}
 use Rattle.acdm_step.specs.Programs.{Programs}
 use Rattle.acdm_step.specs.Commands.{flight_of, bit_of, is_accepted}
-use Rattle.acdm_step.specs.InSlots.{programs_of, room_of}
+use Rattle.acdm_step.specs.InSlots.{answers_room, programs_of, room_of}
 use Rattle.acdm_step.specs.Summaries.{run_record_of}
 use Rattle.acdm_step.specs.Verdicts.{verdict_of, outcome_of, verdict_in}
 use Rattle.acdm_step.specs.History.{Board, IsChecked, IsInRange, IsLegal, IsAnswered, replay, after, left_by}
 use Rattle.acdm_step.specs.Laws.{verdict_in-outcome_of}
 use Rattle.acdm_step.specs.Running.{AsksIn, first, second, ComesOf, answered_so, unanswered_so}
-use Rattle.acdm_step.proofs.Runs.{asked_few}
+use Rattle.acdm_step.proofs.Runs.{asked_calls, asked_few}
 use Rattle.acdm_step.proofs.Saying.{ran_left}
 use Rattle.acdm_board.specs.Desk.{DeskView, Keeps, Enters}
 
@@ -33,7 +33,7 @@ too_few room given full few = absurd (grind (arith, nat_tests))
 
 module _ (old new : Board) (xs ys : List Entry) (capacity n session moment : ℕ) (role : Role) (c : Command) (outcome : Outcome) (v : Verdict) (answers : List ℕ) (from to : OracleView)
     (keeps : Keeps old xs capacity) (checked : IsChecked old.slots.sigs c) (range : IsInRange session moment)
-    (begins : from.log ≡ []) (rule : from.declines ≡ (λ given helper arguments. is_full (room_of (reverse xs) c) given))
+    (begins : from.log ≡ []) (rule : from.declines ≡ (λ given helper arguments. is_full (answers_room (reverse xs) c) given))
     (number : n ≡ length xs) (verdict : v ≡ verdict_in outcome)
     (accepted : is_accepted (verdict_in outcome) ≡ true → answers ≡ to.log) (refused : is_accepted (verdict_in outcome) ≡ false → answers ≡ [])
     (pushed : ys ≡ xs ++ record { number = n; session = session; role = role; moment = moment; command = c; verdict = v; answers = answers } ∷ [])
@@ -42,11 +42,15 @@ module _ (old new : Board) (xs ys : List Entry) (capacity n session moment : ℕ
   -- with so much room no question is left without an answer
   answered_all : AsksIn (programs_of (reverse xs) c) (run_record_of (reverse xs) c) moment (bit_of c) from to → ⊥
   answered_all h =
-      let few = asked_few (programs_of (reverse xs) c) (run_record_of (reverse xs) c) moment (bit_of c) from to h in
+      let ps = programs_of (reverse xs) c in
+      let r = run_record_of (reverse xs) c in
+      let few = asked_few ps r moment (bit_of c) from to h in
       let none : length from.log ≡ 0 = ap length begins in
-      too_few (room_of (reverse xs) c) (length to.log)
-      (declined_full (programs_of (reverse xs) c) (run_record_of (reverse xs) c) moment (bit_of c) (room_of (reverse xs) c) from to rule h)
-      (omega (arith, few, none))
+      let room : answers_room (reverse xs) c ≡ room_of (reverse xs) c =
+      ap (λ b. cond b (room_of (reverse xs) c) 0) (asked_calls ps r moment (bit_of c) from to h) in
+      too_few (answers_room (reverse xs) c) (length to.log)
+      (declined_full ps r moment (bit_of c) (answers_room (reverse xs) c) from to rule h)
+      (omega (arith, few, none, room))
 
   -- so what comes of the command is what the tests say
   outcome_here : ComesOf old.slots.sigs (reverse xs) role moment c from to outcome → outcome ≡ outcome_of old.slots.sigs (reverse xs) role c

@@ -4,7 +4,7 @@ ghost use Rattle.std.specs.Option.{option_copied};
 ghost use Rattle.bpf_helpers.specs.Same.{same_sigs};
 ghost use Rattle.bpf_regstate.specs.States.{Accepts};
 ghost use Rattle.acdm_step.specs.Commands.{is_accepted};
-ghost use Rattle.acdm_step.specs.InSlots.{room_of};
+ghost use Rattle.acdm_step.specs.InSlots.{answers_room};
 ghost use Rattle.acdm_step.specs.Verdicts.{verdict_in};
 ghost use Rattle.acdm_step.specs.History.{IsChecked, IsLegal, replay};
 ghost use Rattle.acdm_board.specs.Desk.{DeskView, Enters, is_foreign as has_other_sigs};
@@ -145,7 +145,7 @@ impl Book {
         requires session_given { 1 ≤ session }
         requires few_sessions { session ≤ 64 }
         requires moment_given { 1 ≤ moment }
-        requires room { live.room ≡ room_of self.old.history command }
+        requires room { live.room ≡ answers_room self.old.history command }
         requires checked { IsChecked self.old.sigs command }
         requires sigs { live.sigs ≡ self.old.sigs }
         requires log { live.log ≡ [] }

@@ -105,7 +105,7 @@ impl<H: Helpers + Drop> Desk<H> {
         if self.book.refuses(&command) {
             return Err(DeskError::OtherSignatures);
         }
-        let room = self.book.core().room(&command);
+        let room = self.book.core().answers_room(&command);
         let live = Live::new(self.book.alloc(), &self.helpers, room)?;
         let outcome = self.book.enter(live, session, role, moment, command)?;
         Ok(Reply {

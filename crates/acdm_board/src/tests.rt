@@ -56,7 +56,12 @@ fn scheduled() -> Result<Command, Fail> {
 }
 
 fn planned() -> Result<Command, Fail> {
-    Ok(Command::Flight(FlightCommand::Report(Report::new(7, Milestone::FlightPlanActivated, TEN, Some(plan()?)))))
+    Ok(Command::Flight(FlightCommand::Report(Report::new(
+        7,
+        Milestone::FlightPlanActivated,
+        TEN,
+        Some(plan()?),
+    ))))
 }
 
 fn at_nine(milestone: Milestone) -> Result<Command, Fail> {

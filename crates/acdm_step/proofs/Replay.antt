@@ -25,7 +25,7 @@ use Rattle.acdm_step.specs.declared.entry.Verdict.{Verdict}
 use Rattle.acdm_step.specs.declared.entry.Verdict.TheVariants.{Refused}
 use Rattle.acdm_step.specs.declared.entry.Entry.{Entry}
 use Rattle.acdm_step.specs.Commands.{History, flight_of, bit_of, changes_flight, is_tick, is_load, is_of, ticks, is_accepted, creates, created, is_alerts}
-use Rattle.acdm_step.specs.InSlots.{slot_change, changed_or, program_in, programs_of, size_of, with_slots, slots_of}
+use Rattle.acdm_step.specs.InSlots.{slot_change, changed_or, program_in, programs_of, size_of, with_slots, slots_of, may_ask}
 use Rattle.acdm_step.specs.Summaries.{empty_summary, with_command, with_tick, summary, effect_on, record_from, record_of, with_flight, flights, exists, run_record_of}
 use Rattle.acdm_step.specs.Verdicts.{is_ready, verdict_for, verdict_of, answer, outcome_with, outcome_of}
 use Rattle.acdm_step.specs.History.{IsAnswered, IsLegal, replay, after, needs_memory}
@@ -163,6 +163,10 @@ ready-replay sigs J _ = refl
 
 pub room-replay : (sigs : List (ℕ × Promise)) (J : History) (m : Milestone) (k : Kind) → size_of (loaded.program_in (slots_of sigs J) m k) ≡ size_of (program_in J m k)
 room-replay sigs J m k = ap size_of (slot-replay sigs J m k)
+
+pub may_ask-replay : (sigs : List (ℕ × Promise)) (J : History) (m : Milestone) (k : Kind)
+    → may_ask (loaded.program_in (slots_of sigs J) m k) ≡ may_ask (program_in J m k)
+may_ask-replay sigs J m k = ap may_ask (slot-replay sigs J m k)
 
 -- ---- the records of a history
 

@@ -1,11 +1,11 @@
 -- Runs of the programs of a report, one after the other, and what they leave of the answers.
-use Rattle.std.proofs.Common.{◌≡◌, ℕ, ◌+◌, ◌<◌, ◌≤◌, List, [], ◌++◌, length, Option, Some, refl, sym, ap, subst, ◌∙◌, append_assoc, append-nil, length-append, arith}
+use Rattle.std.proofs.Common.{◌≡◌, ℕ, Bool, true, false, ◌||◌, ◌+◌, ◌<◌, ◌≤◌, List, [], ◌++◌, length, Option, Some, refl, sym, ap, subst, ◌∙◌, append_assoc, append-nil, length-append, arith}
 use Rattle.acdm_record.specs.Fields.{Fields, bytes_of}
 use Rattle.bpf_decode.specs.declared.op.Op.{Op}
 use Rattle.bpf_helpers.specs.Promise.{Promise}
 use Rattle.bpf_helpers.specs.Oracles.{OracleView, SameRule, Unasked}
 use Rattle.bpf_semantics.specs.Runs.{RunEnds}
-use Rattle.bpf_semantics.proofs.Questions.{end_uses_fewer}
+use Rattle.bpf_semantics.proofs.Questions.{end_uses_fewer, run_asks_calls}
 use Rattle.bpf_regstate.specs.States.{instruction_count}
 use Rattle.bpf_verifier.specs.Verdict.{Verified}
 use Rattle.bpf_machine.specs.declared.outcome.Ended.{Ended}
@@ -18,7 +18,7 @@ use Rattle.acdm_step.specs.declared.command.FlightCommand.TheVariants.{Schedule}
 use Rattle.acdm_step.specs.Facts.{ScheduleFacts}
 use Rattle.acdm_step.specs.Programs.{Programs, no_effect, suggestion, with_suggestion, local_alerts, with_local_alerts, with_effect}
 use Rattle.acdm_step.specs.Commands.{bit_of}
-use Rattle.acdm_step.specs.InSlots.{size_of}
+use Rattle.acdm_step.specs.InSlots.{may_ask, size_of}
 use Rattle.acdm_step.specs.Board.{assigned_to, touched, programs_on}
 use Rattle.acdm_step.specs.Ran.{EndsWith, HasEffect}
 use Rattle.acdm_step.specs.Running.{EndsAt, AsksAt, EndsIn, AsksIn, first, second, ChangesTo}
@@ -50,6 +50,21 @@ asked_few ps r moment m from to (first h) = omega (arith, h.3)
 asked_few ps r moment m from to (second between r0 same ends h) =
     let gained : length between.log ≡ length from.log + length ends.0 = ap length ends.1 ∙ length-append from.log ends.0 in
     omega (arith, h.3, gained, ends.3)
+
+-- and one of them calls a helper
+pub asked_calls : (ps : Programs) (r : Fields) (moment m : ℕ) (from to : OracleView)
+    → AsksIn ps r moment m from to → (may_ask ps.tobt || may_ask ps.alert) ≡ true
+asked_calls ps r moment m from to (first h) =
+    ap (λ b. b || may_ask ps.alert)
+    (ap may_ask h.1 ∙ run_asks_calls _ _ _ _ _ h.2.0 h.2.1 h.2.2 h.2.4)
+asked_calls ps r moment m from to (second between r0 same ends h) =
+    ap (λ b. may_ask ps.tobt || b)
+    (ap may_ask h.1 ∙ run_asks_calls _ _ _ _ _ h.2.0 h.2.1 h.2.2 h.2.4)
+    ∙ or_true (may_ask ps.tobt)
+  where
+    or_true : (b : Bool) → (b || true) ≡ true
+    or_true true = refl
+    or_true false = refl
 
 -- and one question more was declined
 pub asked_once : (ps : Programs) (r : Fields) (moment m : ℕ) (from to : OracleView) → AsksIn ps r moment m from to → to.refusals ≡ from.refusals + 1

@@ -1,8 +1,9 @@
 -- Which programs stand in the slots after a history (this project's profile).
-use Rattle.std.specs.Prelude.{ℕ, ◌+◌, ◌==◌, if◌then◌else◌, List, [], ◌∷◌, Option, Some, None}
+use Rattle.std.specs.Prelude.{ℕ, ◌+◌, ◌==◌, if◌then◌else◌, List, [], ◌∷◌, Option, Some, None, Bool, false, ◌||◌}
 use Rattle.acdm_record.specs.declared.field.Field.TheVariants.{Tobt}
 use Rattle.acdm_milestones.specs.declared.milestone.Milestone.{Milestone}
 use Rattle.bpf_helpers.specs.Promise.{Promise}
+use Rattle.bpf_semantics.specs.Calls.{has_call}
 use Rattle.bpf_regstate.specs.States.{instruction_count}
 use Rattle.bpf_verifier.specs.Verdict.{Verified}
 use Rattle.acdm_slots.specs.declared.kind.Kind.{Kind}
@@ -44,6 +45,18 @@ size_of (Some p) = instruction_count p.ops
 
 abbrev pub room_of : History → Command → ℕ
 room_of J c = size_of (programs_of J c).tobt + size_of (programs_of J c).alert
+
+-- whether a program calls a helper, and whether one of those of a command does
+abbrev pub may_ask : Option Verified → Bool
+may_ask None = false
+may_ask (Some p) = has_call p.ops
+
+abbrev pub asks_in : History → Command → Bool
+asks_in J c = may_ask (programs_of J c).tobt || may_ask (programs_of J c).alert
+
+-- the room in which none of their answers is missing
+abbrev pub answers_room : History → Command → ℕ
+answers_room J c = if asks_in J c then room_of J c else 0
 
 -- the slots after an accepted command
 abbrev pub with_slots : Command → Loaded → Loaded

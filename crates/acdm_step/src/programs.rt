@@ -1,10 +1,10 @@
 //! The local programs of a report (this project's profile).
-ghost use Rattle.std.specs.Prelude.{◌≡◌, ◌+◌, ◌<◌, ◌≤◌, ◌^◌, OnOk, OnErr, IfOk, if◌then◌else◌, option_map};
+ghost use Rattle.std.specs.Prelude.{◌≡◌, ◌||◌, ◌+◌, ◌<◌, ◌≤◌, ◌^◌, OnOk, OnErr, IfOk, if◌then◌else◌, option_map};
 ghost use Rattle.acdm_milestones.specs.Tables.{number};
 ghost use Rattle.acdm_slots.specs.Loaded.{program_in};
 ghost use Rattle.bpf_helpers.specs.Oracles.{MayBeAsked, SameRule};
 ghost use Rattle.acdm_step.specs.Programs.{Programs, is_usable as may_be_set, rejecting, suggestion, with_suggestion, local_alerts, with_local_alerts};
-ghost use Rattle.acdm_step.specs.InSlots.{size_of};
+ghost use Rattle.acdm_step.specs.InSlots.{may_ask as asks_helpers, size_of};
 ghost use Rattle.acdm_step.specs.Running.{EndsAt, AsksAt, EndsIn, AsksIn};
 
 use acdm_alerts::AlertSet;
@@ -112,6 +112,24 @@ pub(crate) fn run_programs<O: Oracle>(
     let locals = run_slot(slots, milestone, Kind::Alert, record, moment, oracle)?;
     decide_locals(record, locals);
     Ok(())
+}
+
+// Whether there is a program in a slot that calls a helper.
+fn may_ask(slots: &Slots, milestone: Milestone, kind: Kind) -> bool
+    ensures { result ≡ asks_helpers (program_in slots.now milestone kind) }
+{
+    match slots.get(milestone, kind) {
+        Some(checked) => checked.asks(),
+        None => false,
+    }
+}
+
+/// Whether a program of a reported milestone calls a helper.
+pub(crate) fn either_asks(slots: &Slots, milestone: Milestone) -> bool
+    ensures { result ≡ (asks_helpers (program_in slots.now milestone Kind.Tobt)
+        || asks_helpers (program_in slots.now milestone Kind.Alert)) }
+{
+    may_ask(slots, milestone, Kind::Tobt) || may_ask(slots, milestone, Kind::Alert)
 }
 
 /// How many instructions the program in a slot has, 0 where there is none.

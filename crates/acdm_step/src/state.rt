@@ -5,7 +5,7 @@ ghost use Rattle.acdm_milestones.specs.Tables.{has_reached};
 ghost use Rattle.bpf_helpers.specs.Promise.{Promise};
 ghost use Rattle.bpf_helpers.specs.Oracles.{Gained, MayBeAsked, SameRule, Unasked};
 ghost use Rattle.acdm_step.specs.Commands.{History, is_accepted, is_alerts};
-ghost use Rattle.acdm_step.specs.InSlots.{room_of};
+ghost use Rattle.acdm_step.specs.InSlots.{answers_room as room_for_answers, asks_in, room_of};
 ghost use Rattle.acdm_step.specs.Summaries.{exists, record_of as record_in, has_come_to};
 ghost use Rattle.acdm_step.specs.Verdicts.{verdict_in};
 ghost use Rattle.acdm_step.specs.History.{IsLegal, replay, after, needs_memory};
@@ -19,7 +19,7 @@ use crate::outcome::Outcome;
 use crate::prepare::{
     Change, Prepared, prepare_flight, prepare_load, prepare_tick, prepare_unload, show,
 };
-use crate::programs::size_in;
+use crate::programs::{either_asks, size_in};
 use acdm_milestones::Role;
 use acdm_record::Record;
 use acdm_slots::{Kind, Slots};
@@ -90,6 +90,31 @@ impl Core {
                     + size_in(&self.slots, report.milestone, Kind::Alert)
             }
             FlightCommand::Schedule(_) => 0,
+        }
+    }
+
+    /// Whether a program of a command calls a helper.
+    fn asks(&self, command: &Command) -> bool
+        ensures { (sigs : List (ℕ × Promise)) (J : History) → self.now ≡ replay sigs J → result ≡ asks_in J command.now }
+    {
+        let Command::Flight(command) = command else {
+            return false;
+        };
+        match command {
+            FlightCommand::Report(report) => either_asks(&self.slots, report.milestone),
+            FlightCommand::Schedule(_) => false,
+        }
+    }
+
+    /// For how many answers there has to be room so that none is missing: for `room` where a
+    /// program of the command calls a helper, else for none.
+    pub fn answers_room(&self, command: &Command) -> u64
+        ensures { (sigs : List (ℕ × Promise)) (J : History) → self.now ≡ replay sigs J → result ≡ room_for_answers J command.now }
+    {
+        if self.asks(command) {
+            self.room(command)
+        } else {
+            0
         }
     }
 
