@@ -478,3 +478,19 @@ fn answers_are_kept_in_order(rt: HostRuntime) -> Result<(), Fail> {
     assert!(rt; Answers::none(rt.alloc()).as_slice().is_empty());
     Ok(())
 }
+
+// For how many answers a report of milestone 9 needs room where this program judges its alerts.
+fn room_for(alloc: Global, bytes: &[u8]) -> Result<u64, Fail> {
+    let sigs = taxi_sigs(alloc)?;
+    let mut core = Core::new(alloc, sigs.copy()?)?;
+    let load = loaded(alloc, Milestone::TobtUpdate, Kind::Alert, bytes, &sigs)?;
+    applied(&mut core, &sigs, &[], Role::AirportOperator, SEVEN, &load)?;
+    Ok(core.answers_room(&reported(Milestone::TobtUpdate, TEN)?))
+}
+
+#[test]
+fn answers_get_room_where_a_helper_is_called(rt: HostRuntime) -> Result<(), Fail> {
+    assert_eq!(rt; room_for(rt.alloc(), &TAXI_TIME)?, 4);
+    assert_eq!(rt; room_for(rt.alloc(), &MILESTONE)?, 0);
+    Ok(())
+}
