@@ -3,8 +3,8 @@
 
     python3 bench/ratios.py [PART ..] [--runs N]
 
-The parts are `day`, `fill`, `alerts`, `tick` and `memory` against the twin in Rust (bench/twin), and `verifier` and `machine`, which call the
-scripts of these folders; all of them where none is named. A time is the least processor time of N runs, the two programs in turn, and
+The parts are `day`, `journal`, `fill`, `alerts`, `tick` and `memory` against the twin in Rust (bench/twin), and `verifier` and `machine`, which
+call the scripts of these folders; all of them where none is named. A time is the least processor time of N runs, the two programs in turn, and
 what a shorter stream takes is taken off. Replies are compared byte by byte. Needed are the kit's `rt`, and for the twin
 `cargo` and the Debian packages librust-serde-json-dev, librust-indexmap-dev and librust-itoa-dev.
 """
@@ -21,7 +21,7 @@ from peak import peak_over
 
 BENCH = Path(__file__).resolve().parent
 TOP = BENCH.parent
-PARTS = ("day", "fill", "alerts", "tick", "memory", "verifier", "machine")
+PARTS = ("day", "journal", "fill", "alerts", "tick", "memory", "verifier", "machine")
 MOMENT = 29_000_700
 MOST_FLIGHTS = 4096
 
@@ -102,6 +102,17 @@ def day(peers):
         peers.compared(f"a line of a day of {flights:,} flights", lines, [], len(lines), "us", runs=runs)
 
 
+def targets(count):
+    """So many targets of one flight, which are accepted."""
+    return count * [line("AO", cmd="report", flight=1, milestone=9, time="2025-02-20T10:00:00Z")]
+
+
+def journal(peers):
+    for count in (100_000, 900_000):
+        title = f"a report, of {count:,} in the journal"
+        peers.compared(title, plans(1) + targets(count), plans(1), count, "us", runs=2)
+
+
 def fill(peers):
     peers.compared("a board of 4,096 flights is filled", plans(MOST_FLIGHTS), [], 1, "ms")
 
@@ -119,13 +130,12 @@ def alerts(peers):
 
 
 def tick(peers):
-    ticks = [line("APT", cmd="tick")] * 500
+    ticks = [line("APT", cmd="tick")] * 1000
     peers.compared("tick, 4,000 flights", plans(4000) + ticks, plans(4000), len(ticks), "us")
 
 
 def memory(peers):
-    report = line("AO", cmd="report", flight=1, milestone=9, time="2025-02-20T10:00:00Z")
-    for title, given in (("show", line("AO", cmd="show", flight=1)), ("a report", report)):
+    for title, given in (("show", line("AO", cmd="show", flight=1)), ("a report", targets(1)[0])):
         few, many = 100_000, 500_000
         cost = {}
         for name, command in peers.commands.items():
@@ -137,7 +147,7 @@ def memory(peers):
 def main():
     words = argparse.ArgumentParser(description="Measures acdm beside its unverified peers.")
     words.add_argument("part", nargs="*", choices=(*PARTS, []), help="what is measured; all where none is named")
-    words.add_argument("--runs", type=int, default=5, metavar="N")
+    words.add_argument("--runs", type=int, default=9, metavar="N")
     words.add_argument("--acdm", metavar="PROGRAM", help="acdm, where it is built already")
     given = words.parse_args()
     parts = given.part or PARTS
@@ -147,7 +157,7 @@ def main():
     subprocess.run(["cargo", "build", "--release", "--offline", "--quiet"], cwd=BENCH / "twin", check=True)
     with tempfile.TemporaryDirectory() as folder:
         peers = Peers(acdm, BENCH / "twin/target/release/twin", folder, given.runs)
-        for part in (day, fill, alerts, tick, memory):
+        for part in (day, journal, fill, alerts, tick, memory):
             if part.__name__ in parts:
                 part(peers)
     for part, script in (("verifier", "run.py"), ("machine", "speed.py")):

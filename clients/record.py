@@ -5,6 +5,7 @@
 
 Each line `rec N HEX` of standard input is printed so, and other lines are left out. Outside what is proved.
 """
+import signal
 import struct
 import sys
 from datetime import datetime, timedelta, timezone
@@ -66,6 +67,7 @@ def printed(name, record):
 
 
 def main():
+    signal.signal(signal.SIGPIPE, signal.SIG_DFL)
     for line in sys.stdin:
         words = line.split()
         if len(words) == 3 and words[0] == "rec":
