@@ -204,11 +204,12 @@ def read_slot(fields):
 
 
 def read_load(fields):
-    place = read_slot(fields)
+    place, code = read_slot(fields), digits(fields, "program")
     try:
-        return *place, programs.accepted(digits(fields, "program"))
+        programs.accepted(code)
     except programs.Fault as fault:
         raise Bad(fault.code, fault.slot) from None
+    return *place, code
 
 
 COMMANDS = {
@@ -223,13 +224,13 @@ COMMANDS = {
 
 
 def meaning(line):
-    """The role, moment, command and arguments of a line."""
+    """The session, moment, role, command and arguments of a line."""
     if len(line) > LONGEST_LINE:
         raise Bad(105)
     words = line.split(b" ", 3)
     if len(words) < 4:
         raise Bad(100)
-    decimal(words[0], 1, 64)
+    session = decimal(words[0], 1, 64)
     moment = decimal(words[1], 1, MOST_MINUTES)
     if words[2] not in {role.encode() for role in ROLES}:
         raise Bad(100)
@@ -237,7 +238,7 @@ def meaning(line):
     command = fields.get("cmd") if isinstance(fields, dict) else None
     if not isinstance(command, str) or command not in COMMANDS:
         raise Bad(102)
-    return words[2].decode(), moment, command, COMMANDS[command](fields)
+    return session, moment, words[2].decode(), command, COMMANDS[command](fields)
 
 
 # --- milestones
@@ -359,29 +360,39 @@ def names_of(word):
 
 
 class Board:
-    """The flights in order of creation, the programs by milestone and kind, and how many commands were taken."""
+    """The flights in order of creation, the programs by milestone and kind, and how many commands were taken.
+
+    `used` has what the helpers answered the programs of the last command.
+    """
 
     def __init__(self, capacity):
         self.flights = {}
         self.programs = {}
         self.length = 0
         self.capacity = capacity
+        self.helpers = programs.HELPERS
+        self.used = []
 
     def reply(self, line):
         """The reply to one line, without its line feed."""
         try:
-            role, moment, command, arguments = meaning(line)
+            _, moment, role, command, arguments = meaning(line)
             if self.length == self.capacity:
                 raise Bad(502)
         except Bad as bad:
             return bad.reply
+        return self.enter(moment, role, command, arguments)[1]
+
+    def enter(self, moment, role, command, arguments):
+        """Takes a command as the next entry: 0 or the number of its refusal, and the reply."""
         entry = self.length
         self.length += 1
+        self.used = []
         try:
             word, rest = getattr(self, command)(role, moment, *arguments)
         except Refused as refused:
-            return f"no {entry} {refused.code}"
-        return f"{word} {entry}{rest}"
+            return refused.code, f"no {entry} {refused.code}"
+        return 0, f"{word} {entry}{rest}"
 
     def known(self, number):
         if number not in self.flights:
@@ -457,12 +468,16 @@ class Board:
 
     def answer(self, kind, flight, moment, milestone):
         program = self.programs.get((milestone, kind))
-        return None if program is None else programs.run(program, flight.record(), moment, milestone).r0
+        if program is None:
+            return None
+        ended = programs.run(program, flight.record(), moment, milestone, self.helpers)
+        self.used += ended.answers
+        return ended.r0
 
-    def load(self, role, moment, milestone, kind, program):
+    def load(self, role, moment, milestone, kind, code):
         if role != "APT":
             raise Refused(201)
-        self.programs[milestone, kind] = program
+        self.programs[milestone, kind] = programs.decode(code)
         return "ok", ""
 
     def unload(self, role, moment, milestone, kind):

@@ -12,7 +12,6 @@ processor time of the same machine.
 
 import argparse
 import multiprocessing
-import os
 import pathlib
 import socket
 import subprocess
@@ -20,6 +19,9 @@ import sys
 import time
 
 TOP = pathlib.Path(__file__).resolve().parents[2]
+sys.path.insert(0, str(TOP / "bench"))
+from peak import peak  # noqa: E402
+
 ROLES = ("APT", "ATC", "AO", "GH", "NM")
 
 
@@ -36,8 +38,8 @@ def dealt(lines, roles):
     return shares
 
 
-def play(address, commands, begin, results):
-    """Sends the lines of one partner, and tells how long each reply took."""
+def play(address, commands, begin, results, end):
+    """Sends the lines of one partner, tells how long each reply took, and stays until the end."""
     with socket.create_connection(address) as stream:
         stream.setsockopt(socket.IPPROTO_TCP, socket.TCP_NODELAY, 1)
         replies = stream.makefile("rb")
@@ -50,6 +52,7 @@ def play(address, commands, begin, results):
                 break
             taken.append(time.perf_counter() - sent)
         results.put(taken)
+        end.wait()
 
 
 def load(lines, count):
@@ -58,11 +61,11 @@ def load(lines, count):
     words = [str(TOP / "crates/acdm/out/acdm"), "serve", "--journal", "1000000"]
     words += [f"{role}=127.0.0.1:0" for role in roles]
     server = subprocess.Popen(words, stdin=subprocess.DEVNULL, stdout=subprocess.PIPE, text=True)
-    begin, results = multiprocessing.Event(), multiprocessing.Queue()
+    begin, results, end = multiprocessing.Event(), multiprocessing.Queue(), multiprocessing.Event()
     partners = []
     for share in dealt(lines, roles):
         host, port = server.stdout.readline().split()[3].rsplit(":", 1)
-        words = ((host, int(port)), share, begin, results)
+        words = ((host, int(port)), share, begin, results, end)
         partners.append(multiprocessing.Process(target=play, args=words))
         partners[-1].start()
     time.sleep(0.5)
@@ -70,17 +73,17 @@ def load(lines, count):
     begin.set()
     taken = sorted(seconds for _ in partners for seconds in results.get())
     whole = time.perf_counter() - first
+    memory = peak(server.pid)
+    end.set()
     for partner in partners:
         partner.join()
     told = server.stdout.read().splitlines()
-    _, status, used = os.wait4(server.pid, 0)
-    server.returncode = os.waitstatus_to_exitcode(status)
-    if server.returncode != 0 or told[-1] != f"closed {len(taken)}":
+    if server.wait() != 0 or told[-1] != f"closed {len(taken)}":
         sys.exit(f"serve: status {server.returncode}, {told[-1]}, {len(taken)} replies")
     middle, late, last = taken[len(taken) // 2], taken[len(taken) * 99 // 100], taken[-1]
     print(f"{count:2} partners: {len(taken) / whole:,.0f} lines a second; reply after"
           f" {middle * 1e6:,.0f} us (half), {late * 1e6:,.0f} us (99 of 100),"
-          f" {last * 1e3:,.1f} ms (all); {used.ru_maxrss / 1024:,.1f} MiB")
+          f" {last * 1e3:,.1f} ms (all); {memory / 2**20:,.1f} MiB")
 
 
 def main():

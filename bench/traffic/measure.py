@@ -1,5 +1,5 @@
 #!/usr/bin/env python3
-"""Runs a command over a file of lines, and prints how fast it read them and how much memory it took at most.
+"""Runs a command over a file of lines, and prints how fast it read them and how much memory it took at most, in a run of its own.
 
     python3 bench/traffic/measure.py LINES REPLIES COMMAND...
 """
@@ -9,6 +9,9 @@ import subprocess
 import sys
 import time
 from pathlib import Path
+
+sys.path.insert(0, str(Path(__file__).resolve().parents[1]))
+from peak import peak_over  # noqa: E402
 
 
 def main():
@@ -23,7 +26,8 @@ def main():
     count = text.count(b"\n")
     print(f"{count:,} lines, {len(text):,} bytes in {seconds:.2f} s")
     print(f"{count / seconds:,.0f} lines a second, {len(text) / seconds:,.0f} bytes a second")
-    print(f"{used.ru_maxrss / 1024:,.1f} MiB of memory at most, {used.ru_utime + used.ru_stime:.2f} s of processor time")
+    memory = peak_over(command, text.splitlines(keepends=True))
+    print(f"{memory / 2**20:,.1f} MiB of memory at most, {used.ru_utime + used.ru_stime:.2f} s of processor time")
     return child.returncode
 
 

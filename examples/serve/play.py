@@ -1,17 +1,20 @@
 #!/usr/bin/env python3
 """Starts `acdm serve` and plays a morning as five partners over TCP.
 
-    examples/serve/play.py [STREAM]
+    examples/serve/play.py [STREAM] [--board PORT] [--pause SECONDS]
 
 STREAM is a file of lines `SESSION MINUTE ROLE JSON`, as `examples/day.txt`, which is the default. Each
 line's JSON is sent by the partner of its role; the minute before it is not sent, since the clock of
 `acdm serve` tells the moment. Each reply is waited for before the next line is sent, and is printed
-beside its line. Outside what is proved.
+beside its line. With --board there is a sixth partner, for whom the first line waits: in another terminal,
+`clients/board.py 127.0.0.1:PORT` shows the morning as it goes. Outside what is proved.
 """
+import argparse
 import pathlib
 import socket
 import subprocess
 import sys
+import time
 
 TOP = pathlib.Path(__file__).resolve().parents[2]
 ROLES = ["NM", "ATC", "APT", "AO", "GH"]
@@ -28,7 +31,7 @@ def connect(server):
     return partners
 
 
-def play(lines, partners):
+def play(lines, partners, pause):
     """Sends each line by its role, and prints the reply."""
     for line in lines:
         _, _, role, command = line.rstrip("\n").split(" ", 3)
@@ -37,17 +40,28 @@ def play(lines, partners):
         partner.flush()
         print(f"{role:3} {command[:72]}")
         print(f"    {partner.readline().rstrip()[:72]}")
+        time.sleep(pause)
 
 
 def main():
-    stream = pathlib.Path(sys.argv[1]) if len(sys.argv) > 1 else TOP / "examples" / "day.txt"
-    words = [str(TOP / "acdm"), "serve"] + [f"{role}=127.0.0.1:0" for role in ROLES]
-    server = subprocess.Popen(words, stdin=subprocess.DEVNULL, stdout=subprocess.PIPE, text=True)
+    words = argparse.ArgumentParser(description="Plays a morning as five partners over TCP.")
+    words.add_argument("stream", nargs="?", type=pathlib.Path, default=TOP / "examples" / "day.txt")
+    words.add_argument("--board", type=int, metavar="PORT", help="the port of a sixth partner, of the airport")
+    words.add_argument("--pause", type=float, default=0, metavar="SECONDS", help="how long it waits after a line")
+    asked = words.parse_args()
+    command = [str(TOP / "acdm"), "serve"] + [f"{role}=127.0.0.1:0" for role in ROLES]
+    command += [f"APT=127.0.0.1:{asked.board}"] if asked.board else []
+    server = subprocess.Popen(command, stdin=subprocess.DEVNULL, stdout=subprocess.PIPE, text=True)
     partners = connect(server)
-    with stream.open(encoding="utf-8") as lines:
-        play(lines, partners)
+    if asked.board:
+        print(f"waiting for clients/board.py 127.0.0.1:{asked.board}", flush=True)
+        server.stdout.readline()
+    with asked.stream.open(encoding="utf-8") as lines:
+        play(lines, partners, asked.pause)
     for partner in partners.values():
         partner.close()
+    if asked.board:
+        print("the morning is over; it ends when the board does", flush=True)
     print(server.stdout.read(), end="")
     sys.exit(server.wait())
 

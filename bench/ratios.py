@@ -1,0 +1,170 @@
+#!/usr/bin/env python3
+"""Measures `acdm` beside its unverified peers, and prints all ratios in one run.
+
+    python3 bench/ratios.py [PART ..] [--runs N]
+
+The parts are `day`, `journal`, `fill`, `alerts`, `tick` and `memory` against the twin in Rust (bench/twin), and `verifier` and `machine`, which
+call the scripts of these folders; all of them where none is named. A time is the least processor time of N runs, the two programs in turn, and
+what a shorter stream takes is taken off. Replies are compared byte by byte. Needed are the kit's `rt`, and for the twin
+`cargo` and the Debian packages librust-serde-json-dev, librust-indexmap-dev and librust-itoa-dev.
+"""
+
+import argparse
+import json
+import os
+import subprocess
+import sys
+import tempfile
+from pathlib import Path
+
+from peak import peak_over
+
+BENCH = Path(__file__).resolve().parent
+TOP = BENCH.parent
+PARTS = ("day", "journal", "fill", "alerts", "tick", "memory", "verifier", "machine")
+MOMENT = 29_000_700
+MOST_FLIGHTS = 4096
+
+
+def line(role, **command):
+    return f"1 {MOMENT} {role} {json.dumps(command, separators=(',', ':'))}\n".encode()
+
+
+def plan(flight):
+    names = {"callsign": f"DLH{flight}", "type": "A320", "reg": "DAIBC", "dest": "EDDM"}
+    return line("NM", cmd="report", flight=flight, milestone=1, time="2025-02-20T10:00:00Z", **names)
+
+
+def plans(count):
+    """Flights without a schedule, each with an alert."""
+    return [plan(flight) for flight in range(1, count + 1)]
+
+
+class Peers:
+    """The two programs, and what they cost on a stream of lines."""
+
+    def __init__(self, acdm, twin, folder, runs):
+        self.commands = {
+            "acdm": [acdm, "run", "--journal", "1000000"],
+            "twin": [twin, "1000000"],
+        }
+        self.folder, self.runs = Path(folder), runs
+
+    def once(self, name, to_pipe):
+        """Processor time in seconds of one run over the file `lines`."""
+        with open(self.folder / "lines", "rb") as source, open(self.folder / name, "wb") as sink:
+            if to_pipe:
+                reader = subprocess.Popen(["cat"], stdin=subprocess.PIPE, stdout=sink)
+                child = subprocess.Popen(self.commands[name], stdin=source, stdout=reader.stdin)
+                reader.stdin.close()
+            else:
+                child = subprocess.Popen(self.commands[name], stdin=source, stdout=sink)
+            _, status, used = os.wait4(child.pid, 0)
+            child.returncode = os.waitstatus_to_exitcode(status)
+            if to_pipe:
+                reader.wait()
+        if child.returncode:
+            sys.exit(f"{name}: status {child.returncode}")
+        return used.ru_utime + used.ru_stime
+
+    def costs(self, lines, runs=None, to_pipe=False):
+        """For each program its least time over these lines."""
+        (self.folder / "lines").write_bytes(b"".join(lines))
+        least = dict.fromkeys(self.commands, float("inf"))
+        for _ in range(runs or self.runs):
+            for name in self.commands:
+                least[name] = min(least[name], self.once(name, to_pipe))
+        if (self.folder / "acdm").read_bytes() != (self.folder / "twin").read_bytes():
+            sys.exit("the replies differ")
+        return least
+
+    def compared(self, title, more, less, count, unit, to_pipe=False, runs=None):
+        """Prints what each of `count` things costs, by which one stream has more than another."""
+        longer, shorter = self.costs(more, runs, to_pipe), self.costs(less, runs, to_pipe)
+        told(title, {name: (longer[name] - shorter[name]) / count for name in longer}, unit)
+
+
+UNITS = {"us": 1e6, "ms": 1e3, "bytes": 1}
+
+
+def told(title, cost, unit):
+    acdm, twin = (max(cost[name], 1e-12) * UNITS[unit] for name in ("acdm", "twin"))
+    print(f"{title:42} {acdm:8,.2f} {unit}, twin {twin:8,.2f} {unit}: {acdm / twin:5.2f} times", flush=True)
+
+
+def day(peers):
+    for flights in (10, 100, 1000, 4000):
+        made = subprocess.run(
+            [sys.executable, BENCH / "traffic/generate.py", "--flights", str(flights)], check=True, stdout=subprocess.PIPE
+        )
+        lines = made.stdout.splitlines(keepends=True)
+        runs = peers.runs * (4 if flights <= 100 else 1)
+        peers.compared(f"a line of a day of {flights:,} flights", lines, [], len(lines), "us", runs=runs)
+
+
+def targets(count):
+    """So many targets of one flight, which are accepted."""
+    return count * [line("AO", cmd="report", flight=1, milestone=9, time="2025-02-20T10:00:00Z")]
+
+
+def journal(peers):
+    for count in (100_000, 900_000):
+        title = f"a report, of {count:,} in the journal"
+        peers.compared(title, plans(1) + targets(count), plans(1), count, "us", runs=2)
+
+
+def fill(peers):
+    peers.compared("a board of 4,096 flights is filled", plans(MOST_FLIGHTS), [], 1, "ms")
+
+
+def alerts(peers):
+    many, few = plans(4000), plans(4000)
+    for flight in range(4, 4001):
+        names = {"callsign": "DLH", "type": "A320", "reg": "DAIBC", "dest": "EDDM"}
+        times = {"sobt": "2025-02-20T10:00:00Z", "mttt": 40, "exit": 5, "exot": 10, "stand": 12}
+        few.append(line("APT", cmd="schedule", flight=flight, **names, **times))
+    asked = [line("APT", cmd="alerts")] * 200
+    peers.compared("alerts, 4,000 of 4,000 alerted", many + asked, many, len(asked), "us")
+    peers.compared("the same to a pipe", many + asked, many, len(asked), "us", to_pipe=True)
+    peers.compared("alerts, 3 of 4,000 alerted", few + 100 * asked, few, 100 * len(asked), "us")
+
+
+def tick(peers):
+    ticks = [line("APT", cmd="tick")] * 1000
+    peers.compared("tick, 4,000 flights", plans(4000) + ticks, plans(4000), len(ticks), "us")
+
+
+def memory(peers):
+    for title, given in (("show", line("AO", cmd="show", flight=1)), ("a report", targets(1)[0])):
+        few, many = 100_000, 500_000
+        cost = {}
+        for name, command in peers.commands.items():
+            less, more = (peak_over(command, plans(1) + count * [given]) for count in (few, many))
+            cost[name] = (more - less) / (many - few)
+        told(f"memory for an entry of {title}", cost, "bytes")
+
+
+def main():
+    words = argparse.ArgumentParser(description="Measures acdm beside its unverified peers.")
+    words.add_argument("part", nargs="*", choices=(*PARTS, []), help="what is measured; all where none is named")
+    words.add_argument("--runs", type=int, default=9, metavar="N")
+    words.add_argument("--acdm", metavar="PROGRAM", help="acdm, where it is built already")
+    given = words.parse_args()
+    parts = given.part or PARTS
+    acdm = given.acdm or TOP / "crates/acdm/out/acdm"
+    if not given.acdm:
+        subprocess.run([TOP / "acdm", "run"], stdin=subprocess.DEVNULL, check=True)
+    subprocess.run(["cargo", "build", "--release", "--offline", "--quiet"], cwd=BENCH / "twin", check=True)
+    with tempfile.TemporaryDirectory() as folder:
+        peers = Peers(acdm, BENCH / "twin/target/release/twin", folder, given.runs)
+        for part in (day, journal, fill, alerts, tick, memory):
+            if part.__name__ in parts:
+                part(peers)
+    for part, script in (("verifier", "run.py"), ("machine", "speed.py")):
+        if part in parts:
+            print(f"{part}:", flush=True)
+            subprocess.run([sys.executable, BENCH / part / script], check=True)
+
+
+if __name__ == "__main__":
+    main()
