@@ -1,16 +1,17 @@
 //! What is known before an instruction.
 
-ghost use Rattle.std.specs.Prelude.{◌≡◌, ◌≤◌, ◌+◌, ◌-◌, ◌*◌, ◌^◌, ◌++◌, ◌∷◌, ◌&&◌, true, drop, take, length, replicate};
+ghost use Rattle.std.specs.Prelude.{◌≡◌, ◌≤◌, ◌-◌, ◌*◌, ◌^◌, ◌∷◌, ◌&&◌, drop, length};
 ghost use Rattle.std.specs.Int.{byte_len};
 ghost use Rattle.bpf_helpers.specs.Promise.{signature_of};
 ghost use Rattle.bpf_semantics.specs.Machine.{size_type};
 ghost use Rattle.bpf_regstate.specs.Shape.{IsRange, IsReg};
 ghost use Rattle.bpf_regstate.specs.Effect.{answer_reg, range_of};
 ghost use Rattle.bpf_regstate.specs.Narrowing.{immediate_word, is_low, narrows};
-ghost use Rattle.bpf_regstate.specs.Joins.{join_marks, join_reg, join_registers};
+ghost use Rattle.bpf_regstate.specs.Joins.{join_reg, join_registers};
 ghost use Rattle.bpf_regstate.specs.declared.reg.Reg.TheVariants.{Uninit};
 
 use crate::arith::{all_of, operate_on_ranges};
+use crate::marks::{are_marked, join_words, mark_from};
 use crate::narrowing::{narrow, narrows};
 use crate::places::{RECORD_LENGTH, place_of_access};
 use crate::reg::Reg;
@@ -22,22 +23,21 @@ use std::marker::Model;
 
 /// What is known before an instruction: of each register, and which bytes of the stack were written on every way there.
 /// Contracts see it as a `Shape`.
-#[derive(Clone, Copy)]
+#[derive(Drop)]
 pub struct State {
     registers: [Reg; 11],
-    marks: [bool; 512],
+    marks: [u64; 8],
 }
 
 impl Model for State {
     ghost use Rattle.bpf_regstate.specs.Shape.{Shape, IsShape};
+    ghost use Rattle.bpf_regstate.specs.Marks.{marks_of};
 
     ghost Value = { Shape };
 
-    ghost view = { λ s. record { registers = s.registers; marks = s.marks } };
+    ghost view = { λ s. record { registers = s.registers; marks = marks_of s.marks } };
 
-    ghost invariant = { λ s. IsShape (record { registers = s.registers; marks = s.marks }) };
-
-    ghost inverse = { λ s. record { registers = s.registers; marks = s.marks } };
+    ghost invariant = { λ s. IsShape (record { registers = s.registers; marks = marks_of s.marks }) };
 }
 
 /// The greatest number of this size.
@@ -77,13 +77,6 @@ fn join_one(x: Reg, y: Reg) -> Reg
     }
 }
 
-/// What two edges have in common of a mark.
-fn mark_one(first: bool, second: bool) -> bool
-    ensures { result ≡ (first && second) }
-{
-    first && second
-}
-
 /// Joins each register with the one at its place.
 fn join_each(xs: &mut [Reg], ys: &[Reg])
     requires { length xs.old ≡ length ys.now }
@@ -92,24 +85,6 @@ fn join_each(xs: &mut [Reg], ys: &[Reg])
     for i in 0..xs.len() {
         xs[i] = join_one(xs[i], ys[i]);
     }
-}
-
-/// Joins each mark with the one at its place.
-fn mark_each(xs: &mut [bool], ys: &[bool])
-    requires { length xs.old ≡ length ys.now }
-    ensures { xs.new ≡ join_marks xs.old ys.now }
-{
-    for i in 0..xs.len() {
-        xs[i] = mark_one(xs[i], ys[i]);
-    }
-}
-
-/// Marks so many bytes from a place on.
-fn mark_from(marks: &mut [bool], at: usize, count: usize)
-    requires { at + count ≤ length marks.old }
-    ensures { marks.new ≡ take at marks.old ++ (replicate count true ++ drop (at + count) marks.old) }
-{
-    marks[at..at + count].fill(true);
 }
 
 /// Changes the registers as a call does: the answer in r0, nothing known of r1 to r5, and the others as they were.
@@ -164,7 +139,7 @@ impl State {
             registers: [
                 none, record, length, moment, milestone, none, none, none, none, none, end,
             ],
-            marks: [false; 512],
+            marks: [0; 8],
         }
     }
 
@@ -181,7 +156,7 @@ impl State {
     pub fn all_marked(&self, at: usize, count: usize) -> bool
         ensures { result ≡ all_marked self.now at count }
     {
-        self.marks.iter().skip(at).take(count).all(|mark| *mark)
+        are_marked(&self.marks, at, count)
     }
 
     /// Changes what is known of a register.
@@ -218,7 +193,7 @@ impl State {
         ensures { self.new ≡ joined self.old other.now }
     {
         join_each(&mut self.registers, &other.registers);
-        mark_each(&mut self.marks, &other.marks);
+        join_words(&mut self.marks, &other.marks);
     }
 
     /// Marks what a store writes, if there is one place where it goes.
@@ -239,7 +214,10 @@ impl State {
     pub fn copy(&self) -> State
         ensures { result ≡ self.now }
     {
-        *self
+        State {
+            registers: self.registers,
+            marks: self.marks,
+        }
     }
 
     /// What is known after an instruction, of those that are no conditional jumps (this project's profile). Jumps and the exit

@@ -49,8 +49,8 @@ fn along(
     }
 }
 
-/// Sends the edges of a slot without a fault, by what is known there. What is known moves on to the end of the edge; only the
-/// target of a conditional jump gets a copy.
+/// Sends the edges of a slot without a fault, by what is known there. What is known moves on to the
+/// end of the edge; only the target of a conditional jump gets a copy.
 fn send(
     alloc: Global,
     waiting: &mut Waiting,
@@ -64,7 +64,8 @@ fn send(
     requires few { slot < 2 ^ 32 }
     requires jumps { jumps_badly ops.now slot op.now ≡ false }
     requires falls { op.now ≢ Op.Tail → falls_off ops.now slot op.now ≡ false }
-    ensures { OnOk result (waiting.new ≡ sent waiting.old (edges 128 sigs.now slot op.now state.value)) }
+    ensures { OnOk result
+        (waiting.new ≡ sent waiting.old (edges 128 sigs.now slot op.now state.value)) }
 {
     match op {
         Op::Ja { offset } => put_edge(waiting, target(slot, *offset as i32), Some(state)),
@@ -93,8 +94,8 @@ fn send(
     Ok(())
 }
 
-/// The fault of a slot, by what the edges of earlier slots have brought to it; where it has none, its own edges are sent. What
-/// was known at the slot is given up.
+/// The fault of a slot, by what the edges of earlier slots have brought to it; where it has none,
+/// its own edges are sent. What was known at the slot is given up. `Err` only where there is no memory.
 pub fn pass_slot(
     alloc: Global,
     waiting: &mut Waiting,
@@ -105,7 +106,8 @@ pub fn pass_slot(
     requires same { length waiting.old ≡ length ops.now }
     requires inside { slot < length ops.now }
     requires few { length ops.now ≤ 4096 }
-    ensures { IfOk result (λ fault. Passes ops.now sigs.now slot waiting.old waiting.new (option_map code_of fault)) }
+    ensures { IfOk result (λ fault.
+        Passes ops.now sigs.now slot waiting.old waiting.new (option_map code_of fault)) }
 {
     let op = &ops[slot];
     let state = waiting.take(slot);

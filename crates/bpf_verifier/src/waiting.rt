@@ -8,8 +8,8 @@ use bpf_regstate::State;
 use std::alloc::{AllocError, Global};
 use std::marker::Model;
 
-/// For each slot what the edges so far have brought to it, until that is taken: a place for a state, and memory for those alone
-/// that wait. Contracts see the list of what waits.
+/// For each slot what the edges so far have brought to it, until that is taken. It has memory for
+/// the states alone that wait. Contracts see the list of what waits.
 #[derive(Drop)]
 pub struct Waiting {
     rows: Vec<Option<Box<State>>>,
@@ -39,7 +39,8 @@ fn join_into(known: Option<Box<State>>, state: Box<State>) -> Box<State>
 }
 
 impl Waiting {
-    ghost use Rattle.std.specs.Prelude.{◌≡◌, ◌<◌, ◌-◌, ◌∷◌, Some, None, length, replicate, IfOk, slice_index_or, slice_set};
+    ghost use Rattle.std.specs.Prelude.{◌≡◌, ◌<◌, ◌-◌, ◌∷◌, Some, None, length, replicate, IfOk};
+    ghost use Rattle.std.specs.Prelude.{slice_index_or, slice_set};
     ghost use Rattle.bpf_regstate.specs.States.{start_shape};
     ghost use Rattle.bpf_verifier.specs.Rows.{contents};
     ghost use Rattle.bpf_verifier.specs.Table.{put_edge};
@@ -47,7 +48,8 @@ impl Waiting {
     /// So many slots before the first: the start waits at slot 0, and nothing elsewhere.
     pub fn new(alloc: Global, slots: usize) -> Result<Waiting, AllocError>
         requires { 0 < slots }
-        ensures { IfOk result (λ waiting. waiting ≡ Some (start_shape 128) ∷ replicate (slots - 1) None) }
+        ensures { IfOk result
+            (λ waiting. waiting ≡ Some (start_shape 128) ∷ replicate (slots - 1) None) }
     {
         let mut rows = Vec::with_capacity(alloc, slots)?;
         rows.push(Some(Box::new(alloc, State::start())?))?;
