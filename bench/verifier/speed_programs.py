@@ -1,8 +1,7 @@
-#!/usr/bin/env python3
-"""Writes three programs of BPF bytes to a folder: a short one, and two of 4,096 slots that `acdm verify` accepts."""
+"""Programs of 4,096 slots on which verifiers are timed, all of them accepted: PROGRAMS has of each
+its name, its bytes and how often it is verified in one run."""
+import random
 import struct
-import sys
-from pathlib import Path
 
 SLOTS = 4096
 EXIT = (0x95, 0, 0, 0, 0)
@@ -15,6 +14,20 @@ def encode(instructions):
         struct.pack("<BBhi", opcode, source << 4 | destination, offset, immediate)
         for opcode, destination, source, offset, immediate in instructions
     )
+
+
+def straight():
+    """Arithmetic of both widths on registers and immediates, without a jump."""
+    draws = random.Random(3)
+    instructions = [(0xB7, r, 0, 0, draws.randrange(1 << 20)) for r in (0, 5, 6, 7, 8)]
+    instructions.append((0xBF, 9, 3, 0, 0))
+    while len(instructions) < SLOTS - 1:
+        dst, src = draws.choice((0, 5, 6, 7, 8, 9)), draws.choice((0, 5, 6, 7, 8, 9))
+        opcode = draws.choice((0x07, 0x0F, 0x17, 0x1F, 0x27, 0x47, 0x57, 0xAF, 0xBF, 0x04, 0xA4))
+        is_register = opcode in (0x0F, 0x1F, 0xAF, 0xBF)
+        immediate = 0 if is_register else draws.randrange(-1 << 31, 1 << 31)
+        instructions.append((opcode, dst, src if is_register else 0, 0, immediate))
+    return encode(instructions + [EXIT])
 
 
 def mixed():
@@ -41,18 +54,35 @@ def mixed():
     return encode(instructions + [EXIT])
 
 
+def stack():
+    """Stores of each size to the stack, and loads of what was stored."""
+    draws = random.Random(4)
+    instructions = [ZERO_R0] + [(0x7A, 10, 0, -8 * k, k) for k in range(1, 65)]
+    while len(instructions) < SLOTS - 1:
+        size, at = draws.choice((0x70, 0x68, 0x60, 0x78)), -draws.randrange(8, 512)
+        kind = draws.choice((1, 2, 3))
+        dst, src = (0, 10) if kind == 1 else (10, 0)
+        instructions.append((size + kind, dst, src, at, 0))
+    return encode(instructions + [EXIT])
+
+
 def ladder():
     """A conditional jump in each slot, with edges to the next two."""
     jumps = [(0xA5, 3, 0, 1, 1000 + rung) for rung in range(SLOTS - 3)]  # jlt r3, .., +1
     return encode([ZERO_R0] + jumps + [ZERO_R0, EXIT])
 
 
-def main():
-    folder = Path(sys.argv[1])
-    folder.mkdir(parents=True, exist_ok=True)
-    for name, program in (("short", encode([ZERO_R0, EXIT])), ("mixed", mixed()), ("ladder", ladder())):
-        (folder / f"{name}.bin").write_bytes(program)
+def fan():
+    """Conditional jumps in the first half, each to a slot of its own in the second."""
+    half = SLOTS // 2
+    jumps = [(0x15, 3, 0, half - 2, 1000 + k) for k in range(half - 2)]  # jeq r3, .., +2046
+    return encode([ZERO_R0] + jumps + [ZERO_R0] * (SLOTS - 2 - len(jumps)) + [EXIT])
 
 
-if __name__ == "__main__":
-    main()
+PROGRAMS = [
+    ("straight line", straight(), 400),
+    ("mixed", mixed(), 400),
+    ("stack", stack(), 400),
+    ("ladder of jumps", ladder(), 200),
+    ("fan of jumps", fan(), 200),
+]
