@@ -19,3 +19,4 @@ pub mod StatesAreShapes
 pub mod Counting
 pub mod Safe
 pub mod RangeRows
+pub mod Marking

@@ -7,7 +7,7 @@ use Rattle.bpf_regstate.specs.Joins.{zip_with, join_reg, join_registers, joined}
 
 -- ---- joins
 
-length-zip_with : {A : Type 0} (f : A → A → A) (xs ys : List A) → length xs ≡ length ys → length (zip_with f xs ys) ≡ length xs
+pub length-zip_with : {A : Type 0} (f : A → A → A) (xs ys : List A) → length xs ≡ length ys → length (zip_with f xs ys) ≡ length xs
 length-zip_with f [] ys e = refl
 length-zip_with f (x ∷ xs) [] e = absurd (omega arith)
 length-zip_with f (x ∷ xs) (y ∷ ys) e = omega (arith, length-zip_with f xs ys (omega arith))

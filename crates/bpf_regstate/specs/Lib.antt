@@ -9,3 +9,4 @@ pub mod Faults
 pub mod States
 pub mod Pass
 pub mod Soundness
+pub mod Marks

@@ -4,6 +4,7 @@
 
 mod arith;
 pub mod laws;
+mod marks;
 mod narrowing;
 mod places;
 mod reg;

@@ -1,16 +1,17 @@
 //! What is known before an instruction.
 
-ghost use Rattle.std.specs.Prelude.{◌≡◌, ◌≤◌, ◌+◌, ◌-◌, ◌*◌, ◌^◌, ◌++◌, ◌∷◌, ◌&&◌, true, drop, take, length, replicate};
+ghost use Rattle.std.specs.Prelude.{◌≡◌, ◌≤◌, ◌-◌, ◌*◌, ◌^◌, ◌∷◌, ◌&&◌, drop, length};
 ghost use Rattle.std.specs.Int.{byte_len};
 ghost use Rattle.bpf_helpers.specs.Promise.{signature_of};
 ghost use Rattle.bpf_semantics.specs.Machine.{size_type};
 ghost use Rattle.bpf_regstate.specs.Shape.{IsRange, IsReg};
 ghost use Rattle.bpf_regstate.specs.Effect.{answer_reg, range_of};
 ghost use Rattle.bpf_regstate.specs.Narrowing.{immediate_word, is_low, narrows};
-ghost use Rattle.bpf_regstate.specs.Joins.{join_marks, join_reg, join_registers};
+ghost use Rattle.bpf_regstate.specs.Joins.{join_reg, join_registers};
 ghost use Rattle.bpf_regstate.specs.declared.reg.Reg.TheVariants.{Uninit};
 
 use crate::arith::{all_of, operate_on_ranges};
+use crate::marks::{are_marked, join_words, mark_from};
 use crate::narrowing::{narrow, narrows};
 use crate::places::{RECORD_LENGTH, place_of_access};
 use crate::reg::Reg;
@@ -22,22 +23,21 @@ use std::marker::Model;
 
 /// What is known before an instruction: of each register, and which bytes of the stack were written on every way there.
 /// Contracts see it as a `Shape`.
-#[derive(Clone, Copy)]
+#[derive(Drop)]
 pub struct State {
     registers: [Reg; 11],
-    marks: [bool; 512],
+    marks: [u64; 8],
 }
 
 impl Model for State {
     ghost use Rattle.bpf_regstate.specs.Shape.{Shape, IsShape};
+    ghost use Rattle.bpf_regstate.specs.Marks.{marks_of};
 
     ghost Value = { Shape };
 
-    ghost view = { λ s. record { registers = s.registers; marks = s.marks } };
+    ghost view = { λ s. record { registers = s.registers; marks = marks_of s.marks } };
 
-    ghost invariant = { λ s. IsShape (record { registers = s.registers; marks = s.marks }) };
-
-    ghost inverse = { λ s. record { registers = s.registers; marks = s.marks } };
+    ghost invariant = { λ s. IsShape (record { registers = s.registers; marks = marks_of s.marks }) };
 }
 
 /// The greatest number of this size.
@@ -77,13 +77,6 @@ fn join_one(x: Reg, y: Reg) -> Reg
     }
 }
 
-/// What two edges have in common of a mark.
-fn mark_one(first: bool, second: bool) -> bool
-    ensures { result ≡ (first && second) }
-{
-    first && second
-}
-
 /// Joins each register with the one at its place.
 fn join_each(xs: &mut [Reg], ys: &[Reg])
     requires { length xs.old ≡ length ys.now }
@@ -92,24 +85,6 @@ fn join_each(xs: &mut [Reg], ys: &[Reg])
     for i in 0..xs.len() {
         xs[i] = join_one(xs[i], ys[i]);
     }
-}
-
-/// Joins each mark with the one at its place.
-fn mark_each(xs: &mut [bool], ys: &[bool])
-    requires { length xs.old ≡ length ys.now }
-    ensures { xs.new ≡ join_marks xs.old ys.now }
-{
-    for i in 0..xs.len() {
-        xs[i] = mark_one(xs[i], ys[i]);
-    }
-}
-
-/// Marks so many bytes from a place on.
-fn mark_from(marks: &mut [bool], at: usize, count: usize)
-    requires { at + count ≤ length marks.old }
-    ensures { marks.new ≡ take at marks.old ++ (replicate count true ++ drop (at + count) marks.old) }
-{
-    marks[at..at + count].fill(true);
 }
 
 /// Changes the registers as a call does: the answer in r0, nothing known of r1 to r5, and the others as they were.
@@ -133,7 +108,7 @@ fn answer_of(sigs: &Sigs, helper: u32) -> Reg
 }
 
 impl State {
-    ghost use Rattle.std.specs.Prelude.{◌≡◌, ◌≤◌, Some};
+    ghost use Rattle.std.specs.Prelude.{◌≡◌, ◌≤◌, Some, None, if◌then◌else◌};
     ghost use Rattle.bpf_decode.specs.declared.op.Op.TheVariants.{Call};
     ghost use Rattle.bpf_decode.specs.declared.op.Operand.TheVariants.{From, Immediate};
     ghost use Rattle.bpf_regstate.specs.Shape.{IsRange, IsReg, IsShape, known};
@@ -164,7 +139,7 @@ impl State {
             registers: [
                 none, record, length, moment, milestone, none, none, none, none, none, end,
             ],
-            marks: [false; 512],
+            marks: [0; 8],
         }
     }
 
@@ -181,7 +156,7 @@ impl State {
     pub fn all_marked(&self, at: usize, count: usize) -> bool
         ensures { result ≡ all_marked self.now at count }
     {
-        self.marks.iter().skip(at).take(count).all(|mark| *mark)
+        are_marked(&self.marks, at, count)
     }
 
     /// Changes what is known of a register.
@@ -218,7 +193,7 @@ impl State {
         ensures { self.new ≡ joined self.old other.now }
     {
         join_each(&mut self.registers, &other.registers);
-        mark_each(&mut self.marks, &other.marks);
+        join_words(&mut self.marks, &other.marks);
     }
 
     /// Marks what a store writes, if there is one place where it goes.
@@ -235,55 +210,72 @@ impl State {
         }
     }
 
+    /// The same again.
+    pub fn copy(&self) -> State
+        ensures { result ≡ self.now }
+    {
+        State {
+            registers: self.registers,
+            marks: self.marks,
+        }
+    }
+
     /// What is known after an instruction, of those that are no conditional jumps (this project's profile). Jumps and the exit
     /// change nothing.
     pub fn transfer(&self, op: Op, sigs: &Sigs) -> State
         ensures { result ≡ after_op 128 sigs.now op self.now }
     {
-        let mut after = *self;
+        let mut after = self.copy();
+        after.advance(op, sigs);
+        after
+    }
+
+    /// Goes on to what is known after an instruction, as `transfer` has it, in place.
+    pub fn advance(&mut self, op: Op, sigs: &Sigs)
+        ensures { self.new ≡ after_op 128 sigs.now op self.old }
+    {
         match op {
             Op::Arith {
                 width,
                 code,
                 dst,
                 operand,
-            } => after.set(
+            } => self.set(
                 dst,
                 operate_on_ranges(code, width, self.range_of(dst), self.operand(operand)),
             ),
-            Op::Negate { width, dst } => after.set(dst, negate_words(width, self.range_of(dst))),
+            Op::Negate { width, dst } => self.set(dst, negate_words(width, self.range_of(dst))),
             Op::Extend {
                 width,
                 part,
                 dst,
                 src,
-            } => after.set(dst, extend_words(width, part, self.range_of(src))),
+            } => self.set(dst, extend_words(width, part, self.range_of(src))),
             Op::End { order, bytes, dst } => {
-                after.set(dst, order_words(order, bytes, self.range_of(dst)))
+                self.set(dst, order_words(order, bytes, self.range_of(dst)))
             }
-            Op::Load { size, dst, .. } => after.set(
+            Op::Load { size, dst, .. } => self.set(
                 dst,
                 Range {
                     lo: 0,
                     hi: greatest(size),
                 },
             ),
-            Op::LoadSigned { dst, .. } => after.set(dst, all_of(Width::W64)),
+            Op::LoadSigned { dst, .. } => self.set(dst, all_of(Width::W64)),
             Op::Store {
                 size,
                 base,
                 offset,
                 ..
-            } => after.mark(self.range_of(base), offset as i32, byte_count(size)),
-            Op::Wide { dst, value } => after.set(dst, single(value)),
-            Op::Call { helper } => after.call(sigs, helper),
+            } => self.mark(self.range_of(base), offset as i32, byte_count(size)),
+            Op::Wide { dst, value } => self.set(dst, single(value)),
+            Op::Call { helper } => self.call(sigs, helper),
             Op::Jump { .. } => {}
             Op::Ja { .. } => {}
             Op::Ja32 { .. } => {}
             Op::Exit => {}
             Op::Tail => {}
         }
-        after
     }
 
     /// A call: nothing is known of r1 to r5 after it, and r0 has an answer that is promised.
@@ -307,69 +299,86 @@ impl State {
     ) -> Option<State>
         ensures { result ≡ refined width condition dst operand taken self.now }
     {
+        let mut after = self.copy();
+        if after.follow(width, condition, dst, operand, taken) {
+            Some(after)
+        } else {
+            None
+        }
+    }
+
+    /// Goes on to what is known along one edge of a conditional jump, as `refine` has it, in place; `false` where no words lead
+    /// there.
+    pub fn follow(
+        &mut self,
+        width: Width,
+        condition: Condition,
+        dst: Register,
+        operand: Operand,
+        taken: bool,
+    ) -> bool
+        ensures { refined width condition dst operand taken self.old ≡ (if result then Some self.new else None) }
+    {
         match operand {
-            Operand::From(src) => self.refine_registers(width, condition, dst, src, taken),
+            Operand::From(src) => self.follow_registers(width, condition, dst, src, taken),
             Operand::Immediate(value) => {
-                self.refine_immediate(width, condition, dst, value, taken)
+                self.follow_immediate(width, condition, dst, value, taken)
             }
         }
     }
 
     /// The same for two registers.
-    fn refine_registers(
-        &self,
+    fn follow_registers(
+        &mut self,
         width: Width,
         condition: Condition,
         dst: Register,
         src: Register,
         taken: bool,
-    ) -> Option<State>
-        ensures { result ≡ refined width condition dst (From src) taken self.now }
+    ) -> bool
+        ensures { refined width condition dst (From src) taken self.old ≡ (if result then Some self.new else None) }
     {
         if dst.index() == src.index() {
-            return Some(*self);
+            return true;
         }
         let a = self.range_of(dst);
         let b = self.range_of(src);
         if !tells(condition, width, a, b) {
-            return Some(*self);
+            return true;
         }
         match narrow(condition, taken, a, b) {
-            Some((left, right)) => Some(self.with(dst, left).with(src, right)),
-            None => None,
+            Some((left, right)) => {
+                self.set(dst, left);
+                self.set(src, right);
+                true
+            }
+            None => false,
         }
     }
 
     /// The same for a register and an immediate.
-    fn refine_immediate(
-        &self,
+    fn follow_immediate(
+        &mut self,
         width: Width,
         condition: Condition,
         dst: Register,
         value: i32,
         taken: bool,
-    ) -> Option<State>
-        ensures { result ≡ refined width condition dst (Immediate value) taken self.now }
+    ) -> bool
+        ensures { refined width condition dst (Immediate value) taken self.old ≡ (if result then Some self.new else None) }
     {
         let a = self.range_of(dst);
         let b = single(word_of(width, value));
         if !tells(condition, width, a, b) {
-            return Some(*self);
+            return true;
         }
         match narrow(condition, taken, a, b) {
-            Some((left, _)) => Some(self.with(dst, left)),
-            None => None,
+            Some((left, _)) => {
+                self.set(dst, left);
+                true
+            }
+            None => false,
         }
-    }
-
-    /// The state with another range of a register.
-    fn with(&self, register: Register, range: Range) -> State
-        requires { IsRange range }
-        ensures { result ≡ with_register self.now register (Known range) }
-    {
-        let mut after = *self;
-        after.set(register, range);
-        after
     }
 }
 

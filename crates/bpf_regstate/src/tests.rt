@@ -437,7 +437,7 @@ fn joins_keep_what_is_common(rt: HostRuntime) -> Result<(), Fail> {
         .transfer(arith(W64, Code::Mov, reg(6), imm(1)), &sigs)
         .transfer(store(Size::Half, reg(10), -2), &sigs);
     let two = start.transfer(arith(W64, Code::Mov, reg(0), imm(9)), &sigs);
-    let mut joined = one;
+    let mut joined = one.copy();
     joined.join(&two);
     has(&rt, &joined, reg(0), 5, 9);
     lacks(&rt, &joined, reg(6));
@@ -446,9 +446,23 @@ fn joins_keep_what_is_common(rt: HostRuntime) -> Result<(), Fail> {
     let mut turned = two;
     turned.join(&one);
     has(&rt, &turned, reg(0), 5, 9);
-    let mut same = one;
+    let mut same = one.copy();
     same.join(&one);
     assert!(rt; same.all_marked(510, 2));
+    Ok(())
+}
+
+#[test]
+fn marks_cross_from_word_to_word(rt: HostRuntime) -> Result<(), Fail> {
+    let sigs = no_sigs(rt.alloc())?;
+    // The bytes 60 to 67 of the stack, of which 64 is the first of another word.
+    let stored = State::start().transfer(store(Size::Double, reg(10), -452), &sigs);
+    for at in 0..512 {
+        assert_eq!(rt; stored.all_marked(at, 1), 60 <= at && at < 68);
+    }
+    for (at, count, marked) in [(60, 8, true), (59, 9, false), (60, 9, false), (63, 2, true)] {
+        assert_eq!(rt; stored.all_marked(at, count), marked);
+    }
     Ok(())
 }
 

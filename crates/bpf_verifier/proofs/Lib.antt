@@ -1,3 +1,4 @@
 pub mod RunRows
 pub mod NeverWrong
 pub mod PassLemmas
+mod WaitingLemmas

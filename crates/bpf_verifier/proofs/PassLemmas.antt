@@ -1,5 +1,5 @@
 -- A forward pass over a table: what its rows are before each slot.
-use Rattle.std.proofs.Common.{◌≡◌, ℕ, zero, suc, ◌+◌, ◌-◌, ◌<◌, ◌≤◌, Bool, true, false, cond, eqb, List, [], ◌∷◌, length, replicate, Option, Some, None, refl, sym, ap, subst, ◌∙◌, arith, below_more, length-set, get_or-set_same, get_or-set_other, ◌≢◌}
+use Rattle.std.proofs.Common.{◌≡◌, ℕ, zero, suc, ◌+◌, ◌-◌, ◌<◌, ◌≤◌, Bool, true, false, cond, eqb, List, [], ◌∷◌, length, set, replicate, Option, Some, None, refl, sym, ap, subst, ◌∙◌, arith, below_more, length-set, get_or-set_same, get_or-set_other, ◌≢◌}
 use Rattle.std.specs.Prelude.{slice_get, slice_index_or}
 use Rattle.std.proofs.lemmas.Bool.{eqb-true, eqb-false}
 use Rattle.bpf_decode.specs.declared.op.Op.{Op}
@@ -131,16 +131,20 @@ module _ (ops : List Op) (sigs : List (ℕ × Promise)) where
   -- one more slot
   pub goes_on : (slot : ℕ) (table : List (Option Shape)) (op : Op) → Step slot → Passed slot table → slot < length ops → slice_get ops slot ≡ Some op
       → least (faults 128 ops sigs slot op (slice_index_or table slot None)) ≡ None
-      → Passed (slot + 1) (sent_from sigs slot op (slice_index_or table slot None) table)
+      → Passed (slot + 1) (sent_from sigs slot op (slice_index_or table slot None) (set table slot None))
   goes_on slot table op step passed inside is none =
       let state = slice_index_or table slot None in
+      let rest : List (Option Shape) = set table slot None in
+      let same : length rest ≡ length table = length-set table slot None in
       record {
-        long = kept_length slot table op state ∙ passed.long;
+        long = kept_length slot rest op state ∙ same ∙ passed.long;
         rows = λ to from in_ops.
-            let in_table : to < length table = omega (arith, passed.long) in
+            let in_table : to < length rest = omega (arith, same, passed.long) in
             let later : slot ≤ to = omega arith in
-            sent_on slot to table op state in_table none is
-            ∙ ap (λ (row : Option Shape). with_edges row (into to (sends 128 ops sigs slot (slice_get ops slot) state))) (passed.rows to later in_ops)
+            let other : to ≢ slot = omega arith in
+            sent_on slot to rest op state in_table none is
+            ∙ ap (λ (row : Option Shape). with_edges row (into to (sends 128 ops sigs slot (slice_get ops slot) state)))
+            (get_or-set_other table slot to None None other ∙ passed.rows to later in_ops)
             ∙ ap (λ (s : Option Shape). with_edges (so_far 128 ops sigs slot to) (into to (sends 128 ops sigs slot (slice_get ops slot) s))) (passed.rows slot (omega arith) inside)
             ∙ sym (step to);
         clear = below_more (λ k. fault_at 128 ops sigs k ≡ None) slot passed.clear (here slot table op passed inside is ∙ none);

@@ -1,3 +1,4 @@
-pub mod Verdict
+pub mod Rows
 pub mod Runs
 pub mod Table
+pub mod Verdict

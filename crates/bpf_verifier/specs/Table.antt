@@ -21,10 +21,11 @@ abbrev pub sent_from : List (ℕ × Promise) → ℕ → Op → Option Shape →
 sent_from sigs slot op None table = table
 sent_from sigs slot op (Some s) table = sent table (edges 128 sigs slot op s)
 
--- the fault of a slot by its row of the table, and without one the table with its edges
+-- the fault of a slot by its row of the table, and without one the table with its edges in the row's place
 pub record PassesAs (ops : List Op) (sigs : List (ℕ × Promise)) (slot : ℕ) (old new : List (Option Shape)) (op : Op) (fault : Option ℕ) : Type 0 where
   pub found : fault ≡ least (faults 128 ops sigs slot op (slice_index_or old slot None))
-  pub sent_all : fault ≡ None → new ≡ sent_from sigs slot op (slice_index_or old slot None) old
+  pub sent_all : fault ≡ None
+      → new ≡ sent_from sigs slot op (slice_index_or old slot None) (slice_set old slot None)
 
 abbrev pub Passes : List Op → List (ℕ × Promise) → ℕ → List (Option Shape) → List (Option Shape) → Option ℕ → Type 0
 Passes ops sigs slot old new fault = (op : Op) → slice_get ops slot ≡ Some op → PassesAs ops sigs slot old new op fault

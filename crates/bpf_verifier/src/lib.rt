@@ -10,6 +10,7 @@ mod reads;
 mod slot;
 mod table;
 mod verifier;
+mod waiting;
 
 pub use checked::Checked;
 pub use fault::{Fault, VerifyError};

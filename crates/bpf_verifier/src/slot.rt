@@ -2,6 +2,7 @@
 
 ghost use Rattle.std.specs.Prelude.{◌≡◌, ◌<◌, ◌^◌, option_map};
 ghost use Rattle.bpf_regstate.specs.Faults.{faults, least};
+ghost use Rattle.bpf_verifier.specs.Rows.{contents};
 ghost use Rattle.bpf_verifier.specs.Verdict.{code_of};
 
 use crate::fault::Fault;
@@ -18,10 +19,10 @@ pub fn least_fault(
     sigs: &Sigs,
     slot: usize,
     op: Op,
-    state: &Option<State>,
+    state: &Option<Box<State>>,
 ) -> Option<Fault>
     requires { slot < 2 ^ 32 }
-    ensures { option_map code_of result ≡ least (faults 128 ops.now sigs.now slot op state.now) }
+    ensures { option_map code_of result ≡ least (faults 128 ops.now sigs.now slot op (contents state.now)) }
 {
     if op == Op::Tail {
         return None;

@@ -321,3 +321,32 @@ fn programs_of_several_lengths_are_judged(rt: HostRuntime) -> Result<(), Fail> {
     }
     Ok(())
 }
+
+/// 4,095 times this jump, and an exit, to which nothing brings r0.
+fn comes_to_an_exit(
+    rt: &impl Abort,
+    alloc: Global,
+    sigs: &Sigs,
+    jump: &[u8; 8],
+) -> Result<(), Fail> {
+    let mut bytes = Vec::new(alloc);
+    for _ in 0..4_095 {
+        bytes.extend_from_slice(jump)?;
+    }
+    bytes.extend_from_slice(&[0x95, 0, 0, 0, 0, 0, 0, 0])?;
+    let error = verify(alloc, decode(alloc, &bytes)?, sigs)
+        .err()
+        .ok_or("accepted")?;
+    assert_eq!(rt; (error.code(), error.slot()), (308, 4_095));
+    Ok(())
+}
+
+#[test]
+fn what_is_known_goes_along_many_jumps(rt: HostRuntime) -> Result<(), Fail> {
+    let sigs = Bank::new(rt.alloc())?.sigs()?;
+    // Always, and where the moment is 1 or is not: both edges go to the next slot.
+    for jump in [[0x05, 0, 0, 0, 0, 0, 0, 0], [0x15, 3, 0, 0, 1, 0, 0, 0]] {
+        comes_to_an_exit(&rt, rt.alloc(), &sigs, &jump)?;
+    }
+    Ok(())
+}

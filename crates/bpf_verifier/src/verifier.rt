@@ -7,27 +7,33 @@ ghost use Rattle.bpf_verifier.specs.Verdict.{AnswersFault, Refuses, code_of};
 
 use crate::checked::Checked;
 use crate::fault::{Fault, VerifyError};
-use crate::table::{first_table, pass_slot};
+use crate::table::pass_slot;
+use crate::waiting::Waiting;
 use bpf_decode::{Op, Program};
 use bpf_helpers::Sigs;
-use bpf_regstate::State;
 use bpf_regstate::laws::one_pass_is_enough;
-use std::alloc::Global;
+use std::alloc::{AllocError, Global};
 
-/// The first fault of these slots with its slot, found in one pass forward over a table that has the start alone.
-fn first_fault(ops: &[Op], sigs: &Sigs, table: &mut [Option<State>]) -> Option<(Fault, usize)>
+/// The first fault of these slots with its slot, found in one pass forward from where the start alone waits. `Err` only where
+/// there is no memory.
+fn first_fault(
+    alloc: Global,
+    ops: &[Op],
+    sigs: &Sigs,
+    waiting: &mut Waiting,
+) -> Result<Option<(Fault, usize)>, AllocError>
     requires some { 0 < length ops.now }
     requires few { length ops.now ≤ 4096 }
-    requires table { table.old ≡ Some (start_shape 128) ∷ replicate (length ops.now - 1) None }
-    ensures { MatchOption result (Accepts 128 ops.now sigs.now) (λ found. IsFirstFault 128 ops.now sigs.now found.1 (code_of found.0)) }
+    requires table { waiting.old ≡ Some (start_shape 128) ∷ replicate (length ops.now - 1) None }
+    ensures { IfOk result (λ first. MatchOption first (Accepts 128 ops.now sigs.now) (λ found. IsFirstFault 128 ops.now sigs.now found.1 (code_of found.0))) }
 {
     one_pass_is_enough();
     for slot in 0..ops.len() {
-        if let Some(fault) = pass_slot(table, ops, sigs, slot) {
-            return Some((fault, slot));
+        if let Some(fault) = pass_slot(alloc, waiting, ops, sigs, slot)? {
+            return Ok(Some((fault, slot)));
         }
     }
-    None
+    Ok(None)
 }
 
 /// Whether the program may run with these helpers: whether no slot has a fault. It is answered with a copy of the signatures,
@@ -43,8 +49,8 @@ pub fn verify(alloc: Global, program: Program, sigs: &Sigs) -> Result<Checked, V
     ensures only_accepted { Accepts 128 program sigs.now → IsOkUnless result VerifyError.Memory }
     ensures only_fault { (slot code : ℕ) → IsFirstFault 128 program sigs.now slot code → AnswersFault slot code result }
 {
-    let mut table = first_table(alloc, program.slot_count())?;
-    if let Some((fault, slot)) = first_fault(program.ops(), sigs, &mut table) {
+    let mut waiting = Waiting::new(alloc, program.slot_count())?;
+    if let Some((fault, slot)) = first_fault(alloc, program.ops(), sigs, &mut waiting)? {
         return Err(VerifyError::Refused { fault, slot });
     }
     let sigs = sigs.copy()?;

@@ -1,6 +1,6 @@
 use Rattle.bpf_verifier.proofs.PassLemmas.{Passed}
 use Rattle.bpf_verifier.proofs.verifier.first_fault.Given as goal
 
--- the table is that of the pass before this slot
+-- what waits is that of the pass before this slot
 abbrev pub invariant-loop-slot : goal.invariant-loop-slot
-invariant-loop-slot l = Passed l.ops l.sigs l.slot l.table
+invariant-loop-slot l = Passed l.ops l.sigs l.slot l.waiting

@@ -1,7 +1,8 @@
+use Rattle.bpf_regstate.specs.Marks.{marks_of}
 use Rattle.bpf_regstate.proofs.Shapes.{join_is_shape}
 use Rattle.bpf_regstate.proofs.state.State.join.Goals as goal
 
 pub invariant_of-self : goal.invariant_of-self
 invariant_of-self c =
-    rw (c.join_each.ensures, c.mark_each.ensures)
-    (join_is_shape (record { registers = c.self.inside.registers; marks = c.self.inside.marks }) (record { registers = c.other.inside.registers; marks = c.other.inside.marks }) c.self.invariant c.other.invariant)
+    rw (c.join_each.ensures, c.join_words.ensures)
+    (join_is_shape (record { registers = c.self.inside.registers; marks = marks_of c.self.inside.marks }) (record { registers = c.other.inside.registers; marks = marks_of c.other.inside.marks }) c.self.invariant c.other.invariant)

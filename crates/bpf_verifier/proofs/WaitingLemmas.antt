@@ -1,0 +1,37 @@
+-- What waits at the slots, row by row.
+use Rattle.std.proofs.Common.{◌≡◌, ℕ, zero, suc, List, ◌++◌, [], ◌∷◌, map, set, get_or, replicate}
+use Rattle.std.proofs.Common.{Option, Some, None, refl, ap, ◌∙◌}
+use Rattle.std.proofs.lemmas.List.{map-append, set-set}
+use Rattle.std.specs.declared.boxed.Box.{Box}
+use Rattle.std.specs.declared.alloc.Global.{Global}
+use Rattle.bpf_regstate.specs.Shape.{Shape}
+use Rattle.bpf_regstate.specs.Pass.{with_edge}
+use Rattle.bpf_verifier.specs.Rows.{contents, rows_of}
+use Rattle.bpf_verifier.specs.Table.{put_edge}
+
+abbrev empty : Option (Box Shape Global)
+empty = None
+
+empty_rows : (n : ℕ) → rows_of (replicate n empty) ≡ replicate n None
+empty_rows zero = refl
+empty_rows (suc n) = ap (λ l. None ∷ l) (empty_rows n)
+
+-- one state waits before rows without any
+pub first_waits : (rows : List (Option (Box Shape Global))) (b : Box Shape Global) (s : Shape)
+    (n : ℕ)
+    → rows ≡ (Some b ∷ []) ++ replicate n None → b.value ≡ s
+    → rows_of rows ≡ Some s ∷ replicate n None
+first_waits rows b s n all one =
+    ap rows_of all ∙ ap (λ l. Some b.value ∷ l) (empty_rows n)
+    ∙ ap (λ v. Some v ∷ replicate n None) one
+
+-- what waited is taken, joined and put back
+pub put_back : (now after : List (Option Shape)) (to : ℕ) (known : Option Shape) (s both : Shape)
+    → after ≡ set now to None
+    → known ≡ get_or now to None → Some both ≡ with_edge known s
+    → set after to (Some both) ≡ put_edge now (to, s)
+put_back now after to known s both gone taken joined =
+    ap (λ l. set l to (Some both)) gone
+    ∙ set-set now to None (Some both)
+    ∙ ap (λ o. set now to o) joined
+    ∙ ap (λ k. set now to (with_edge k s)) taken

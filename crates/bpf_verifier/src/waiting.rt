@@ -1,0 +1,79 @@
+//! The states that wait at the slots ahead of a forward pass.
+
+ghost use Rattle.std.specs.Prelude.{◌≡◌, Some};
+ghost use Rattle.bpf_regstate.specs.Pass.{with_edge};
+ghost use Rattle.bpf_verifier.specs.Rows.{contents};
+
+use bpf_regstate::State;
+use std::alloc::{AllocError, Global};
+use std::marker::Model;
+
+/// For each slot what the edges so far have brought to it, until that is taken. It has memory for
+/// the states alone that wait. Contracts see the list of what waits.
+#[derive(Drop)]
+pub struct Waiting {
+    rows: Vec<Option<Box<State>>>,
+}
+
+impl Model for Waiting {
+    ghost use Rattle.std.specs.Prelude.{List, Option};
+    ghost use Rattle.bpf_regstate.specs.Shape.{Shape};
+    ghost use Rattle.bpf_verifier.specs.Rows.{rows_of};
+
+    ghost Value = { List (Option Shape) };
+
+    ghost view = { λ w. rows_of w.rows.items };
+}
+
+/// What a slot has after one more edge to it.
+fn join_into(known: Option<Box<State>>, state: Box<State>) -> Box<State>
+    ensures { Some result.value ≡ with_edge (contents known) state.value }
+{
+    match known {
+        Some(mut both) => {
+            both.join(&state);
+            both
+        }
+        None => state,
+    }
+}
+
+impl Waiting {
+    ghost use Rattle.std.specs.Prelude.{◌≡◌, ◌<◌, ◌-◌, ◌∷◌, Some, None, length, replicate, IfOk};
+    ghost use Rattle.std.specs.Prelude.{slice_index_or, slice_set};
+    ghost use Rattle.bpf_regstate.specs.States.{start_shape};
+    ghost use Rattle.bpf_verifier.specs.Rows.{contents};
+    ghost use Rattle.bpf_verifier.specs.Table.{put_edge};
+
+    /// So many slots before the first: the start waits at slot 0, and nothing elsewhere.
+    pub fn new(alloc: Global, slots: usize) -> Result<Waiting, AllocError>
+        requires { 0 < slots }
+        ensures { IfOk result
+            (λ waiting. waiting ≡ Some (start_shape 128) ∷ replicate (slots - 1) None) }
+    {
+        let mut rows = Vec::with_capacity(alloc, slots)?;
+        rows.push(Some(Box::new(alloc, State::start())?))?;
+        for _ in 0..slots - 1 {
+            rows.push(None)?;
+        }
+        Ok(Waiting { rows })
+    }
+
+    /// Takes what waits at a slot.
+    pub fn take(&mut self, slot: usize) -> Option<Box<State>>
+        requires { slot < length self.old }
+        ensures taken { contents result ≡ slice_index_or self.old slot None }
+        ensures gone { self.new ≡ slice_set self.old slot None }
+    {
+        self.rows[slot].take()
+    }
+
+    /// Joins one edge into what waits at its end.
+    pub fn put(&mut self, to: usize, state: Box<State>)
+        requires { to < length self.old }
+        ensures { self.new ≡ put_edge self.old (to, state.value) }
+    {
+        let known = self.take(to);
+        self.rows[to] = Some(join_into(known, state));
+    }
+}
