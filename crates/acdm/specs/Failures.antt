@@ -1,6 +1,6 @@
 -- What keeps a command from its work, by the error of a run or of `serve`.
-use Rattle.acdm_sessions.specs.declared.run_error.RunError.{RunError}
-use Rattle.acdm_sessions.specs.declared.run_error.RunError.TheVariants as errors
+use Rattle.acdm_lines.specs.declared.run_error.RunError.{RunError}
+use Rattle.acdm_lines.specs.declared.run_error.RunError.TheVariants as errors
 use Rattle.acdm.specs.declared.failure.Failure.{Failure}
 use Rattle.acdm.specs.declared.failure.Failure.TheVariants.{Read, Write, Memory, Accept}
 use Rattle.acdm.specs.declared.partners.ServeError.{ServeError}

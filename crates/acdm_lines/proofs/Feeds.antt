@@ -3,7 +3,7 @@ use Rattle.std.proofs.Common.{◌≡◌, ℕ, suc, ◌+◌, ◌<◌, ◌≤◌, 
 use Rattle.std.specs.List.{position_or_len}
 use Rattle.std.proofs.lemmas.Bool.{eqb-true}
 use borrow.Author.Tests.{ltb-false}
-use Rattle.acdm_sessions.specs.Lines.{is_line_feed, IsLine, lines_of, with_first}
+use Rattle.acdm_lines.specs.Lines.{is_line_feed, IsLine, lines_of, with_first}
 
 abbrev place : List ℕ → ℕ
 place xs = position_or_len is_line_feed xs

@@ -1,7 +1,7 @@
 //! What was read and not yet taken.
 ghost use Rattle.std.specs.Prelude.{◌≡◌, ◌<◌, ◌≤◌, [], length, drop, position, IfOk, IfSome};
-ghost use Rattle.acdm_sessions.specs.Lines.{is_line_feed, most_held};
-ghost use Rattle.acdm_sessions.specs.NextLine.{Fills};
+ghost use Rattle.acdm_lines.specs.Lines.{is_line_feed, most_held};
+ghost use Rattle.acdm_lines.specs.NextLine.{Fills};
 
 use crate::counted::Counted;
 use crate::run_error::RunError;
@@ -13,7 +13,7 @@ const MOST_HELD: usize = 65_536;
 
 /// The bytes of one read that are still to be taken.
 #[derive(Drop)]
-pub(crate) struct Window {
+pub struct Window {
     bytes: Vec<u8>,
     start: usize,
     end: usize,
@@ -21,7 +21,7 @@ pub(crate) struct Window {
 
 impl Model for Window {
     ghost use Rattle.std.specs.Prelude.{ℕ, List, ◌≡◌, ◌≤◌, slice_range, length};
-    ghost use Rattle.acdm_sessions.specs.Lines.{most_held};
+    ghost use Rattle.acdm_lines.specs.Lines.{most_held};
 
     ghost Value = { List ℕ };
 
@@ -33,7 +33,7 @@ impl Model for Window {
 
 impl Window {
     /// An empty window, with its room for one read.
-    pub(crate) fn new(alloc: Global) -> Result<Window, AllocError>
+    pub fn new(alloc: Global) -> Result<Window, AllocError>
         ensures { IfOk result (λ w. w ≡ []) }
     {
         let mut bytes = Vec::new(alloc);
@@ -46,7 +46,7 @@ impl Window {
     }
 
     /// The bytes that are still to be taken.
-    pub(crate) fn as_slice(&self) -> &[u8]
+    pub fn as_slice(&self) -> &[u8]
         ensures bytes { result.now ≡ self.now }
         ensures fits { length self.now ≤ most_held }
     {
@@ -54,7 +54,7 @@ impl Window {
     }
 
     /// The place of the first line feed.
-    pub(crate) fn line_feed(&self) -> Option<usize>
+    pub fn line_feed(&self) -> Option<usize>
         ensures place { result ≡ position is_line_feed self.now }
         ensures inside { IfSome result (λ i. i < length self.now) }
     {
@@ -62,7 +62,7 @@ impl Window {
     }
 
     /// Takes all bytes.
-    pub(crate) fn clear(&mut self)
+    pub fn clear(&mut self)
         ensures { self.new ≡ [] }
     {
         self.start = 0;
@@ -70,14 +70,14 @@ impl Window {
     }
 
     /// Takes so many bytes, or all where there are fewer.
-    pub(crate) fn consume(&mut self, amount: usize)
+    pub fn consume(&mut self, amount: usize)
         ensures { self.new ≡ drop amount self.old }
     {
         self.start += amount.min(self.end - self.start);
     }
 
     /// Reads once, in place of what is held. Nothing is held afterwards where the input has ended.
-    pub(crate) fn fill<R: Read>(&mut self, reader: &mut Counted<R>) -> Result<(), RunError>
+    pub fn fill<R: Read>(&mut self, reader: &mut Counted<R>) -> Result<(), RunError>
         ensures fills { Fills R.remaining reader.old reader.new self.new result }
         ensures fits { length self.new ≤ most_held }
     {

@@ -2,8 +2,8 @@
 ghost use Rattle.std.specs.Prelude.{◌≡◌, true, false, is_err};
 ghost use Rattle.std.specs.Io.{ReadsAtMost, WritesAtMost};
 ghost use Rattle.std.specs.Io.KnownBytes.{ReadConsumes, WriteAppends, Keeps};
-ghost use Rattle.acdm_sessions.specs.Counted.{Watched, faults_after, write_failed};
-ghost use Rattle.acdm_sessions.specs.Counted.{waits_after, waits_flushed};
+ghost use Rattle.acdm_lines.specs.Counted.{Watched, faults_after, write_failed};
+ghost use Rattle.acdm_lines.specs.Counted.{waits_after, waits_flushed};
 
 use std::io::{self, Read, Write};
 use std::marker::Model;
@@ -18,7 +18,7 @@ pub struct Counted<T> {
 }
 
 impl<T> Model for Counted<T> {
-    ghost use Rattle.acdm_sessions.specs.Counted.{Watched};
+    ghost use Rattle.acdm_lines.specs.Counted.{Watched};
 
     ghost Value = { Watched T };
 

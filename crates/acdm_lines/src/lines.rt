@@ -1,7 +1,7 @@
 //! One line after another.
 ghost use Rattle.std.specs.Prelude.{◌≡◌, ℕ, ◌<◌, true, false, List, [], ◌∷◌, ◌++◌, IfOk};
-ghost use Rattle.acdm_sessions.specs.Lines.{IsLine, kept, weight};
-ghost use Rattle.acdm_sessions.specs.NextLine.{Takes};
+ghost use Rattle.acdm_lines.specs.Lines.{IsLine, kept, weight};
+ghost use Rattle.acdm_lines.specs.NextLine.{Takes};
 
 use crate::counted::Counted;
 use crate::line::Line;
@@ -15,22 +15,22 @@ const MOST_READS: u64 = 1 << 40;
 
 /// What ended a line.
 #[derive(Clone, Copy, Debug, PartialEq, Eq)]
-pub(crate) enum Ending {
+pub enum Ending {
     LineFeed,
     Input,
 }
 
 /// What was read and not yet taken, and what is kept of the line that was taken last.
 #[derive(Drop)]
-pub(crate) struct Lines {
-    pub(crate) window: Window,
-    pub(crate) line: Line,
-    pub(crate) reads_left: u64,
+pub struct Lines<const MOST: usize> {
+    pub window: Window,
+    pub line: Line<MOST>,
+    pub reads_left: u64,
 }
 
-impl Lines {
+impl<const MOST: usize> Lines<MOST> {
     /// Nothing read, with room for a read and for a line.
-    pub(crate) fn new(alloc: Global) -> Result<Lines, AllocError>
+    pub fn new(alloc: Global) -> Result<Lines<MOST>, AllocError>
         ensures window { IfOk result (λ l. l.window ≡ []) }
         ensures reads { IfOk result (λ l. l.reads_left ≡ 1099511627776) }
     {
@@ -47,9 +47,9 @@ impl Lines {
     fn take_held(&mut self) -> bool
         ensures feed { result ≡ true → (part : List ℕ) × IsLine part
             × (self.old.window ≡ part ++ 10 ∷ self.new.window)
-            × (self.new.line ≡ kept (self.old.line ++ part)) }
+            × (self.new.line ≡ kept MOST (self.old.line ++ part)) }
         ensures all { result ≡ false → IsLine self.old.window × (self.new.window ≡ [])
-            × (self.new.line ≡ kept (self.old.line ++ self.old.window)) }
+            × (self.new.line ≡ kept MOST (self.old.line ++ self.old.window)) }
         ensures reads { self.new.reads_left ≡ self.old.reads_left }
     {
         match self.window.line_feed() {
@@ -67,8 +67,8 @@ impl Lines {
     }
 
     /// Takes the next line, and says what ended it. It reads only where no whole line is held.
-    pub(crate) fn next<R: Read>(&mut self, reader: &mut Counted<R>) -> Result<Ending, RunError>
-        ensures takes { Takes R.remaining reader.old reader.new self.old self.new result }
+    pub fn next<R: Read>(&mut self, reader: &mut Counted<R>) -> Result<Ending, RunError>
+        ensures takes { Takes MOST R.remaining reader.old reader.new self.old self.new result }
         ensures progress { result ≡ Ok Ending.LineFeed → weight self.new.reads_left self.new.window
             < weight self.old.reads_left self.old.window }
     {
