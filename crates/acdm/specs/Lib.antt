@@ -3,3 +3,4 @@ pub mod Helpers
 pub mod Failures
 pub mod Served
 pub mod Verdicts
+pub mod Findings

@@ -5,8 +5,8 @@ use Rattle.acdm_board.specs.Desk.{DeskView}
 use Rattle.acdm_sessions.specs.Run.{ServesAll}
 
 -- all lines were answered by a desk that was empty at first, with room for so many entries
-pub record ServesFromEmpty (sigs : List (ℕ × Promise)) (capacity : ℕ)
-    (left left_after old new : Option (List ℕ)) : Type 0 where
-  pub after : DeskView
-  pub serves : ServesAll left left_after
-      (record { history = []; capacity = capacity; sigs = sigs }) after old new
+abbrev pub ServesFromEmpty : List (ℕ × Promise) → ℕ → DeskView → Option (List ℕ) → Option (List ℕ)
+    → Option (List ℕ) → Option (List ℕ) → Type 0
+ServesFromEmpty sigs capacity after left left_after old new =
+    ServesAll left left_after (record { history = []; capacity = capacity; sigs = sigs }) after old
+    new

@@ -4,8 +4,8 @@ ghost use Rattle.std.specs.Option.{SomeIff};
 ghost use Rattle.clap.specs.Values.{kind_of};
 ghost use Rattle.clap.specs.Words.{app_of, rule_of, subcommand_rows_of};
 ghost use Rattle.clap.specs.declared.builder.Command.TheViews.{out-Command as fields_of};
-ghost use Rattle.acdm.specs.CommandLine.{program as the_program, run_app, serve_app, serving_app, verify_app};
-ghost use Rattle.acdm.specs.CommandLine.{journal_rule, value_in};
+ghost use Rattle.acdm.specs.CommandLine.{program as the_program, audit_app, run_app, serve_app, serve_options_app, serving_app, verify_app};
+ghost use Rattle.acdm.specs.CommandLine.{journal_rule, save_rule, value_in};
 ghost use Rattle.acdm.specs.CommandLine.{number_of, IsJournal, AsksFor, Refuses};
 
 use clap::error::ErrorKind;
@@ -17,15 +17,22 @@ const MOST_ENTRIES: usize = 1_000_000;
 /// What the words of a command line ask for.
 #[derive(Debug, Drop, PartialEq, Eq)]
 pub enum Line<'a> {
-    /// `run`, with room for so many entries in the journal, from 1 to 1,000,000.
+    /// `run`, with room for so many entries in the journal, from 1 to 1,000,000, which is to be
+    /// saved in this file.
     Run {
         journal: usize,
+        save: Option<&'a str>,
     },
-    /// `serve`, with room for so many entries in the journal, from 1 to 1,000,000, for the partners
-    /// of these words, as they stand.
+    /// `serve`, with room for so many entries in the journal, from 1 to 1,000,000, which is to be
+    /// saved in this file, for the partners of these words, as they stand.
     Serve {
         journal: usize,
+        save: Option<&'a str>,
         partners: Vec<&'a str>,
+    },
+    /// `audit`, of the journal in this file.
+    Audit {
+        file: &'a str,
     },
     /// `verify`, of the program in this file.
     Verify {
@@ -45,13 +52,36 @@ fn journal<'a>(alloc: Global) -> Arg<'a>
         .help("How many entries the journal takes, 1 to 1000000")
 }
 
+// `--save FILE`.
+fn save<'a>(alloc: Global) -> Arg<'a>
+    ensures rule { rule_of result ≡ save_rule }
+    ensures optional { (result.required ≡ false) × (result.global ≡ false) }
+{
+    Arg::new(alloc, "save")
+        .long("save")
+        .value_name("FILE")
+        .help("Where the journal is written as text at the end")
+}
+
 fn run_command<'a>(alloc: Global) -> Result<Command<'a>, AllocError>
     ensures shape { IfOk result (λ c. app_of c ≡ run_app) }
     ensures local { IfOk result (λ c. (fields_of c).has_globals ≡ false) }
 {
     Command::new(alloc, "run")
         .about("Answers the lines of standard input on standard output")
-        .arg(journal(alloc))
+        .arg(journal(alloc))?
+        .arg(save(alloc))
+}
+
+// `serve` without its partners.
+fn serve_options<'a>(alloc: Global) -> Result<Command<'a>, AllocError>
+    ensures shape { IfOk result (λ c. app_of c ≡ serve_options_app) }
+    ensures local { IfOk result (λ c. (fields_of c).has_globals ≡ false) }
+{
+    Command::new(alloc, "serve")
+        .about("Accepts a partner at each address, and serves all at once")
+        .arg(journal(alloc))?
+        .arg(save(alloc))
 }
 
 fn serve_command<'a>(alloc: Global) -> Result<Command<'a>, AllocError>
@@ -63,10 +93,7 @@ fn serve_command<'a>(alloc: Global) -> Result<Command<'a>, AllocError>
         .action(ArgAction::Append)
         .required(true)
         .help("A role, NM, ATC, APT, AO or GH, and the IP address and port where it connects");
-    Command::new(alloc, "serve")
-        .about("Accepts a partner at each address, and serves all at once")
-        .arg(journal(alloc))?
-        .arg(partners)
+    serve_options(alloc)?.arg(partners)
 }
 
 fn verify_command<'a>(alloc: Global) -> Result<Command<'a>, AllocError>
@@ -79,6 +106,19 @@ fn verify_command<'a>(alloc: Global) -> Result<Command<'a>, AllocError>
         .help("The raw bytes of a BPF program");
     Command::new(alloc, "verify")
         .about("Lists a BPF program that may run, or tells its first fault")
+        .arg(file)
+}
+
+fn audit_command<'a>(alloc: Global) -> Result<Command<'a>, AllocError>
+    ensures shape { IfOk result (λ c. app_of c ≡ audit_app) }
+    ensures local { IfOk result (λ c. (fields_of c).has_globals ≡ false) }
+{
+    let file = Arg::new(alloc, "file")
+        .value_name("FILE")
+        .required(true)
+        .help("A journal that was saved as text");
+    Command::new(alloc, "audit")
+        .about("Judges a saved journal by itself, or tells its first fault")
         .arg(file)
 }
 
@@ -100,7 +140,10 @@ fn program<'a>(alloc: Global) -> Result<Command<'a>, AllocError>
     ensures { IfOk result (λ c. app_of c ≡ the_program) }
 {
     let verify = verify_command(alloc)?;
-    serving_program(alloc)?.subcommand(verify)
+    let audit = audit_command(alloc)?;
+    serving_program(alloc)?
+        .subcommand(verify)?
+        .subcommand(audit)
 }
 
 // The number of entries that a text names, from 1 to 1,000,000.
@@ -139,7 +182,7 @@ fn partners_in<'a>(alloc: Global, matches: &ArgMatches<'a>) -> Result<Vec<&'a st
 /// What these words ask for; the first is the program's name.
 ///
 /// The journal is what `--journal` says, else 100,000. Words that name no such command are refused by
-/// `clap`, and so is a journal outside 1 to 1,000,000. A request for help counts as a refusal.
+/// `clap`, and so is a journal outside 1 to 1,000,000. The other words are taken as they stand. A request for help counts as a refusal.
 pub fn parse<'a>(alloc: Global, words: &'a [&'a str]) -> Result<Line<'a>, Error>
     ensures asks { IfOk result (AsksFor (map (λ w. w.now) words.entry.now)) }
     ensures refuses { IfErr result (λ error.
@@ -150,15 +193,24 @@ pub fn parse<'a>(alloc: Global, words: &'a [&'a str]) -> Result<Line<'a>, Error>
     if let Some(file) = value(&matches, "verify", "file") {
         return Ok(Line::Verify { file });
     }
+    if let Some(file) = value(&matches, "audit", "file") {
+        return Ok(Line::Audit { file });
+    }
     if let Some(text) = value(&matches, "run", "journal") {
         if let Some(journal) = entries_in(text) {
-            return Ok(Line::Run { journal });
+            let save = value(&matches, "run", "save");
+            return Ok(Line::Run { journal, save });
         }
     }
     if let Some(text) = value(&matches, "serve", "journal") {
         if let Some(journal) = entries_in(text) {
+            let save = value(&matches, "serve", "save");
             let partners = partners_in(alloc, &matches)?;
-            return Ok(Line::Serve { journal, partners });
+            return Ok(Line::Serve {
+                journal,
+                save,
+                partners,
+            });
         }
     }
     Err(command.error(

@@ -1,6 +1,8 @@
 //! The commands, over the files, the reader and the writers that they are handed.
+use crate::auditing::audit_on;
 use crate::command_line::{Line, parse};
 use crate::failure::Failure;
+use crate::saving::file_of;
 use crate::serve_command::serve_words;
 use crate::serving::run_on;
 use crate::verifying::verify_on;
@@ -15,7 +17,7 @@ use std::time::Clock as SystemClock;
 /// Does what the words ask for; the first is the program's name.
 ///
 /// The status is that of the command, and 2 where the words ask for none or their file can't be
-/// opened. What is wrong is told on the errors' writer; where that fails, the status alone says it.
+/// opened. The file of `--save` is made before anything is answered, and in place of one that is there. What is wrong is told on the errors' writer; where that fails, the status alone says it.
 pub fn complete<
     Rt: Files
         + Net<Listener = TcpListener, Stream = TcpStream>
@@ -28,10 +30,32 @@ pub fn complete<
     E: Write + Drop,
 >(alloc: Global, rt: &Rt, words: &[&str], input: R, output: W, mut errors: E) -> u8 {
     match parse(alloc, words) {
-        Ok(Line::Run { journal }) => run_on(alloc, journal, input, output, errors),
-        Ok(Line::Serve { journal, partners }) => {
-            serve_words(rt, alloc, journal, partners.as_slice(), output, errors)
-        }
+        Ok(Line::Run { journal, save }) => match file_of(rt, save) {
+            Ok(file) => run_on(alloc, journal, input, output, file, errors),
+            Err(failure) => failure.complain(errors),
+        },
+        Ok(
+            Line::Serve {
+                journal,
+                save,
+                partners,
+            },
+        ) => match file_of(rt, save) {
+            Ok(file) => serve_words(
+                rt,
+                alloc,
+                journal,
+                partners.as_slice(),
+                output,
+                file,
+                errors,
+            ),
+            Err(failure) => failure.complain(errors),
+        },
+        Ok(Line::Audit { file }) => match fs::open(rt, file) {
+            Ok(file) => audit_on(alloc, file, output, errors),
+            Err(_) => Failure::Read.complain(errors),
+        },
         Ok(Line::Verify { file }) => match fs::open(rt, file) {
             Ok(file) => verify_on(alloc, file, output, errors),
             Err(_) => Failure::Read.complain(errors),

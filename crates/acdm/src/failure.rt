@@ -1,5 +1,6 @@
 //! What keeps a command from its work.
 use crate::partners::ServeError;
+use acdm_journal::WriteError;
 use acdm_sessions::RunError;
 use std::alloc::{AllocError, AllocFailed};
 use std::io::Write;
@@ -11,6 +12,8 @@ pub enum Failure {
     Read,
     /// Its output can't be written.
     Write,
+    /// The journal can't be saved.
+    Save,
     /// Memory was refused.
     Memory,
     /// The role of the partner of this number, from 1, is none.
@@ -28,6 +31,7 @@ impl Failure {
         let _ = match self {
             Failure::Read => writeln!(errors, "acdm: read failed"),
             Failure::Write => writeln!(errors, "acdm: write failed"),
+            Failure::Save => writeln!(errors, "acdm: save failed"),
             Failure::Memory => writeln!(errors, "acdm: no memory"),
             Failure::Role(number) => writeln!(errors, "acdm: role {number}"),
             Failure::Address(number) => writeln!(errors, "acdm: address {number}"),
@@ -48,6 +52,20 @@ impl From<RunError> for Failure {
             RunError::Read => Failure::Read,
             RunError::Write => Failure::Write,
             RunError::Memory => Failure::Memory,
+        }
+    }
+}
+
+impl From<WriteError> for Failure {
+    ghost use Rattle.std.specs.Prelude.{◌≡◌};
+    ghost use Rattle.acdm.specs.Failures.{failure_of_save};
+
+    ghost from_gives = { λ error failure. failure ≡ failure_of_save error };
+
+    fn from(error: WriteError) -> Failure {
+        match error {
+            WriteError::Write => Failure::Save,
+            WriteError::Memory => Failure::Memory,
         }
     }
 }

@@ -2,12 +2,14 @@
 #![tactic(auto)]
 
 mod addresses;
+mod auditing;
 mod command_line;
 mod commands;
 mod failure;
 mod helpers;
 mod minutes;
 mod partners;
+mod saving;
 mod serve_command;
 #[cfg(test)]
 mod serve_tests;

@@ -3,6 +3,7 @@ use crate::addresses::listen;
 use crate::failure::Failure;
 use crate::helpers::{bank_of, minutes_later, taxi_minutes, turn_round_minutes};
 use crate::partners::serve_on;
+use crate::saving::save;
 use acdm_board::Desk;
 use bpf_helpers::{Code, Helpers};
 use std::alloc::Global;
@@ -13,15 +14,25 @@ use std::thread::Threads;
 use std::time::Clock as SystemClock;
 
 /// Serves a partner for each word `ROLE=ADDR`, at most 64, all at once, with room for so many
-/// entries in the journal, and tells on the writer what it does.
+/// entries in the journal, and tells on the writer what it does. When all partners are gone, the
+/// journal is written as text to the writer that it is to be saved by, if there is one.
 ///
-/// The status is 0 where all was told, else 2, with a line on the errors' writer.
+/// The status is 0 where all was told and the journal was saved, else 2, with a line on the errors' writer.
 pub(crate) fn serve_words<
     Rt: Net<Listener = TcpListener, Stream = TcpStream> + SystemClock + Threads + Wait + Sync,
     W: Write + Drop,
+    F: Write + Drop,
     E: Write + Drop,
->(rt: &Rt, alloc: Global, journal: usize, words: &[&str], writer: W, errors: E) -> u8 {
-    match serve(rt, alloc, journal, words, writer) {
+>(
+    rt: &Rt,
+    alloc: Global,
+    journal: usize,
+    words: &[&str],
+    writer: W,
+    saved: Option<F>,
+    errors: E,
+) -> u8 {
+    match serve(rt, alloc, journal, words, writer, saved) {
         Ok(()) => 0,
         Err(failure) => failure.complain(errors),
     }
@@ -31,12 +42,20 @@ pub(crate) fn serve_words<
 fn serve<
     Rt: Net<Listener = TcpListener, Stream = TcpStream> + SystemClock + Threads + Wait + Sync,
     W: Write + Drop,
->(rt: &Rt, alloc: Global, journal: usize, words: &[&str], writer: W) -> Result<(), Failure> {
+    F: Write + Drop,
+>(
+    rt: &Rt,
+    alloc: Global,
+    journal: usize,
+    words: &[&str],
+    writer: W,
+    saved: Option<F>,
+) -> Result<(), Failure> {
     let kinds: Code = Box::new(alloc, turn_round_minutes)?;
     let stands: Code = Box::new(alloc, taxi_minutes)?;
     let minutes: Code = Box::new(alloc, minutes_later)?;
     let bank = bank_of(alloc, kinds, stands, minutes)?;
-    serve_with(rt, alloc, bank, journal, words, writer)
+    serve_with(rt, alloc, bank, journal, words, writer, saved)
 }
 
 // Serves a desk that is empty at first.
@@ -44,6 +63,7 @@ fn serve_with<
     Rt: Net<Listener = TcpListener, Stream = TcpStream> + SystemClock + Threads + Wait + Sync,
     H: Helpers + Drop + Send,
     W: Write + Drop,
+    F: Write + Drop,
 >(
     rt: &Rt,
     alloc: Global,
@@ -51,12 +71,13 @@ fn serve_with<
     journal: usize,
     words: &[&str],
     mut writer: W,
+    saved: Option<F>,
 ) -> Result<(), Failure> {
     let desk = Desk::new(alloc, helpers, journal)?;
     let partners = listen(rt, alloc, words)?;
     if partners.len() > 64 {
         return Err(Failure::Address(65));
     }
-    let _closed = serve_on(rt, alloc, partners, desk, &mut writer)?;
-    Ok(())
+    let closed = serve_on(rt, alloc, partners, desk, &mut writer)?;
+    save(alloc, &closed.desk, saved)
 }

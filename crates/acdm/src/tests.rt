@@ -37,7 +37,13 @@ fn a_journal_is_read_or_the_usual_one(rt: HostRuntime) -> Result<(), Fail> {
         (["acdm", "run", "--journal=1000000"].as_slice(), 1_000_000),
     ] {
         let line = parse(alloc, words).map_err(|_| "a command line is refused")?;
-        assert_eq!(rt; line, Line::Run { journal });
+        assert_eq!(rt;
+            line,
+            Line::Run {
+                journal,
+                save: None
+            }
+        );
     }
     Ok(())
 }
@@ -53,7 +59,8 @@ fn other_words_are_refused(rt: HostRuntime) {
         ["acdm", "run", "--journal", "0"].as_slice(),
         ["acdm", "run", "--journal", "1000001"].as_slice(),
         ["acdm", "run", "--journal", "many"].as_slice(),
-        ["acdm", "run", "--save", "journal.txt"].as_slice(),
+        ["acdm", "run", "--save"].as_slice(),
+        ["acdm", "audit"].as_slice(),
     ] {
         assert!(rt; parse(rt.alloc(), words).is_err(), "{words:?}");
     }
@@ -84,19 +91,29 @@ fn a_run_ends_with_its_status(rt: HostRuntime) -> Result<(), Fail> {
     let alloc = rt.alloc();
     let mut replies = Vec::new(alloc);
     let mut errors = Vec::new(alloc);
-    let status = run_on(alloc, 10, SCHEDULE.as_bytes(), &mut replies, &mut errors);
+    let status = run_on(
+        alloc,
+        10,
+        SCHEDULE.as_bytes(),
+        &mut replies,
+        NO_FILE,
+        &mut errors,
+    );
     assert_eq!(rt; status, 0);
     assert_eq!(rt; replies.as_slice(), b"ok 0\n".as_slice());
     assert_eq!(rt; errors.as_slice(), b"".as_slice());
-    let status = run_on(alloc, 10, Broken, &mut replies, &mut errors);
+    let status = run_on(alloc, 10, Broken, &mut replies, NO_FILE, &mut errors);
     assert_eq!(rt; status, 2);
     assert_eq!(rt; errors.as_slice(), b"acdm: read failed\n".as_slice());
     errors.clear();
-    let status = run_on(alloc, 10, SCHEDULE.as_bytes(), Broken, &mut errors);
+    let status = run_on(alloc, 10, SCHEDULE.as_bytes(), Broken, NO_FILE, &mut errors);
     assert_eq!(rt; status, 2);
     assert_eq!(rt; errors.as_slice(), b"acdm: write failed\n".as_slice());
     Ok(())
 }
+
+// No journal is to be saved.
+const NO_FILE: Option<Broken> = None;
 
 const TICK: &str = "1 29000580 APT {\"cmd\":\"tick\"}\n";
 
@@ -245,7 +262,14 @@ const TAXI_TIME: &str =
 fn runs_to(rt: &impl Abort, alloc: Global, text: &str, expected: &str) -> Result<(), Fail> {
     let mut replies = Vec::new(alloc);
     let mut errors = Vec::new(alloc);
-    let status = run_on(alloc, 10, text.as_bytes(), &mut replies, &mut errors);
+    let status = run_on(
+        alloc,
+        10,
+        text.as_bytes(),
+        &mut replies,
+        NO_FILE,
+        &mut errors,
+    );
     assert_eq!(rt; status, 0);
     assert_eq!(rt; replies.as_slice(), expected.as_bytes());
     Ok(())
@@ -404,7 +428,7 @@ fn want_of_memory_is_no_verdict(rt: HostRuntime) -> Result<(), Fail> {
 }
 
 #[test]
-fn a_file_to_verify_is_taken_as_it_stands(rt: HostRuntime) -> Result<(), Fail> {
+fn a_file_to_judge_is_taken_as_it_stands(rt: HostRuntime) -> Result<(), Fail> {
     let words = ["acdm", "verify", "rules/tobt.bin"];
     let line = parse(rt.alloc(), words.as_slice()).map_err(|_| "a command line is refused")?;
     assert_eq!(rt;
@@ -414,5 +438,13 @@ fn a_file_to_verify_is_taken_as_it_stands(rt: HostRuntime) -> Result<(), Fail> {
         }
     );
     assert!(rt; parse(rt.alloc(), ["acdm", "verify"].as_slice()).is_err());
+    let words = ["acdm", "audit", "days/monday.txt"];
+    let line = parse(rt.alloc(), words.as_slice()).map_err(|_| "a command line is refused")?;
+    assert_eq!(rt;
+        line,
+        Line::Audit {
+            file: "days/monday.txt"
+        }
+    );
     Ok(())
 }

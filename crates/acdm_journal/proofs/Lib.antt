@@ -10,4 +10,7 @@ pub mod Checked
 pub mod Judging
 pub mod NextEntry
 pub mod OneVerdict
+pub mod Sofar
+pub mod OneText
+pub mod Taken
 pub mod TextRows

@@ -1,13 +1,14 @@
--- No word of a line has a space.
-use Rattle.std.proofs.Common.{◌≡◌, ℕ, ◌/◌, ◌%◌, ◌<◌, Bool, true, false, not, List, [], ◌∷◌, ◌++◌, length, map, codes, Option, Some, None, refl, sym, ap, ◌∙◌, arith, inl, inr}
-use Rattle.std.specs.Prelude.{slice_index}
+-- No word of a line has a space or a line feed.
+use Rattle.std.proofs.Common.{◌≡◌, ℕ, ◌/◌, ◌%◌, ◌<◌, ◌≤◌, Bool, true, false, not, List, [], ◌∷◌, ◌++◌, length, map, codes, Option, Some, None, refl, sym, ap, ◌∙◌, arith, leb-true}
+use Rattle.std.specs.Prelude.{slice_index, nat_le}
 use Rattle.std.specs.Fmt.{decimal}
-use Rattle.std.specs.List.{AllByRecursion, list_all}
-use Rattle.std.proofs.lemmas.Bool.{eqb-true}
-use Rattle.std.proofs.lemmas.Bool.Decides.{nat_tests}
+use Rattle.std.specs.List.{AllByRecursion, list_all, join_with_byte}
+use Rattle.std.proofs.lemmas.Bool.{ne_eqb}
 use Rattle.std.proofs.lemmas.Option.{cond_some}
-use Rattle.hex.specs.Hex.{encode_lower, encode_with, lower_digits, hex_digit_value}
-use Rattle.hex.proofs.HexLemmas.{IsDigits-lower_digits}
+use Rattle.hex.specs.Hex.{encode_lower, encode_with, lower_digits}
+use Rattle.acdm_lines.specs.Lines.{IsLine}
+use Rattle.acdm_lines.proofs.Feeds.{IsLine-append}
+use Rattle.acdm_record.proofs.Table.{all_at}
 use Rattle.acdm_record.specs.Bools.{and_left, and_right}
 use Rattle.acdm_record.specs.Fields.{is_text, is_text_byte}
 use Rattle.acdm_milestones.specs.declared.role.Role.{Role}
@@ -21,34 +22,24 @@ use Rattle.acdm_step.specs.declared.command.FlightCommand.TheVariants.{Schedule,
 use Rattle.acdm_journal.specs.declared.stated.Stated.{Stated}
 use Rattle.acdm_journal.specs.declared.stated.Asked.{Asked}
 use Rattle.acdm_journal.specs.declared.stated.Asked.TheVariants.{Plain, Load}
-use Rattle.acdm_journal.specs.Text.{plan_words, plan_words_of, asked_words, answer_words, line_words, role_name, kind_name}
+use Rattle.acdm_journal.specs.Text.{plan_words, plan_words_of, asked_words, answer_words, head_words, line_words, line_of, role_name, kind_name}
 use Rattle.acdm_journal.specs.Ranges.{IsText, IsPlan, IsPlanOf, IsWord, IsByte, IsAsked, IsStated}
-use Rattle.acdm_journal.specs.Reading.{Words, is_space}
+use Rattle.acdm_journal.specs.Reading.{Words}
 use Rattle.acdm_journal.proofs.Numbers.{decimal-lacks}
 use Rattle.acdm_journal.proofs.Parts.{is_numbered}
-use Rattle.acdm_journal.proofs.Splitting.{Lacks, AllLack, cases_of}
+use Rattle.acdm_journal.proofs.Splitting.{Lacks, AllLack}
 
 -- ---- a word
 
-by_test : (w : List ℕ) → list_all (λ b. not (is_space b)) w ≡ true → Lacks w
+by_test : (w : List ℕ) → list_all (λ b. nat_le 33 b) w ≡ true → Lacks w
 by_test [] h = tt
-by_test (b ∷ bs) h = (
-  not_space (is_space b) (and_left _ _ h),
-  by_test bs (and_right _ _ h),
-)
-  where
-    not_space : (t : Bool) → not t ≡ true → t ≡ false
-    not_space true e = absurd (cc)
-    not_space false e = refl
+by_test (b ∷ bs) h = (and_left _ _ h, by_test bs (and_right _ _ h))
 
 printable_lacks : (t : List ℕ) → is_text t ≡ true → Lacks t
 printable_lacks [] h = tt
 printable_lacks (b ∷ bs) h =
     let here : is_text_byte b ≡ true = and_left _ _ h in
-    (printable b here, printable_lacks bs (and_right _ _ h))
-  where
-    printable : (c : ℕ) → is_text_byte c ≡ true → is_space c ≡ false
-    printable c e = grind (arith, nat_tests)
+    (and_left _ _ here, printable_lacks bs (and_right _ _ h))
 
 text_lacks : (most : ℕ) (t : List ℕ) → IsText most t → Lacks t
 text_lacks most t is =
@@ -66,15 +57,8 @@ kind_lacks : (k : kinds.Kind) → Lacks (kind_name k)
 kind_lacks Tobt = by_test (codes "tobt") refl
 kind_lacks Alert = by_test (codes "alert") refl
 
-digit_lacks : (c d : ℕ) → hex_digit_value c ≡ Some d → is_space c ≡ false
-digit_lacks c d h =
-    elim (cases_of (is_space c)) [
-      | inl is ↦
-          let none : hex_digit_value 32 ≡ None = refl in
-          let some : hex_digit_value 32 ≡ Some d = sym (ap hex_digit_value (eqb-true c 32 is)) ∙ h in
-          absurd (cc (sym none ∙ some))
-      | inr isnt ↦ isnt
-    ]
+digit_lacks : (d : ℕ) → d < 16 → nat_le 33 (slice_index lower_digits d) ≡ true
+digit_lacks d small = all_at (λ b. nat_le 33 b) lower_digits d 0 small refl
 
 bytes_lack : (bytes : List ℕ) → AllByRecursion IsByte bytes → Lacks (encode_lower bytes)
 unfolding encode_with
@@ -83,9 +67,9 @@ bytes_lack (b ∷ bs) all =
     let small : b < 256 = all.0 in
     let high : b / 16 < 16 = omega arith in
     let low : b % 16 < 16 = omega arith in (
-      digit_lacks (slice_index lower_digits (b / 16)) (b / 16) (IsDigits-lower_digits (b / 16) high),
+      digit_lacks (b / 16) high,
       (
-        digit_lacks (slice_index lower_digits (b % 16)) (b % 16) (IsDigits-lower_digits (b % 16) low),
+        digit_lacks (b % 16) low,
         bytes_lack bs all.1,
       ),
     )
@@ -187,3 +171,25 @@ line_lacks s is =
         ),
       ),
     )
+
+-- ---- a line
+
+word_is_line : (w : List ℕ) → Lacks w → IsLine w
+word_is_line [] l = tt
+word_is_line (b ∷ bs) l = (
+  (let high : 33 ≤ b = leb-true 33 b l.0 in ne_eqb b 10 (λ e. absurd (omega arith))),
+  word_is_line bs l.1,
+)
+
+joined_is_line : (w : List ℕ) (ws : List (List ℕ)) → AllLack (w ∷ ws)
+    → IsLine (join_with_byte 32 (w ∷ ws))
+joined_is_line w [] l = word_is_line w l.0
+joined_is_line w (v ∷ vs) l =
+    IsLine-append w (32 ∷ join_with_byte 32 (v ∷ vs)) (word_is_line w l.0)
+    (refl, joined_is_line v vs l.1)
+
+-- a line has no line feed in it
+pub line_is_line : (s : Stated) → IsStated s → IsLine (line_of s)
+line_is_line s is =
+    joined_is_line (decimal s.number)
+    (head_words s ++ (answer_words s.answers ++ asked_words s.asked)) (line_lacks s is)

@@ -17,7 +17,7 @@ use Rattle.acdm_journal.specs.Text.{stated_in, outcome_code}
 use Rattle.acdm_journal.specs.Audit.{IsCommandOf, UsesAnswers, States, Continues, Breaks}
 use Rattle.acdm_journal.proofs.OneLine.{one_line}
 
-one_command : (sigs : List (ℕ × Promise)) (a : Asked) (c d : Command) → IsCommandOf sigs a c → IsCommandOf sigs a d → c ≡ d
+pub one_command : (sigs : List (ℕ × Promise)) (a : Asked) (c d : Command) → IsCommandOf sigs a c → IsCommandOf sigs a d → c ≡ d
 one_command sigs (Plain p) c d e f = e ∙ sym f
 one_command sigs (Load l) c d e f =
     let same : e.0 ≡ f.0 = one_program l.program e.0 f.0 e.1 f.1 in

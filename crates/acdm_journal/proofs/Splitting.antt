@@ -1,9 +1,10 @@
 -- A line and its words.
-use Rattle.std.proofs.Common.{◌≡◌, ℕ, ◌+◌, Bool, true, false, cond, List, [], ◌∷◌, ◌++◌, length, take, drop, Some, None, refl, sym, ap, ◌∙◌, arith, inl, inr, ◌⊎◌}
-use Rattle.std.specs.Prelude.{position, nat_lt, not}
+use Rattle.std.proofs.Common.{◌≡◌, ℕ, ◌+◌, ◌≤◌, Bool, true, false, cond, List, [], ◌∷◌, ◌++◌, length, take, drop, Some, None, refl, sym, ap, ◌∙◌, arith, inl, inr, ◌⊎◌, leb-true}
+use Rattle.std.specs.Prelude.{position, nat_le, nat_lt, not}
 use Rattle.std.specs.List.{join_with_byte, position_or_len, onto_first, AllByRecursion}
 use Rattle.std.proofs.lemmas.List.Splits.{slice_split-cons_yes, slice_split-cons_no}
 use Rattle.std.proofs.lemmas.List.Splits.{join_with_byte-slice_split, slice_split_first}
+use Rattle.std.proofs.lemmas.Bool.{ne_eqb}
 use Rattle.std.proofs.lemmas.Grind.{common_steps}
 use borrow.Author.Tests.{ltb-true}
 use Rattle.acdm_journal.specs.Reading.{Words, is_space, words_of, word_at}
@@ -21,9 +22,14 @@ words_of-some line i h =
     let parts = slice_split_first is_space line 0 (ltb-true _ _ p.0) in
     parts ∙ ap (λ n. take n line ∷ words_of (drop (n + 1) line)) p.1
 
--- no byte is a space
+-- each byte stands above the space, so that none is one, nor a line feed
 abbrev pub Lacks : List ℕ → Type 0
-Lacks w = AllByRecursion (λ b. is_space b ≡ false) w
+Lacks w = AllByRecursion (λ b. nat_le 33 b ≡ true) w
+
+no_space : (b : ℕ) → nat_le 33 b ≡ true → is_space b ≡ false
+no_space b h =
+    let high : 33 ≤ b = leb-true 33 b h in
+    ne_eqb b 32 (λ e. absurd (omega arith))
 
 abbrev pub AllLack : List (List ℕ) → Type 0
 AllLack ws = AllByRecursion Lacks ws
@@ -31,7 +37,7 @@ AllLack ws = AllByRecursion Lacks ws
 pub words_of-lacks : (w : List ℕ) → Lacks w → words_of w ≡ w ∷ []
 words_of-lacks [] h = refl
 words_of-lacks (b ∷ bs) h =
-    slice_split-cons_no is_space b bs h.0 ∙ ap (onto_first b) (words_of-lacks bs h.1)
+    slice_split-cons_no is_space b bs (no_space b h.0) ∙ ap (onto_first b) (words_of-lacks bs h.1)
 
 -- without a space a line is one word
 lacks-cons : (b : ℕ) (bs : List ℕ) → position is_space (b ∷ bs) ≡ None
@@ -49,7 +55,7 @@ words_of-none (b ∷ bs) h =
 words_of-before : (w rest : List ℕ) → Lacks w → words_of (w ++ 32 ∷ rest) ≡ w ∷ words_of rest
 words_of-before [] rest h = slice_split-cons_yes is_space 32 rest refl
 words_of-before (b ∷ bs) rest h =
-    slice_split-cons_no is_space b (bs ++ 32 ∷ rest) h.0
+    slice_split-cons_no is_space b (bs ++ 32 ∷ rest) (no_space b h.0)
     ∙ ap (onto_first b) (words_of-before bs rest h.1)
 
 pub words_of-joined : (w : List ℕ) (ws : List (List ℕ)) → AllLack (w ∷ ws)

@@ -47,10 +47,11 @@ pub record UsesAnswers (sigs : List (ℕ × Promise)) (J : History) (role : Role
   pub used : is_accepted (verdict_of sigs J role c) ≡ true → left_by J c moment answers ≡ Some []
   pub unused : is_accepted (verdict_of sigs J role c) ≡ false → answers ≡ []
 
--- a line states this
+-- a line states this, and is not too long
 pub record States (line : List ℕ) (s : Stated) : Type 0 where
   pub line_is : line ≡ line_of s
   pub is : IsStated s
+  pub short : length line ≤ 200000
 
 -- what a line states, numbered as the next entry
 pub record StatesNext (J : History) (line : List ℕ) (s : Stated) : Type 0 where

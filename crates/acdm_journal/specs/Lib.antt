@@ -3,3 +3,4 @@ pub mod Spaced
 pub mod Ranges
 pub mod Reading
 pub mod Audit
+pub mod Whole

@@ -1,9 +1,9 @@
 //! Laws of lines. Each function does nothing when it runs; its contract is the law.
 
-ghost use Rattle.std.specs.Prelude.{◌≡◌, ℕ, List, Some};
+ghost use Rattle.std.specs.Prelude.{◌≡◌, ℕ, List, [], length, Option, Some};
 ghost use Rattle.bpf_helpers.specs.Promise.{Promise};
 ghost use Rattle.acdm_step.specs.Commands.{History};
-ghost use Rattle.acdm_step.specs.History.{Board};
+ghost use Rattle.acdm_step.specs.History.{Board, IsLegal};
 ghost use Rattle.acdm_journal.specs.declared.judge.Clause.{Clause};
 ghost use Rattle.acdm_journal.specs.Audit.{Continues, Breaks};
 ghost use Rattle.acdm_step.specs.declared.entry.Entry.{Entry};
@@ -11,6 +11,8 @@ ghost use Rattle.acdm_journal.specs.declared.stated.Stated.{Stated};
 ghost use Rattle.acdm_journal.specs.Text.{line_of, stated_in};
 ghost use Rattle.acdm_journal.specs.Ranges.{IsStated};
 ghost use Rattle.acdm_journal.specs.Reading.{stated_of};
+ghost use Rattle.acdm_journal.specs.Whole.{AreReadable, IsTextOf, FirstFault, WritesEach};
+ghost use Rattle.acdm_journal.specs.Whole.{GaveLegal, GaveFaulty};
 
 /// A line states what it was written for, and nothing else.
 pub fn a_line_is_read_as_it_was_written()
@@ -26,4 +28,26 @@ pub fn a_line_is_read_as_it_was_written()
 pub fn a_line_goes_on_or_breaks_a_clause()
     ensures { (sigs : List (ℕ × Promise)) (J : History) (line : List ℕ) (board : Board) →
         Continues sigs J line board → (clause : Clause) → Breaks sigs J line clause → ⊥ }
+{}
+
+/// A text is that of one legal history, or it has one first fault, and never both. So a fault is
+/// behind the longest legal front of its text.
+pub fn a_text_has_one_verdict()
+    ensures one_history { (sigs : List (ℕ × Promise)) (text : List ℕ) (J K : History) →
+        IsTextOf sigs text J → IsTextOf sigs text K → J ≡ K }
+    ensures no_fault { (sigs : List (ℕ × Promise)) (text : List ℕ) (J : History) (entry : ℕ)
+        (clause : Clause) → IsTextOf sigs text J → FirstFault sigs text entry clause → ⊥ }
+    ensures one_fault { (sigs : List (ℕ × Promise)) (text : List ℕ) (m n : ℕ) (c d : Clause) →
+        FirstFault sigs text m c → FirstFault sigs text n d → (m ≡ n) × (c ≡ d) }
+{}
+
+/// What is written of each entry of a legal history, the oldest first, an audit takes: it can answer
+/// the number of the entries, and no fault.
+pub fn what_is_written_is_taken()
+    ensures count { (sigs : List (ℕ × Promise)) (J : History) (saved left : Option (List ℕ))
+        (n : ℕ) → IsLegal sigs J → AreReadable sigs J → WritesEach J (Some []) saved →
+        GaveLegal sigs saved left n → n ≡ length J }
+    ensures no_fault { (sigs : List (ℕ × Promise)) (J : History) (saved left : Option (List ℕ))
+        (entry : ℕ) (clause : Clause) → IsLegal sigs J → AreReadable sigs J →
+        WritesEach J (Some []) saved → GaveFaulty sigs saved left entry clause → ⊥ }
 {}

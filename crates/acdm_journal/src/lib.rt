@@ -1,7 +1,8 @@
-//! The journal as text: the line of an entry, the reading of lines, and the judging of one after
-//! those before it.
+//! The journal as text: the line of an entry, the reading of lines, the judging of one after those
+//! before it, and the audit of all of them.
 #![tactic(auto)]
 
+mod auditing;
 mod entry_text;
 mod judge;
 pub mod law;
@@ -9,6 +10,7 @@ mod reading;
 mod stated;
 mod words;
 
+pub use auditing::{Fault, audit};
 pub use entry_text::{WriteError, write_entry};
 pub use judge::{AuditError, Clause, judge_line};
 pub use reading::read_line;

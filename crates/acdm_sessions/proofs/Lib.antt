@@ -1,8 +1,5 @@
 pub mod OneReading
 pub mod Completing
-pub mod Kept
-pub mod Feeds
-pub mod Taking
 pub mod Writing
 pub mod Serving
 pub mod Running

@@ -13,7 +13,7 @@ use Rattle.acdm_step.specs.declared.outcome.Outcome.TheVariants.{Done, Refused}
 use Rattle.acdm_sessions.specs.declared.fault.Fault.TheVariants.{TooLong}
 use Rattle.acdm_sessions.specs.declared.fault.Bad.TheVariants.{Faulty, Program}
 use Rattle.acdm_sessions.specs.declared.answer.Answer.TheVariants.{Entered, Rejected}
-use Rattle.acdm_sessions.specs.Lines.{lines_of}
+use Rattle.acdm_lines.specs.Lines.{lines_of}
 use Rattle.acdm_sessions.specs.Meant.{meant, head_of, natural_of, number_field, text_field, time_field, time_or_null, plan_field, schedule_field, milestone_field, report_field, show_field, kind_field, program_field, load_field, unload_field, plain_named, command_named, command_of, json_of}
 use Rattle.acdm_sessions.specs.Output.{reply_text, output}
 

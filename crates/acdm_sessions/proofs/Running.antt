@@ -5,21 +5,22 @@ use Rattle.std.proofs.Common.{length-append, inl, inr}
 use Rattle.std.proofs.lemmas.Bool.{lt-ltb}
 use Rattle.std.specs.Io.KnownBytes.{Appends, Consumes}
 use Rattle.acdm_sessions.specs.declared.answer.Answer.{Answer}
-use Rattle.acdm_sessions.specs.declared.lines.Ending.{Ending}
-use Rattle.acdm_sessions.specs.declared.lines.Ending.TheVariants.{LineFeed, Input}
-use Rattle.acdm_sessions.specs.declared.lines.Lines.{Lines}
-use Rattle.acdm_sessions.specs.declared.run_error.RunError.{RunError}
-use Rattle.acdm_sessions.specs.Counted.{Watched, faults_after}
-use Rattle.acdm_sessions.specs.Lines.{IsLine, IsWhole, lines_of, kept}
-use Rattle.acdm_sessions.specs.NextLine.{TakesLine, TakesRest, TakesPart}
+use Rattle.acdm_lines.specs.declared.lines.Ending.{Ending}
+use Rattle.acdm_lines.specs.declared.lines.Ending.TheVariants.{LineFeed, Input}
+use Rattle.acdm_lines.specs.declared.lines.Lines.{Lines}
+use Rattle.acdm_lines.specs.declared.run_error.RunError.{RunError}
+use Rattle.acdm_lines.specs.Counted.{Watched, faults_after}
+use Rattle.acdm_lines.specs.Lines.{IsLine, IsWhole, lines_of}
+use Rattle.acdm_lines.specs.NextLine.{TakesLine, TakesRest, TakesPart, FailsOrEndless}
 use Rattle.acdm_sessions.specs.Output.{reply_text}
 use Rattle.acdm_sessions.specs.Stream.{Answered, AnsweredInPart, AnswersEach, replies_text}
 use Rattle.acdm_sessions.specs.Stream.{AnswersText, AnswersAll, AnswersWhole, AnswersPart}
-use Rattle.acdm_sessions.specs.Stream.{FailsOrEndless}
-use Rattle.acdm_sessions.proofs.Feeds.{lines_of-line, lines_of-rest}
+use Rattle.acdm_sessions.specs.Stream.{kept}
+use Rattle.acdm_lines.proofs.Feeds.{lines_of-line, lines_of-rest}
 use Rattle.acdm_sessions.proofs.Writing.{Appends-none, Appends-both}
-use Rattle.acdm_sessions.proofs.Serving.{lines_of-whole, IsWhole-line, IsWhole-append}
-use Rattle.acdm_sessions.proofs.Taking.{Consumes-none, Consumes-both}
+use Rattle.acdm_lines.proofs.Whole.{lines_of-whole, IsWhole-line, IsWhole-append}
+use Rattle.acdm_lines.proofs.Taking.{Consumes-none}
+use Rattle.acdm_lines.proofs.Reading.{kept-empty, kept-some, faults-more, consumed-more, gave-more}
 
 -- ---- what was answered so far, and one line more
 
@@ -98,19 +99,8 @@ rest-alone : (rest : List ℕ) → IsLine rest → 0 < length rest → lines_of 
 rest-alone [] l some = absurd (omega arith)
 rest-alone (b ∷ bs) l some = lines_of-rest b bs l
 
-kept-empty : (bs : List ℕ) → length (kept bs) ≡ 0 → bs ≡ []
-kept-empty [] h = refl
-kept-empty (b ∷ bs) h = absurd (omega arith)
-
-kept-some : (bs : List ℕ) → 0 < length (kept bs) → 0 < length bs
-kept-some [] h = absurd (omega arith)
-kept-some (b ∷ bs) h = omega arith
-
-faults-more : (n : ℕ) → n < 2 ^ 64 - 1 → faults_after true n ≡ n + 1
-faults-more n h = rw (lt-ltb n (2 ^ 64 - 1) h) refl
-
 module _ {A R W : Type 0} (may : A → A → List ℕ → Answer → Type 0)
-    (remaining : R → Option (List ℕ)) (r0 r1 r2 : Watched R) (l1 l2 : Lines)
+    (remaining : R → Option (List ℕ)) (r0 r1 r2 : Watched R) (l1 l2 : Lines 70001)
     (contents : W → Option (List ℕ)) (w1 w2 : Watched W)
     (before d : A) (old : Option (List ℕ))
     (so_far : Sofar may (remaining r0.inner) (remaining r1.inner) l1.window l1.reads_left
@@ -144,26 +134,18 @@ module _ {A R W : Type 0} (may : A → A → List ℕ → Answer → Type 0)
     consumed_more : (more : List ℕ) → Consumes (remaining r1.inner) (remaining r2.inner) more
         → Consumes (remaining r0.inner) (remaining r2.inner) (so_far.whole ++ (l1.window ++ more))
     consumed_more more c =
-        let both = Consumes-both (remaining r0.inner) (remaining r1.inner) (remaining r2.inner)
-        so_far.text more so_far.consumed c in
-        subst (Consumes (remaining r0.inner) (remaining r2.inner))
-        (ap (λ l. l ++ more) so_far.split ∙ append_assoc so_far.whole l1.window more) both
+        consumed-more (remaining r0.inner) (remaining r1.inner) (remaining r2.inner) so_far.text
+        so_far.whole l1.window more so_far.consumed so_far.split c
 
     -- so much was read with it
     gave_more : (more : List ℕ) (left : ℕ) → l1.reads_left ≤ length more + left
         → 2 ^ 40 ≤ length (so_far.whole ++ (l1.window ++ more)) + left
     gave_more more left g =
-        let so : 2 ^ 40 ≤ length so_far.text + l1.reads_left = so_far.gave in
-        let split : length so_far.text ≡ length so_far.whole + length l1.window =
-        ap length so_far.split ∙ length-append so_far.whole l1.window in
-        let all : length (so_far.whole ++ (l1.window ++ more))
-        ≡ length so_far.whole + (length l1.window + length more) =
-        length-append so_far.whole (l1.window ++ more)
-        ∙ ap (λ n. length so_far.whole + n) (length-append l1.window more) in
-        omega arith
+        gave-more so_far.text so_far.whole l1.window more (2 ^ 40) l1.reads_left left so_far.gave
+        so_far.split g
 
     -- one more line is answered
-    pub sofar-line : (after : A) → TakesLine remaining r1 r2 l1 l2
+    pub sofar-line : (after : A) → TakesLine 70001 remaining r1 r2 l1 l2
         → Answered may contents w1 w2 d after l2.line
         → Sofar may (remaining r0.inner) (remaining r2.inner) l2.window l2.reads_left
         before after old (contents w2.inner)
@@ -183,7 +165,7 @@ module _ {A R W : Type 0} (may : A → A → List ℕ → Answer → Type 0)
         }
 
     -- its reply could not be written
-    pub part-line : (after : A) (error : RunError) → TakesLine remaining r1 r2 l1 l2
+    pub part-line : (after : A) (error : RunError) → TakesLine 70001 remaining r1 r2 l1 l2
         → AnsweredInPart may contents w1 w2 d after l2.line error
         → AnswersPart may (remaining r0.inner) (remaining r2.inner) before after old
         (contents w2.inner)
@@ -207,7 +189,7 @@ module _ {A R W : Type 0} (may : A → A → List ℕ → Answer → Type 0)
     }
 
     -- no line more could be read
-    pub sofar-part : (error : RunError) → TakesPart remaining r1 r2 l1 l2 error
+    pub sofar-part : (error : RunError) → TakesPart 70001 remaining r1 r2 l1 l2 error
         → r1.faults ≡ r0.faults → r0.faults < 2 ^ 64 - 1
         → AnswersWhole may (remaining r0.inner) (remaining r2.inner) r0.faults r2.faults before d
         old (contents w1.inner)
@@ -232,11 +214,11 @@ module _ {A R W : Type 0} (may : A → A → List ℕ → Answer → Type 0)
             inr (few.0 ∙ well, omega (arith, all))
 
     -- the text has ended with a line feed, or was empty
-    pub sofar-ends : TakesRest remaining r1 r2 l1 l2 → length l2.line ≡ 0
+    pub sofar-ends : TakesRest 70001 remaining r1 r2 l1 l2 → length l2.line ≡ 0
         → AnswersAll may (remaining r0.inner) (remaining r2.inner) before d old (contents w1.inner)
     sofar-ends t empty =
         let none : l1.window ++ t.text ≡ [] =
-        kept-empty (l1.window ++ t.text) (ap length (sym t.bytes_are) ∙ empty) in
+        kept-empty 70000 (l1.window ++ t.text) (ap length (sym t.bytes_are) ∙ empty) in
         record {
           text = so_far.whole;
           consumed = subst (Consumes (remaining r0.inner) (remaining r2.inner))
@@ -248,13 +230,13 @@ module _ {A R W : Type 0} (may : A → A → List ℕ → Answer → Type 0)
         }
 
     -- the text has ended with the rest of a line, which is answered
-    pub sofar-rest : (after : A) → TakesRest remaining r1 r2 l1 l2 → 0 < length l2.line
+    pub sofar-rest : (after : A) → TakesRest 70001 remaining r1 r2 l1 l2 → 0 < length l2.line
         → Answered may contents w1 w2 d after l2.line
         → AnswersAll may (remaining r0.inner) (remaining r2.inner) before after old
         (contents w2.inner)
     sofar-rest after t some a =
         let rest : List ℕ = l1.window ++ t.text in
-        let there : 0 < length rest = kept-some rest (subst (λ l. 0 < length l) t.bytes_are some) in
+        let there : 0 < length rest = kept-some 70000 rest (subst (λ l. 0 < length l) t.bytes_are some) in
         let more = spoken-more rest l2.line after t.bytes_are a in
         let lines = lines_to_end so_far.whole rest so_far.is_whole t.is_line there in
         record {
@@ -266,13 +248,13 @@ module _ {A R W : Type 0} (may : A → A → List ℕ → Answer → Type 0)
         }
 
     -- its reply could not be written
-    pub part-rest : (after : A) (error : RunError) → TakesRest remaining r1 r2 l1 l2
+    pub part-rest : (after : A) (error : RunError) → TakesRest 70001 remaining r1 r2 l1 l2
         → 0 < length l2.line → AnsweredInPart may contents w1 w2 d after l2.line error
         → AnswersPart may (remaining r0.inner) (remaining r2.inner) before after old
         (contents w2.inner)
     part-rest after error t some a =
         let rest : List ℕ = l1.window ++ t.text in
-        let there : 0 < length rest = kept-some rest (subst (λ l. 0 < length l) t.bytes_are some) in
+        let there : 0 < length rest = kept-some 70000 rest (subst (λ l. 0 < length l) t.bytes_are some) in
         record {
           whole = so_far.whole;
           line = rest;
@@ -291,7 +273,3 @@ module _ {A R W : Type 0} (may : A → A → List ℕ → Answer → Type 0)
           is_right = subst (λ bs. may d after bs a.answer) t.bytes_are a.is_right;
           in_hand = a.wrote;
         }
-
-pub input-from_not_line_feed : (e : Ending) → (e ≡ LineFeed → ⊥) → e ≡ Input
-input-from_not_line_feed LineFeed h = absurd (h refl)
-input-from_not_line_feed Input h = refl

@@ -1,4 +1,4 @@
--- Whole lines of a text, and what a desk that answers lines has served.
+-- What a desk that answers lines has served.
 use Rattle.std.proofs.Common.{◌≡◌, ℕ, ◌<◌, Bool, true, false, cond, nat_le, List, [], ◌∷◌, ◌++◌}
 use Rattle.std.proofs.Common.{length, Option, Result, Ok, Err, refl, sym, ap, subst, ◌∙◌, arith}
 use Rattle.std.proofs.Common.{leb-true, leb-false}
@@ -15,7 +15,7 @@ use Rattle.acdm_sessions.specs.declared.fault.Bad.TheVariants.{NoMemory}
 use Rattle.acdm_sessions.specs.declared.answer.Answer.{Answer}
 use Rattle.acdm_sessions.specs.declared.answer.Answer.TheVariants.{Rejected}
 use Rattle.acdm_sessions.specs.declared.request.Request.{Request}
-use Rattle.acdm_sessions.specs.Lines.{is_line_feed, IsWhole, lines_of, with_first, kept}
+use Rattle.acdm_lines.specs.Lines.{lines_of}
 use Rattle.acdm_sessions.specs.Meant.{meant, most_line}
 use Rattle.acdm_sessions.specs.Output.{Supply, IsReadingOf, IsRight, AreRight, command_with, is_full}
 use Rattle.acdm_sessions.specs.Output.{answer_meant, desk_command, desk_meant, answer_to, desk_after}
@@ -23,53 +23,7 @@ use Rattle.acdm_sessions.specs.Output.{reply_text, replies, desk_after_all, Answ
 use Rattle.acdm_sessions.specs.Reply.{AppendsPart}
 use Rattle.acdm_sessions.specs.Run.{ServesAll, ServesWhole, ServesPart}
 use Rattle.acdm_sessions.specs.Stream.{AnswersEach, AnswersText, AnswersAll, AnswersWhole}
-use Rattle.acdm_sessions.specs.Stream.{AnswersPart, replies_text}
-
--- ---- whole lines
-
-some_first : (b : ℕ) (ls : List (List ℕ)) → 0 < length (with_first b ls)
-some_first b [] = omega arith
-some_first b (l ∷ ls) = omega arith
-
-some_line : (b : ℕ) (bs : List ℕ) → 0 < length (lines_of (b ∷ bs))
-some_line b bs =
-    let cut : Bool → List (List ℕ) = λ v. cond v ([] ∷ lines_of bs) (with_first b (lines_of bs)) in
-    elim (is_line_feed b) as (λ v. 0 < length (cut v)) [
-      | true ↦ omega arith
-      | false ↦ some_first b (lines_of bs)
-    ]
-
-with_first-append : (b : ℕ) (xs ys : List (List ℕ)) → 0 < length xs
-    → with_first b (xs ++ ys) ≡ with_first b xs ++ ys
-with_first-append b [] ys h = absurd (omega arith)
-with_first-append b (l ∷ ls) ys h = refl
-
--- the lines of whole lines and more
-pub lines_of-whole : (whole rest : List ℕ) → IsWhole whole
-    → lines_of (whole ++ rest) ≡ lines_of whole ++ lines_of rest
-lines_of-whole [] rest h = refl
-lines_of-whole (b ∷ []) rest h = rw h refl
-lines_of-whole (b ∷ c ∷ cs) rest h =
-    let more = lines_of-whole (c ∷ cs) rest h in
-    let all : List (List ℕ) = lines_of (c ∷ (cs ++ rest)) in
-    let first : List (List ℕ) = lines_of (c ∷ cs) in
-    let cut : Bool → List (List ℕ) → List (List ℕ) = λ v ls. cond v ([] ∷ ls) (with_first b ls) in
-    elim (is_line_feed b) as (λ v. cut v all ≡ cut v first ++ lines_of rest) [
-      | true ↦ ap (λ ls. [] ∷ ls) more
-      | false ↦ ap (with_first b) more
-          ∙ with_first-append b first (lines_of rest) (some_line c cs)
-    ]
-
-pub IsWhole-line : (line : List ℕ) → IsWhole (line ++ 10 ∷ [])
-IsWhole-line [] = refl
-IsWhole-line (b ∷ []) = refl
-IsWhole-line (b ∷ c ∷ cs) = IsWhole-line (c ∷ cs)
-
-pub IsWhole-append : (xs ys : List ℕ) → IsWhole xs → IsWhole ys → IsWhole (xs ++ ys)
-IsWhole-append [] ys a b = b
-IsWhole-append (x ∷ []) [] a b = a
-IsWhole-append (x ∷ []) (y ∷ ys) a b = b
-IsWhole-append (x ∷ y ∷ xs) ys a b = IsWhole-append (y ∷ xs) ys a b
+use Rattle.acdm_sessions.specs.Stream.{AnswersPart, replies_text, kept}
 
 -- ---- the signatures stay as they are
 

@@ -4,8 +4,8 @@ use Rattle.std.proofs.Common.{Option, Some, None, Result, Ok, Err, refl, sym, ap
 use Rattle.std.proofs.Common.{append_assoc, append-nil}
 use Rattle.std.proofs.Math.Seq.{take-add, take-length, take-append-add}
 use Rattle.std.specs.Io.KnownBytes.{Appends, Keeps}
-use Rattle.acdm_sessions.specs.declared.run_error.RunError.{RunError}
-use Rattle.acdm_sessions.specs.Counted.{Watched, faults_after}
+use Rattle.acdm_lines.specs.declared.run_error.RunError.{RunError}
+use Rattle.acdm_lines.specs.Counted.{Watched, faults_after}
 use Rattle.acdm_sessions.specs.Reply.{AppendsPart, Wrote, WroteInPart, Writes}
 
 -- how many of n bytes there are

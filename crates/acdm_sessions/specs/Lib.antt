@@ -1,6 +1,3 @@
-pub mod Counted
-pub mod Lines
-pub mod NextLine
 pub mod Codes
 pub mod Reading
 pub mod Meant

@@ -28,7 +28,7 @@ use Rattle.acdm_sessions.specs.declared.request.Request.{Request}
 use Rattle.acdm_sessions.specs.declared.request.Asked.{Asked}
 use Rattle.acdm_sessions.specs.declared.request.Asked.TheVariants.{Plain, Load}
 use Rattle.acdm_sessions.specs.Codes.{bad_code}
-use Rattle.acdm_sessions.specs.Lines.{lines_of}
+use Rattle.acdm_lines.specs.Lines.{lines_of}
 use Rattle.acdm_sessions.specs.Reply.{AppendsPart}
 use Rattle.acdm_sessions.specs.Reading.{Reading, IsReading}
 use Rattle.acdm_sessions.specs.Meant.{meant}

@@ -1,9 +1,9 @@
 -- What a writer took of a text.
 use Rattle.std.specs.Prelude.{ℕ, ◌≡◌, true, List, take, Option, Result, Ok, Err}
 use Rattle.std.specs.Io.KnownBytes.{Appends}
-use Rattle.acdm_sessions.specs.declared.run_error.RunError.{RunError}
-use Rattle.acdm_sessions.specs.declared.run_error.RunError.TheVariants as errors
-use Rattle.acdm_sessions.specs.Counted.{Watched, faults_after}
+use Rattle.acdm_lines.specs.declared.run_error.RunError.{RunError}
+use Rattle.acdm_lines.specs.declared.run_error.RunError.TheVariants as errors
+use Rattle.acdm_lines.specs.Counted.{Watched, faults_after}
 
 -- known bytes grow by some of the first of these bytes, at most all
 abbrev pub AppendsPart : Option (List ℕ) → Option (List ℕ) → List ℕ → Type 0

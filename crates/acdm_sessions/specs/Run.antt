@@ -2,9 +2,9 @@
 use Rattle.std.specs.Prelude.{ℕ, ◌≡◌, List, ◌∷◌, ◌++◌, Option}
 use Rattle.std.specs.Io.KnownBytes.{Consumes, IsAtEnd}
 use Rattle.acdm_board.specs.Desk.{DeskView}
-use Rattle.acdm_sessions.specs.Lines.{IsLine, IsWhole, lines_of}
+use Rattle.acdm_lines.specs.Lines.{IsLine, IsWhole, lines_of}
 use Rattle.acdm_sessions.specs.Output.{ServesLinePart, Serves}
-use Rattle.acdm_sessions.specs.Stream.{FailsOrEndless}
+use Rattle.acdm_lines.specs.NextLine.{FailsOrEndless}
 
 -- The reader gave a text and has ended, and the lines of that text were answered. Where it was
 -- known what the reader has left, the text is all of that (`Consumes`, `IsAtEnd`).

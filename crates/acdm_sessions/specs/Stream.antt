@@ -1,12 +1,13 @@
 -- How the lines of a stream are answered, by whoever answers them.
-use Rattle.std.specs.Prelude.{ℕ, ◌≡◌, ◌+◌, ◌^◌, ◌≤◌, ◌⊎◌, true, false, List, [], ◌∷◌, ◌++◌}
-use Rattle.std.specs.Prelude.{length, Option, Result, Ok, Err}
+use Rattle.std.specs.Prelude.{ℕ, ◌≡◌, true, false, List, [], ◌∷◌, ◌++◌}
+use Rattle.std.specs.Prelude.{take, Option, Result, Ok, Err}
 use Rattle.std.specs.Io.KnownBytes.{Appends, Consumes, IsAtEnd}
 use Rattle.acdm_sessions.specs.declared.answer.Answer.{Answer}
-use Rattle.acdm_sessions.specs.declared.run_error.RunError.{RunError}
-use Rattle.acdm_sessions.specs.declared.run_error.RunError.TheVariants.{Write}
-use Rattle.acdm_sessions.specs.Counted.{Watched, faults_after}
-use Rattle.acdm_sessions.specs.Lines.{IsLine, IsWhole, lines_of, kept}
+use Rattle.acdm_lines.specs.declared.run_error.RunError.{RunError}
+use Rattle.acdm_lines.specs.declared.run_error.RunError.TheVariants.{Write}
+use Rattle.acdm_lines.specs.Counted.{Watched, faults_after}
+use Rattle.acdm_lines.specs.Lines.{IsLine, IsWhole, lines_of}
+use Rattle.acdm_lines.specs.NextLine.{FailsOrEndless}
 use Rattle.acdm_sessions.specs.Output.{reply_text}
 use Rattle.acdm_sessions.specs.Reply.{AppendsPart}
 
@@ -45,6 +46,10 @@ AnswersLine may contents old new before after line (Err e) =
 
 -- ---- all lines
 
+-- what is kept of a line: one byte more than the longest line has
+abbrev pub kept : List ℕ → List ℕ
+kept line = take 70001 line
+
 -- Lines were answered one after the other, with these answers. Of a line as much is looked at as
 -- is kept of it.
 abbrev pub AnswersEach : {A : Type 0} → Answering A → A → A → List (List ℕ) → List Answer → Type 0
@@ -76,11 +81,6 @@ pub record AnswersAll {A : Type 0} (may : Answering A) (left left_after : Option
   pub consumed : Consumes left left_after text
   pub ended : IsAtEnd left_after
   pub served : AnswersText may text before after old new
-
--- a reader failed once more, or not, but gave so much that each of 2^40 reads gave a part of it
-abbrev pub FailsOrEndless : ℕ → ℕ → List ℕ → Type 0
-FailsOrEndless before after text =
-    (after ≡ before + 1) ⊎ ((after ≡ before) × (2 ^ 40 ≤ length text))
 
 -- No more could be read: the reader gave whole lines and a part of one, and then failed or was
 -- endless. The whole lines were answered, and nothing else was done.

@@ -6,10 +6,9 @@ ghost use Rattle.acdm_sessions.specs.Output.{next_text, list_text, entry_text, r
 ghost use Rattle.acdm_step.specs.declared.outcome.Outcome.TheVariants.{Listed};
 
 use crate::answer::Answer;
-use crate::counted::Counted;
 use crate::reply_text::{alerted, done, head, next, refused, rejected, shown};
-use crate::run_error::RunError;
 use acdm_board::Reply;
+use acdm_lines::{Counted, RunError};
 use acdm_step::{Alerted, Outcome};
 use std::io::Write;
 

@@ -1,9 +1,9 @@
 //! Sessions: before they begin, and when they have ended.
 ghost use Rattle.std.specs.Prelude.{◌≡◌, ◌≤◌, ◌<◌, ◌-◌, ◌^◌};
 
-use crate::counted::Counted;
 use crate::locked::Naming;
 use acdm_board::Desk;
+use acdm_lines::Counted;
 use acdm_milestones::Role;
 use bpf_helpers::{Helpers, Sigs};
 use std::sync::ledger::Share;

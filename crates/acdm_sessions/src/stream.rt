@@ -4,14 +4,15 @@ ghost use Rattle.acdm_sessions.specs.Run.{ServesAll, ServesWhole, ServesPart};
 ghost use Rattle.acdm_sessions.specs.Stream.{AnswersLine, AnswersAll, AnswersWhole, AnswersPart};
 
 use crate::answerer::Answerer;
-use crate::counted::Counted;
-use crate::lines::{Ending, Lines};
 use crate::reply::write_reply;
-use crate::run_error::RunError;
 use acdm_board::Desk;
+use acdm_lines::{Counted, Ending, Lines, RunError};
 use bpf_helpers::Helpers;
 use std::alloc::Global;
 use std::io::{Read, Write};
+
+// One byte more than the longest line has, so that a longer one is told by what is kept of it.
+const MOST_KEPT: usize = 70_001;
 
 // Answers one line, and lets its reply go.
 fn serve_line<W: Write, A: Answerer>(
@@ -57,7 +58,7 @@ pub(crate) fn serve_lines<R: Read, W: Write, A: Answerer>(
     ensures memory { result ≡ Err RunError.Memory →
         (reader.new ≡ reader.old) × (writer.new ≡ writer.old) × (who.new ≡ who.old) }
 {
-    let Ok(mut lines) = Lines::new(alloc) else {
+    let Ok(mut lines) = Lines::<MOST_KEPT>::new(alloc) else {
         return Err(RunError::Memory);
     };
     while let Ending::LineFeed = lines.next(reader)? {

@@ -1,7 +1,8 @@
 use Rattle.std.proofs.Common.{◌<◌, ◌≢◌, length, refl, sym, ap, ◌∙◌, arith}
 use Rattle.std.proofs.lemmas.Bool.{eqb-true, eqb-false}
 use Rattle.acdm_sessions.proofs.Running.{sofar-begins, sofar-line, sofar-ends, sofar-rest, sofar-part}
-use Rattle.acdm_sessions.proofs.Running.{part-line, part-rest, input-from_not_line_feed}
+use Rattle.acdm_sessions.proofs.Running.{part-line, part-rest}
+use Rattle.acdm_lines.proofs.Reading.{input-from_not_line_feed}
 use Rattle.acdm_sessions.proofs.stream.serve_lines.Goals as goal
 
 pub loop-lines-init : goal.loop-lines-init

@@ -1,5 +1,5 @@
 use Rattle.std.proofs.Common.{◌≡◌, false}
-use Rattle.acdm_sessions.specs.Lines.{weight}
+use Rattle.acdm_lines.specs.Lines.{weight}
 use Rattle.acdm_sessions.proofs.Running.{Sofar}
 use Rattle.acdm_sessions.proofs.stream.serve_lines.Given as goal
 

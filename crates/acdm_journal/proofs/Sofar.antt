@@ -1,0 +1,276 @@
+-- What an audit knows at any time of the text that it reads.
+use Rattle.std.proofs.Common.{◌≡◌, ◌≢◌, ℕ, suc, ◌+◌, ◌-◌, ◌^◌, ◌<◌, ◌≤◌, ◌⊎◌, true, false, nat_le, List, [], ◌∷◌, ◌++◌}
+use Rattle.std.proofs.Common.{length, Option, Ok, Err, refl, sym, ap, subst, ◌∙◌, arith, append_assoc}
+use Rattle.std.proofs.Common.{append-nil, inl, inr, leb-true, leb-false}
+use Rattle.std.proofs.lemmas.List.{take_all, length-take-le}
+use Rattle.std.specs.Io.KnownBytes.{Consumes}
+use Rattle.bpf_helpers.specs.Promise.{Promise}
+use Rattle.acdm_lines.specs.declared.lines.Lines.{Lines}
+use Rattle.acdm_lines.specs.declared.run_error.RunError.{RunError}
+use Rattle.acdm_lines.specs.Counted.{Watched, faults_after}
+use Rattle.acdm_lines.specs.Lines.{IsLine, kept}
+use Rattle.acdm_lines.specs.NextLine.{TakesLine, TakesRest, TakesPart, FailsOrEndless}
+use Rattle.acdm_lines.proofs.Taking.{Consumes-none}
+use Rattle.acdm_lines.proofs.Reading.{kept-empty, kept-some, faults-more, consumed-more, gave-more}
+use Rattle.acdm_step.specs.Commands.{History}
+use Rattle.acdm_step.specs.History.{Board, IsLegal, replay}
+use Rattle.acdm_journal.specs.declared.stated.Stated.{Stated}
+use Rattle.acdm_journal.specs.declared.judge.Clause.{Clause}
+use Rattle.acdm_journal.specs.declared.judge.Clause.TheVariants as clauses
+use Rattle.acdm_journal.specs.Text.{line_of, stated_in, history_text}
+use Rattle.acdm_journal.specs.Ranges.{IsStated}
+use Rattle.acdm_journal.specs.Audit.{States, StatesNext, Continues, Breaks}
+use Rattle.acdm_journal.specs.Whole.{IsReadable, AreReadable, BreaksNext, at_line, at_end}
+use Rattle.acdm_journal.specs.Whole.{FirstFault}
+use Rattle.acdm_journal.specs.Whole.{GaveLegal, GaveFaulty, GaveUnended, Audits, JudgesEntry}
+use Rattle.acdm_journal.specs.declared.auditing.Fault.{Fault}
+use Rattle.acdm_journal.specs.declared.auditing.Fault.TheVariants as faults
+
+-- ---- a line, and what is kept of it
+
+kept-short : (line : List ℕ) → length line ≤ 200000 → kept 200001 line ≡ line
+kept-short line short = take_all 200001 line (omega arith)
+
+short-kept : (line : List ℕ) → length (kept 200001 line) ≤ 200000 → length line ≤ 200000
+short-kept line short =
+    elim (nat_le (length line) 200000) as
+    (λ v. nat_le (length line) 200000 ≡ v → length line ≤ 200000) [
+      | true ↦ λ e. leb-true (length line) 200000 e
+      | false ↦ λ e.
+          let long : 200000 < length line = leb-false (length line) 200000 e in
+          let cut : length (kept 200001 line) ≡ 200001 =
+          length-take-le 200001 line (omega arith) in
+          absurd (omega arith)
+    ] refl
+
+kept-is : (line : List ℕ) → length (kept 200001 line) ≤ 200000 → kept 200001 line ≡ line
+kept-is line short = kept-short line (short-kept line short)
+
+module _ (sigs : List (ℕ × Promise)) (J : History) (line : List ℕ) where
+  states-line : (s : Stated) → States (kept 200001 line) s → States line s
+  states-line s t = record {
+    line_is = sym (kept-is line t.short) ∙ t.line_is;
+    is = t.is;
+    short = short-kept line t.short;
+  }
+
+  next-line : (s : Stated) → StatesNext J (kept 200001 line) s → StatesNext J line s
+  next-line s t = record { states = states-line s t.states; number = t.number }
+
+  -- what is kept of a line breaks the clauses that the line breaks
+  breaks-line : (clause : Clause) → Breaks sigs J (kept 200001 line) clause
+      → Breaks sigs J line clause
+  breaks-line clauses.Unreadable h =
+      λ short. subst (λ l. length l ≤ 200000 → (s : Stated) → IsStated s → l ≢ line_of s)
+      (kept-short line short) h short
+  breaks-line clauses.Number h = (h.0, states-line h.0 h.1, h.2)
+  breaks-line clauses.Program h = (h.0, next-line h.0 h.1, h.2)
+  breaks-line clauses.Answers h = (h.0, h.1, next-line h.0 h.2, h.3, h.4)
+  breaks-line clauses.Outcome h = (h.0, h.1, next-line h.0 h.2, h.3, h.4, h.5)
+
+  continues-line : (board : Board) → Continues sigs J (kept 200001 line) board
+      → Continues sigs J line board
+  continues-line board t = record {
+    entry = t.entry;
+    line_is = sym (kept-is line t.short) ∙ t.line_is;
+    is = t.is;
+    short = short-kept line t.short;
+    legal = t.legal;
+    command = t.command;
+    replays = t.replays;
+  }
+
+-- ---- what was judged so far, and one line more
+
+-- The reader gave the text of a legal history of so many entries and what is held, the board is its
+-- replay, and each read so far gave something.
+pub record Sofar (sigs : List (ℕ × Promise)) (start left : Option (List ℕ)) (held : List ℕ)
+    (reads : ℕ) (entry : ℕ) (board : Board) : Type 0 where
+  pub text : List ℕ
+  pub front : History
+  pub consumed : Consumes start left text
+  pub gave : 2 ^ 40 ≤ length text + reads
+  pub split : text ≡ history_text front ++ held
+  pub legal : IsLegal sigs front
+  pub readable : AreReadable sigs front
+  pub count : length front ≡ entry
+  pub replays : board ≡ replay sigs front
+
+pub sofar-begins : (sigs : List (ℕ × Promise)) (known : Option (List ℕ)) (board : Board)
+    → board ≡ replay sigs [] → Sofar sigs known known [] 1099511627776 0 board
+sofar-begins sigs known board same = record {
+  text = [];
+  front = [];
+  consumed = Consumes-none known;
+  gave = omega arith;
+  split = refl;
+  legal = tt;
+  readable = tt;
+  count = refl;
+  replays = same;
+}
+
+module _ {R : Type 0} (sigs : List (ℕ × Promise)) (remaining : R → Option (List ℕ))
+    (r0 r1 r2 : Watched R) (l1 l2 : Lines 200001) (entry : ℕ) (board : Board)
+    (so_far : Sofar sigs (remaining r0.inner) (remaining r1.inner) l1.window l1.reads_left entry
+    board)
+  where
+    -- the text of the entries so far
+    judged : List ℕ
+    judged = history_text so_far.front
+
+    consumed_with : (more : List ℕ) → Consumes (remaining r1.inner) (remaining r2.inner) more
+        → Consumes (remaining r0.inner) (remaining r2.inner) (judged ++ (l1.window ++ more))
+    unfolding judged
+    consumed_with more c =
+        consumed-more (remaining r0.inner) (remaining r1.inner) (remaining r2.inner) so_far.text
+        (history_text so_far.front) l1.window more so_far.consumed so_far.split c
+
+    gave_with : (more : List ℕ) (left : ℕ) → l1.reads_left ≤ length more + left
+        → 2 ^ 40 ≤ length (judged ++ (l1.window ++ more)) + left
+    unfolding judged
+    gave_with more left g =
+        gave-more so_far.text (history_text so_far.front) l1.window more (2 ^ 40) l1.reads_left
+        left so_far.gave so_far.split g
+
+    -- an entry more
+    pub sofar-line : (after : Board) (line : List ℕ) → TakesLine 200001 remaining r1 r2 l1 l2
+        → line ≡ l2.line → Continues sigs so_far.front line after
+        → Sofar sigs (remaining r0.inner) (remaining r2.inner) l2.window l2.reads_left
+        (entry + 1) after
+    unfolding judged
+    sofar-line after line t is h =
+        let n = continues-line sigs so_far.front t.line after
+        (subst (λ l. Continues sigs so_far.front l after) (is ∙ t.bytes_are) h) in
+        let text : List ℕ = line_of (stated_in n.entry) in
+        let count : length so_far.front ≡ entry = so_far.count in
+        record {
+          text = history_text so_far.front ++ (l1.window ++ t.text);
+          front = n.entry ∷ so_far.front;
+          consumed = consumed_with t.text t.consumed;
+          gave = gave_with t.text l2.reads_left t.gave;
+          split = ap (λ l. history_text so_far.front ++ l)
+              (t.split ∙ ap (λ l. l ++ 10 ∷ l2.window) n.line_is
+              ∙ sym (append_assoc text (10 ∷ []) l2.window))
+              ∙ sym (append_assoc (history_text so_far.front) (text ++ 10 ∷ []) l2.window);
+          legal = n.legal;
+          readable = (
+            so_far.readable,
+            record {
+              stated = n.is;
+              command = n.command;
+              short = subst (λ l. length l ≤ 200000) n.line_is n.short;
+            },
+          );
+          count = omega arith;
+          replays = n.replays;
+        }
+
+    fault_in : (text rest : List ℕ) (clause : Clause) → text ≡ judged ++ rest
+        → BreaksNext sigs so_far.front rest clause → FirstFault sigs text entry clause
+    unfolding judged
+    fault_in text rest clause same breaks = record {
+      front = so_far.front;
+      rest = rest;
+      legal = so_far.legal;
+      readable = so_far.readable;
+      text_is = same;
+      count = so_far.count;
+      breaks = breaks;
+    }
+
+    -- the line breaks a clause
+    faulty-line : (clause : Clause) → TakesLine 200001 remaining r1 r2 l1 l2
+        → Breaks sigs so_far.front l2.line clause
+        → GaveFaulty sigs (remaining r0.inner) (remaining r2.inner) entry clause
+    faulty-line clause t h =
+        let breaks : Breaks sigs so_far.front t.line clause =
+        breaks-line sigs so_far.front t.line clause
+        (subst (λ l. Breaks sigs so_far.front l clause) t.bytes_are h) in
+        let text : List ℕ = judged ++ (l1.window ++ t.text) in
+        record {
+          text = text;
+          consumed = consumed_with t.text t.consumed;
+          first = fault_in text (l1.window ++ t.text) clause refl
+              (at_line t.line l2.window t.is_line t.split breaks);
+          stays = inr (λ later.
+              fault_in (text ++ later) ((l1.window ++ t.text) ++ later) clause
+              (append_assoc judged (l1.window ++ t.text) later)
+              (at_line t.line (l2.window ++ later) t.is_line
+              (ap (λ l. l ++ later) t.split ∙ append_assoc t.line (10 ∷ l2.window) later)
+              breaks));
+        }
+
+    -- the line is not taken
+    pub faulty : (after : Board) (e : Fault) (line : List ℕ)
+        → TakesLine 200001 remaining r1 r2 l1 l2 → r2.faults ≡ r0.faults → line ≡ l2.line
+        → JudgesEntry {T = Unit {0}} sigs so_far.front entry line after (Err e)
+        → Audits sigs remaining r0 r2 (Err e)
+    faulty after (faults.Faulty number clause) line t well is h =
+        let breaks : Breaks sigs so_far.front l2.line clause =
+        subst (λ l. Breaks sigs so_far.front l clause) is h.1 in (
+          subst (λ n. GaveFaulty sigs (remaining r0.inner) (remaining r2.inner) n clause)
+              (sym h.0) (faulty-line clause t breaks),
+          well,
+        )
+    faulty after faults.Read line t well is h = absurd h
+    faulty after faults.Memory line t well is h = well
+
+    -- the text has ended
+    pub ends : TakesRest 200001 remaining r1 r2 l1 l2 → length l2.line ≡ 0
+        → GaveLegal sigs (remaining r0.inner) (remaining r2.inner) entry
+    unfolding judged
+    ends t empty =
+        let none : l1.window ++ t.text ≡ [] =
+        kept-empty 200000 (l1.window ++ t.text) (ap length (sym t.bytes_are) ∙ empty) in
+        record {
+          text = history_text so_far.front;
+          history = so_far.front;
+          consumed = subst (Consumes (remaining r0.inner) (remaining r2.inner))
+              (ap (λ l. history_text so_far.front ++ l) none
+              ∙ append-nil (history_text so_far.front))
+              (consumed_with t.text t.consumed);
+          ended = t.ended;
+          is = record { legal = so_far.legal; readable = so_far.readable; text_is = refl };
+          count_is = so_far.count;
+        }
+
+    -- the text has ended with the rest of a line
+    pub faulty-rest : TakesRest 200001 remaining r1 r2 l1 l2 → 0 < length l2.line
+        → GaveFaulty sigs (remaining r0.inner) (remaining r2.inner) entry clauses.Unreadable
+    faulty-rest t some =
+        let rest : List ℕ = l1.window ++ t.text in
+        let there : 0 < length rest =
+        kept-some 200000 rest (subst (λ l. 0 < length l) t.bytes_are some) in
+        record {
+          text = judged ++ rest;
+          consumed = consumed_with t.text t.consumed;
+          first = fault_in (judged ++ rest) rest clauses.Unreadable refl
+              (at_end t.is_line there refl);
+          stays = inl t.ended;
+        }
+
+    -- no line more could be read
+    pub unended : (error : RunError) → TakesPart 200001 remaining r1 r2 l1 l2 error
+        → r1.faults ≡ r0.faults → r0.faults < 2 ^ 64 - 1
+        → GaveUnended sigs (remaining r0.inner) (remaining r2.inner) r0.faults r2.faults
+    unfolding judged
+    unended error t well room = record {
+      front = so_far.front;
+      part = l1.window ++ t.text;
+      legal = so_far.legal;
+      readable = so_far.readable;
+      is_part = t.is_line;
+      consumed = consumed_with t.text t.consumed;
+      why = why t.why;
+    }
+      where
+        why : (r2.faults ≡ faults_after true r1.faults)
+            ⊎ ((r2.faults ≡ r1.faults) × (l1.reads_left ≤ length t.text))
+            → FailsOrEndless r0.faults r2.faults
+            (history_text so_far.front ++ (l1.window ++ t.text))
+        why (inl e) = inl (e ∙ ap (faults_after true) well ∙ faults-more r0.faults room)
+        why (inr few) =
+            let most : l1.reads_left ≤ length t.text = few.1 in
+            let all = gave_with t.text 0 (omega arith) in
+            inr (few.0 ∙ well, omega (arith, all))

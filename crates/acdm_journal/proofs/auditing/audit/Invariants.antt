@@ -1,0 +1,17 @@
+use Rattle.std.proofs.Common.{◌≡◌, ◌+◌, ◌≤◌}
+use Rattle.acdm_lines.specs.Lines.{weight}
+use Rattle.acdm_journal.proofs.Sofar.{Sofar}
+use Rattle.acdm_journal.proofs.auditing.audit.Given as goal
+
+abbrev pub invariant-loop-lines : goal.invariant-loop-lines
+invariant-loop-lines g l = record {
+  sofar : Sofar l.fn.sigs
+      (g.R.Read.remaining l.initial.reader.inner) (g.R.Read.remaining l.reader.inner)
+      l.lines.window l.lines.reads_left l.entry l.core;
+  well : l.reader.faults ≡ l.initial.reader.faults;
+  sigs : l.core.slots.sigs ≡ l.fn.sigs;
+  bound : l.entry + weight l.lines.reads_left l.lines.window ≤ 72058693549555712;
+}
+
+abbrev pub decreases-loop-lines : goal.decreases-loop-lines
+decreases-loop-lines g l = weight l.lines.reads_left l.lines.window

@@ -1,0 +1,135 @@
+-- What an audit says of a whole text (this project's profile).
+use Rattle.std.specs.Prelude.{ℕ, ◌+◌, ◌<◌, ◌≤◌, ◌≡◌, ◌⊎◌, List, [], ◌∷◌, ◌++◌, length, Option, Result, Ok, Err}
+use Rattle.std.specs.Io.KnownBytes.{Appends, Consumes, IsAtEnd}
+use Rattle.bpf_helpers.specs.Promise.{Promise}
+use Rattle.acdm_lines.specs.Counted.{Watched}
+use Rattle.acdm_lines.specs.Lines.{IsLine}
+use Rattle.acdm_lines.specs.declared.lines.Ending.{Ending}
+use Rattle.acdm_lines.specs.declared.lines.Ending.TheVariants.{LineFeed, Input}
+use Rattle.acdm_lines.specs.declared.lines.Lines.{Lines}
+use Rattle.acdm_lines.specs.declared.run_error.RunError.TheVariants.{Read}
+use Rattle.acdm_lines.specs.NextLine.{TakesLine, TakesRest, TakesPart, FailsOrEndless}
+use Rattle.acdm_step.specs.declared.entry.Entry.{Entry}
+use Rattle.acdm_step.specs.Commands.{History}
+use Rattle.acdm_step.specs.History.{Board, IsLegal}
+use Rattle.acdm_journal.specs.declared.judge.Clause.{Clause}
+use Rattle.acdm_journal.specs.declared.judge.Clause.TheVariants as clauses
+use Rattle.acdm_journal.specs.declared.auditing.Fault.{Fault}
+use Rattle.acdm_journal.specs.declared.auditing.Fault.TheVariants as faults
+use Rattle.acdm_journal.specs.Text.{line_of, stated_in, asked_in, entry_text, history_text}
+use Rattle.acdm_journal.specs.Ranges.{IsStated}
+use Rattle.acdm_journal.specs.Audit.{IsCommandOf, Breaks, Continues}
+
+-- The line of an entry is one that may be read: its parts are in their ranges, a program that it
+-- loads is one, accepted under these signatures, and the line has at most 200,000 bytes.
+pub record IsReadable (sigs : List (ℕ × Promise)) (e : Entry) : Type 0 where
+  pub stated : IsStated (stated_in e)
+  pub command : IsCommandOf sigs (asked_in e.command) e.command
+  pub short : length (line_of (stated_in e)) ≤ 200000
+
+abbrev pub AreReadable : List (ℕ × Promise) → History → Type 0
+AreReadable sigs [] = Unit {0}
+AreReadable sigs (e ∷ J) = AreReadable sigs J × IsReadable sigs e
+
+-- a text is that of this legal history
+pub record IsTextOf (sigs : List (ℕ × Promise)) (text : List ℕ) (J : History) : Type 0 where
+  pub legal : IsLegal sigs J
+  pub readable : AreReadable sigs J
+  pub text_is : text ≡ history_text J
+
+-- Behind the text of a legal history stands a line that breaks this clause first, or a rest without
+-- a line feed, which can't be read.
+pub data BreaksNext (sigs : List (ℕ × Promise)) (J : History) (rest : List ℕ) (clause : Clause)
+    : Type 0 where
+  at_line : (line later : List ℕ) → IsLine line → rest ≡ line ++ 10 ∷ later
+      → Breaks sigs J line clause → BreaksNext sigs J rest clause
+  at_end : IsLine rest → 0 < length rest → clause ≡ clauses.Unreadable
+      → BreaksNext sigs J rest clause
+
+-- The first fault of a text: behind the text of a legal history of so many entries stands one that
+-- breaks this clause first. No legal history of more entries stands there, which is a law of `law`.
+pub record FirstFault (sigs : List (ℕ × Promise)) (text : List ℕ) (entry : ℕ) (clause : Clause)
+    : Type 0 where
+  pub front : History
+  pub rest : List ℕ
+  pub legal : IsLegal sigs front
+  pub readable : AreReadable sigs front
+  pub text_is : text ≡ history_text front ++ rest
+  pub count : length front ≡ entry
+  pub breaks : BreaksNext sigs front rest clause
+
+-- ---- what comes of an audit
+
+-- The reader gave the text of a legal history of so many entries, and has ended. Where it was known
+-- what the reader has left, the text is all of that (`Consumes`, `IsAtEnd`).
+pub record GaveLegal (sigs : List (ℕ × Promise)) (left left_after : Option (List ℕ)) (count : ℕ)
+    : Type 0 where
+  pub text : List ℕ
+  pub history : History
+  pub consumed : Consumes left left_after text
+  pub ended : IsAtEnd left_after
+  pub is : IsTextOf sigs text history
+  pub count_is : length history ≡ count
+
+-- The reader gave a text with this first fault. It has ended, or whatever it gives later does not
+-- change that.
+pub record GaveFaulty (sigs : List (ℕ × Promise)) (left left_after : Option (List ℕ)) (entry : ℕ)
+    (clause : Clause) : Type 0 where
+  pub text : List ℕ
+  pub consumed : Consumes left left_after text
+  pub first : FirstFault sigs text entry clause
+  pub stays : IsAtEnd left_after
+      ⊎ ((later : List ℕ) → FirstFault sigs (text ++ later) entry clause)
+
+-- No more could be read: the reader gave the text of a legal history and a part of a line, and then
+-- failed or was endless.
+pub record GaveUnended (sigs : List (ℕ × Promise)) (left left_after : Option (List ℕ))
+    (faults later_faults : ℕ) : Type 0 where
+  pub front : History
+  pub part : List ℕ
+  pub legal : IsLegal sigs front
+  pub readable : AreReadable sigs front
+  pub is_part : IsLine part
+  pub consumed : Consumes left left_after (history_text front ++ part)
+  pub why : FailsOrEndless faults later_faults (history_text front ++ part)
+
+-- what comes of an audit of what a reader gives
+abbrev pub Audits : {R : Type 0} → List (ℕ × Promise) → (R → Option (List ℕ)) → Watched R
+    → Watched R → Result ℕ Fault → Type 0
+Audits sigs remaining old new (Ok n) =
+    GaveLegal sigs (remaining old.inner) (remaining new.inner) n × (new.faults ≡ old.faults)
+Audits sigs remaining old new (Err (faults.Faulty entry clause)) =
+    GaveFaulty sigs (remaining old.inner) (remaining new.inner) entry clause
+    × (new.faults ≡ old.faults)
+Audits sigs remaining old new (Err faults.Read) =
+    GaveUnended sigs (remaining old.inner) (remaining new.inner) old.faults new.faults
+Audits sigs remaining old new (Err faults.Memory) = new.faults ≡ old.faults
+
+-- ---- what was written
+
+-- the entries of a history were written one after the other, the oldest first
+abbrev pub WritesEach : History → Option (List ℕ) → Option (List ℕ) → Type 0
+WritesEach [] old new = old ≡ new
+WritesEach (e ∷ J) old new =
+    (between : Option (List ℕ)) × WritesEach J old between × Appends between new (entry_text e)
+
+-- ---- parts
+
+-- what comes of looking for the next line
+abbrev pub TakesNext : {R : Type 0} → (R → Option (List ℕ)) → Watched R → Watched R → Lines 200001
+    → Lines 200001 → Result Ending Fault → Type 0
+TakesNext remaining old new before after (Ok LineFeed) =
+    TakesLine 200001 remaining old new before after
+TakesNext remaining old new before after (Ok Input) =
+    TakesRest 200001 remaining old new before after
+TakesNext remaining old new before after (Err e) =
+    TakesPart 200001 remaining old new before after Read × (e ≡ faults.Read)
+
+-- what comes of judging the line of an entry after a legal history, and the board then
+abbrev pub JudgesEntry : {T : Type 0} → List (ℕ × Promise) → History → ℕ → List ℕ → Board
+    → Result T Fault → Type 0
+JudgesEntry sigs J entry line board (Ok x) = Continues sigs J line board
+JudgesEntry sigs J entry line board (Err (faults.Faulty number clause)) =
+    (number ≡ entry) × Breaks sigs J line clause
+JudgesEntry sigs J entry line board (Err faults.Read) = ⊥
+JudgesEntry sigs J entry line board (Err faults.Memory) = Unit {0}

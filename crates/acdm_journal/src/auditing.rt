@@ -1,0 +1,98 @@
+//! The audit of a whole journal, line by line.
+ghost use Rattle.std.specs.Prelude.{◌≡◌, ◌<◌, ◌-◌, ◌^◌, length};
+ghost use Rattle.acdm_lines.specs.Lines.{weight};
+ghost use Rattle.acdm_step.specs.Commands.{History};
+ghost use Rattle.acdm_step.specs.History.{IsLegal, replay};
+ghost use Rattle.acdm_journal.specs.Whole.{Audits, JudgesEntry, TakesNext};
+
+use crate::judge::{AuditError, Clause, judge_line};
+use acdm_lines::{Counted, Ending, Lines};
+use acdm_step::Core;
+use bpf_helpers::Sigs;
+use std::alloc::Global;
+use std::io::Read;
+
+// One byte more than the longest line has, so that a longer one is told by what is kept of it.
+const MOST_KEPT: usize = 200_001;
+
+/// Why a journal was not found to be legal.
+#[derive(Clone, Copy, Debug, PartialEq, Eq)]
+pub enum Fault {
+    /// The first faulty entry, from 0, and the first clause that it breaks.
+    Faulty { entry: u64, clause: Clause },
+    /// The reader failed, or gave 2^40 reads and no end.
+    Read,
+    /// There was no memory.
+    Memory,
+}
+
+// Takes the next line.
+fn next_line<R: Read>(
+    lines: &mut Lines<MOST_KEPT>,
+    reader: &mut Counted<R>,
+) -> Result<Ending, Fault>
+    ensures takes { TakesNext R.remaining reader.old reader.new lines.old lines.new result }
+    ensures progress { result ≡ Ok Ending.LineFeed →
+        weight lines.new.reads_left lines.new.window
+        < weight lines.old.reads_left lines.old.window }
+{
+    match lines.next(reader) {
+        Ok(ending) => Ok(ending),
+        Err(_) => Err(Fault::Read),
+    }
+}
+
+// Judges the line of the entry of this number.
+fn judge_entry(
+    alloc: Global,
+    core: &mut Core,
+    sigs: &Sigs,
+    entry: u64,
+    line: &[u8],
+) -> Result<(), Fault>
+    requires { core.old.slots.sigs ≡ sigs.now }
+    ensures judges { (J : History) → IsLegal sigs.now J → length J ≡ entry →
+        core.old ≡ replay sigs.now J → JudgesEntry sigs.now J entry line.now core.new result }
+    ensures sigs { core.new.slots.sigs ≡ core.old.slots.sigs }
+{
+    match judge_line(alloc, core, sigs, entry, line) {
+        Ok(()) => Ok(()),
+        Err(AuditError::Memory) => Err(Fault::Memory),
+        Err(AuditError::Faulty(clause)) => Err(Fault::Faulty { entry, clause }),
+    }
+}
+
+/// Judges a journal, which is the text of its entries one after the other, against these signatures
+/// (this project's profile). Answers how many entries it has where they are those of a legal history.
+///
+/// `Faulty` with the first entry that is none, from 0, and the first clause that it breaks; a last
+/// line without a line feed is not readable. `Read` where the reader failed, or where 2^40 reads did
+/// not reach its end; `Memory` where there was no room for the board, for a line, or for what an
+/// entry asks for. At no time is more kept than one line of 200,001 bytes, what it states, and the
+/// board after the entries before it.
+pub fn audit<R: Read>(alloc: Global, reader: &mut Counted<R>, sigs: &Sigs) -> Result<u64, Fault>
+    requires reads { reader.old.faults < 2 ^ 64 - 1 }
+    ensures audits { Audits sigs.now R.remaining reader.old reader.new result }
+{
+    let Ok(same) = sigs.copy() else {
+        return Err(Fault::Memory);
+    };
+    let Ok(mut core) = Core::new(alloc, same) else {
+        return Err(Fault::Memory);
+    };
+    let Ok(mut lines) = Lines::new(alloc) else {
+        return Err(Fault::Memory);
+    };
+    let mut entry = 0;
+    while let Ending::LineFeed = next_line(&mut lines, reader)? {
+        judge_entry(alloc, &mut core, sigs, entry, lines.line.as_slice())?;
+        entry += 1;
+    }
+    if lines.line.as_slice().is_empty() {
+        return Ok(entry);
+    }
+    Err(Fault::Faulty {
+        entry,
+        clause: Clause::Unreadable,
+    })
+}

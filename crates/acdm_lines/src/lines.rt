@@ -1,0 +1,88 @@
+//! One line after another.
+ghost use Rattle.std.specs.Prelude.{◌≡◌, ℕ, ◌<◌, true, false, List, [], ◌∷◌, ◌++◌, IfOk};
+ghost use Rattle.acdm_lines.specs.Lines.{IsLine, kept, weight};
+ghost use Rattle.acdm_lines.specs.NextLine.{Takes};
+
+use crate::counted::Counted;
+use crate::line::Line;
+use crate::run_error::RunError;
+use crate::window::Window;
+use std::alloc::{AllocError, Global};
+use std::io::Read;
+
+// How many reads there are before an endless input counts as a fault.
+const MOST_READS: u64 = 1 << 40;
+
+/// What ended a line.
+#[derive(Clone, Copy, Debug, PartialEq, Eq)]
+pub enum Ending {
+    LineFeed,
+    Input,
+}
+
+/// What was read and not yet taken, and what is kept of the line that was taken last.
+#[derive(Drop)]
+pub struct Lines<const MOST: usize> {
+    pub window: Window,
+    pub line: Line<MOST>,
+    pub reads_left: u64,
+}
+
+impl<const MOST: usize> Lines<MOST> {
+    /// Nothing read, with room for a read and for a line.
+    pub fn new(alloc: Global) -> Result<Lines<MOST>, AllocError>
+        ensures window { IfOk result (λ l. l.window ≡ []) }
+        ensures reads { IfOk result (λ l. l.reads_left ≡ 1099511627776) }
+    {
+        let window = Window::new(alloc)?;
+        let line = Line::new(alloc)?;
+        Ok(Lines {
+            window,
+            line,
+            reads_left: MOST_READS,
+        })
+    }
+
+    /// Takes the bytes that are held, up to the first line feed. Says whether there was one.
+    fn take_held(&mut self) -> bool
+        ensures feed { result ≡ true → (part : List ℕ) × IsLine part
+            × (self.old.window ≡ part ++ 10 ∷ self.new.window)
+            × (self.new.line ≡ kept MOST (self.old.line ++ part)) }
+        ensures all { result ≡ false → IsLine self.old.window × (self.new.window ≡ [])
+            × (self.new.line ≡ kept MOST (self.old.line ++ self.old.window)) }
+        ensures reads { self.new.reads_left ≡ self.old.reads_left }
+    {
+        match self.window.line_feed() {
+            Some(end) => {
+                self.line.add(&self.window.as_slice()[..end]);
+                self.window.consume(end + 1);
+                true
+            }
+            None => {
+                self.line.add(self.window.as_slice());
+                self.window.clear();
+                false
+            }
+        }
+    }
+
+    /// Takes the next line, and says what ended it. It reads only where no whole line is held.
+    pub fn next<R: Read>(&mut self, reader: &mut Counted<R>) -> Result<Ending, RunError>
+        ensures takes { Takes MOST R.remaining reader.old reader.new self.old self.new result }
+        ensures progress { result ≡ Ok Ending.LineFeed → weight self.new.reads_left self.new.window
+            < weight self.old.reads_left self.old.window }
+    {
+        self.line.clear();
+        while !self.take_held() {
+            if self.reads_left == 0 {
+                return Err(RunError::Read);
+            }
+            self.reads_left -= 1;
+            self.window.fill(reader)?;
+            if self.window.as_slice().is_empty() {
+                return Ok(Ending::Input);
+            }
+        }
+        Ok(Ending::LineFeed)
+    }
+}
