@@ -3,7 +3,7 @@
 ghost use Rattle.std.specs.Prelude.{◌≤◌};
 
 use crate::change::{change, touch};
-use crate::tests::{no_sigs, plan};
+use crate::tests::{done, no_sigs, plan};
 use crate::verdicts::{flight_of_command, verdict};
 use crate::{
     Alerted, Command, Core, FlightCommand, FlightNumber, Outcome, Report, Schedule, Verdict,
@@ -49,13 +49,6 @@ fn with_tobt(flight: u64, tobt: u32) -> Result<Command, Fail> {
     }
     let report = Report::new(flight, Milestone::TobtUpdate, tobt, None);
     Ok(Command::Flight(FlightCommand::Report(report)))
-}
-
-// A command, on a board without programs.
-fn done(core: &mut Core, role: Role, moment: u32, command: &Command) -> Result<Outcome, Fail> {
-    let sigs = core.sigs().copy()?;
-    let mut oracle = Logged::new(&sigs, &[]);
-    Ok(core.apply(&mut oracle, role, moment, command)?)
 }
 
 // The place of a flight's record, or how many there are.

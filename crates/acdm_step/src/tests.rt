@@ -3,8 +3,8 @@ ghost use Rattle.std.specs.Prelude.{◌≡◌, IfOk};
 ghost use Rattle.bpf_helpers.specs.Known.{taxi, taxi_from};
 
 use crate::{
-    Answers, Command, Core, FlightCommand, FlightNumber, Load, Outcome, Plan, Report, Schedule,
-    Unload, Verdict,
+    AlertList, Alerted, Answers, Command, Core, FlightCommand, FlightNumber, Load, Outcome, Plan,
+    Report, Schedule, Unload, Verdict,
 };
 use acdm_milestones::{Milestone, Refusal, Role};
 use acdm_record::{Field, Text};
@@ -103,170 +103,125 @@ fn loaded(
     }))
 }
 
-// A command with the answers of a list.
-pub(crate) fn applied(
+// A command whose programs are answered from a list.
+fn answered(
     core: &mut Core,
-    sigs: &Sigs,
     answers: &[u64],
     role: Role,
     moment: u32,
     command: &Command,
-) -> Result<Outcome, Fail>
-    requires { core.old.slots.sigs ≡ sigs.now }
-    ensures { core.new.slots.sigs ≡ core.old.slots.sigs }
-{
-    let mut oracle = Logged::new(sigs, answers);
+) -> Result<Outcome, Fail> {
+    let sigs = core.sigs().copy()?;
+    let mut oracle = Logged::new(&sigs, answers);
     Ok(core.apply(&mut oracle, role, moment, command)?)
 }
 
-fn alerts_of(core: &Core) -> Result<u64, Fail> {
-    Ok(core.record_of(7).ok_or("no flight")?.get(Field::Alerts))
+// A command whose programs call no helper.
+pub(crate) fn done(
+    core: &mut Core,
+    role: Role,
+    moment: u32,
+    command: &Command,
+) -> Result<Outcome, Fail> {
+    answered(core, &[], role, moment, command)
+}
+
+// The verdict on one, from 0 for an accepted one.
+fn code_of(core: &mut Core, role: Role, moment: u32, command: &Command) -> Result<u16, Fail> {
+    match done(core, role, moment, command)?.verdict() {
+        Verdict::Accepted => Ok(0),
+        Verdict::Refused(refusal) => Ok(refusal.code()),
+    }
+}
+
+// What a field of the flight holds.
+fn field_of(core: &Core, field: Field) -> Result<u64, Fail> {
+    Ok(core.record_of(7).ok_or("no flight")?.get(field))
+}
+
+// A board on which the flight has its plan, at a moment.
+fn board_with_plan(alloc: Global, moment: u32) -> Result<Core, Fail> {
+    let mut core = Core::new(alloc, no_sigs(alloc)?)?;
+    done(&mut core, Role::NetworkManager, moment, &planned()?)?;
+    Ok(core)
+}
+
+// A board on which it has its schedule.
+fn board_with_schedule(alloc: Global, moment: u32) -> Result<Core, Fail> {
+    let mut core = Core::new(alloc, no_sigs(alloc)?)?;
+    done(&mut core, Role::AirportOperator, moment, &scheduled()?)?;
+    Ok(core)
 }
 
 #[test]
 fn a_flight_plan_without_a_slot_is_told_until_the_schedule(rt: HostRuntime) -> Result<(), Fail> {
-    let sigs = no_sigs(rt.alloc())?;
-    let mut core = Core::new(rt.alloc(), sigs.copy()?)?;
-    applied(
-        &mut core,
-        &sigs,
-        &[],
-        Role::NetworkManager,
-        29_000_580,
-        &planned()?,
-    )?;
-    assert_eq!(rt; alerts_of(&core)?, 2);
-    applied(
-        &mut core,
-        &sigs,
-        &[],
-        Role::AirportOperator,
-        29_000_580,
-        &scheduled()?,
-    )?;
-    assert_eq!(rt; alerts_of(&core)?, 0);
+    let mut core = board_with_plan(rt.alloc(), SEVEN)?;
+    assert_eq!(rt; field_of(&core, Field::Alerts)?, 2);
+    done(&mut core, Role::AirportOperator, SEVEN, &scheduled()?)?;
+    assert_eq!(rt; field_of(&core, Field::Alerts)?, 0);
     Ok(())
 }
 
 #[test]
 fn a_tick_tells_a_missing_flight_plan(rt: HostRuntime) -> Result<(), Fail> {
-    let sigs = no_sigs(rt.alloc())?;
-    let mut core = Core::new(rt.alloc(), sigs.copy()?)?;
-    applied(
-        &mut core,
-        &sigs,
-        &[],
-        Role::AirportOperator,
-        29_000_579,
-        &scheduled()?,
-    )?;
-    assert_eq!(rt; alerts_of(&core)?, 0);
-    let refused = applied(
-        &mut core,
-        &sigs,
-        &[],
-        Role::NetworkManager,
-        29_000_580,
-        &Command::Tick,
-    )?;
-    assert_eq!(rt; refused.verdict(), Verdict::Refused(Refusal::NotOwner));
-    assert_eq!(rt; alerts_of(&core)?, 0);
-    let ticked = applied(
-        &mut core,
-        &sigs,
-        &[],
-        Role::AirportOperator,
-        29_000_580,
-        &Command::Tick,
-    )?;
-    assert_eq!(rt; ticked.verdict(), Verdict::Accepted);
-    assert_eq!(rt; alerts_of(&core)?, 1 << 13);
+    let mut core = board_with_schedule(rt.alloc(), 29_000_579)?;
+    assert_eq!(rt; field_of(&core, Field::Alerts)?, 0);
+    assert_eq!(rt;
+        code_of(&mut core, Role::NetworkManager, SEVEN, &Command::Tick)?,
+        201
+    );
+    assert_eq!(rt; field_of(&core, Field::Alerts)?, 0);
+    assert_eq!(rt;
+        code_of(&mut core, Role::AirportOperator, SEVEN, &Command::Tick)?,
+        0
+    );
+    assert_eq!(rt; field_of(&core, Field::Alerts)?, 1 << 13);
     Ok(())
+}
+
+// What a field of a shown flight holds.
+fn shown(core: &mut Core, flight: u64, field: Field) -> Result<u64, Fail> {
+    if flight == 0 {
+        return Err("no flight".into());
+    }
+    let show = Command::Show(FlightNumber::new(flight));
+    match done(core, Role::GroundHandler, 1, &show)? {
+        Outcome::Shown(record) => Ok(record.get(field)),
+        _ => Err("no record".into()),
+    }
 }
 
 #[test]
 fn a_record_is_shown_of_a_flight_that_is_there(rt: HostRuntime) -> Result<(), Fail> {
-    let sigs = no_sigs(rt.alloc())?;
-    let mut core = Core::new(rt.alloc(), sigs.copy()?)?;
-    applied(
-        &mut core,
-        &sigs,
-        &[],
-        Role::AirportOperator,
-        29_000_580,
-        &scheduled()?,
-    )?;
-    let seen = applied(
-        &mut core,
-        &sigs,
-        &[],
-        Role::GroundHandler,
-        1,
-        &Command::Show(FlightNumber::new(7)),
-    )?;
-    let unseen = applied(
-        &mut core,
-        &sigs,
-        &[],
-        Role::GroundHandler,
-        1,
-        &Command::Show(FlightNumber::new(8)),
-    )?;
-    assert_eq!(rt; unseen.verdict(), Verdict::Refused(Refusal::UnknownFlight));
-    let Outcome::Shown(record) = seen else {
-        return Err("no record".into());
-    };
-    assert_eq!(rt; record.get(Field::Sobt), 29_000_760);
-    assert_eq!(rt; record.get(Field::Stand), 12);
+    let mut core = board_with_schedule(rt.alloc(), SEVEN)?;
+    assert_eq!(rt; shown(&mut core, 7, Field::Sobt)?, 29_000_760);
+    assert_eq!(rt; shown(&mut core, 7, Field::Stand)?, 12);
+    let unknown = Command::Show(FlightNumber::new(8));
+    assert_eq!(rt; code_of(&mut core, Role::GroundHandler, 1, &unknown)?, 202);
     Ok(())
+}
+
+fn listed(core: &mut Core) -> Result<AlertList, Fail> {
+    match done(core, Role::GroundHandler, 1, &Command::Alerts)? {
+        Outcome::Listed(list) => Ok(list),
+        _ => Err("no list".into()),
+    }
+}
+
+// Whether flight 7 alone is listed, with CDM01.
+fn is_of_flight_7(list: &[Alerted]) -> bool {
+    match list.first() {
+        Some(first) => list.len() == 1 && first.flight == 7 && first.alerts.word() == 2,
+        None => false,
+    }
 }
 
 #[test]
 fn flights_with_alerts_are_listed(rt: HostRuntime) -> Result<(), Fail> {
-    let sigs = no_sigs(rt.alloc())?;
-    let mut core = Core::new(rt.alloc(), sigs.copy()?)?;
-    applied(
-        &mut core,
-        &sigs,
-        &[],
-        Role::NetworkManager,
-        29_000_580,
-        &planned()?,
-    )?;
-    let Outcome::Listed(list) = applied(
-        &mut core,
-        &sigs,
-        &[],
-        Role::GroundHandler,
-        1,
-        &Command::Alerts,
-    )?
-    else {
-        return Err("no list".into());
-    };
-    assert_eq!(rt; list.as_slice().len(), 1);
-    assert_eq!(rt; list.as_slice()[0].flight, 7);
-    assert_eq!(rt; list.as_slice()[0].alerts.word(), 2);
-    applied(
-        &mut core,
-        &sigs,
-        &[],
-        Role::AirportOperator,
-        29_000_580,
-        &scheduled()?,
-    )?;
-    let Outcome::Listed(none) = applied(
-        &mut core,
-        &sigs,
-        &[],
-        Role::GroundHandler,
-        1,
-        &Command::Alerts,
-    )?
-    else {
-        return Err("no list".into());
-    };
-    assert!(rt; none.as_slice().is_empty());
+    let mut core = board_with_plan(rt.alloc(), SEVEN)?;
+    assert!(rt; is_of_flight_7(listed(&mut core)?.as_slice()));
+    done(&mut core, Role::AirportOperator, SEVEN, &scheduled()?)?;
+    assert!(rt; listed(&mut core)?.as_slice().is_empty());
     Ok(())
 }
 
@@ -287,184 +242,158 @@ const TEN_LATER: [u8; 24] = [
     0xbf, 0x30, 0, 0, 0, 0, 0, 0, 0x07, 0, 0, 0, 0x0a, 0, 0, 0, 0x95, 0, 0, 0, 0, 0, 0, 0,
 ];
 
+// A board for programs that call helper 2, with this program for the alerts of milestone 9.
+fn board_that_asks(alloc: Global, bytes: &[u8]) -> Result<Core, Fail> {
+    let sigs = taxi_sigs(alloc)?;
+    let load = loaded(alloc, Milestone::TobtUpdate, Kind::Alert, bytes, &sigs)?;
+    let mut core = Core::new(alloc, sigs)?;
+    done(&mut core, Role::AirportOperator, SEVEN, &load)?;
+    Ok(core)
+}
+
+// The flight is scheduled and planned.
+fn begin(core: &mut Core, moment: u32) -> Result<(), Fail> {
+    done(core, Role::AirportOperator, moment, &scheduled()?)?;
+    done(core, Role::NetworkManager, moment, &planned()?)?;
+    Ok(())
+}
+
 #[test]
 fn a_program_that_gets_no_answer_refuses_its_report(rt: HostRuntime) -> Result<(), Fail> {
-    let alloc = rt.alloc();
-    let sigs = taxi_sigs(alloc)?;
-    let mut core = Core::new(alloc, sigs.copy()?)?;
-    let load = loaded(alloc, Milestone::TobtUpdate, Kind::Alert, &TAXI_TIME, &sigs)?;
-    applied(&mut core, &sigs, &[], Role::AirportOperator, SEVEN, &load)?;
-    applied(
-        &mut core,
-        &sigs,
-        &[],
-        Role::AirportOperator,
-        SEVEN,
-        &scheduled()?,
-    )?;
-    applied(
-        &mut core,
-        &sigs,
-        &[],
-        Role::NetworkManager,
-        SEVEN,
-        &planned()?,
-    )?;
+    let mut core = board_that_asks(rt.alloc(), &TAXI_TIME)?;
+    begin(&mut core, SEVEN)?;
     let report = reported(Milestone::TobtUpdate, TEN)?;
-    let refused = applied(&mut core, &sigs, &[], Role::GroundHandler, SEVEN, &report)?;
-    assert_eq!(rt; refused.verdict(), Verdict::Refused(Refusal::Unanswered));
-    assert_eq!(rt; alerts_of(&core)?, 0);
-    assert_eq!(rt; core.record_of(7).ok_or("no flight")?.get(Field::Tobt), 0);
+    assert_eq!(rt;
+        code_of(&mut core, Role::GroundHandler, SEVEN, &report)?,
+        599
+    );
+    assert_eq!(rt; field_of(&core, Field::Alerts)?, 0);
+    assert_eq!(rt; field_of(&core, Field::Tobt)?, 0);
     // The program is still there: with its answer it sets LOC01 and LOC03.
-    applied(&mut core, &sigs, &[10], Role::GroundHandler, SEVEN, &report)?;
-    assert_eq!(rt; alerts_of(&core)?, 655_360);
+    answered(&mut core, &[10], Role::GroundHandler, SEVEN, &report)?;
+    assert_eq!(rt; field_of(&core, Field::Alerts)?, 655_360);
+    Ok(())
+}
+
+// For how many answers a report of milestone 9 needs room where this program judges its alerts.
+fn room_for(alloc: Global, bytes: &[u8]) -> Result<u64, Fail> {
+    let core = board_that_asks(alloc, bytes)?;
+    Ok(core.answers_room(&reported(Milestone::TobtUpdate, TEN)?))
+}
+
+#[test]
+fn answers_get_room_where_a_helper_is_called(rt: HostRuntime) -> Result<(), Fail> {
+    assert_eq!(rt; room_for(rt.alloc(), &TAXI_TIME)?, 4);
+    assert_eq!(rt; room_for(rt.alloc(), &MILESTONE)?, 0);
     Ok(())
 }
 
 #[test]
 fn a_program_for_other_helpers_is_not_loaded(rt: HostRuntime) -> Result<(), Fail> {
     let alloc = rt.alloc();
-    let sigs = taxi_sigs(alloc)?;
-    let mut core = Core::new(alloc, sigs.copy()?)?;
+    let mut core = Core::new(alloc, taxi_sigs(alloc)?)?;
+    let others = no_sigs(alloc)?;
     let load = loaded(
         alloc,
         Milestone::TobtUpdate,
         Kind::Alert,
         &MILESTONE,
-        &no_sigs(alloc)?,
+        &others,
     )?;
-    let refused = applied(&mut core, &sigs, &[], Role::AirportOperator, SEVEN, &load)?;
     assert_eq!(rt;
-        refused.verdict(),
-        Verdict::Refused(Refusal::OtherSignatures)
+        code_of(&mut core, Role::AirportOperator, SEVEN, &load)?,
+        322
     );
     Ok(())
 }
 
 #[test]
 fn an_empty_slot_is_told_first_on_a_new_board(rt: HostRuntime) -> Result<(), Fail> {
-    let sigs = no_sigs(rt.alloc())?;
-    let mut core = Core::new(rt.alloc(), sigs.copy()?)?;
+    let mut core = Core::new(rt.alloc(), no_sigs(rt.alloc())?)?;
     let unload = Command::Unload(Unload {
         milestone: Milestone::TobtUpdate,
         kind: Kind::Alert,
     });
-    let refused = applied(&mut core, &sigs, &[], Role::AirportOperator, SEVEN, &unload)?;
-    assert_eq!(rt; refused.verdict(), Verdict::Refused(Refusal::EmptySlot));
+    assert_eq!(rt;
+        code_of(&mut core, Role::AirportOperator, SEVEN, &unload)?,
+        321
+    );
     Ok(())
 }
 
-// A load into each of three slots: both of milestone 7, and the alert slot of milestone 8.
-fn load_three(core: &mut Core, alloc: Global, sigs: &Sigs) -> Result<(), Fail>
-    requires { core.old.slots.sigs ≡ sigs.now }
-    ensures { core.new.slots.sigs ≡ core.old.slots.sigs }
-{
-    let tobt = loaded(alloc, Milestone::InBlock, Kind::Tobt, &TEN_LATER, sigs)?;
-    applied(core, sigs, &[], Role::AirportOperator, NINE, &tobt)?;
-    let alert = loaded(
+fn load(
+    alloc: Global,
+    core: &mut Core,
+    milestone: Milestone,
+    kind: Kind,
+    bytes: &[u8],
+) -> Result<(), Fail> {
+    let load = loaded(alloc, milestone, kind, bytes, core.sigs())?;
+    done(core, Role::AirportOperator, NINE, &load)?;
+    Ok(())
+}
+
+// A board with programs in three slots: both of milestone 7, and the alert slot of milestone 8.
+fn board_with_three(alloc: Global) -> Result<Core, Fail> {
+    let mut core = Core::new(alloc, no_sigs(alloc)?)?;
+    load(alloc, &mut core, Milestone::InBlock, Kind::Tobt, &TEN_LATER)?;
+    load(
         alloc,
+        &mut core,
         Milestone::InBlock,
         Kind::Alert,
         &TOBT_OF_RECORD,
-        sigs,
     )?;
-    applied(core, sigs, &[], Role::AirportOperator, NINE, &alert)?;
-    let other = loaded(
+    load(
         alloc,
+        &mut core,
         Milestone::GroundHandlingStarts,
         Kind::Alert,
         &MILESTONE,
-        sigs,
     )?;
-    applied(core, sigs, &[], Role::AirportOperator, NINE, &other)?;
-    Ok(())
+    Ok(core)
+}
+
+// The room that a report needs, and TOBT and the local alerts after it.
+fn after_report(
+    core: &mut Core,
+    role: Role,
+    milestone: Milestone,
+) -> Result<(u64, u64, u64), Fail> {
+    let report = reported(milestone, NINE)?;
+    let room = core.room(&report);
+    done(core, role, NINE, &report)?;
+    let locals = field_of(core, Field::Alerts)? / 65536;
+    Ok((room, field_of(core, Field::Tobt)?, locals))
 }
 
 #[test]
 fn each_milestone_runs_its_own_programs(rt: HostRuntime) -> Result<(), Fail> {
-    let alloc = rt.alloc();
-    let sigs = no_sigs(alloc)?;
-    let mut core = Core::new(alloc, sigs.copy()?)?;
-    load_three(&mut core, alloc, &sigs)?;
-    applied(
-        &mut core,
-        &sigs,
-        &[],
-        Role::AirportOperator,
-        NINE,
-        &scheduled()?,
-    )?;
-    applied(
-        &mut core,
-        &sigs,
-        &[],
-        Role::NetworkManager,
-        NINE,
-        &planned()?,
-    )?;
-    let landed = reported(Milestone::Landed, NINE)?;
-    assert_eq!(rt; core.room(&landed), 0);
-    applied(
-        &mut core,
-        &sigs,
-        &[],
-        Role::AirTrafficControl,
-        NINE,
-        &landed,
-    )?;
-    assert_eq!(rt; core.record_of(7).ok_or("no flight")?.get(Field::Tobt), 0);
-    // The alert program reads the TOBT that the other one gave: 29000710, of which the low 16 bits are 33798.
-    let in_block = reported(Milestone::InBlock, NINE)?;
-    assert_eq!(rt; core.room(&in_block), 5);
-    applied(
-        &mut core,
-        &sigs,
-        &[],
-        Role::AirportOperator,
-        NINE,
-        &in_block,
-    )?;
-    assert_eq!(rt;
-        core.record_of(7).ok_or("no flight")?.get(Field::Tobt),
-        29_000_710
-    );
-    assert_eq!(rt; alerts_of(&core)? / 65536, 33_798);
-    let handled = reported(Milestone::GroundHandlingStarts, NINE)?;
-    applied(&mut core, &sigs, &[], Role::GroundHandler, NINE, &handled)?;
-    assert_eq!(rt;
-        core.record_of(7).ok_or("no flight")?.get(Field::Tobt),
-        29_000_710
-    );
-    assert_eq!(rt; alerts_of(&core)? / 65536, 8);
+    let mut core = board_with_three(rt.alloc())?;
+    begin(&mut core, NINE)?;
+    let landed = after_report(&mut core, Role::AirTrafficControl, Milestone::Landed)?;
+    assert!(rt; landed == (0, 0, 0));
+    // The alert program reads the TOBT that the other one gave, of which the low 16 bits are 33798.
+    let in_block = after_report(&mut core, Role::AirportOperator, Milestone::InBlock)?;
+    assert!(rt; in_block == (5, 29_000_710, 33_798));
+    let handler = Role::GroundHandler;
+    let handled = after_report(&mut core, handler, Milestone::GroundHandlingStarts)?;
+    assert!(rt; handled == (2, 29_000_710, 8));
     Ok(())
+}
+
+fn copied(outcome: &Outcome) -> Result<AlertList, Fail> {
+    match outcome.copy()? {
+        Outcome::Listed(list) => Ok(list),
+        _ => Err("no list".into()),
+    }
 }
 
 #[test]
 fn a_copy_of_an_outcome_equals_it(rt: HostRuntime) -> Result<(), Fail> {
-    let sigs = no_sigs(rt.alloc())?;
-    let mut core = Core::new(rt.alloc(), sigs.copy()?)?;
-    applied(
-        &mut core,
-        &sigs,
-        &[],
-        Role::NetworkManager,
-        SEVEN,
-        &planned()?,
-    )?;
-    let listed = applied(
-        &mut core,
-        &sigs,
-        &[],
-        Role::GroundHandler,
-        1,
-        &Command::Alerts,
-    )?;
-    let Outcome::Listed(list) = listed.copy()? else {
-        return Err("no list".into());
-    };
-    assert_eq!(rt; list.as_slice().len(), 1);
-    assert_eq!(rt; list.as_slice()[0].flight, 7);
-    assert_eq!(rt; list.as_slice()[0].alerts.word(), 2);
+    let mut core = board_with_plan(rt.alloc(), SEVEN)?;
+    let listed = done(&mut core, Role::GroundHandler, 1, &Command::Alerts)?;
+    assert!(rt; is_of_flight_7(copied(&listed)?.as_slice()));
     Ok(())
 }
 
@@ -476,21 +405,5 @@ fn answers_are_kept_in_order(rt: HostRuntime) -> Result<(), Fail> {
     assert_eq!(rt; answers.as_slice()[0], 10);
     assert_eq!(rt; answers.as_slice()[1], 45);
     assert!(rt; Answers::none(rt.alloc()).as_slice().is_empty());
-    Ok(())
-}
-
-// For how many answers a report of milestone 9 needs room where this program judges its alerts.
-fn room_for(alloc: Global, bytes: &[u8]) -> Result<u64, Fail> {
-    let sigs = taxi_sigs(alloc)?;
-    let mut core = Core::new(alloc, sigs.copy()?)?;
-    let load = loaded(alloc, Milestone::TobtUpdate, Kind::Alert, bytes, &sigs)?;
-    applied(&mut core, &sigs, &[], Role::AirportOperator, SEVEN, &load)?;
-    Ok(core.answers_room(&reported(Milestone::TobtUpdate, TEN)?))
-}
-
-#[test]
-fn answers_get_room_where_a_helper_is_called(rt: HostRuntime) -> Result<(), Fail> {
-    assert_eq!(rt; room_for(rt.alloc(), &TAXI_TIME)?, 4);
-    assert_eq!(rt; room_for(rt.alloc(), &MILESTONE)?, 0);
     Ok(())
 }
