@@ -2,6 +2,8 @@
 #![tactic(auto)]
 
 mod addresses;
+#[cfg(test)]
+mod audit_tests;
 mod auditing;
 mod command_line;
 mod commands;
