@@ -140,9 +140,13 @@ fn a_silent_partner_holds_nobody_up(rt: HostRuntime) -> Result<(), Fail> {
 // Whether these words ask to serve these partners with such a journal.
 fn asks_to_serve(alloc: Global, words: &[&str], wanted: usize, words_wanted: &[&str]) -> bool {
     match parse(alloc, words) {
-        Ok(Line::Serve { journal, partners }) => {
-            journal == wanted && partners.as_slice() == words_wanted
-        }
+        Ok(
+            Line::Serve {
+                journal,
+                save,
+                partners,
+            },
+        ) => journal == wanted && save.is_none() && partners.as_slice() == words_wanted,
         _ => false,
     }
 }
