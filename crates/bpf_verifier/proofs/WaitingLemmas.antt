@@ -1,12 +1,12 @@
 -- What waits at the slots, row by row.
-use Rattle.std.proofs.Common.{◌≡◌, ℕ, zero, suc, List, ◌++◌, [], ◌∷◌, map, set, get_or, replicate}
+use Rattle.std.proofs.Common.{◌≡◌, ℕ, zero, suc, List, ◌++◌, [], ◌∷◌, set, get_or, replicate}
 use Rattle.std.proofs.Common.{Option, Some, None, refl, ap, ◌∙◌}
-use Rattle.std.proofs.lemmas.List.{map-append, set-set}
+use Rattle.std.proofs.lemmas.List.{set-set}
 use Rattle.std.specs.declared.boxed.Box.{Box}
 use Rattle.std.specs.declared.alloc.Global.{Global}
 use Rattle.bpf_regstate.specs.Shape.{Shape}
 use Rattle.bpf_regstate.specs.Pass.{with_edge}
-use Rattle.bpf_verifier.specs.Rows.{contents, rows_of}
+use Rattle.bpf_verifier.specs.Rows.{rows_of}
 use Rattle.bpf_verifier.specs.Table.{put_edge}
 
 abbrev empty : Option (Box Shape Global)
