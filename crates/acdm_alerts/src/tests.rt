@@ -1,7 +1,8 @@
 //! Alerts of single records, by the published conditions.
-use crate::{AlertSet, builtin, write_names};
+use crate::{AlertSet, builtin, push_names, write_names};
 use acdm_milestones::mark_reached;
 use acdm_record::{Field, Record, TextField};
+use arrayvec::ArrayVec;
 use std::test::Fail;
 
 // 2025-02-20T10:00Z.
@@ -170,4 +171,17 @@ fn local_alerts_stay_and_have_names(rt: HostRuntime) -> Result<(), Fail> {
     alerts.store(&mut record);
     assert_eq!(rt; AlertSet::of(&record).word(), 0x8001_4000);
     Ok(())
+}
+
+#[test]
+fn all_names_stand_behind_a_text(rt: HostRuntime) {
+    let mut text = ArrayVec::<u8, 224>::new();
+    text.push(b':');
+    push_names(AlertSet::from_word(0xffff_ffbe), &mut text);
+    let built_in =
+        ":CDM01,CDM02,CDM03,CDM04,CDM05,CDM07,CDM08,CDM09,CDM10,CDM11,CDM12,CDM13,CDM14,CDM07a";
+    let local =
+        ",LOC00,LOC01,LOC02,LOC03,LOC04,LOC05,LOC06,LOC07,LOC08,LOC09,LOC10,LOC11,LOC12,LOC13,LOC14,LOC15";
+    assert_eq!(rt; &text.as_slice()[..85], built_in.as_bytes());
+    assert_eq!(rt; &text.as_slice()[85..], local.as_bytes());
 }

@@ -4,3 +4,4 @@ pub mod Whole
 pub mod Kept
 pub mod Judged
 mod FaultRows
+pub mod KeptTexts

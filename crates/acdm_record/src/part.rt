@@ -3,7 +3,7 @@
 ghost use Rattle.std.specs.Prelude.{◌≡◌, ◌<◌, ◌≤◌, ◌^◌, ◌==◌, length, ℕ, slice_index};
 ghost use Rattle.std.specs.List.{before_first, position_or_len};
 ghost use Rattle.acdm_record.specs.Place.{width_of, text_offset_of, text_width_of};
-ghost use Rattle.acdm_record.specs.Fields.{part, number_at};
+ghost use Rattle.acdm_record.specs.Fields.{part, number_at, padded};
 
 use crate::field::{Field, TextField};
 use byteorder::{ByteOrder, LittleEndian};
@@ -45,6 +45,15 @@ pub(crate) fn first_zero(part: &[u8]) -> usize
         }
     }
     part.len()
+}
+
+/// Writes a text, and zero bytes behind it.
+pub(crate) fn write_padded(part: &mut [u8], text: &[u8])
+    requires { length text.now ≤ length part.old }
+    ensures { part.new ≡ padded (length part.old) text.now }
+{
+    part.fill(0);
+    part[..text.len()].copy_from_slice(text);
 }
 
 // Bytes are below 256, which a proof is told of a slice and not of an array behind a reference.

@@ -1,12 +1,12 @@
 //! The record itself.
 ghost use Rattle.std.specs.Prelude.{◌≡◌, ◌<◌, ◌≤◌, ◌^◌, ◌↔◌, length, IsTrue, IsOk, IfOk, IfErr, Some};
 ghost use Rattle.acdm_record.specs.Place.{width_of, text_width_of};
-ghost use Rattle.acdm_record.specs.Fields.{fields_at, number_of, set_number, text_of, set_text, is_text, bytes_of, new_record, padded, is_allowed};
+ghost use Rattle.acdm_record.specs.Fields.{fields_at, number_of, set_number, text_of, set_text, is_text, bytes_of, new_record, is_allowed};
 ghost use Rattle.acdm_record.specs.Faults.{AreOfRecord, first_fault};
 
 use crate::fault::{RecordError, fault_of};
 use crate::field::{Field, TextField};
-use crate::part::{before_zero, in_range, number_in, text_part};
+use crate::part::{before_zero, in_range, number_in, text_part, write_padded};
 use byteorder::{ByteOrder, LittleEndian};
 use std::marker::Model;
 
@@ -24,15 +24,6 @@ impl Model for Record {
     ghost view = { λ r. fields_at r.bytes };
 
     ghost invariant = { λ r. IsRecord r.bytes };
-}
-
-// Writes a text, and zero bytes behind it.
-fn write_padded(part: &mut [u8], text: &[u8])
-    requires { length text.now ≤ length part.old }
-    ensures { part.new ≡ padded (length part.old) text.now }
-{
-    part.fill(0);
-    part[..text.len()].copy_from_slice(text);
 }
 
 impl Record {

@@ -1,5 +1,6 @@
 //! A record's bytes against the layout of 128 bytes, and the texts that are taken.
 use crate::{Field, Record, RecordError, Text, TextField};
+use std::mem::size_of;
 use std::process::Abort;
 
 #[test]
@@ -40,6 +41,15 @@ fn texts_are_one_to_most_printable_bytes(rt: HostRuntime) {
     assert!(rt;
         Text::<4>::from_bytes(b"!~").is_some_and(|text| text.as_bytes() == b"!~".as_slice())
     );
+    assert!(rt;
+        Text::<4>::from_bytes(b"A320").is_some_and(|text| text.as_bytes() == b"A320".as_slice())
+    );
+}
+
+#[test]
+fn a_text_takes_as_many_bytes_as_it_may_have(rt: HostRuntime) {
+    assert_eq!(rt; size_of::<Text<8>>(), 8);
+    assert_eq!(rt; size_of::<Text<4>>(), 4);
 }
 
 // Flight 7, scheduled and planned: callsign DLH7, type A320, registration DAIBC, destination EDDM, SOBT and

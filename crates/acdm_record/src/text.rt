@@ -3,6 +3,7 @@ ghost use Rattle.std.specs.Prelude.{◌≡◌, ◌≤◌, ◌↔◌, IsTrue, IsS
 ghost use Rattle.acdm_record.specs.Fields.{is_text};
 ghost use Rattle.acdm_record.specs.Texts.{text_from};
 
+use crate::part::{before_zero, write_padded};
 use std::marker::Model;
 
 pub(crate) fn is_printable(bytes: &[u8]) -> bool
@@ -11,22 +12,21 @@ pub(crate) fn is_printable(bytes: &[u8]) -> bool
     bytes.iter().all(|byte| 33 <= *byte && *byte <= 126)
 }
 
-/// A text of 1 to N bytes, each from 0x21 to 0x7E.
+/// A text of 1 to N bytes, each from 0x21 to 0x7E. It takes N bytes.
 #[derive(Drop)]
 pub struct Text<const N: usize> {
     bytes: [u8; N],
-    len: usize,
 }
 
 impl<const N: usize> Model for Text<N> {
-    ghost use Rattle.std.specs.Prelude.{ℕ, List, take, ◌≤◌, IsTrue};
-    ghost use Rattle.acdm_record.specs.Fields.{is_text};
+    ghost use Rattle.std.specs.Prelude.{ℕ, List};
+    ghost use Rattle.acdm_record.specs.Texts.{kept_text, IsKept};
 
     ghost Value = { List ℕ };
 
-    ghost view = { λ t. take t.len t.bytes };
+    ghost view = { λ t. kept_text t.bytes };
 
-    ghost invariant = { λ t. (1 ≤ t.len) × (t.len ≤ N) × IsTrue (is_text (take t.len t.bytes)) };
+    ghost invariant = { λ t. IsKept N (kept_text t.bytes) };
 }
 
 impl<const N: usize> Text<N> {
@@ -38,11 +38,8 @@ impl<const N: usize> Text<N> {
             return None;
         }
         let mut kept = [0; N];
-        kept[..bytes.len()].copy_from_slice(bytes);
-        Some(Text {
-            bytes: kept,
-            len: bytes.len(),
-        })
+        write_padded(&mut kept, bytes);
+        Some(Text { bytes: kept })
     }
 
     /// The bytes of the text.
@@ -52,6 +49,6 @@ impl<const N: usize> Text<N> {
         ensures some { 1 ≤ length self.now }
         ensures short { length self.now ≤ N }
     {
-        &self.bytes[..self.len]
+        before_zero(&self.bytes)
     }
 }
