@@ -86,8 +86,8 @@ Verifies words file = value_of (codes "verify") (codes "file") words ≡ Some fi
 abbrev pub AuditsFile : List Text → Text → Type 0
 AuditsFile words file = value_of (codes "audit") (codes "file") words ≡ Some file
 
--- the words ask for `run` or `serve` with the journal and the file that they name, or for `verify` or
--- `audit` of their file
+-- the words ask for `run` or `serve` with the journal and the file that they name, or for `verify`
+-- or `audit` of their file
 abbrev pub AsksFor : List Text → Line → Type 0
 AsksFor words (Run journal save) =
     (text : Text) × RunsWith words text × IsJournal text × (journal ≡ number_of text)

@@ -1,4 +1,4 @@
--- What keeps a command from its work, by the error of a run, of `serve` or of the writing of an entry.
+-- What keeps a command from its work, by the error of a run, of `serve` or of writing an entry.
 use Rattle.acdm_journal.specs.declared.entry_text.WriteError.{WriteError}
 use Rattle.acdm_journal.specs.declared.entry_text.WriteError.TheVariants as write_errors
 use Rattle.acdm_lines.specs.declared.run_error.RunError.{RunError}

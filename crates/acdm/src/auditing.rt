@@ -31,12 +31,12 @@ impl Finding {
     }
 }
 
-/// Judges the journal that a reader gives, with the known helpers, and tells what was found: `legal N`
-/// where it has N entries, which are those of a legal history, else `entry N CODE` with the number of
-/// the first faulty entry, from 0, and that of the first clause that it breaks.
+/// Judges the journal that a reader gives, with the known helpers, and tells what was found:
+/// `legal N` where it has N entries, which are those of a legal history, else `entry N CODE` with the
+/// number of the first faulty entry, from 0, and that of the first clause that it breaks.
 ///
-/// The status is 0 for a legal journal, 1 for another, and 2 where nothing was found, with a line on
-/// the errors' writer.
+/// The status is 0 for a legal journal, 1 for another, and 2 where nothing was found, with a line
+/// on the errors' writer.
 pub fn audit_on<R: Read + Drop, W: Write + Drop, E: Write + Drop>(
     alloc: Global,
     reader: R,

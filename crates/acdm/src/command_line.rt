@@ -181,8 +181,9 @@ fn partners_in<'a>(alloc: Global, matches: &ArgMatches<'a>) -> Result<Vec<&'a st
 
 /// What these words ask for; the first is the program's name.
 ///
-/// The journal is what `--journal` says, else 100,000. Words that name no such command are refused by
-/// `clap`, and so is a journal outside 1 to 1,000,000. The other words are taken as they stand. A request for help counts as a refusal.
+/// The journal is what `--journal` says, else 100,000, and the other words are taken as they stand.
+/// Words that name no such command are refused by `clap`, and so is a journal outside 1 to 1,000,000.
+/// A request for help counts as a refusal.
 pub fn parse<'a>(alloc: Global, words: &'a [&'a str]) -> Result<Line<'a>, Error>
     ensures asks { IfOk result (AsksFor (map (λ w. w.now) words.entry.now)) }
     ensures refuses { IfErr result (λ error.

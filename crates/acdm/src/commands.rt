@@ -17,7 +17,8 @@ use std::time::Clock as SystemClock;
 /// Does what the words ask for; the first is the program's name.
 ///
 /// The status is that of the command, and 2 where the words ask for none or their file can't be
-/// opened. The file of `--save` is made before anything is answered, and in place of one that is there. What is wrong is told on the errors' writer; where that fails, the status alone says it.
+/// opened. The file of `--save` is made before anything is answered, and in place of one that is
+/// there. What is wrong is told on the errors' writer; where that fails, the status alone says it.
 pub fn complete<
     Rt: Files
         + Net<Listener = TcpListener, Stream = TcpStream>

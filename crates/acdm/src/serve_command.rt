@@ -17,7 +17,8 @@ use std::time::Clock as SystemClock;
 /// entries in the journal, and tells on the writer what it does. When all partners are gone, the
 /// journal is written as text to the writer that it is to be saved by, if there is one.
 ///
-/// The status is 0 where all was told and the journal was saved, else 2, with a line on the errors' writer.
+/// The status is 0 where all was told and the journal was saved, else 2, with a line on the errors'
+/// writer.
 pub(crate) fn serve_words<
     Rt: Net<Listener = TcpListener, Stream = TcpStream> + SystemClock + Threads + Wait + Sync,
     W: Write + Drop,

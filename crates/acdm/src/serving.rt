@@ -18,8 +18,8 @@ const BUFFER: usize = 65_536;
 /// programs may call the known helpers. Where the input was read to its end, the journal is written
 /// as text to the writer that it is to be saved by, if there is one.
 ///
-/// The status is 0 where the input was read to its end and the journal was saved, else 2, with a line
-/// on the errors' writer.
+/// The status is 0 where the input was read to its end and the journal was saved, else 2, with a
+/// line on the errors' writer.
 pub fn run_on<R: Read + Drop, W: Write + Drop, F: Write + Drop, E: Write + Drop>(
     alloc: Global,
     journal: usize,

@@ -1,5 +1,4 @@
--- What is said of a text is decided: a line breaks one clause first, a text has one legal front that
--- is the longest, and one verdict.
+-- What is said of a text is decided: a line breaks one clause first, and a text has one verdict.
 use Rattle.std.proofs.Common.{◌≡◌, ◌≢◌, ℕ, suc, ◌+◌, ◌<◌, ◌≤◌, true, false, nat_lt, List, [], ◌∷◌}
 use Rattle.std.proofs.Common.{◌++◌, length, refl, sym, ap, subst, ◌∙◌, arith, append_assoc}
 use Rattle.std.proofs.Common.{append-nil}
@@ -16,8 +15,10 @@ use Rattle.acdm_step.specs.History.{IsLegal, replay}
 use Rattle.acdm_journal.specs.declared.stated.Stated.{Stated}
 use Rattle.acdm_journal.specs.declared.judge.Clause.{Clause}
 use Rattle.acdm_journal.specs.declared.judge.Clause.TheVariants as clauses
-use Rattle.acdm_journal.specs.Text.{line_of, stated_in, asked_in, outcome_code, entry_text, history_text}
-use Rattle.acdm_journal.specs.Audit.{IsCommandOf, UsesAnswers, States, StatesNext, Continues, Breaks}
+use Rattle.acdm_journal.specs.Text.{line_of, stated_in, asked_in, outcome_code, entry_text}
+use Rattle.acdm_journal.specs.Text.{history_text}
+use Rattle.acdm_journal.specs.Audit.{IsCommandOf, UsesAnswers, States, StatesNext, Continues}
+use Rattle.acdm_journal.specs.Audit.{Breaks}
 use Rattle.acdm_journal.specs.Whole.{IsReadable, AreReadable, IsTextOf, BreaksNext, at_line, at_end}
 use Rattle.acdm_journal.specs.Whole.{FirstFault}
 use Rattle.acdm_journal.proofs.NoSpaces.{line_is_line}

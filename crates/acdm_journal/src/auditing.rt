@@ -62,14 +62,15 @@ fn judge_entry(
     }
 }
 
-/// Judges a journal, which is the text of its entries one after the other, against these signatures
-/// (this project's profile). Answers how many entries it has where they are those of a legal history.
+/// Judges a journal, which is the text of its entries one after the other, against these
+/// signatures (this project's profile). Answers how many entries it has where they are those of a
+/// legal history.
 ///
 /// `Faulty` with the first entry that is none, from 0, and the first clause that it breaks; a last
-/// line without a line feed is not readable. `Read` where the reader failed, or where 2^40 reads did
-/// not reach its end; `Memory` where there was no room for the board, for a line, or for what an
-/// entry asks for. At no time is more kept than one line of 200,001 bytes, what it states, and the
-/// board after the entries before it.
+/// line without a line feed is not readable. `Read` where the reader failed, or where 2^40 reads
+/// did not reach its end; `Memory` where there was no room for the board, for a line, or for what
+/// an entry asks for. At no time is more kept than 65,536 bytes that were read, 200,001 of a line,
+/// what it states, and the board after the entries before it.
 pub fn audit<R: Read>(alloc: Global, reader: &mut Counted<R>, sigs: &Sigs) -> Result<u64, Fault>
     requires reads { reader.old.faults < 2 ^ 64 - 1 }
     ensures audits { Audits sigs.now R.remaining reader.old reader.new result }

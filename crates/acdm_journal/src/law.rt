@@ -41,8 +41,8 @@ pub fn a_text_has_one_verdict()
         FirstFault sigs text m c → FirstFault sigs text n d → (m ≡ n) × (c ≡ d) }
 {}
 
-/// What is written of each entry of a legal history, the oldest first, an audit takes: it can answer
-/// the number of the entries, and no fault.
+/// What is written of each entry of a legal history, the oldest first, an audit takes: it can
+/// answer the number of the entries, and no fault.
 pub fn what_is_written_is_taken()
     ensures count { (sigs : List (ℕ × Promise)) (J : History) (saved left : Option (List ℕ))
         (n : ℕ) → IsLegal sigs J → AreReadable sigs J → WritesEach J (Some []) saved →
