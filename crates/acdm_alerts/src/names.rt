@@ -48,8 +48,8 @@ fn name_of(bit: u32) -> &'static str
 }
 
 // Adds the name of a bit that is set, and a comma before it unless it is the first.
-fn push_name(names: &mut ArrayVec<u8, 224>, is_first: bool, bit: u32)
-    requires { length names.old.items ≤ 217 }
+fn push_name<const N: usize>(names: &mut ArrayVec<u8, N>, is_first: bool, bit: u32)
+    requires { length names.old.items + 7 ≤ N }
     ensures text { names.new.items ≡ names.old.items ++ ((if is_first then [] else 44 ∷ []) ++ name_in_table bit) }
     ensures short { length names.new.items ≤ length names.old.items + 7 }
 {
@@ -64,19 +64,30 @@ fn push_name(names: &mut ArrayVec<u8, 224>, is_first: bool, bit: u32)
     }
 }
 
+/// Adds the names of the alerts, as `names_of` gives them, behind what stands there. There is room
+/// for all names, which are at most 217 bytes.
+pub fn push_names<const N: usize>(alerts: AlertSet, text: &mut ArrayVec<u8, N>)
+    requires { length text.old.items + 217 ≤ N }
+    ensures names { text.new.items ≡ text.old.items ++ names_text alerts }
+    ensures short { length text.new.items ≤ length text.old.items + 217 }
+{
+    let word = u64::from(alerts.word());
+    let mut is_first = true;
+    let mut bit = 1;
+    while word >> bit != 0 {
+        bit += (word >> bit).trailing_zeros();
+        push_name(text, is_first, bit);
+        is_first = false;
+        bit += 1;
+    }
+}
+
 /// The names of the alerts, by rising bit, with commas between: `CDM08,CDM07a`; no byte for the empty set.
 pub fn names_of(alerts: AlertSet) -> ArrayVec<u8, 224>
     ensures { result.items ≡ names_text alerts }
 {
-    let word = alerts.word();
     let mut names = ArrayVec::new();
-    let mut is_first = true;
-    for bit in 1..32u32 {
-        if (word >> bit) % 2 == 1 {
-            push_name(&mut names, is_first, bit);
-            is_first = false;
-        }
-    }
+    push_names(alerts, &mut names);
     names
 }
 

@@ -1,7 +1,8 @@
 //! Alerts of single records, by the published conditions.
-use crate::{AlertSet, builtin, write_names};
+use crate::{AlertSet, builtin, push_names, write_names};
 use acdm_milestones::mark_reached;
 use acdm_record::{Field, Record, TextField};
+use arrayvec::ArrayVec;
 use std::test::Fail;
 
 // 2025-02-20T10:00Z.
@@ -170,4 +171,16 @@ fn local_alerts_stay_and_have_names(rt: HostRuntime) -> Result<(), Fail> {
     alerts.store(&mut record);
     assert_eq!(rt; AlertSet::of(&record).word(), 0x8001_4000);
     Ok(())
+}
+
+// The names of all that is built in, and of the last local alert, behind a colon.
+const NAMES: &str =
+    ":CDM01,CDM02,CDM03,CDM04,CDM05,CDM07,CDM08,CDM09,CDM10,CDM11,CDM12,CDM13,CDM14,CDM07a,LOC15";
+
+#[test]
+fn names_stand_behind_a_text(rt: HostRuntime) {
+    let mut text = ArrayVec::<u8, 224>::new();
+    text.push(b':');
+    push_names(AlertSet::from_word(0x8000_ffbe), &mut text);
+    assert_eq!(rt; text.as_slice(), NAMES.as_bytes());
 }
