@@ -3,14 +3,17 @@ use Rattle.std.proofs.Common.{◌≡◌, [], ◌∷◌, codes, Some, refl}
 use Rattle.clap.proofs.OnLiterals.{clap_on_literals}
 use Rattle.acdm.specs.CommandLine.{value_of}
 
-usual : value_of (codes "run") (codes "journal") (codes "acdm" ∷ codes "run" ∷ []) ≡ Some (codes "100000")
+usual : value_of (codes "run") (codes "journal") (codes "acdm" ∷ codes "run" ∷ [])
+    ≡ Some (codes "100000")
 unfolding clap_on_literals
 usual = refl
 
-apart : value_of (codes "run") (codes "journal") (codes "acdm" ∷ codes "run" ∷ codes "--journal" ∷ codes "7" ∷ []) ≡ Some (codes "7")
+apart : value_of (codes "run") (codes "journal")
+    (codes "acdm" ∷ codes "run" ∷ codes "--journal" ∷ codes "7" ∷ []) ≡ Some (codes "7")
 unfolding clap_on_literals
 apart = refl
 
-joined : value_of (codes "run") (codes "journal") (codes "acdm" ∷ codes "run" ∷ codes "--journal=7" ∷ []) ≡ Some (codes "7")
+joined : value_of (codes "run") (codes "journal")
+    (codes "acdm" ∷ codes "run" ∷ codes "--journal=7" ∷ []) ≡ Some (codes "7")
 unfolding clap_on_literals
 joined = refl

@@ -1,8 +1,10 @@
 -- What the words of a command line ask for, as `clap` reads them.
-use Rattle.std.specs.Prelude.{ℕ, ◌≡◌, ◌≤◌, ◌⊎◌, true, List, [], ◌∷◌, codes, Option, Some, None, option_and_then, option_map, if◌then◌else◌}
+use Rattle.std.specs.Prelude.{ℕ, ◌≡◌, ◌≤◌, ◌⊎◌, true, List, [], ◌∷◌, codes, Option, Some, None}
+use Rattle.std.specs.Prelude.{option_and_then, option_map, if◌then◌else◌}
 use Rattle.std.specs.Str.{bytes_eq}
 use Rattle.std.specs.Str.Parse.{IsNumeral, digits_value, without_leading_plus}
-use Rattle.clap.specs.Words.{App, Row, Rule, Text, first_of, new_app, new_rule, subcommand_of, with_rule, with_subcommand}
+use Rattle.clap.specs.Words.{App, Row, Rule, Text, first_of, new_app, new_rule, subcommand_of}
+use Rattle.clap.specs.Words.{with_rule, with_subcommand}
 use Rattle.clap.specs.Takes.{takes}
 use Rattle.clap.specs.declared.builder.action.ArgAction.TheVariants.{Append}
 use Rattle.clap.specs.declared.error.kind.ErrorKind.{ErrorKind}
@@ -12,7 +14,11 @@ use Rattle.acdm.specs.declared.command_line.Line.TheVariants.{Run, Serve, Verify
 
 -- `--journal N`, 100000 where it is not given
 abbrev pub journal_rule : Rule
-journal_rule = record (new_rule (codes "journal")) { long = Some (codes "journal"); value_names = 1; defaults = codes "100000" ∷ [] }
+journal_rule = record (new_rule (codes "journal")) {
+  long = Some (codes "journal");
+  value_names = 1;
+  defaults = codes "100000" ∷ [];
+}
 
 -- `--save FILE`
 abbrev pub save_rule : Rule
@@ -58,7 +64,8 @@ program = with_subcommand (with_subcommand serving_app verify_app.top) audit_app
 
 -- the first value of an argument of the subcommand of a name
 abbrev pub value_in : List ℕ → List ℕ → Option (Text × List Row) → Option Text
-value_in name id found = option_and_then (λ p. if bytes_eq p.0 name then first_of id p.1 else None) found
+value_in name id found = option_and_then (λ p. if bytes_eq p.0 name then first_of id p.1 else None)
+    found
 
 abbrev pub value_of : List ℕ → List ℕ → List Text → Option Text
 value_of name id words = value_in name id (subcommand_of program words)

@@ -7,7 +7,8 @@ use std::io::{self, Read, Write};
 use std::process::Abort;
 use std::test::Fail;
 
-// A program for milestone 9 asks for the taxi time from the stand, and its answer is the local alerts.
+// A program for milestone 9 asks for the taxi time from the stand, and its answer is the local
+// alerts.
 const LINES: &str =
     r#"1 29000580 APT {"cmd":"load","milestone":9,"kind":"alert","program":"69113c000000000057010000ff01000085000000020000009500000000000000"}
 1 29000580 APT {"cmd":"schedule","flight":7,"callsign":"DLH7","type":"A320","reg":"DAIBC","dest":"EDDM","sobt":"2025-02-20T10:00:00Z","mttt":40,"exit":5,"exot":10,"stand":12}

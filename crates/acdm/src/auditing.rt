@@ -31,8 +31,8 @@ impl Finding {
     }
 }
 
-/// Judges the journal that a reader gives, with the known helpers, and tells what was found:
-/// `legal N` where it has N entries, which are those of a legal history, else `entry N CODE` with the
+/// Judges the journal that a reader gives, with the known helpers, and tells what was found: `legal
+/// N` where it has N entries, which are those of a legal history, else `entry N CODE` with the
 /// number of the first faulty entry, from 0, and that of the first clause that it breaks.
 ///
 /// The status is 0 for a legal journal, 1 for another, and 2 where nothing was found, with a line

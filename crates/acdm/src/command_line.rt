@@ -4,7 +4,8 @@ ghost use Rattle.std.specs.Option.{SomeIff};
 ghost use Rattle.clap.specs.Values.{kind_of};
 ghost use Rattle.clap.specs.Words.{app_of, rule_of, subcommand_rows_of};
 ghost use Rattle.clap.specs.declared.builder.Command.TheViews.{out-Command as fields_of};
-ghost use Rattle.acdm.specs.CommandLine.{program as the_program, audit_app, run_app, serve_app, serve_options_app, serving_app, verify_app};
+ghost use Rattle.acdm.specs.CommandLine.{program as the_program, audit_app, run_app, serve_app};
+ghost use Rattle.acdm.specs.CommandLine.{serve_options_app, serving_app, verify_app};
 ghost use Rattle.acdm.specs.CommandLine.{journal_rule, save_rule, value_in};
 ghost use Rattle.acdm.specs.CommandLine.{number_of, IsJournal, AsksFor, Refuses};
 
@@ -182,8 +183,8 @@ fn partners_in<'a>(alloc: Global, matches: &ArgMatches<'a>) -> Result<Vec<&'a st
 /// What these words ask for; the first is the program's name.
 ///
 /// The journal is what `--journal` says, else 100,000, and the other words are taken as they stand.
-/// Words that name no such command are refused by `clap`, and so is a journal outside 1 to 1,000,000.
-/// A request for help counts as a refusal.
+/// Words that name no such command are refused by `clap`, and so is a journal outside 1 to
+/// 1,000,000. A request for help counts as a refusal.
 pub fn parse<'a>(alloc: Global, words: &'a [&'a str]) -> Result<Line<'a>, Error>
     ensures asks { IfOk result (AsksFor (map (λ w. w.now) words.entry.now)) }
     ensures refuses { IfErr result (λ error.

@@ -25,8 +25,8 @@ pub enum Failure {
 }
 
 impl Failure {
-    /// Says what failed, as one line, and answers the status 2. Where the line can't be written either, the status
-    /// alone says it.
+    /// Says what failed, as one line, and answers the status 2. Where the line can't be written
+    /// either, the status alone says it.
     pub fn complain<E: Write + Drop>(self, mut errors: E) -> u8 {
         let _ = match self {
             Failure::Read => writeln!(errors, "acdm: read failed"),

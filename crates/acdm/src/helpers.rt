@@ -132,8 +132,8 @@ pub(crate) fn bank_of(
     Ok(bank)
 }
 
-/// The signatures of the helpers that programs may call: 1, the least turn-round time of a type, 2, the taxi time from a stand,
-/// and 3, a sum of minutes. `Err` only where there is no memory.
+/// The signatures of the helpers that programs may call: 1, the least turn-round time of a type, 2,
+/// the taxi time from a stand, and 3, a sum of minutes. `Err` only where there is no memory.
 pub fn known_sigs(alloc: Global) -> Result<Sigs, AllocError>
     ensures { IfOk result (λ sigs. sigs ≡ helpers) }
 {

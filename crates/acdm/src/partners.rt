@@ -33,12 +33,13 @@ impl Gate for Open {
     fn answered(&self, _session: u8, _call: u64) {}
 }
 
-/// Accepts one partner on each listener, in order, serves all at once against one desk, and tells on
-/// the writer what it does: `listen K ROLE ADDR` for each listener, K from 1, then, once all partners
-/// are gone, `session K CALLS END` for each session and `closed N` with the number of entries.
+/// Accepts one partner on each listener, in order, serves all at once against one desk, and tells
+/// on the writer what it does: `listen K ROLE ADDR` for each listener, K from 1, then, once all
+/// partners are gone, `session K CALLS END` for each session and `closed N` with the number of
+/// entries.
 ///
-/// `Accept` where a listener has no address or a partner can't be accepted; `Write` where the writer
-/// failed, which may be after the sessions; `Memory` where it was refused before they began.
+/// `Accept` where a listener has no address or a partner can't be accepted; `Write` where the
+/// writer failed, which may be after the sessions; `Memory` where it was refused before they began.
 pub fn serve_on<
     Rt: Threads + Wait + Sync,
     H: Helpers + Drop + Send,

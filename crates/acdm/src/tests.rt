@@ -16,7 +16,8 @@ use std::test::Fail;
 use std::thread::Threads;
 use std::time::Clock;
 
-// At 2025-02-20T07:00Z the airport schedules flight 7, and the network manager activates its flight plan.
+// At 2025-02-20T07:00Z the airport schedules flight 7, and the network manager activates its flight
+// plan.
 const SCHEDULE: &str =
     r#"1 29000580 APT {"cmd":"schedule","flight":7,"callsign":"DLH7","type":"A320","reg":"DAIBC","dest":"EDDM","sobt":"2025-02-20T10:00:00Z","mttt":40,"exit":5,"exot":10,"stand":12}
 "#;

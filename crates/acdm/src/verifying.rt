@@ -36,11 +36,11 @@ impl Verdict {
     }
 }
 
-/// Lists the program that a reader's bytes encode, one line for each slot, and then its slots, if it
-/// may run with the known helpers; else tells its first fault.
+/// Lists the program that a reader's bytes encode, one line for each slot, and then its slots, if
+/// it may run with the known helpers; else tells its first fault.
 ///
-/// The status is 0 for a program that is accepted and 1 for one that is refused, else 2, with a line
-/// on the errors' writer.
+/// The status is 0 for a program that is accepted and 1 for one that is refused, else 2, with a
+/// line on the errors' writer.
 pub fn verify_on<R: Read + Drop, W: Write + Drop, E: Write + Drop>(
     alloc: Global,
     reader: R,

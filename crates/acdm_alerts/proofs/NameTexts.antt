@@ -1,5 +1,8 @@
 -- The names that are there so far, and those that are left.
-use Rattle.std.proofs.Common.{◌≡◌, ℕ, suc, ◌+◌, ◌-◌, ◌*◌, ◌<◌, ◌≤◌, Bool, true, false, ◌&&◌, not, cond, List, [], ◌∷◌, ◌++◌, length, refl, sym, ap, ◌∙◌, append_assoc, append-nil, arith, zero, subst, ◌/◌, ◌%◌, ◌^◌, ◌==◌, ◌⊎◌, inl, inr, w64}
+use Rattle.std.proofs.Common.{◌≡◌, ℕ, suc, ◌+◌, ◌-◌, ◌*◌, ◌<◌, ◌≤◌, Bool, true, false, ◌&&◌, not}
+use Rattle.std.proofs.Common.{cond, List, [], ◌∷◌, ◌++◌, length, refl, sym, ap, ◌∙◌, append_assoc}
+use Rattle.std.proofs.Common.{append-nil, arith, zero, subst, ◌/◌, ◌%◌, ◌^◌, ◌==◌, ◌⊎◌, inl, inr}
+use Rattle.std.proofs.Common.{w64}
 use Rattle.std.proofs.Math.Nat.{div-div-eq-div-mul, div-le_self}
 use Rattle.std.proofs.lemmas.Nat.{pow-add}
 use Rattle.std.proofs.lemmas.Nat.Bits.{bit_at-zero, bit_at-trailing_zeros, bit_at_above}
@@ -21,22 +24,31 @@ pub named-start : (word : ℕ) → Named [] true word 1
 unfolding names_text
 named-start word = record { whole = refl; short = omega arith }
 
-left-step : (is_first : Bool) (word bit : ℕ) → bit < 32 → names_left is_first word bit ≡ piece is_first word bit ++ names_left (is_first && not (has_bit word bit)) word (bit + 1)
+left-step : (is_first : Bool) (word bit : ℕ) → bit < 32
+    → names_left is_first word bit ≡ piece is_first word bit
+    ++ names_left (is_first && not (has_bit word bit)) word (bit + 1)
 left-step is_first word bit h =
     let more : 32 - bit ≡ suc (32 - (bit + 1)) = omega arith in
     ap (names_from is_first word bit) more
 
-module _ (bytes : List ℕ) (is_first : Bool) (word bit : ℕ) (inside : bit < 32) (w : Named bytes is_first word bit) where
+module _ (bytes : List ℕ) (is_first : Bool) (word bit : ℕ) (inside : bit < 32)
+    (w : Named bytes is_first word bit) where
   -- a bit that is set
-  pub named-set : (new : List ℕ) → has_bit word bit ≡ true → new ≡ bytes ++ (cond is_first [] (44 ∷ []) ++ name_of bit) → length new ≤ length bytes + 7 → Named new false word (bit + 1)
+  pub named-set : (new : List ℕ) → has_bit word bit ≡ true
+      → new ≡ bytes ++ (cond is_first [] (44 ∷ []) ++ name_of bit) → length new ≤ length bytes + 7
+      → Named new false word (bit + 1)
   named-set new set p short =
       let text : List ℕ = cond is_first [] (44 ∷ []) ++ name_of bit in
       let here : piece is_first word bit ≡ text = ap (λ b. cond b text []) set in
-      let flag : (is_first && not (has_bit word bit)) ≡ false = ap (λ b. is_first && not b) set ∙ no_more is_first in
+      let flag : (is_first && not (has_bit word bit)) ≡ false = ap (λ b. is_first && not b) set
+      ∙ no_more is_first in
       let had = w.short in
       record {
-        whole = ap (λ l. l ++ names_left false word (bit + 1)) p ∙ append_assoc bytes text (names_left false word (bit + 1))
-            ∙ sym (ap (λ l. bytes ++ l) (left-step is_first word bit inside ∙ ap (λ t. t ++ names_left (is_first && not (has_bit word bit)) word (bit + 1)) here ∙ ap (λ b. text ++ names_left b word (bit + 1)) flag))
+        whole = ap (λ l. l ++ names_left false word (bit + 1)) p
+            ∙ append_assoc bytes text (names_left false word (bit + 1))
+            ∙ sym (ap (λ l. bytes ++ l) (left-step is_first word bit inside
+            ∙ ap (λ t. t ++ names_left (is_first && not (has_bit word bit)) word (bit + 1)) here
+            ∙ ap (λ b. text ++ names_left b word (bit + 1)) flag))
             ∙ w.whole;
         short = omega arith;
       }
@@ -48,11 +60,15 @@ module _ (bytes : List ℕ) (is_first : Bool) (word bit : ℕ) (inside : bit < 3
   -- a bit that is clear
   pub named-clear : has_bit word bit ≡ false → Named bytes is_first word (bit + 1)
   named-clear clear =
-      let here : piece is_first word bit ≡ [] = ap (λ b. cond b (cond is_first [] (44 ∷ []) ++ name_of bit) []) clear in
-      let flag : (is_first && not (has_bit word bit)) ≡ is_first = ap (λ b. is_first && not b) clear ∙ still is_first in
+      let here : piece is_first word bit ≡ [] =
+      ap (λ b. cond b (cond is_first [] (44 ∷ []) ++ name_of bit) []) clear in
+      let flag : (is_first && not (has_bit word bit)) ≡ is_first = ap (λ b. is_first && not b) clear
+      ∙ still is_first in
       let had = w.short in
       record {
-        whole = sym (ap (λ l. bytes ++ l) (left-step is_first word bit inside ∙ ap (λ t. t ++ names_left (is_first && not (has_bit word bit)) word (bit + 1)) here ∙ ap (λ b. names_left b word (bit + 1)) flag)) ∙ w.whole;
+        whole = sym (ap (λ l. bytes ++ l) (left-step is_first word bit inside
+            ∙ ap (λ t. t ++ names_left (is_first && not (has_bit word bit)) word (bit + 1)) here
+            ∙ ap (λ b. names_left b word (bit + 1)) flag)) ∙ w.whole;
         short = omega arith;
       }
     where
@@ -60,7 +76,8 @@ module _ (bytes : List ℕ) (is_first : Bool) (word bit : ℕ) (inside : bit < 3
       still true = refl
       still false = refl
 
-pub named-end : (bytes : List ℕ) (is_first : Bool) (word : ℕ) → Named bytes is_first word 32 → bytes ≡ names_text word
+pub named-end : (bytes : List ℕ) (is_first : Bool) (word : ℕ) → Named bytes is_first word 32
+    → bytes ≡ names_text word
 named-end bytes is_first word w = sym (append-nil bytes) ∙ w.whole
 
 -- bits that are clear

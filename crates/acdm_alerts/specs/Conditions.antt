@@ -1,11 +1,18 @@
--- When a flight has an alert (this project's profile, over the list of alerts of A-CDM airports). All sums are
--- whole numbers, and never wrap.
-use Rattle.std.specs.Prelude.{ℕ, ◌+◌, ◌*◌, ◌/◌, ◌%◌, ◌^◌, Bool, false, ◌||◌, ◌&&◌, not, nat_le, nat_lt, if◌then◌else◌, List, [], ◌∷◌, Option, Some, None}
+-- When a flight has an alert (this project's profile, over the list of alerts of A-CDM airports).
+-- All sums are whole numbers, and never wrap.
+use Rattle.std.specs.Prelude.{ℕ, ◌+◌, ◌*◌, ◌/◌, ◌%◌, ◌^◌, Bool, false, ◌||◌, ◌&&◌, not, nat_le}
+use Rattle.std.specs.Prelude.{nat_lt, if◌then◌else◌, List, [], ◌∷◌, Option, Some, None}
 use Rattle.std.specs.Str.{bytes_eq}
 use Rattle.acdm_record.specs.declared.field.Field.{Field}
-use Rattle.acdm_record.specs.declared.field.Field.TheVariants.{Alerts, Mttt, Exit, Sobt, Eobt, Eldt, Aldt, Aibt, Tobt, Tsat, Asbt, Asat, Aobt}
+use Rattle.acdm_record.specs.declared.field.Field.TheVariants.{Alerts, Mttt, Exit, Sobt, Eobt, Eldt}
+use Rattle.acdm_record.specs.declared.field.Field.TheVariants.{Aldt, Aibt, Tobt, Tsat, Asbt, Asat}
+use Rattle.acdm_record.specs.declared.field.Field.TheVariants.{Aobt}
 use Rattle.acdm_record.specs.declared.field.TextField.{TextField}
-use Rattle.acdm_record.specs.declared.field.TextField.TheVariants.{ScheduledType, PlanType, ScheduledRegistration, PlanRegistration, ScheduledDestination, PlanDestination}
+use Rattle.acdm_record.specs.declared.field.TextField.TheVariants.{ScheduledType, PlanType}
+use Rattle.acdm_record.specs.declared.field.TextField.TheVariants.{ScheduledRegistration}
+use Rattle.acdm_record.specs.declared.field.TextField.TheVariants.{PlanRegistration}
+use Rattle.acdm_record.specs.declared.field.TextField.TheVariants.{ScheduledDestination}
+use Rattle.acdm_record.specs.declared.field.TextField.TheVariants.{PlanDestination}
 use Rattle.acdm_record.specs.Fields.{Fields, number_of, text_of}
 use Rattle.acdm_milestones.specs.Tables.{has_reached, is_set}
 
@@ -27,11 +34,14 @@ turns_after r f = is_set r f && exceeds (eibt r) (number_of r Mttt) (number_of r
 
 -- two times that are set differ by more than so many minutes
 abbrev pub differ_by : ℕ → Fields → Field → Field → Bool
-differ_by n r f g = is_set r f && (is_set r g && (nat_lt (number_of r f + n) (number_of r g) || nat_lt (number_of r g + n) (number_of r f)))
+differ_by n r f g = is_set r f
+    && (is_set r g && (nat_lt (number_of r f + n) (number_of r g)
+    || nat_lt (number_of r g + n) (number_of r f)))
 
 -- scheduled and planned, and two texts differ
 abbrev pub texts_differ : Fields → TextField → TextField → Bool
-texts_differ r t u = has_reached r 0 && (has_reached r 1 && not (bytes_eq (text_of r t) (text_of r u)))
+texts_differ r t u = has_reached r 0
+    && (has_reached r 1 && not (bytes_eq (text_of r t) (text_of r u)))
 
 -- CDM01: no airport slot
 abbrev pub no_airport_slot : Fields → Bool
@@ -39,7 +49,9 @@ no_airport_slot r = has_reached r 1 && not (has_reached r 0)
 
 -- CDM09: boarding not started
 abbrev pub boarding_not_started : Fields → ℕ → Bool
-boarding_not_started r moment = is_set r Tobt && (not (is_set r Asbt) && (not (is_set r Aobt) && nat_le (number_of r Tobt) (moment + 10)))
+boarding_not_started r moment =
+    is_set r Tobt && (not (is_set r Asbt)
+    && (not (is_set r Aobt) && nat_le (number_of r Tobt) (moment + 10)))
 
 -- CDM10: TOBT rejected or deleted
 abbrev pub tobt_deleted : Fields → Bool
@@ -47,17 +59,20 @@ tobt_deleted r = has_reached r 9 && not (is_set r Tobt)
 
 -- CDM11: not compliant with TOBT or TSAT
 abbrev pub tsat_passed : Fields → ℕ → Bool
-tsat_passed r moment = is_set r Tsat && (not (is_set r Asat) && nat_lt (number_of r Tsat + 5) moment)
+tsat_passed r moment = is_set r Tsat
+    && (not (is_set r Asat) && nat_lt (number_of r Tsat + 5) moment)
 
 -- CDM13: no flight plan
 abbrev pub no_flight_plan : Fields → ℕ → Bool
-no_flight_plan r moment = has_reached r 0 && (not (has_reached r 1) && nat_le (number_of r Sobt) (moment + 180))
+no_flight_plan r moment = has_reached r 0
+    && (not (has_reached r 1) && nat_le (number_of r Sobt) (moment + 180))
 
 -- the bit of an alert, where it holds
 abbrev pub bit_if : Bool → ℕ → ℕ
 bit_if b n = if b then 2 ^ n else 0
 
--- the alerts that are computed, CDM01 to CDM05, CDM07 to CDM13 and CDM07a: the bit of each, in rising order, and whether it holds
+-- the alerts that are computed, CDM01 to CDM05, CDM07 to CDM13 and CDM07a: the bit of each, in
+-- rising order, and whether it holds
 abbrev pub computed_alerts : Fields → ℕ → List (ℕ × Bool)
 computed_alerts r moment =
     (1, no_airport_slot r)

@@ -1,5 +1,5 @@
--- The alerts that local programs decide (this project's profile): CDM14, no automatic TOBT, which is bit 14, and the local
--- alerts, which are the bits from 16 on.
+-- The alerts that local programs decide (this project's profile): CDM14, no automatic TOBT, which
+-- is bit 14, and the local alerts, which are the bits from 16 on.
 use Rattle.std.specs.Prelude.{ℕ, ◌+◌, ◌*◌, ◌/◌, ◌%◌, Bool, if◌then◌else◌}
 
 -- bit 14, where a TOBT was rejected

@@ -2,13 +2,14 @@
 ghost use Rattle.std.specs.Prelude.{◌≡◌, ◌==◌, ◌<◌, ◌^◌, IsTrue};
 ghost use Rattle.acdm_record.specs.declared.field.Field.TheVariants.{Alerts};
 ghost use Rattle.acdm_record.specs.Fields.{number_of, is_allowed, set_number};
-ghost use Rattle.acdm_alerts.specs.Decided.{with_rejection as word_with_rejection, with_locals as word_with_locals};
+ghost use Rattle.acdm_alerts.specs.Decided.{with_rejection as word_with_rejection};
+ghost use Rattle.acdm_alerts.specs.Decided.{with_locals as word_with_locals};
 
 use acdm_record::{Field, Record};
 use std::marker::Model;
 
-/// The alerts of a flight: bit k is CDM k for k from 1 to 14 without 6, bit 15 is CDM07a, bits 16 to 31 are the local
-/// alerts LOC00 to LOC15.
+/// The alerts of a flight: bit k is CDM k for k from 1 to 14 without 6, bit 15 is CDM07a, bits 16
+/// to 31 are the local alerts LOC00 to LOC15.
 #[derive(Clone, Copy)]
 pub struct AlertSet {
     word: u32,
@@ -59,7 +60,8 @@ impl AlertSet {
         self.word
     }
 
-    /// The same alerts with CDM14, no automatic TOBT, set or clear. Only a TOBT program decides it (this project's profile).
+    /// The same alerts with CDM14, no automatic TOBT, set or clear. Only a TOBT program decides it
+    /// (this project's profile).
     pub fn with_rejection(self, rejected: bool) -> AlertSet
         ensures { result ≡ word_with_rejection rejected self }
     {

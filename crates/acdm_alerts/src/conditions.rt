@@ -4,7 +4,16 @@ ghost use Rattle.acdm_record.specs.declared.field.Field.TheVariants.{Alerts};
 ghost use Rattle.acdm_record.specs.Place.{width_of};
 ghost use Rattle.acdm_record.specs.Fields.{number_of, is_allowed};
 ghost use Rattle.acdm_milestones.specs.Tables.{is_set as is_given};
-ghost use Rattle.acdm_alerts.specs.Conditions.{eibt as in_block_time, turns_after as turns_later, differ_by as are_apart, texts_differ as have_other_texts, no_airport_slot as lacks_slot, boarding_not_started as is_not_boarding, tobt_deleted as has_no_tobt, tsat_passed as is_past_tsat, no_flight_plan as lacks_plan, bit_if as bit_where, conditions as computed_word, kept_bits as kept, alert_word};
+ghost use Rattle.acdm_alerts.specs.Conditions.{eibt as in_block_time, turns_after as turns_later};
+ghost use Rattle.acdm_alerts.specs.Conditions.{differ_by as are_apart};
+ghost use Rattle.acdm_alerts.specs.Conditions.{texts_differ as have_other_texts};
+ghost use Rattle.acdm_alerts.specs.Conditions.{no_airport_slot as lacks_slot};
+ghost use Rattle.acdm_alerts.specs.Conditions.{boarding_not_started as is_not_boarding};
+ghost use Rattle.acdm_alerts.specs.Conditions.{tobt_deleted as has_no_tobt};
+ghost use Rattle.acdm_alerts.specs.Conditions.{tsat_passed as is_past_tsat};
+ghost use Rattle.acdm_alerts.specs.Conditions.{no_flight_plan as lacks_plan, bit_if as bit_where};
+ghost use Rattle.acdm_alerts.specs.Conditions.{conditions as computed_word, kept_bits as kept};
+ghost use Rattle.acdm_alerts.specs.Conditions.{alert_word};
 
 use crate::alert_set::AlertSet;
 use acdm_milestones::has_reached;
@@ -148,8 +157,8 @@ fn kept_bits(word: u32) -> u32
     word / 65536 * 65536 + word / 16384 % 2 * 16384
 }
 
-/// The alerts of a record at a moment, in minutes since 1970-01-01T00:00Z: the built-in alerts anew, while CDM14 and the
-/// local alerts stay as they are in the record. Sums never wrap.
+/// The alerts of a record at a moment, in minutes since 1970-01-01T00:00Z: the built-in alerts
+/// anew, while CDM14 and the local alerts stay as they are in the record. Sums never wrap.
 pub fn builtin(record: &Record, moment: u32) -> AlertSet
     ensures { result ≡ alert_word record.now moment }
 {

@@ -50,7 +50,8 @@ fn name_of(bit: u32) -> &'static str
 // Adds the name of a bit that is set, and a comma before it unless it is the first.
 fn push_name<const N: usize>(names: &mut ArrayVec<u8, N>, is_first: bool, bit: u32)
     requires { length names.old.items + 7 ≤ N }
-    ensures text { names.new.items ≡ names.old.items ++ ((if is_first then [] else 44 ∷ []) ++ name_in_table bit) }
+    ensures text { names.new.items ≡ names.old.items
+        ++ ((if is_first then [] else 44 ∷ []) ++ name_in_table bit) }
     ensures short { length names.new.items ≤ length names.old.items + 7 }
 {
     if !is_first {
@@ -82,7 +83,8 @@ pub fn push_names<const N: usize>(alerts: AlertSet, text: &mut ArrayVec<u8, N>)
     }
 }
 
-/// The names of the alerts, by rising bit, with commas between: `CDM08,CDM07a`; no byte for the empty set.
+/// The names of the alerts, by rising bit, with commas between: `CDM08,CDM07a`; no byte for the
+/// empty set.
 pub fn names_of(alerts: AlertSet) -> ArrayVec<u8, 224>
     ensures { result.items ≡ names_text alerts }
 {
@@ -93,7 +95,8 @@ pub fn names_of(alerts: AlertSet) -> ArrayVec<u8, 224>
 
 /// Writes the names of the alerts as `names_of` gives them. It writes nothing for the empty set.
 pub fn write_names<W: Write>(alerts: AlertSet, writer: &mut W) -> io::Result<()>
-    ensures { OnOk result (Appends (W.contents writer.old) (W.contents writer.new) (names_text alerts)) }
+    ensures { OnOk result (Appends (W.contents writer.old) (W.contents writer.new)
+        (names_text alerts)) }
 {
     writer.write_all(names_of(alerts).as_slice())
 }

@@ -25,7 +25,10 @@ pub record Keeps (core : Board) (entries : List Entry) (capacity : ℕ) : Type 0
 -- the desk with one entry more, for a command with these answers of helpers
 abbrev pub entered : DeskView → ℕ → Role → ℕ → Command → List ℕ → DeskView
 entered d session role moment c answers =
-    record d { history = after d.history session role moment c (verdict_of d.sigs d.history role c) answers }
+    record d {
+      history = after d.history session role moment c (verdict_of d.sigs d.history role c)
+          answers;
+    }
 
 -- a load of a program that was checked against other signatures
 abbrev pub is_foreign : List (ℕ × Promise) → Command → Bool
@@ -33,7 +36,8 @@ is_foreign sigs (Load l) = not (same_sigs l.program.sigs sigs)
 is_foreign sigs _ = false
 
 -- An entry was made for a command, with the answers that helpers gave, and this came of it.
-pub record Enters (old : DeskView) (session : ℕ) (role : Role) (moment : ℕ) (c : Command) (new : DeskView) (outcome : Outcome) : Type 0 where
+pub record Enters (old : DeskView) (session : ℕ) (role : Role) (moment : ℕ) (c : Command)
+    (new : DeskView) (outcome : Outcome) : Type 0 where
   pub answers : List ℕ
   pub entry : new ≡ entered old session role moment c answers
   pub outcome_is : outcome ≡ outcome_of old.sigs old.history role c

@@ -1,5 +1,6 @@
 //! The core, and the journal of what changed it.
-ghost use Rattle.std.specs.Prelude.{◌≡◌, ◌<◌, ◌≤◌, [], true, false, length, reverse, slice_get, IfOk, OnErr};
+ghost use Rattle.std.specs.Prelude.{◌≡◌, ◌<◌, ◌≤◌, [], true, false, length, reverse, slice_get};
+ghost use Rattle.std.specs.Prelude.{IfOk, OnErr};
 ghost use Rattle.std.specs.Option.{option_copied};
 ghost use Rattle.bpf_helpers.specs.Same.{same_sigs};
 ghost use Rattle.bpf_regstate.specs.States.{Accepts};
@@ -30,7 +31,11 @@ impl Model for Book {
 
     ghost Value = { DeskView };
 
-    ghost view = { λ b. record { history = reverse b.journal.items; capacity = b.capacity; sigs = b.core.slots.sigs } };
+    ghost view = { λ b. record {
+      history = reverse b.journal.items;
+      capacity = b.capacity;
+      sigs = b.core.slots.sigs;
+    } };
 
     ghost invariant = { λ b. Keeps b.core b.journal.items b.capacity };
 }
@@ -49,12 +54,14 @@ fn is_foreign(command: &Command, sigs: &Sigs) -> bool
 /// Whether a program was checked against these signatures.
 fn is_checked_against(program: &Checked, sigs: &Sigs) -> bool
     ensures value { result ≡ same_sigs program.now.sigs sigs.now }
-    ensures same { result ≡ true → (program.now.sigs ≡ sigs.now) × Accepts 128 program.now.ops sigs.now }
+    ensures same { result ≡ true → (program.now.sigs ≡ sigs.now)
+        × Accepts 128 program.now.ops sigs.now }
 {
     program.sigs().is_same(sigs)
 }
 
-/// The answers that the programs of an accepted command used, in no more room than they need; a refused one used none.
+/// The answers that the programs of an accepted command used, in no more room than they need; a
+/// refused one used none.
 fn answers_of<H: Helpers>(alloc: Global, live: Live<'_, H>, outcome: &Outcome) -> Answers
     ensures accepted { is_accepted (verdict_in outcome.now) ≡ true → result ≡ live.entry.log }
     ensures refused { is_accepted (verdict_in outcome.now) ≡ false → result ≡ [] }
@@ -70,7 +77,8 @@ fn answers_of<H: Helpers>(alloc: Global, live: Live<'_, H>, outcome: &Outcome) -
 impl Book {
     /// An empty journal for so many entries, and its core. `Err` only where memory was refused.
     pub(crate) fn new(alloc: Global, sigs: Sigs, capacity: usize) -> Result<Book, AllocError>
-        ensures { IfOk result (λ book. book ≡ record { history = []; capacity = capacity; sigs = sigs }) }
+        ensures { IfOk result (λ book. book
+            ≡ record { history = []; capacity = capacity; sigs = sigs }) }
     {
         let core = Core::new(alloc, sigs)?;
         Ok(Book {
@@ -122,7 +130,8 @@ impl Book {
         self.journal.get(number as usize)
     }
 
-    /// Whether a command loads a program that was checked against other signatures than those of the core.
+    /// Whether a command loads a program that was checked against other signatures than those of
+    /// the core.
     pub(crate) fn refuses(&self, command: &Command) -> bool
         ensures value { result ≡ has_other_sigs self.now.sigs command.now }
         ensures checked { result ≡ false → IsChecked self.now.sigs command.now }
@@ -130,9 +139,9 @@ impl Book {
         is_foreign(command, self.sigs())
     }
 
-    /// Makes the next entry of a command, whose programs ask this oracle, which has room for all of their answers, and tells what came
-    /// of it. `Err` only where memory was
-    /// refused; nothing has changed then.
+    /// Makes the next entry of a command, whose programs ask this oracle, which has room for all of
+    /// their answers, and tells what came of it. `Err` only where memory was refused; nothing has
+    /// changed then.
     pub(crate) fn enter<H: Helpers>(
         &mut self,
         live: Live<'_, H>,
@@ -150,7 +159,8 @@ impl Book {
         requires sigs { live.sigs ≡ self.old.sigs }
         requires log { live.log ≡ [] }
         requires refusals { live.refusals ≡ 0 }
-        ensures enters { IfOk result (λ outcome. Enters self.old session role moment command self.new outcome) }
+        ensures enters { IfOk result (λ outcome. Enters self.old session role moment command
+            self.new outcome) }
         ensures err { OnErr result (self.new ≡ self.old) }
     {
         let mut live = live;

@@ -1,5 +1,6 @@
 //! The desk: helpers, the core and the journal of what changed it.
-ghost use Rattle.std.specs.Prelude.{◌≡◌, ◌≢◌, ◌≤◌, ◌↔◌, [], true, false, length, reverse, slice_get, IfOk, OnErr, Err};
+ghost use Rattle.std.specs.Prelude.{◌≡◌, ◌≢◌, ◌≤◌, ◌↔◌, [], true, false, length, reverse};
+ghost use Rattle.std.specs.Prelude.{slice_get, IfOk, OnErr, Err};
 ghost use Rattle.std.specs.Option.{option_copied};
 ghost use Rattle.acdm_step.specs.History.{IsLegal, replay};
 ghost use Rattle.acdm_board.specs.Desk.{DeskView, Enters, is_foreign};
@@ -40,7 +41,8 @@ impl<H: Helpers + Drop> Model for Desk<H> {
 impl<H: Helpers + Drop> Desk<H> {
     /// An empty desk for so many entries, with these helpers. `Err` only where memory was refused.
     pub fn new(alloc: Global, helpers: H, capacity: usize) -> Result<Desk<H>, AllocError>
-        ensures { IfOk result (λ desk. desk ≡ record { history = []; capacity = capacity; sigs = H.entries helpers }) }
+        ensures { IfOk result (λ desk. desk
+            ≡ record { history = []; capacity = capacity; sigs = H.entries helpers }) }
     {
         let sigs = helpers.sigs()?;
         let book = Book::new(alloc, sigs, capacity)?;
@@ -77,11 +79,13 @@ impl<H: Helpers + Drop> Desk<H> {
         self.book.entry(number)
     }
 
-    /// One event: a command of a session, from 1 to 64, at a moment (minutes since 1970-01-01T00:00Z, from 1) becomes the next
-    /// entry, with what came of it and the answers that its programs used.
+    /// One event: a command of a session, from 1 to 64, at a moment (minutes since
+    /// 1970-01-01T00:00Z, from 1) becomes the next entry, with what came of it and the answers that
+    /// its programs used.
     ///
-    /// `Full` where the journal is full, which is tested first; `OtherSignatures` where the program of a load was checked against
-    /// other signatures than those of the desk; `Memory` where memory was refused. Nothing has changed then.
+    /// `Full` where the journal is full, which is tested first; `OtherSignatures` where the program
+    /// of a load was checked against other signatures than those of the desk; `Memory` where memory
+    /// was refused. Nothing has changed then.
     pub fn call(
         &mut self,
         session: u8,
@@ -92,10 +96,14 @@ impl<H: Helpers + Drop> Desk<H> {
         requires session_given { 1 ≤ session }
         requires few_sessions { session ≤ 64 }
         requires moment_given { 1 ≤ moment }
-        ensures entry { IfOk result (λ reply. Enters self.old session role moment command self.new reply.outcome) }
+        ensures entry { IfOk result (λ reply. Enters self.old session role moment command self.new
+            reply.outcome) }
         ensures number { IfOk result (λ reply. reply.number ≡ length self.old.history) }
-        ensures full { (result ≡ Err DeskError.Full) ↔ (length self.old.history ≡ self.old.capacity) }
-        ensures other { (result ≡ Err DeskError.OtherSignatures) ↔ ((length self.old.history ≢ self.old.capacity) × (is_foreign self.old.sigs command ≡ true)) }
+        ensures full { (result ≡ Err DeskError.Full) ↔
+            (length self.old.history ≡ self.old.capacity) }
+        ensures other { (result ≡ Err DeskError.OtherSignatures) ↔
+            ((length self.old.history ≢ self.old.capacity)
+            × (is_foreign self.old.sigs command ≡ true)) }
         ensures err { OnErr result (self.new ≡ self.old) }
     {
         let number = self.book.len();

@@ -9,7 +9,8 @@ use std::alloc::AllocError;
 pub enum DeskError {
     /// 502: the journal has as many entries as it takes.
     Full,
-    /// 322: the program of a load was checked against other signatures than those of the desk's helpers.
+    /// 322: the program of a load was checked against other signatures than those of the desk's
+    /// helpers.
     OtherSignatures,
     /// 501: memory was refused.
     Memory,

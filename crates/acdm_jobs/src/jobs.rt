@@ -1,5 +1,6 @@
 //! Jobs at once, each on a thread of its own.
-ghost use Rattle.std.specs.Prelude.{◌≡◌, ◌<◌, ◌≤◌, [], ◌∷◌, ◌++◌, length, IfOk, vec_len, vec_capacity};
+ghost use Rattle.std.specs.Prelude.{◌≡◌, ◌<◌, ◌≤◌, [], ◌∷◌, ◌++◌, length, IfOk, vec_len};
+ghost use Rattle.std.specs.Prelude.{vec_capacity};
 ghost use Rattle.acdm_jobs.specs.Each.{Each};
 
 use std::alloc::{AllocError, Global};
@@ -28,7 +29,8 @@ impl<T: Drop + Send, B: Job<T>> Promise<T> for Gives<B> {
     ghost kept_by = { λ p r. B.gives p.0.value r };
 }
 
-// A job that was started, or that no thread could be made for and that is done. Contracts see the job.
+// A job that was started, or that no thread could be made for and that is done. Contracts see the
+// job.
 #[derive(Drop)]
 struct Begun<B: Job<T>, T: Drop + Send> {
     job: Snapshot<B>,
@@ -201,8 +203,8 @@ impl<B: Job<T>, T: Drop + Send> Crew<B, T> {
         self.jobs.push_reserved(job);
     }
 
-    /// Does all jobs at once, each on a thread of its own, and waits for all: what the k-th gave comes
-    /// at place k. A job that no thread can be made for is run here with no leave to begin.
+    /// Does all jobs at once, each on a thread of its own, and waits for all: what the k-th gave
+    /// comes at place k. A job that no thread can be made for is run here with no leave to begin.
     pub fn run<Rt: Threads + Wait>(self, rt: &Rt) -> Vec<T>
         ensures gives { Each B.gives self.jobs result.items }
         ensures len { vec_len result ≡ length self.jobs }

@@ -1,5 +1,7 @@
 -- What comes of a command whose answers are those of a list.
-use Rattle.std.proofs.Common.{◌≡◌, ◌≢◌, ℕ, Bool, true, false, not, cond, suc, arith, List, [], ◌∷◌, ◌++◌, length, Some, Ok, Err, refl, sym, ap, subst, ◌∙◌, append-nil, inl, inr}
+use Rattle.std.proofs.Common.{◌≡◌, ◌≢◌, ℕ, Bool, true, false, not, cond, suc, arith, List, [], ◌∷◌}
+use Rattle.std.proofs.Common.{◌++◌, length, Some, Ok, Err, refl, sym, ap, subst, ◌∙◌, append-nil}
+use Rattle.std.proofs.Common.{inl, inr}
 use Rattle.std.specs.Prelude.{◌==◌, ◌&&◌, nat_lt, slice_get}
 use Rattle.std.specs.List.{list_all}
 use Rattle.std.proofs.lemmas.Bool.{eqb-true}
@@ -7,13 +9,19 @@ use Rattle.std.proofs.lemmas.Option.{same_Some}
 use Rattle.acdm_record.specs.Fields.{Fields}
 use Rattle.bpf_helpers.specs.Promise.{Promise}
 use Rattle.bpf_helpers.specs.declared.logged.Logged.{Logged}
-use Rattle.bpf_helpers.specs.Oracles.{OracleView, Gained, is_refused, log_of_logged, sigs_of_logged, answers_of_logged, view_of_logged}
+use Rattle.bpf_helpers.specs.Oracles.{OracleView, Gained, is_refused, log_of_logged, sigs_of_logged}
+use Rattle.bpf_helpers.specs.Oracles.{answers_of_logged, view_of_logged}
 use Rattle.acdm_milestones.specs.declared.role.Role.{Role}
 use Rattle.acdm_milestones.specs.declared.milestone.Milestone.{Milestone}
 use Rattle.acdm_milestones.specs.declared.refusal.Refusal.{Refusal}
-use Rattle.acdm_milestones.specs.declared.refusal.Refusal.TheVariants.{NotOwner, UnknownFlight, MissingMilestone, Barred, NotSet, TimeOrder, AlreadyPlanned, FullBoard, EmptySlot, OtherSignatures}
+use Rattle.acdm_milestones.specs.declared.refusal.Refusal.TheVariants.{NotOwner, UnknownFlight}
+use Rattle.acdm_milestones.specs.declared.refusal.Refusal.TheVariants.{MissingMilestone, Barred}
+use Rattle.acdm_milestones.specs.declared.refusal.Refusal.TheVariants.{NotSet, TimeOrder}
+use Rattle.acdm_milestones.specs.declared.refusal.Refusal.TheVariants.{AlreadyPlanned, FullBoard}
+use Rattle.acdm_milestones.specs.declared.refusal.Refusal.TheVariants.{EmptySlot, OtherSignatures}
 use Rattle.acdm_milestones.specs.declared.role.Action.TheVariants as actions
-use Rattle.acdm_milestones.specs.Tables.{admission, owns, number, has_reached, needs, bar, is_set, needs_set, is_in_order, times_of}
+use Rattle.acdm_milestones.specs.Tables.{admission, owns, number, has_reached, needs, bar, is_set}
+use Rattle.acdm_milestones.specs.Tables.{needs_set, is_in_order, times_of}
 use Rattle.acdm_record.specs.Assign.{with_all}
 use Rattle.acdm_step.specs.declared.command.Command.{Command}
 use Rattle.acdm_step.specs.declared.command.Command.TheVariants.{Load, Unload, Tick, Show, Alerts}
@@ -28,7 +36,8 @@ use Rattle.acdm_step.specs.Running.{ComesOf, answered_so, unanswered_so}
 use Rattle.acdm_step.specs.Commands.{History, flight_of, bit_of, is_accepted, most_flights}
 use Rattle.acdm_step.specs.InSlots.{programs_of}
 use Rattle.acdm_step.specs.Summaries.{exists, flights, record_of, run_record_of}
-use Rattle.acdm_step.specs.Verdicts.{verdict_of, verdict_for, verdict_in, verdict_from, outcome_of, is_ready}
+use Rattle.acdm_step.specs.Verdicts.{verdict_of, verdict_for, verdict_in, verdict_from, outcome_of}
+use Rattle.acdm_step.specs.Verdicts.{is_ready}
 use Rattle.acdm_step.specs.History.{IsLegal, left_by, left_after}
 use Rattle.acdm_step.proofs.Saying.{say_said, left_ran, ran_left}
 use Rattle.acdm_journal.specs.Audit.{UsesAnswers, lacks_answer}
@@ -39,7 +48,8 @@ use Rattle.acdm_journal.proofs.Unanswered.{Reads, not_these}
 -- ---- no test refuses for want of an answer
 
 admission_tests : (a b c d e : Bool)
-    → lacks_answer (verdict_from (cond a (Err NotOwner) (cond b (Err MissingMilestone) (cond c (Err Barred)
+    → lacks_answer (verdict_from (cond a (Err NotOwner)
+    (cond b (Err MissingMilestone) (cond c (Err Barred)
     (cond d (Err NotSet) (cond e (Err TimeOrder) (Ok tt))))))) ≡ false
 admission_tests true b c d e = refl
 admission_tests false true c d e = refl
@@ -48,20 +58,24 @@ admission_tests false false false true e = refl
 admission_tests false false false false true = refl
 admission_tests false false false false false = refl
 
-admission_answers : (r : Fields) (role : Role) (a : Milestone) (time : ℕ) → lacks_answer (verdict_from (admission r role a time)) ≡ false
+admission_answers : (r : Fields) (role : Role) (a : Milestone) (time : ℕ)
+    → lacks_answer (verdict_from (admission r role a time)) ≡ false
 admission_answers r role a time =
-    admission_tests (not (owns role (actions.Report a))) (not (list_all (has_reached r) (needs a))) (has_reached r (bar a))
+    admission_tests (not (owns role (actions.Report a))) (not (list_all (has_reached r) (needs a)))
+    (has_reached r (bar a))
     (not (list_all (is_set r) (needs_set a))) (not (is_in_order (with_all r (times_of a time))))
 
 schedule_tests : (a b c : Bool)
-    → lacks_answer (cond a (Refused NotOwner) (cond b (Refused AlreadyPlanned) (cond c (Refused FullBoard) Accepted))) ≡ false
+    → lacks_answer (cond a (Refused NotOwner)
+    (cond b (Refused AlreadyPlanned) (cond c (Refused FullBoard) Accepted))) ≡ false
 schedule_tests true b c = refl
 schedule_tests false true c = refl
 schedule_tests false false true = refl
 schedule_tests false false false = refl
 
 report_tests : (a b c : Bool) (rest : Verdict) → lacks_answer rest ≡ false
-    → lacks_answer (cond a (Refused NotOwner) (cond b (Refused UnknownFlight) (cond c (Refused FullBoard) rest))) ≡ false
+    → lacks_answer (cond a (Refused NotOwner)
+    (cond b (Refused UnknownFlight) (cond c (Refused FullBoard) rest))) ≡ false
 report_tests true b c rest h = refl
 report_tests false true c rest h = refl
 report_tests false false true rest h = refl
@@ -73,7 +87,8 @@ two_tests true b x h = refl
 two_tests false true x h = h
 two_tests false false x h = refl
 
-one_test : (a : Bool) (x y : Verdict) → lacks_answer x ≡ false → lacks_answer y ≡ false → lacks_answer (cond a x y) ≡ false
+one_test : (a : Bool) (x y : Verdict) → lacks_answer x ≡ false → lacks_answer y ≡ false
+    → lacks_answer (cond a x y) ≡ false
 one_test true x y p q = p
 one_test false x y p q = q
 
@@ -83,19 +98,27 @@ verdict_answers there count r ready role (commands.Flight (Schedule s)) =
     schedule_tests (not (owns role actions.Schedule)) (has_reached r 0 && has_reached r 1)
     (not there && not (nat_lt count most_flights))
 verdict_answers there count r ready role (commands.Flight (Report p)) =
-    report_tests (not (owns role (actions.Report p.milestone))) (not there && not (number p.milestone == 1))
-    (not there && not (nat_lt count most_flights)) (verdict_from (admission r role p.milestone p.time))
+    report_tests (not (owns role (actions.Report p.milestone))) (not there
+    && not (number p.milestone == 1))
+    (not there && not (nat_lt count most_flights))
+    (verdict_from (admission r role p.milestone p.time))
     (admission_answers r role p.milestone p.time)
-verdict_answers there count r ready role (Load l) = two_tests (not (owns role actions.Load)) (not ready) OtherSignatures refl
-verdict_answers there count r ready role (Unload u) = two_tests (not (owns role actions.Unload)) (not ready) EmptySlot refl
-verdict_answers there count r ready role Tick = one_test (owns role actions.Tick) Accepted (Refused NotOwner) refl refl
-verdict_answers there count r ready role (Show f) = one_test there Accepted (Refused UnknownFlight) refl refl
+verdict_answers there count r ready role (Load l) =
+    two_tests (not (owns role actions.Load)) (not ready) OtherSignatures refl
+verdict_answers there count r ready role (Unload u) =
+    two_tests (not (owns role actions.Unload)) (not ready) EmptySlot refl
+verdict_answers there count r ready role Tick =
+    one_test (owns role actions.Tick) Accepted (Refused NotOwner) refl refl
+verdict_answers there count r ready role (Show f) =
+    one_test there Accepted (Refused UnknownFlight) refl refl
 verdict_answers there count r ready role Alerts = refl
 
 -- ---- the oracle
 
-pub reads_of : (logged : Logged) (sigs : List (ℕ × Promise)) (answers : List ℕ) → sigs_of_logged logged ≡ sigs
-    → answers_of_logged logged ≡ answers → log_of_logged logged ≡ [] → Reads sigs answers (view_of_logged logged)
+pub reads_of : (logged : Logged) (sigs : List (ℕ × Promise)) (answers : List ℕ)
+    → sigs_of_logged logged ≡ sigs
+    → answers_of_logged logged ≡ answers → log_of_logged logged ≡ []
+    → Reads sigs answers (view_of_logged logged)
 reads_of logged sigs answers s a l = record {
   none = l;
   declines = λ log helper passed.
@@ -116,8 +139,10 @@ none_left (x ∷ xs) b e f = absurd (eqb-true-suc (length xs) (sym e ∙ f))
 
 -- ---- what came of a command
 
-module _ (sigs : List (ℕ × Promise)) (J : History) (role : Role) (moment : ℕ) (c : Command) (answers left : List ℕ)
-    (before after : OracleView) (outcome : Outcome) (legal : IsLegal sigs J) (reads : Reads sigs answers before)
+module _ (sigs : List (ℕ × Promise)) (J : History) (role : Role) (moment : ℕ) (c : Command)
+    (answers left : List ℕ)
+    (before after : OracleView) (outcome : Outcome) (legal : IsLegal sigs J)
+    (reads : Reads sigs answers before)
     (all : after.log ++ left ≡ answers) where
   clash : (b : Bool) → b ≡ true → b ≡ false → ⊥
   clash b p q = cc
@@ -126,23 +151,28 @@ module _ (sigs : List (ℕ × Promise)) (J : History) (role : Role) (moment : �
   is_verdict is = ap verdict_in is ∙ verdict_in-outcome_of sigs J role c
 
   -- a question was left without an answer
-  pub asked : ComesOf sigs J role moment c before after outcome → lacks_answer (verdict_in outcome) ≡ true
+  pub asked : ComesOf sigs J role moment c before after outcome
+      → lacks_answer (verdict_in outcome) ≡ true
       → UsesAnswers sigs J role moment c answers → ⊥
   asked (answered_so used gained same is ran none) lacks uses =
       clash (lacks_answer (verdict_in outcome)) lacks
       (ap lacks_answer (is_verdict is)
-      ∙ verdict_answers (exists J (flight_of c)) (length (flights J)) (record_of J (flight_of c)) (is_ready sigs J c) role c)
+      ∙ verdict_answers (exists J (flight_of c)) (length (flights J)) (record_of J (flight_of c))
+      (is_ready sigs J c) role c)
   asked (unanswered_so is accepted asks) lacks uses =
-      not_these sigs answers (programs_of J c) (run_record_of J c) moment (bit_of c) before after left
+      not_these sigs answers (programs_of J c) (run_record_of J c) moment (bit_of c) before after
+      left
       (tobt_checked sigs J c legal) (alert_checked sigs J c legal) reads all asks
-      (left_ran (programs_of J c) (run_record_of J c) moment (bit_of c) answers (uses.used accepted))
+      (left_ran (programs_of J c) (run_record_of J c) moment (bit_of c) answers
+      (uses.used accepted))
 
   -- the answers that were used, and those that are left
   parts : (used : List ℕ) → Gained before after used → used ++ left ≡ answers
   parts used gained = ap (λ l. l ++ left) (sym (gained ∙ ap (λ l. l ++ used) reads.none)) ∙ all
 
   -- answers are left over
-  pub more : ComesOf sigs J role moment c before after outcome → lacks_answer (verdict_in outcome) ≡ false → left ≢ []
+  pub more : ComesOf sigs J role moment c before after outcome
+      → lacks_answer (verdict_in outcome) ≡ false → left ≢ []
       → UsesAnswers sigs J role moment c answers → ⊥
   more (unanswered_so is accepted asks) lacks some uses =
       clash (lacks_answer (verdict_in outcome)) (ap (λ o. lacks_answer (verdict_in o)) is) lacks
@@ -150,12 +180,14 @@ module _ (sigs : List (ℕ × Promise)) (J : History) (role : Role) (moment : �
       elim (cases_of (is_accepted (verdict_of sigs J role c))) [
         | inl accepted ↦
             let r = ran accepted in
-            let effect = say_said (programs_of J c) (run_record_of J c) moment (bit_of c) used r.0 r.1 left in
+            let effect = say_said (programs_of J c) (run_record_of J c) moment (bit_of c) used r.0
+            r.1 left in
             let rest : left_by J c moment answers ≡ Some left =
             ap (left_by J c moment) (sym (parts used gained)) ∙ ap left_after effect in
             some (same_Some left [] (sym rest ∙ uses.used accepted))
         | inr refused ↦
-            some (ap (λ l. l ++ left) (sym (none refused)) ∙ parts used gained ∙ uses.unused refused)
+            some (ap (λ l. l ++ left) (sym (none refused)) ∙ parts used gained
+            ∙ uses.unused refused)
       ]
 
   -- all were used
@@ -164,16 +196,20 @@ module _ (sigs : List (ℕ × Promise)) (J : History) (role : Role) (moment : �
     pub verdict_is : verdict_in outcome ≡ verdict_of sigs J role c
     pub gained : Gained before after answers
 
-  pub used_up : ComesOf sigs J role moment c before after outcome → lacks_answer (verdict_in outcome) ≡ false → left ≡ [] → Used
+  pub used_up : ComesOf sigs J role moment c before after outcome
+      → lacks_answer (verdict_in outcome) ≡ false → left ≡ [] → Used
   used_up (unanswered_so is accepted asks) lacks none =
-      absurd (clash (lacks_answer (verdict_in outcome)) (ap (λ o. lacks_answer (verdict_in o)) is) lacks)
+      absurd (clash (lacks_answer (verdict_in outcome)) (ap (λ o. lacks_answer (verdict_in o)) is)
+      lacks)
   used_up (answered_so used gained same is ran no_answer) lacks none =
-      let these : used ≡ answers = sym (append-nil used) ∙ ap (λ l. used ++ l) (sym none) ∙ parts used gained in
+      let these : used ≡ answers = sym (append-nil used) ∙ ap (λ l. used ++ l) (sym none)
+      ∙ parts used gained in
       record {
         uses = record {
           used = λ accepted.
               ran_left (programs_of J c) (run_record_of J c) moment (bit_of c) answers
-              (subst (λ us. Ran (programs_of J c) (run_record_of J c) moment (bit_of c) us) these (ran accepted));
+              (subst (λ us. Ran (programs_of J c) (run_record_of J c) moment (bit_of c) us) these
+              (ran accepted));
           unused = λ refused. sym these ∙ no_answer refused;
         };
         verdict_is = is_verdict is;

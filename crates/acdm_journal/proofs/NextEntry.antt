@@ -1,5 +1,6 @@
 -- The entry that a line adds to a legal history, or the clause that it breaks.
-use Rattle.std.proofs.Common.{◌≡◌, ◌≢◌, ℕ, ◌≤◌, false, List, length, Result, Ok, Err, refl, sym, ap, subst, ◌∙◌}
+use Rattle.std.proofs.Common.{◌≡◌, ◌≢◌, ℕ, ◌≤◌, false, List, length, Result, Ok, Err, refl, sym, ap}
+use Rattle.std.proofs.Common.{subst, ◌∙◌}
 use Rattle.bpf_helpers.specs.Promise.{Promise}
 use Rattle.acdm_step.specs.declared.command.Command.{Command}
 use Rattle.acdm_step.specs.declared.command.Command.TheVariants as commands
@@ -15,27 +16,32 @@ use Rattle.acdm_journal.specs.declared.judge.AuditError.{AuditError}
 use Rattle.acdm_journal.specs.declared.judge.AuditError.TheVariants.{Memory, Faulty}
 use Rattle.acdm_journal.specs.Text.{line_of, stated_in, asked_in, outcome_code}
 use Rattle.acdm_journal.specs.Ranges.{IsStated, IsAsked}
-use Rattle.acdm_journal.specs.Audit.{IsCommandOf, States, StatesNext, Continues, Breaks, Judges, Commands, Enters, JudgesCommand}
+use Rattle.acdm_journal.specs.Audit.{IsCommandOf, States, StatesNext, Continues, Breaks, Judges}
+use Rattle.acdm_journal.specs.Audit.{Commands, Enters, JudgesCommand}
 
 plain_is : (c : Command) → is_load c ≡ false → asked_in c ≡ Plain c
 plain_is (commands.Load l) h = absurd (cc)
 plain_is _ h = refl
 
-asked_is : (sigs : List (ℕ × Promise)) (a : Asked) (c : Command) → IsAsked a → IsCommandOf sigs a c → asked_in c ≡ a
+asked_is : (sigs : List (ℕ × Promise)) (a : Asked) (c : Command) → IsAsked a → IsCommandOf sigs a c
+    → asked_in c ≡ a
 asked_is sigs (Plain p) c is e = ap asked_in e ∙ plain_is p is.0
 asked_is sigs (Load l) c is e =
     ap asked_in e.3
-    ∙ ap (λ bytes. Load record { milestone = l.milestone; kind = l.kind; program = bytes }) (sym e.1.bytes_are)
+    ∙ ap (λ bytes. Load record { milestone = l.milestone; kind = l.kind; program = bytes })
+    (sym e.1.bytes_are)
 
 plain_checked : (sigs : List (ℕ × Promise)) (c : Command) → is_load c ≡ false → IsChecked sigs c
 plain_checked sigs (commands.Load l) h = absurd (cc)
 plain_checked sigs _ h = tt
 
-checked_is : (sigs : List (ℕ × Promise)) (a : Asked) (c : Command) → IsAsked a → IsCommandOf sigs a c → IsChecked sigs c
+checked_is : (sigs : List (ℕ × Promise)) (a : Asked) (c : Command) → IsAsked a
+    → IsCommandOf sigs a c → IsChecked sigs c
 checked_is sigs (Plain p) c is e = subst (λ x. IsChecked sigs x) (sym e) (plain_checked sigs p is.0)
 checked_is sigs (Load l) c is e = subst (λ x. IsChecked sigs x) (sym e.3) (refl, e.2)
 
-module _ (sigs : List (ℕ × Promise)) (J : History) (line : List ℕ) (s : Stated) (legal : IsLegal sigs J) (short : length line ≤ 200000)
+module _ (sigs : List (ℕ × Promise)) (J : History) (line : List ℕ) (s : Stated)
+    (legal : IsLegal sigs J) (short : length line ≤ 200000)
     (states : States line s) where
   -- the number is another one
   pub misnumbered : s.number ≢ length J → Breaks sigs J line clauses.Number
@@ -64,11 +70,16 @@ module _ (sigs : List (ℕ × Promise)) (J : History) (line : List ℕ) (s : Sta
         answers = s.answers;
       }
 
-      entered : Enters sigs J s.role s.moment c s.answers s.outcome board → Continues sigs J line board
+      entered : Enters sigs J s.role s.moment c s.answers s.outcome board
+          → Continues sigs J line board
       unfolding entry next_states
       entered e =
           let same : stated_in entry ≡ s =
-          ap (λ n. record s { number = n; outcome = outcome_code (verdict_of sigs J s.role c); asked = asked_in c }) (sym number)
+          ap (λ n. record s {
+            number = n;
+            outcome = outcome_code (verdict_of sigs J s.role c);
+            asked = asked_in c;
+          }) (sym number)
           ∙ ap (λ o. record s { outcome = o; asked = asked_in c }) (sym e.outcome_is)
           ∙ ap (λ a. record s { asked = a }) (asked_is sigs s.asked c states.is.asked is) in
           record {
@@ -83,11 +94,13 @@ module _ (sigs : List (ℕ × Promise)) (J : History) (line : List ℕ) (s : Sta
               checked_is sigs s.asked c states.is.asked is,
               record { verdict_is = refl; used = e.uses.used; unused = e.uses.unused },
             );
-            command = subst (λ a. IsCommandOf sigs a c) (sym (asked_is sigs s.asked c states.is.asked is)) is;
+            command = subst (λ a. IsCommandOf sigs a c)
+                (sym (asked_is sigs s.asked c states.is.asked is)) is;
             replays = e.replays s.session;
           }
 
-      pub judged : (r : Result (Unit {0}) AuditError) → JudgesCommand sigs J s.role s.moment c s.answers s.outcome board r
+      pub judged : (r : Result (Unit {0}) AuditError)
+          → JudgesCommand sigs J s.role s.moment c s.answers s.outcome board r
           → Judges sigs J line board r
       judged (Ok x) h = entered h
       judged (Err Memory) h = tt

@@ -1,5 +1,7 @@
 -- No word of a line has a space or a line feed.
-use Rattle.std.proofs.Common.{◌≡◌, ℕ, ◌/◌, ◌%◌, ◌<◌, ◌≤◌, Bool, true, false, not, List, [], ◌∷◌, ◌++◌, length, map, codes, Option, Some, None, refl, sym, ap, ◌∙◌, arith, leb-true}
+use Rattle.std.proofs.Common.{◌≡◌, ℕ, ◌/◌, ◌%◌, ◌<◌, ◌≤◌, Bool, true, false, not, List, [], ◌∷◌}
+use Rattle.std.proofs.Common.{◌++◌, length, map, codes, Option, Some, None, refl, sym, ap, ◌∙◌}
+use Rattle.std.proofs.Common.{arith, leb-true}
 use Rattle.std.specs.Prelude.{slice_index, nat_le}
 use Rattle.std.specs.Fmt.{decimal}
 use Rattle.std.specs.List.{AllByRecursion, list_all, join_with_byte}
@@ -12,7 +14,9 @@ use Rattle.acdm_record.proofs.Table.{all_at}
 use Rattle.acdm_record.specs.Bools.{and_left, and_right}
 use Rattle.acdm_record.specs.Fields.{is_text, is_text_byte}
 use Rattle.acdm_milestones.specs.declared.role.Role.{Role}
-use Rattle.acdm_milestones.specs.declared.role.Role.TheVariants.{NetworkManager, AirTrafficControl, AirportOperator, AircraftOperator, GroundHandler}
+use Rattle.acdm_milestones.specs.declared.role.Role.TheVariants.{NetworkManager, AirTrafficControl}
+use Rattle.acdm_milestones.specs.declared.role.Role.TheVariants.{AirportOperator, AircraftOperator}
+use Rattle.acdm_milestones.specs.declared.role.Role.TheVariants.{GroundHandler}
 use Rattle.acdm_milestones.specs.Tables.{number}
 use Rattle.acdm_slots.specs.declared.kind.Kind as kinds
 use Rattle.acdm_slots.specs.declared.kind.Kind.TheVariants.{Tobt, Alert}
@@ -22,7 +26,8 @@ use Rattle.acdm_step.specs.declared.command.FlightCommand.TheVariants.{Schedule,
 use Rattle.acdm_journal.specs.declared.stated.Stated.{Stated}
 use Rattle.acdm_journal.specs.declared.stated.Asked.{Asked}
 use Rattle.acdm_journal.specs.declared.stated.Asked.TheVariants.{Plain, Load}
-use Rattle.acdm_journal.specs.Text.{plan_words, plan_words_of, asked_words, answer_words, head_words, line_words, line_of, role_name, kind_name}
+use Rattle.acdm_journal.specs.Text.{plan_words, plan_words_of, asked_words, answer_words}
+use Rattle.acdm_journal.specs.Text.{head_words, line_words, line_of, role_name, kind_name}
 use Rattle.acdm_journal.specs.Ranges.{IsText, IsPlan, IsPlanOf, IsWord, IsByte, IsAsked, IsStated}
 use Rattle.acdm_journal.specs.Reading.{Words}
 use Rattle.acdm_journal.proofs.Numbers.{decimal-lacks}
@@ -100,7 +105,8 @@ asked_lacks (Plain (commands.Flight (Schedule s))) is =
       (
         decimal-lacks s.flight l.flight,
         both_lack (plan_words s.plan)
-            (decimal s.sobt ∷ decimal s.mttt ∷ decimal s.exit ∷ decimal s.exot ∷ decimal s.stand ∷ [])
+            (decimal s.sobt ∷ decimal s.mttt ∷ decimal s.exit ∷ decimal s.exot ∷ decimal s.stand
+            ∷ [])
             (plan_lacks s.plan l.plan) (
               decimal-lacks s.sobt (omega (arith, l.sobt)),
               (
@@ -163,8 +169,10 @@ line_lacks s is =
             role_lacks s.role,
             (
               decimal-lacks s.outcome is.outcome,
-              both_lack (answer_words s.answers) (asked_words s.asked)
-                  (decimal-lacks (length s.answers) is.few_answers, numbers_lack s.answers is.answers)
+              both_lack (answer_words s.answers) (asked_words s.asked) (
+                decimal-lacks (length s.answers) is.few_answers,
+                numbers_lack s.answers is.answers,
+              )
                   (asked_lacks s.asked is.asked),
             ),
           ),

@@ -1,8 +1,12 @@
 -- Numbers as they are written, and read.
-use Rattle.std.proofs.Common.{◌≡◌, ℕ, zero, suc, ◌+◌, ◌-◌, ◌*◌, ◌^◌, ◌<◌, ◌≤◌, Bool, true, false, cond, List, [], ◌∷◌, length, get_or, Option, Some, None, refl, sym, ap, ◌∙◌, arith, rules}
+use Rattle.std.proofs.Common.{◌≡◌, ℕ, zero, suc, ◌+◌, ◌-◌, ◌*◌, ◌^◌, ◌<◌, ◌≤◌, Bool, true, false}
+use Rattle.std.proofs.Common.{cond, List, [], ◌∷◌, length, get_or, Option, Some, None, refl, sym}
+use Rattle.std.proofs.Common.{ap, ◌∙◌, arith, rules}
 use Rattle.std.specs.Fmt.{decimal}
 use Rattle.std.specs.Str.{all_ascii_digits}
-use Rattle.std.proofs.lemmas.Fmt.{digits_decimal, digits_value-decimal, length-decimal-le, decimal_nonempty, first_decimal, decimal-digits_value, decimal_digit}
+use Rattle.std.proofs.lemmas.Fmt.{digits_decimal, digits_value-decimal, length-decimal-le}
+use Rattle.std.proofs.lemmas.Fmt.{decimal_nonempty, first_decimal, decimal-digits_value}
+use Rattle.std.proofs.lemmas.Fmt.{decimal_digit}
 use Rattle.std.proofs.lemmas.Str.Parse.{IsNumeralModel, numerals_by_fold}
 use Rattle.std.proofs.lemmas.Grind.{common_steps}
 use Rattle.std.proofs.lemmas.Bool.Decides.{nat_tests}
@@ -19,12 +23,14 @@ own = numerals_by_fold _ (search rules) value_from (search rules)
 digits_from-digits : (n : ℕ) (ds : List ℕ) → all_ascii_digits ds ≡ true
     → digits_from n ds ≡ Some (value_from n ds)
 digits_from-digits n [] h = refl
-digits_from-digits n (c ∷ cs) h = grind (arith, common_steps, digits_from-digits (n * 10 + (c - 48)) cs)
+digits_from-digits n (c ∷ cs) h =
+    grind (arith, common_steps, digits_from-digits (n * 10 + (c - 48)) cs)
 
 digits_from-some : (n m : ℕ) (ds : List ℕ) → digits_from n ds ≡ Some m
     → (all_ascii_digits ds ≡ true) × (value_from n ds ≡ m)
 digits_from-some n m [] h = (refl, cc)
-digits_from-some n m (c ∷ cs) h = grind (arith, common_steps, digits_from-some (n * 10 + (c - 48)) m cs)
+digits_from-some n m (c ∷ cs) h =
+    grind (arith, common_steps, digits_from-some (n * 10 + (c - 48)) m cs)
 
 is_natural : (w : List ℕ) → 0 < length w → length w ≤ 20 → (get_or w 0 0 ≡ 48 → length w ≡ 1)
     → is_no_natural w ≡ false

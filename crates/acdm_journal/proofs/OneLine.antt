@@ -1,12 +1,14 @@
 -- A line may be read in one way, which is what it was written for.
-use Rattle.std.proofs.Common.{◌≡◌, ◌≢◌, ℕ, List, [], ◌∷◌, ◌++◌, Some, None, Result, Ok, Err, sym, ap, subst, ◌∙◌, append-nil}
+use Rattle.std.proofs.Common.{◌≡◌, ◌≢◌, ℕ, List, [], ◌∷◌, ◌++◌, Some, None, Result, Ok, Err, sym}
+use Rattle.std.proofs.Common.{ap, subst, ◌∙◌, append-nil}
 use Rattle.std.specs.Fmt.{decimal}
 use Rattle.std.specs.List.{join_with_byte}
 use Rattle.std.proofs.lemmas.Option.{same_Some}
 use Rattle.acdm_journal.specs.declared.stated.Stated.{Stated}
 use Rattle.acdm_journal.specs.Text.{answer_words, asked_words, line_words, line_of, role_name}
 use Rattle.acdm_journal.specs.Ranges.{IsStated}
-use Rattle.acdm_journal.specs.Reading.{Words, ◌>>=◌, stated_at, alone, words_of, stated_of, GivesLine}
+use Rattle.acdm_journal.specs.Reading.{Words, ◌>>=◌, stated_at, alone, words_of, stated_of}
+use Rattle.acdm_journal.specs.Reading.{GivesLine}
 use Rattle.std.specs.Prelude.{IfOk}
 use Rattle.acdm_journal.specs.declared.stated.LineError.{LineError}
 use Rattle.acdm_journal.specs.declared.stated.LineError.TheVariants.{Memory, Unreadable}

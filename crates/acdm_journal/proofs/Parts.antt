@@ -1,5 +1,7 @@
 -- The parts of a line: each is read as what it is written for, and only that is read so.
-use Rattle.std.proofs.Common.{◌≡◌, ℕ, zero, suc, ◌^◌, ◌<◌, ◌≤◌, Bool, true, false, cond, List, [], ◌∷◌, codes, Option, Some, None, Result, Ok, Err, refl, sym, ap, subst, ◌∙◌, arith, inl, inr, ◌⊎◌}
+use Rattle.std.proofs.Common.{◌≡◌, ℕ, zero, suc, ◌^◌, ◌<◌, ◌≤◌, Bool, true, false, cond, List, []}
+use Rattle.std.proofs.Common.{◌∷◌, codes, Option, Some, None, Result, Ok, Err, refl, sym, ap, subst}
+use Rattle.std.proofs.Common.{◌∙◌, arith, inl, inr, ◌⊎◌}
 use Rattle.std.specs.Prelude.{find, ◌==◌}
 use Rattle.std.specs.Fmt.{decimal}
 use Rattle.std.specs.Str.{bytes_eq}
@@ -13,7 +15,9 @@ use Rattle.hex.specs.declared.error.FromHexError.{FromHexError}
 use Rattle.hex.proofs.HexLemmas.{decode_of-encode_lower, decode_of-ok}
 use Rattle.acdm_record.specs.Texts.{text_from}
 use Rattle.acdm_milestones.specs.declared.role.Role.{Role}
-use Rattle.acdm_milestones.specs.declared.role.Role.TheVariants.{NetworkManager, AirTrafficControl, AirportOperator, AircraftOperator, GroundHandler}
+use Rattle.acdm_milestones.specs.declared.role.Role.TheVariants.{NetworkManager, AirTrafficControl}
+use Rattle.acdm_milestones.specs.declared.role.Role.TheVariants.{AirportOperator, AircraftOperator}
+use Rattle.acdm_milestones.specs.declared.role.Role.TheVariants.{GroundHandler}
 use Rattle.acdm_milestones.specs.declared.milestone.Milestone.{Milestone}
 use Rattle.acdm_milestones.specs.declared.milestone.Milestone.TheVariants as m
 use Rattle.acdm_milestones.specs.Tables.{number, milestone_numbered, milestones}
@@ -21,7 +25,9 @@ use Rattle.acdm_slots.specs.declared.kind.Kind as kinds
 use Rattle.acdm_slots.specs.declared.kind.Kind.TheVariants.{Tobt, Alert}
 use Rattle.acdm_journal.specs.Text.{role_name, kind_name}
 use Rattle.acdm_journal.specs.Ranges.{IsText, IsByte}
-use Rattle.acdm_journal.specs.Reading.{Words, ◌>>=◌, word_at, within, natural_of, number_at, text_at, role_named, role_at, kind_named, kind_at, milestone_at, bytes_read, bytes_of, bytes_at}
+use Rattle.acdm_journal.specs.Reading.{Words, ◌>>=◌, word_at, within, natural_of, number_at}
+use Rattle.acdm_journal.specs.Reading.{text_at, role_named, role_at, kind_named, kind_at}
+use Rattle.acdm_journal.specs.Reading.{milestone_at, bytes_read, bytes_of, bytes_at}
 use Rattle.acdm_journal.proofs.Numbers.{natural_of-decimal, decimal-natural_of}
 
 -- ---- steps that may fail
@@ -298,7 +304,8 @@ bytes_of-is : (bytes : List ℕ) → AllByRecursion IsByte bytes
     → bytes_of (encode_lower bytes) ≡ Some bytes
 bytes_of-is bytes all =
     ap (bytes_read (encode_lower bytes)) (decode_of-encode_lower bytes (bytes_at_each bytes all))
-    ∙ if_true _ (Some bytes) None ((bytes_eq-Decides (encode_lower bytes) (encode_lower bytes)).1 refl)
+    ∙ if_true _ (Some bytes) None ((bytes_eq-Decides (encode_lower bytes) (encode_lower bytes)).1
+    refl)
 
 read_back : (w bytes : List ℕ) (r : Result (List ℕ) FromHexError) → decode_of w ≡ r
     → bytes_read w r ≡ Some bytes → (w ≡ encode_lower bytes) × AllByRecursion IsByte bytes

@@ -1,11 +1,13 @@
 -- A line put together of its words.
-use Rattle.std.proofs.Common.{◌≡◌, ℕ, List, [], ◌∷◌, ◌++◌, refl, sym, ap, ◌∙◌, append_assoc, append-nil}
+use Rattle.std.proofs.Common.{◌≡◌, ℕ, List, [], ◌∷◌, ◌++◌, refl, sym, ap, ◌∙◌, append_assoc}
+use Rattle.std.proofs.Common.{append-nil}
 use Rattle.std.specs.Fmt.{decimal}
 use Rattle.std.specs.List.{join_with_byte}
 use Rattle.acdm_step.specs.declared.command.Command.{Command}
 use Rattle.acdm_step.specs.declared.command.Command.TheVariants as commands
 use Rattle.acdm_step.specs.declared.entry.Entry.{Entry}
-use Rattle.acdm_journal.specs.Text.{command_words, asked_words, asked_in, answer_words, head_words, line_of, stated_in, entry_text}
+use Rattle.acdm_journal.specs.Text.{command_words, asked_words, asked_in, answer_words, head_words}
+use Rattle.acdm_journal.specs.Text.{line_of, stated_in, entry_text}
 use Rattle.acdm_journal.specs.Spaced.{spaced}
 
 joined-spaced : (w : List ℕ) (ws : List (List ℕ)) → join_with_byte 32 (w ∷ ws) ≡ w ++ spaced ws
@@ -15,7 +17,8 @@ joined-spaced w (v ∷ vs) = ap (λ l. w ++ 32 ∷ l) (joined-spaced v vs)
 spaced-append : (us vs : List (List ℕ)) → spaced (us ++ vs) ≡ spaced us ++ spaced vs
 spaced-append [] vs = refl
 spaced-append (u ∷ us) vs =
-    ap (λ l. (32 ∷ u) ++ l) (spaced-append us vs) ∙ sym (append_assoc (32 ∷ u) (spaced us) (spaced vs))
+    ap (λ l. (32 ∷ u) ++ l) (spaced-append us vs)
+    ∙ sym (append_assoc (32 ∷ u) (spaced us) (spaced vs))
 
 words_in : (c : Command) → asked_words (asked_in c) ≡ command_words c
 words_in (commands.Load l) = refl
@@ -32,7 +35,8 @@ entry_pieces e one two three a b c =
     let head = spaced (head_words s) in
     let answers = spaced (answer_words e.answers) in
     let asked = spaced (command_words e.command) in
-    let words : spaced (head_words s ++ (answer_words e.answers ++ asked_words (asked_in e.command)))
+    let words : spaced (head_words s
+    ++ (answer_words e.answers ++ asked_words (asked_in e.command)))
     ≡ head ++ (answers ++ asked) =
     spaced-append (head_words s) (answer_words e.answers ++ asked_words (asked_in e.command))
     ∙ ap (λ l. head ++ l) (spaced-append (answer_words e.answers) (asked_words (asked_in e.command))

@@ -1,5 +1,7 @@
 -- A line that may stand is read as what it states, and no other line is read.
-use Rattle.std.proofs.Common.{◌≡◌, ℕ, zero, suc, ◌≤◌, true, false, List, [], ◌∷◌, ◌++◌, length, map, codes, Option, Some, None, refl, sym, ap, subst, ◌∙◌, arith, inl, inr, append_assoc, append-nil}
+use Rattle.std.proofs.Common.{◌≡◌, ℕ, zero, suc, ◌≤◌, true, false, List, [], ◌∷◌, ◌++◌, length, map}
+use Rattle.std.proofs.Common.{codes, Option, Some, None, refl, sym, ap, subst, ◌∙◌, arith, inl, inr}
+use Rattle.std.proofs.Common.{append_assoc, append-nil}
 use Rattle.std.specs.Fmt.{decimal}
 use Rattle.std.specs.Str.{bytes_eq}
 use Rattle.std.specs.List.{AllByRecursion}
@@ -19,10 +21,20 @@ use Rattle.acdm_journal.specs.declared.stated.Stated.{Stated}
 use Rattle.acdm_journal.specs.declared.stated.LoadLine.{LoadLine}
 use Rattle.acdm_journal.specs.declared.stated.Asked.{Asked}
 use Rattle.acdm_journal.specs.declared.stated.Asked.TheVariants.{Plain, Load}
-use Rattle.acdm_journal.specs.Text.{plan_words, plan_words_of, schedule_words, report_words, load_words, command_words, asked_words, answer_words, line_words, role_name, kind_name}
-use Rattle.acdm_journal.specs.Ranges.{IsPlan, IsPlanOf, IsWord, IsByte, IsScheduleLine, IsReportLine, IsCommandLine, IsAsked, IsStated}
-use Rattle.acdm_journal.specs.Reading.{Words, most_word, most_minute, word_at, number_at, text_at, role_at, kind_at, milestone_at, bytes_at, plan_at, plan_for, least_time, schedule_at, report_at, load_at, unload_at, show_at, command_named, asked_at, answers_from, answers_at, stated_at}
-use Rattle.acdm_journal.proofs.Parts.{bind_some, bind_is, given, word_at-back, number_at-is, number_at-back, text_at-is, text_at-back, role_at-is, role_at-back, kind_at-is, kind_at-back, milestone_at-is, milestone_at-back, bytes_at-is, bytes_at-back, if_some}
+use Rattle.acdm_journal.specs.Text.{plan_words, plan_words_of, schedule_words, report_words}
+use Rattle.acdm_journal.specs.Text.{load_words, command_words, asked_words, answer_words}
+use Rattle.acdm_journal.specs.Text.{line_words, role_name, kind_name}
+use Rattle.acdm_journal.specs.Ranges.{IsPlan, IsPlanOf, IsWord, IsByte, IsScheduleLine}
+use Rattle.acdm_journal.specs.Ranges.{IsReportLine, IsCommandLine, IsAsked, IsStated}
+use Rattle.acdm_journal.specs.Reading.{Words, most_word, most_minute, word_at, number_at, text_at}
+use Rattle.acdm_journal.specs.Reading.{role_at, kind_at, milestone_at, bytes_at, plan_at, plan_for}
+use Rattle.acdm_journal.specs.Reading.{least_time, schedule_at, report_at, load_at, unload_at}
+use Rattle.acdm_journal.specs.Reading.{show_at, command_named, asked_at, answers_from, answers_at}
+use Rattle.acdm_journal.specs.Reading.{stated_at}
+use Rattle.acdm_journal.proofs.Parts.{bind_some, bind_is, given, word_at-back, number_at-is}
+use Rattle.acdm_journal.proofs.Parts.{number_at-back, text_at-is, text_at-back, role_at-is}
+use Rattle.acdm_journal.proofs.Parts.{role_at-back, kind_at-is, kind_at-back, milestone_at-is}
+use Rattle.acdm_journal.proofs.Parts.{milestone_at-back, bytes_at-is, bytes_at-back, if_some}
 
 -- ---- plans
 
@@ -92,13 +104,19 @@ schedule_at-is : (s : ScheduleFacts) → IsScheduleLine s
 unfolding asked_at command_named schedule_at
 schedule_at-is s is =
     let k = is.kept in
-    bind_is _ _ _ (number_at-is 1 most_word s.flight _ k.flight_given (omega (arith, is.flight)) is.flight)
+    bind_is _ _ _ (number_at-is 1 most_word s.flight _ k.flight_given (omega (arith, is.flight))
+    is.flight)
     ∙ bind_is _ _ _ (plan_at-is s.plan _ is.plan)
-    ∙ bind_is _ _ _ (number_at-is 1 most_minute s.sobt _ k.sobt_given (omega (arith, is.sobt)) (omega (arith, is.sobt)))
-    ∙ bind_is _ _ _ (number_at-is 0 1440 s.mttt _ (omega arith) k.mttt_in_range (omega (arith, k.mttt_in_range)))
-    ∙ bind_is _ _ _ (number_at-is 0 255 s.exit _ (omega arith) (omega (arith, is.exit)) (omega (arith, is.exit)))
-    ∙ bind_is _ _ _ (number_at-is 0 1440 s.exot _ (omega arith) k.exot_in_range (omega (arith, k.exot_in_range)))
-    ∙ bind_is _ _ _ (number_at-is 0 65535 s.stand [] (omega arith) (omega (arith, is.stand)) (omega (arith, is.stand)))
+    ∙ bind_is _ _ _ (number_at-is 1 most_minute s.sobt _ k.sobt_given (omega (arith, is.sobt))
+    (omega (arith, is.sobt)))
+    ∙ bind_is _ _ _ (number_at-is 0 1440 s.mttt _ (omega arith) k.mttt_in_range
+    (omega (arith, k.mttt_in_range)))
+    ∙ bind_is _ _ _ (number_at-is 0 255 s.exit _ (omega arith) (omega (arith, is.exit))
+    (omega (arith, is.exit)))
+    ∙ bind_is _ _ _ (number_at-is 0 1440 s.exot _ (omega arith) k.exot_in_range
+    (omega (arith, k.exot_in_range)))
+    ∙ bind_is _ _ _ (number_at-is 0 65535 s.stand [] (omega arith) (omega (arith, is.stand))
+    (omega (arith, is.stand)))
 
 schedule_at-back : (ws : Words) (a : Asked) (left : Words) → schedule_at ws ≡ Some (a, left)
     → ReadsAsked (codes "schedule" ∷ ws) a left
@@ -161,9 +179,11 @@ report_at-is : (r : ReportFacts) → IsReportLine r
 unfolding asked_at command_named report_at
 report_at-is r is =
     let k = is.kept in
-    bind_is _ _ _ (number_at-is 1 most_word r.flight _ k.flight_given (omega (arith, is.flight)) is.flight)
+    bind_is _ _ _ (number_at-is 1 most_word r.flight _ k.flight_given (omega (arith, is.flight))
+    is.flight)
     ∙ bind_is _ _ _ (milestone_at-is r.milestone _)
-    ∙ bind_is _ _ _ (number_at-is (least_time r.milestone) most_minute r.time _ (least_is r.milestone r.time k.timed) (omega (arith, is.time)) (omega (arith, is.time)))
+    ∙ bind_is _ _ _ (number_at-is (least_time r.milestone) most_minute r.time _
+    (least_is r.milestone r.time k.timed) (omega (arith, is.time)) (omega (arith, is.time)))
     ∙ bind_is _ _ _ (ap (plan_for r.milestone) (sym (append-nil (plan_words_of r.plan)))
     ∙ plan_for-is r.milestone r.plan [] k.plan_with_first is.plan)
 
@@ -180,7 +200,8 @@ report_at-back ws a left h =
     let p = plan_for-back ms.0.0 time.0.1 plan.0.0 plan.0.1 plan.1 in
     given (ReadsAsked (codes "report" ∷ ws)) _ a _ left plan.2 (record {
       words = ap (λ (l : Words). codes "report" ∷ l) (f.word
-          ∙ ap (λ (l : Words). decimal flight.0.0 ∷ l) (milestone_at-back flight.0.1 ms.0.0 ms.0.1 ms.1
+          ∙ ap (λ (l : Words). decimal flight.0.0 ∷ l)
+          (milestone_at-back flight.0.1 ms.0.0 ms.0.1 ms.1
           ∙ ap (λ (l : Words). decimal (number ms.0.0) ∷ l) (t.word
           ∙ ap (λ (l : Words). decimal time.0.0 ∷ l) p.words)));
       is = (
@@ -216,7 +237,8 @@ load_at-back ws a left h =
     let b = bytes_at-back kind.0.1 program.0.0 program.0.1 program.1 in
     given (ReadsAsked (codes "load" ∷ ws)) _ a _ left program.2 (record {
       words = ap (λ (l : Words). codes "load" ∷ l) (milestone_at-back ws ms.0.0 ms.0.1 ms.1
-          ∙ ap (λ (l : Words). decimal (number ms.0.0) ∷ l) (kind_at-back ms.0.1 kind.0.0 kind.0.1 kind.1
+          ∙ ap (λ (l : Words). decimal (number ms.0.0) ∷ l)
+          (kind_at-back ms.0.1 kind.0.0 kind.0.1 kind.1
           ∙ ap (λ (l : Words). kind_name kind.0.0 ∷ l) b.0));
       is = b.1;
     })
@@ -229,7 +251,8 @@ unload_at-back ws a left h =
     let kind = bind_some (kind_at ms.0.1) _ (a, left) ms.2 in
     given (ReadsAsked (codes "unload" ∷ ws)) _ a _ left kind.2 (record {
       words = ap (λ (l : Words). codes "unload" ∷ l) (milestone_at-back ws ms.0.0 ms.0.1 ms.1
-          ∙ ap (λ (l : Words). decimal (number ms.0.0) ∷ l) (kind_at-back ms.0.1 kind.0.0 kind.0.1 kind.1));
+          ∙ ap (λ (l : Words). decimal (number ms.0.0) ∷ l)
+          (kind_at-back ms.0.1 kind.0.0 kind.0.1 kind.1));
       is = (refl, tt);
     })
 
@@ -259,7 +282,8 @@ asked_at-is (Load l) is = load_at-is l is
 
 -- the words begin with this name, and what follows is read so
 begins : (read : Words → Option (Asked × Words)) (name : List ℕ)
-    → ((ws : Words) (a : Asked) (left : Words) → read ws ≡ Some (a, left) → ReadsAsked (name ∷ ws) a left)
+    → ((ws : Words) (a : Asked) (left : Words) → read ws ≡ Some (a, left)
+    → ReadsAsked (name ∷ ws) a left)
     → (w : List ℕ) (ws : Words) (a : Asked) (left : Words) → bytes_eq w name ≡ true
     → read ws ≡ Some (a, left) → ReadsAsked (w ∷ ws) a left
 begins read name back w ws a left e h =
@@ -267,7 +291,8 @@ begins read name back w ws a left e h =
     let r = back ws a left h in
     record { words = ap (λ x. x ∷ ws) same ∙ r.words; is = r.is }
 
-alone_named : (c : Command) → (is_load c ≡ false) × IsCommandLine c → (ws : Words) (a : Asked) (left : Words)
+alone_named : (c : Command) → (is_load c ≡ false) × IsCommandLine c
+    → (ws : Words) (a : Asked) (left : Words)
     → ◌≡◌ {A = Option (Asked × Words)} (Some (Plain c, ws)) (Some (a, left))
     → (name : List ℕ) → command_words c ≡ name ∷ [] → ReadsAsked (name ∷ ws) a left
 alone_named c is ws a left h name e =
@@ -288,12 +313,14 @@ command_named-back w ws a left h =
             | inl p ↦ begins unload_at (codes "unload") unload_at-back w ws a left p.0 p.1
             | inr p ↦ elim (if_some (bytes_eq w (codes "tick")) _ _ (a, left) p.1) [
               | inl p ↦ begins (λ v. Some (Plain commands.Tick, v)) (codes "tick")
-                  (λ v b l e. alone_named commands.Tick (refl, tt) v b l e _ refl) w ws a left p.0 p.1
+                  (λ v b l e. alone_named commands.Tick (refl, tt) v b l e _ refl) w ws a left p.0
+                  p.1
               | inr p ↦ elim (if_some (bytes_eq w (codes "show")) _ _ (a, left) p.1) [
                 | inl p ↦ begins show_at (codes "show") show_at-back w ws a left p.0 p.1
                 | inr p ↦ elim (if_some (bytes_eq w (codes "alerts")) _ _ (a, left) p.1) [
                   | inl p ↦ begins (λ v. Some (Plain commands.Alerts, v)) (codes "alerts")
-                      (λ v b l e. alone_named commands.Alerts (refl, tt) v b l e _ refl) w ws a left p.0 p.1
+                      (λ v b l e. alone_named commands.Alerts (refl, tt) v b l e _ refl) w ws a left
+                      p.0 p.1
                   | inr p ↦ absurd (cc p.1)
                 ]
               ]
@@ -317,16 +344,18 @@ answers_from-is : (given : List ℕ) (answers : List ℕ) (ws : Words) → AllBy
     → answers_from given (length answers) (map decimal answers ++ ws) ≡ Some (given ++ answers, ws)
 answers_from-is given [] ws is = ap (λ l. Some (l, ws)) (sym (append-nil given))
 answers_from-is given (a ∷ more) ws is =
-    bind_is _ _ _ (number_at-is 0 most_word a (map decimal more ++ ws) (omega arith) (omega (arith, is.0)) is.0)
+    bind_is _ _ _ (number_at-is 0 most_word a (map decimal more ++ ws) (omega arith)
+    (omega (arith, is.0)) is.0)
     ∙ answers_from-is (given ++ a ∷ []) more ws is.1
     ∙ ap (λ l. Some (l, ws)) (append_assoc given (a ∷ []) more)
 
-pub record ReadsAnswers (given : List ℕ) (k : ℕ) (ws : Words) (all : List ℕ) (left : Words) : Type 0 where
-  pub answers : List ℕ
-  pub all_are : all ≡ given ++ answers
-  pub count : length answers ≡ k
-  pub words : ws ≡ map decimal answers ++ left
-  pub are : AllByRecursion IsWord answers
+pub record ReadsAnswers (given : List ℕ) (k : ℕ) (ws : Words) (all : List ℕ) (left : Words) : Type 0
+  where
+    pub answers : List ℕ
+    pub all_are : all ≡ given ++ answers
+    pub count : length answers ≡ k
+    pub words : ws ≡ map decimal answers ++ left
+    pub are : AllByRecursion IsWord answers
 
 answers_from-back : (given : List ℕ) (k : ℕ) (ws : Words) (all : List ℕ) (left : Words)
     → answers_from given k ws ≡ Some (all, left) → ReadsAnswers given k ws all left
@@ -356,7 +385,8 @@ answers_at-is : (answers : List ℕ) (ws : Words) → IsWord (length answers)
     → answers_at (answer_words answers ++ ws) ≡ Some (answers, ws)
 unfolding answers_at
 answers_at-is answers ws few are =
-    bind_is _ _ _ (number_at-is 0 most_word (length answers) (map decimal answers ++ ws) (omega arith) (omega (arith, few)) few)
+    bind_is _ _ _ (number_at-is 0 most_word (length answers) (map decimal answers ++ ws)
+    (omega arith) (omega (arith, few)) few)
     ∙ answers_from-is [] answers ws are
 
 record ReadsCounted (ws : Words) (answers : List ℕ) (left : Words) : Type 0 where
@@ -385,11 +415,15 @@ pub stated_at-is : (s : Stated) → IsStated s → stated_at (line_words s) ≡ 
 unfolding stated_at
 stated_at-is s is =
     let w = is.where_and_when in
-    bind_is _ _ _ (number_at-is 0 most_word s.number _ (omega arith) (omega (arith, is.number)) is.number)
-    ∙ bind_is _ _ _ (number_at-is 1 64 s.session _ w.session_given w.few_sessions (omega (arith, w.few_sessions)))
-    ∙ bind_is _ _ _ (number_at-is 1 most_minute s.moment _ w.minute_given (omega (arith, w.few_minutes)) (omega (arith, w.few_minutes)))
+    bind_is _ _ _ (number_at-is 0 most_word s.number _ (omega arith) (omega (arith, is.number))
+    is.number)
+    ∙ bind_is _ _ _ (number_at-is 1 64 s.session _ w.session_given w.few_sessions
+    (omega (arith, w.few_sessions)))
+    ∙ bind_is _ _ _ (number_at-is 1 most_minute s.moment _ w.minute_given
+    (omega (arith, w.few_minutes)) (omega (arith, w.few_minutes)))
     ∙ bind_is _ _ _ (role_at-is s.role _)
-    ∙ bind_is _ _ _ (number_at-is 0 most_word s.outcome _ (omega arith) (omega (arith, is.outcome)) is.outcome)
+    ∙ bind_is _ _ _ (number_at-is 0 most_word s.outcome _ (omega arith) (omega (arith, is.outcome))
+    is.outcome)
     ∙ bind_is _ _ _ (answers_at-is s.answers (asked_words s.asked) is.few_answers is.answers)
     ∙ bind_is _ _ _ (asked_at-is s.asked is.asked)
 
@@ -418,7 +452,8 @@ stated_at-back ws s left h =
     given (ReadsLine ws) _ s _ left asked.2 (record {
       words = n.word ∙ ap (λ (l : Words). decimal number.0.0 ∷ l) (e.word
           ∙ ap (λ (l : Words). decimal session.0.0 ∷ l) (t.word
-          ∙ ap (λ (l : Words). decimal moment.0.0 ∷ l) (role_at-back moment.0.1 role.0.0 role.0.1 role.1
+          ∙ ap (λ (l : Words). decimal moment.0.0 ∷ l)
+          (role_at-back moment.0.1 role.0.0 role.0.1 role.1
           ∙ ap (λ (l : Words). role_name role.0.0 ∷ l) (o.word
           ∙ ap (λ (l : Words). decimal outcome.0.0 ∷ l) (c.words
           ∙ ap (λ (l : Words). answer_words answers.0.0 ++ l) a.words)))));

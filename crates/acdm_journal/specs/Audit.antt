@@ -1,5 +1,6 @@
 -- What an audit says of the lines of a journal (this project's profile).
-use Rattle.std.specs.Prelude.{ℕ, ◌≡◌, ◌≢◌, ◌≤◌, Bool, true, false, List, [], ◌∷◌, length, Some, Result, Ok, Err}
+use Rattle.std.specs.Prelude.{ℕ, ◌≡◌, ◌≢◌, ◌≤◌, Bool, true, false, List, [], ◌∷◌, length, Some}
+use Rattle.std.specs.Prelude.{Result, Ok, Err}
 use Rattle.bpf_decode.specs.declared.op.Op.{Op}
 use Rattle.bpf_decode.specs.Encoding.{Encodes}
 use Rattle.bpf_helpers.specs.Promise.{Promise}
@@ -33,16 +34,22 @@ clause_code clauses.Program = 403
 clause_code clauses.Answers = 404
 clause_code clauses.Outcome = 405
 
--- the command that is asked for; the program of a load is the one that its bytes encode, and no slot
--- of it has a fault
+-- the command that is asked for; the program of a load is the one that its bytes encode, and no
+-- slot of it has a fault
 abbrev pub IsCommandOf : List (ℕ × Promise) → Asked → Command → Type 0
 IsCommandOf sigs (Plain c) command = command ≡ c
 IsCommandOf sigs (Load l) command =
     (ops : List Op) × Encodes l.program ops × Accepts 128 ops sigs
-    × (command ≡ commands.Load record { milestone = l.milestone; kind = l.kind; program = record { ops = ops; sigs = sigs } })
+    × (command ≡ commands.Load record {
+      milestone = l.milestone;
+      kind = l.kind;
+      program = record { ops = ops; sigs = sigs };
+    })
 
--- the answers are those that the programs of an accepted command use, and there are none where it is refused
-pub record UsesAnswers (sigs : List (ℕ × Promise)) (J : History) (role : Role) (moment : ℕ) (c : Command) (answers : List ℕ)
+-- the answers are those that the programs of an accepted command use, and there are none where it
+-- is refused
+pub record UsesAnswers (sigs : List (ℕ × Promise)) (J : History) (role : Role) (moment : ℕ)
+    (c : Command) (answers : List ℕ)
     : Type 0 where
   pub used : is_accepted (verdict_of sigs J role c) ≡ true → left_by J c moment answers ≡ Some []
   pub unused : is_accepted (verdict_of sigs J role c) ≡ false → answers ≡ []
@@ -58,10 +65,11 @@ pub record StatesNext (J : History) (line : List ℕ) (s : Stated) : Type 0 wher
   pub states : States line s
   pub number : s.number ≡ length J
 
--- The clause that a line breaks first, after a legal history. Whether its answers are right is judged by the outcome
--- that the history gives.
+-- The clause that a line breaks first, after a legal history. Whether its answers are right is
+-- judged by the outcome that the history gives.
 abbrev pub Breaks : List (ℕ × Promise) → History → List ℕ → Clause → Type 0
-Breaks sigs J line clauses.Unreadable = length line ≤ 200000 → (s : Stated) → IsStated s → line ≢ line_of s
+Breaks sigs J line clauses.Unreadable = length line ≤ 200000 → (s : Stated) → IsStated s
+    → line ≢ line_of s
 Breaks sigs J line clauses.Number = (s : Stated) × States line s × (s.number ≢ length J)
 Breaks sigs J line clauses.Program =
     (s : Stated) × StatesNext J line s × ((c : Command) → IsCommandOf sigs s.asked c → ⊥)
@@ -70,10 +78,12 @@ Breaks sigs J line clauses.Answers =
     × (UsesAnswers sigs J s.role s.moment c s.answers → ⊥)
 Breaks sigs J line clauses.Outcome =
     (s : Stated) × (c : Command) × StatesNext J line s × IsCommandOf sigs s.asked c
-    × UsesAnswers sigs J s.role s.moment c s.answers × (s.outcome ≢ outcome_code (verdict_of sigs J s.role c))
+    × UsesAnswers sigs J s.role s.moment c s.answers
+    × (s.outcome ≢ outcome_code (verdict_of sigs J s.role c))
 
 -- The line is that of an entry with which the history stays legal, and the board is its replay.
-pub record Continues (sigs : List (ℕ × Promise)) (J : History) (line : List ℕ) (board : Board) : Type 0 where
+pub record Continues (sigs : List (ℕ × Promise)) (J : History) (line : List ℕ)
+    (board : Board) : Type 0 where
   pub entry : Entry
   pub line_is : line ≡ line_of (stated_in entry)
   pub is : IsStated (stated_in entry)
@@ -83,7 +93,8 @@ pub record Continues (sigs : List (ℕ × Promise)) (J : History) (line : List �
   pub replays : board ≡ replay sigs (entry ∷ J)
 
 -- what comes of judging a line after a legal history, and the board then
-abbrev pub Judges : {T : Type 0} → List (ℕ × Promise) → History → List ℕ → Board → Result T AuditError → Type 0
+abbrev pub Judges : {T : Type 0} → List (ℕ × Promise) → History → List ℕ → Board
+    → Result T AuditError → Type 0
 Judges sigs J line board (Ok x) = Continues sigs J line board
 Judges sigs J line board (Err Memory) = Unit {0}
 Judges sigs J line board (Err (Faulty clause)) = Breaks sigs J line clause
@@ -110,16 +121,20 @@ Commands sigs asked (Err (Faulty clause)) =
     (clause ≡ clauses.Program) × ((c : Command) → IsCommandOf sigs asked c → ⊥)
 
 -- a command was entered with these answers and this outcome
-pub record Enters (sigs : List (ℕ × Promise)) (J : History) (role : Role) (moment : ℕ) (c : Command) (answers : List ℕ)
+pub record Enters (sigs : List (ℕ × Promise)) (J : History) (role : Role) (moment : ℕ) (c : Command)
+    (answers : List ℕ)
     (outcome : ℕ) (board : Board) : Type 0 where
   pub uses : UsesAnswers sigs J role moment c answers
   pub outcome_is : outcome ≡ outcome_code (verdict_of sigs J role c)
-  pub replays : (session : ℕ) → board ≡ replay sigs (after J session role moment c (verdict_of sigs J role c) answers)
+  pub replays : (session : ℕ) → board
+      ≡ replay sigs (after J session role moment c (verdict_of sigs J role c) answers)
 
 -- what comes of judging the answers and the outcome of a command
-abbrev pub JudgesCommand : {T : Type 0} → List (ℕ × Promise) → History → Role → ℕ → Command → List ℕ → ℕ → Board
+abbrev pub JudgesCommand : {T : Type 0} → List (ℕ × Promise) → History → Role → ℕ → Command → List ℕ
+    → ℕ → Board
     → Result T AuditError → Type 0
-JudgesCommand sigs J role moment c answers outcome board (Ok x) = Enters sigs J role moment c answers outcome board
+JudgesCommand sigs J role moment c answers outcome board (Ok x) =
+    Enters sigs J role moment c answers outcome board
 JudgesCommand sigs J role moment c answers outcome board (Err Memory) = Unit {0}
 JudgesCommand sigs J role moment c answers outcome board (Err (Faulty clauses.Answers)) =
     UsesAnswers sigs J role moment c answers → ⊥

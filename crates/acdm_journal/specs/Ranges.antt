@@ -1,5 +1,6 @@
 -- Which values the parts of a line may have (this project's profile).
-use Rattle.std.specs.Prelude.{ℕ, ◌≡◌, ◌≤◌, ◌<◌, ◌^◌, false, List, [], ◌∷◌, length, Option, Some, None}
+use Rattle.std.specs.Prelude.{ℕ, ◌≡◌, ◌≤◌, ◌<◌, ◌^◌, false, List, [], ◌∷◌, length, Option, Some}
+use Rattle.std.specs.Prelude.{None}
 use Rattle.std.specs.List.{AllByRecursion}
 use Rattle.acdm_record.specs.Texts.{text_from}
 use Rattle.acdm_step.specs.Facts.{IsSchedule, IsReport, ScheduleFacts, ReportFacts}

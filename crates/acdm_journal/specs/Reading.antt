@@ -1,15 +1,21 @@
 -- How the words of a line are read, one after the other. That this undoes the writing of a line is
 -- the law of `law`.
-use Rattle.std.specs.Prelude.{ℕ, zero, suc, ◌+◌, ◌-◌, ◌*◌, ◌^◌, ◌≡◌, Bool, ◌&&◌, ◌||◌, ◌==◌, nat_le, nat_lt, if◌then◌else◌, List, [], ◌∷◌, ◌++◌, length, codes, slice_index, Option, Some, None, Result, Ok, Err}
+use Rattle.std.specs.Prelude.{ℕ, zero, suc, ◌+◌, ◌-◌, ◌*◌, ◌^◌, ◌≡◌, Bool, ◌&&◌, ◌||◌, ◌==◌, nat_le}
+use Rattle.std.specs.Prelude.{nat_lt, if◌then◌else◌, List, [], ◌∷◌, ◌++◌, length, codes}
+use Rattle.std.specs.Prelude.{slice_index, Option, Some, None, Result, Ok, Err}
 use Rattle.std.specs.List.{slice_split}
 use Rattle.std.specs.Str.{bytes_eq}
 use Rattle.std.specs.Char.{is_ascii_digit}
 use Rattle.hex.specs.Hex.{decode_of, encode_lower}
 use Rattle.acdm_record.specs.Texts.{text_from}
 use Rattle.acdm_milestones.specs.declared.role.Role.{Role}
-use Rattle.acdm_milestones.specs.declared.role.Role.TheVariants.{NetworkManager, AirTrafficControl, AirportOperator, AircraftOperator, GroundHandler}
+use Rattle.acdm_milestones.specs.declared.role.Role.TheVariants.{NetworkManager, AirTrafficControl}
+use Rattle.acdm_milestones.specs.declared.role.Role.TheVariants.{AirportOperator, AircraftOperator}
+use Rattle.acdm_milestones.specs.declared.role.Role.TheVariants.{GroundHandler}
 use Rattle.acdm_milestones.specs.declared.milestone.Milestone.{Milestone}
-use Rattle.acdm_milestones.specs.declared.milestone.Milestone.TheVariants.{FlightPlanActivated, TwoHoursBeforeEobt, TobtUpdate}
+use Rattle.acdm_milestones.specs.declared.milestone.Milestone.TheVariants.{FlightPlanActivated}
+use Rattle.acdm_milestones.specs.declared.milestone.Milestone.TheVariants.{TwoHoursBeforeEobt}
+use Rattle.acdm_milestones.specs.declared.milestone.Milestone.TheVariants.{TobtUpdate}
 use Rattle.acdm_milestones.specs.Tables.{milestone_numbered}
 use Rattle.acdm_slots.specs.declared.kind.Kind as kinds
 use Rattle.acdm_slots.specs.declared.kind.Kind.TheVariants.{Tobt, Alert}
@@ -38,7 +44,8 @@ Gives (Err Memory) left reading = Unit {0}
 Gives (Err Unreadable) left reading = reading ≡ None
 
 -- the same of a value that is seen by view
-abbrev pub GivesView : {X Y : Type 0} → (X → Y) → Result X LineError → Words → Option (Y × Words) → Type 0
+abbrev pub GivesView : {X Y : Type 0} → (X → Y) → Result X LineError → Words → Option (Y × Words)
+    → Type 0
 GivesView view (Ok x) left reading = reading ≡ Some (view x, left)
 GivesView view (Err Memory) left reading = Unit {0}
 GivesView view (Err Unreadable) left reading = reading ≡ None
@@ -171,7 +178,18 @@ schedule_at ws = do
   exit ← number_at 0 255 mttt.1
   exot ← number_at 0 1440 exit.1
   stand ← number_at 0 65535 exot.1
-  Some (Plain (commands.Flight (Schedule record { flight = flight.0; plan = plan.0; sobt = sobt.0; mttt = mttt.0; exit = exit.0; exot = exot.0; stand = stand.0 })), stand.1)
+  Some (
+    Plain (commands.Flight (Schedule record {
+      flight = flight.0;
+      plan = plan.0;
+      sobt = sobt.0;
+      mttt = mttt.0;
+      exit = exit.0;
+      exot = exot.0;
+      stand = stand.0;
+    })),
+    stand.1,
+  )
 
 unfoldable pub report_at : Words → Option (Asked × Words)
 report_at ws = do
@@ -179,7 +197,15 @@ report_at ws = do
   milestone ← milestone_at flight.1
   time ← number_at (least_time milestone.0) most_minute milestone.1
   plan ← plan_for milestone.0 time.1
-  Some (Plain (commands.Flight (Report record { flight = flight.0; milestone = milestone.0; time = time.0; plan = plan.0 })), plan.1)
+  Some (
+    Plain (commands.Flight (Report record {
+      flight = flight.0;
+      milestone = milestone.0;
+      time = time.0;
+      plan = plan.0;
+    })),
+    plan.1,
+  )
 
 unfoldable pub load_at : Words → Option (Asked × Words)
 load_at ws = do
@@ -233,7 +259,18 @@ stated_at ws = do
   outcome ← number_at 0 most_word role.1
   answers ← answers_at outcome.1
   asked ← asked_at answers.1
-  Some (record { number = number.0; session = session.0; moment = moment.0; role = role.0; outcome = outcome.0; answers = answers.0; asked = asked.0 }, asked.1)
+  Some (
+    record {
+      number = number.0;
+      session = session.0;
+      moment = moment.0;
+      role = role.0;
+      outcome = outcome.0;
+      answers = answers.0;
+      asked = asked.0;
+    },
+    asked.1,
+  )
 
 -- nothing may follow
 abbrev pub alone : Stated × Words → Option Stated

@@ -4,7 +4,10 @@ ghost use Rattle.std.specs.Fmt.{decimal};
 ghost use Rattle.std.specs.Io.KnownBytes.{Appends};
 ghost use Rattle.bpf_decode.specs.Encoding.{encoding};
 ghost use Rattle.acdm_milestones.specs.Tables.{number as number_in};
-ghost use Rattle.acdm_journal.specs.Text.{role_name, kind_name, outcome_code, plan_words, plan_words_of, schedule_words, report_words, load_words, command_words, answer_words, head_words, time_words, stated_in, entry_text};
+ghost use Rattle.acdm_journal.specs.Text.{role_name, kind_name, outcome_code, plan_words};
+ghost use Rattle.acdm_journal.specs.Text.{plan_words_of, schedule_words, report_words, load_words};
+ghost use Rattle.acdm_journal.specs.Text.{command_words, answer_words, head_words, time_words};
+ghost use Rattle.acdm_journal.specs.Text.{stated_in, entry_text};
 ghost use Rattle.acdm_journal.specs.Spaced.{spaced};
 
 use acdm_milestones::{Milestone, Role};
@@ -194,9 +197,9 @@ fn text_of(alloc: Global, entry: &Entry) -> Result<Vec<u8>, AllocError>
     Ok(text)
 }
 
-/// Writes the text of an entry: `N SESSION MINUTE ROLE OUT K A1 .. AK COMMAND` and a line feed, with
-/// OUT 0 or the number of the refusal and K the count of the answers that its programs used (this
-/// project's profile).
+/// Writes the text of an entry: `N SESSION MINUTE ROLE OUT K A1 .. AK COMMAND` and a line feed,
+/// with OUT 0 or the number of the refusal and K the count of the answers that its programs used
+/// (this project's profile).
 ///
 /// `Memory` where there was no room for the text, and then nothing was written; `Write` where the
 /// writer failed, which may have taken a part of it.

@@ -2,7 +2,8 @@
 ghost use Rattle.std.specs.Prelude.{◌≡◌, ℕ, List, length, IfOk, OnOk};
 ghost use Rattle.acdm_step.specs.Commands.{History};
 ghost use Rattle.acdm_step.specs.History.{IsLegal, replay};
-ghost use Rattle.acdm_journal.specs.Audit.{Commands, GivesProgram, lacks_answer, JudgesCommand, Judges, clause_code};
+ghost use Rattle.acdm_journal.specs.Audit.{Commands, GivesProgram, lacks_answer, JudgesCommand};
+ghost use Rattle.acdm_journal.specs.Audit.{Judges, clause_code};
 
 use crate::entry_text::code_of;
 use crate::reading::read_line;
@@ -23,8 +24,8 @@ pub enum Clause {
     Number,
     /// 403: the bytes of a program that it loads encode one that is accepted.
     Program,
-    /// 404: the answers of helpers are those that its programs use, each promised, and none where it
-    /// is refused.
+    /// 404: the answers of helpers are those that its programs use, each promised, and none where
+    /// it is refused.
     Answers,
     /// 405: its outcome is that of the entries before it.
     Outcome,
@@ -129,13 +130,13 @@ fn judge_command(
     Ok(())
 }
 
-/// Judges the next line of a journal, by the board of the entries before it, which then is the board
-/// with its entry too. The line stands without its line feed, and is number `number`, from 0; programs
-/// are checked against these signatures.
+/// Judges the next line of a journal, by the board of the entries before it, which then is the
+/// board with its entry too. The line stands without its line feed, and is number `number`, from 0;
+/// programs are checked against these signatures.
 ///
-/// `Faulty` with the first clause that the entry breaks, in the order of their numbers; the answers are
-/// judged by the outcome that the entries before it give, whatever the line says of it. `Memory` where
-/// there was no room. After an error the board is of no use.
+/// `Faulty` with the first clause that the entry breaks, in the order of their numbers; the answers
+/// are judged by the outcome that the entries before it give, whatever the line says of it.
+/// `Memory` where there was no room. After an error the board is of no use.
 pub fn judge_line(
     alloc: Global,
     core: &mut Core,

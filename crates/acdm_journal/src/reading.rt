@@ -1,7 +1,12 @@
 //! The reading of a line.
 ghost use Rattle.std.specs.Prelude.{◌≡◌, ◌≢◌, ◌≤◌, length, IfOk, OnOk, IsTrue, Err};
 ghost use Rattle.acdm_step.specs.Facts.{has_its_plan, has_its_time};
-ghost use Rattle.acdm_journal.specs.Reading.{Gives, GivesLine, natural_of, number_at, text_at, role_named, role_at, kind_named, kind_at, milestone_at, bytes_at, plan_at, plan_for, least_time, schedule_at, report_at, load_at, unload_at, show_at, command_named, asked_at, answers_at, stated_at, stated_of};
+ghost use Rattle.acdm_journal.specs.Reading.{Gives, GivesLine, natural_of, number_at, text_at};
+ghost use Rattle.acdm_journal.specs.Reading.{role_named, role_at, kind_named, kind_at};
+ghost use Rattle.acdm_journal.specs.Reading.{milestone_at, bytes_at, plan_at, plan_for, least_time};
+ghost use Rattle.acdm_journal.specs.Reading.{schedule_at, report_at, load_at, unload_at, show_at};
+ghost use Rattle.acdm_journal.specs.Reading.{command_named, asked_at, answers_at, stated_at};
+ghost use Rattle.acdm_journal.specs.Reading.{stated_of};
 ghost use Rattle.acdm_journal.specs.declared.stated.Stated.{Stated};
 ghost use Rattle.acdm_journal.specs.Text.{line_of};
 ghost use Rattle.acdm_journal.specs.Ranges.{IsStated};
@@ -348,8 +353,9 @@ fn stated_alone(alloc: Global, line: &[u8]) -> Result<Stated, LineError>
 /// What a line states. The line stands without its line feed.
 ///
 /// `Unreadable` where it has more than 200,000 bytes or is the line of nothing that may be stated:
-/// numbers are decimal without leading zeros, words have single spaces between them, hexadecimal is in
-/// lower case. `Memory` where there was no room for the answers or the bytes of the program in it.
+/// numbers are decimal without leading zeros, words have single spaces between them, hexadecimal is
+/// in lower case. `Memory` where there was no room for the answers or the bytes of the program in
+/// it.
 pub fn read_line(alloc: Global, line: &[u8]) -> Result<Stated, LineError>
     ensures states { IfOk result (λ s. (line.now ≡ line_of s) × IsStated s) }
     ensures short { OnOk result (length line.now ≤ 200000) }

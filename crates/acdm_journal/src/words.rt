@@ -1,5 +1,6 @@
 //! The words of a line, one after the other.
-ghost use Rattle.std.specs.Prelude.{◌≡◌, ◌<◌, ℕ, List, [], ◌∷◌, true, false, length, position, IfSome};
+ghost use Rattle.std.specs.Prelude.{◌≡◌, ◌<◌, ℕ, List, [], ◌∷◌, true, false, length, position};
+ghost use Rattle.std.specs.Prelude.{IfSome};
 ghost use Rattle.acdm_journal.specs.Reading.{GivesView, is_space, words_of, word_at};
 
 use crate::stated::LineError;

@@ -1,6 +1,8 @@
 -- How a line is taken from a text that is read piece by piece.
-use Rattle.std.proofs.Common.{◌≡◌, ℕ, zero, suc, ◌+◌, ◌-◌, ◌<◌, ◌≤◌, List, [], ◌∷◌, ◌++◌, length, Option}
-use Rattle.std.proofs.Common.{Some, None, refl, sym, ap, subst, ◌∙◌, arith, append_assoc, append-nil}
+use Rattle.std.proofs.Common.{◌≡◌, ℕ, zero, suc, ◌+◌, ◌-◌, ◌<◌, ◌≤◌, List, [], ◌∷◌, ◌++◌, length}
+use Rattle.std.proofs.Common.{Option}
+use Rattle.std.proofs.Common.{Some, None, refl, sym, ap, subst, ◌∙◌, arith, append_assoc}
+use Rattle.std.proofs.Common.{append-nil}
 use Rattle.std.proofs.Common.{length-append}
 use Rattle.std.specs.Io.KnownBytes.{Consumes, Keeps}
 use Rattle.acdm_lines.specs.Lines.{IsLine, kept}
@@ -88,11 +90,13 @@ module _ (most : ℕ) (start left : Option (List ℕ)) (held_first held bytes : 
   line-split end later e t =
       t.split ∙ ap (λ l. t.part ++ l) e ∙ sym (append_assoc t.part end (10 ∷ later))
 
-  pub line-kept : (end : List ℕ) (t : Taking most start left held_first held bytes reads_first reads)
+  pub line-kept : (end : List ℕ)
+      (t : Taking most start left held_first held bytes reads_first reads)
       → kept most (bytes ++ end) ≡ kept most (t.part ++ end)
   line-kept end t = kept-grows most bytes t.part end t.bytes_are
 
-module _ (most : ℕ) (start left : Option (List ℕ)) (held_first bytes : List ℕ) (reads_first reads : ℕ) where
+module _ (most : ℕ) (start left : Option (List ℕ)) (held_first bytes : List ℕ)
+    (reads_first reads : ℕ) where
   -- nothing is held: all that was read belongs to the line
   pub all-read : (t : Taking most start left held_first [] bytes reads_first reads)
       → held_first ++ t.text ≡ t.part

@@ -70,7 +70,8 @@ pub record TakesPart {R : Type 0} (most : ℕ) (remaining : R → Option (List �
 -- what comes of looking for the next line
 abbrev pub Takes : {R : Type 0} → (most : ℕ) → (R → Option (List ℕ)) → Watched R → Watched R
     → Lines most → Lines most → Result Ending RunError → Type 0
-Takes most remaining old new before after (Ok LineFeed) = TakesLine most remaining old new before after
+Takes most remaining old new before after (Ok LineFeed) =
+    TakesLine most remaining old new before after
 Takes most remaining old new before after (Ok Input) = TakesRest most remaining old new before after
 Takes most remaining old new before after (Err e) = TakesPart most remaining old new before after e
 

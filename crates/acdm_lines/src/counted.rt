@@ -8,8 +8,8 @@ ghost use Rattle.acdm_lines.specs.Counted.{waits_after, waits_flushed};
 use std::io::{self, Read, Write};
 use std::marker::Model;
 
-/// A reader or a writer, how often it failed, and whether bytes that it took may wait for a flush. A
-/// fault is any error, and a write that takes none of some bytes.
+/// A reader or a writer, how often it failed, and whether bytes that it took may wait for a flush.
+/// A fault is any error, and a write that takes none of some bytes.
 #[derive(Drop)]
 pub struct Counted<T> {
     inner: T,

@@ -1,7 +1,12 @@
 -- The numbers of refusals in replies.
 use Rattle.std.specs.Prelude.{ℕ}
 use Rattle.acdm_milestones.specs.declared.refusal.Refusal.{Refusal}
-use Rattle.acdm_milestones.specs.declared.refusal.Refusal.TheVariants.{NotOwner, UnknownFlight, MissingMilestone, Barred, NotSet, TimeOrder, AlreadyPlanned, FullBoard, EmptySlot, OtherSignatures, Unanswered}
+use Rattle.acdm_milestones.specs.declared.refusal.Refusal.TheVariants.{NotOwner, UnknownFlight}
+use Rattle.acdm_milestones.specs.declared.refusal.Refusal.TheVariants.{MissingMilestone, Barred}
+use Rattle.acdm_milestones.specs.declared.refusal.Refusal.TheVariants.{NotSet, TimeOrder}
+use Rattle.acdm_milestones.specs.declared.refusal.Refusal.TheVariants.{AlreadyPlanned, FullBoard}
+use Rattle.acdm_milestones.specs.declared.refusal.Refusal.TheVariants.{EmptySlot, OtherSignatures}
+use Rattle.acdm_milestones.specs.declared.refusal.Refusal.TheVariants.{Unanswered}
 
 abbrev pub refusal_code : Refusal → ℕ
 refusal_code NotOwner = 201

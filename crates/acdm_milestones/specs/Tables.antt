@@ -1,20 +1,39 @@
--- The tables of the milestones (this project's profile over the sixteen milestones of the A-CDM manual): who
--- reports each, what its time sets, what it needs, and what bars it.
-use Rattle.std.specs.Prelude.{ℕ, ◌^◌, Bool, true, ◌||◌, ◌&&◌, ◌==◌, not, nat_le, if◌then◌else◌, List, [], ◌∷◌, bit_or, Option, Result, Ok, Err, find}
+-- The tables of the milestones (this project's profile over the sixteen milestones of the A-CDM
+-- manual): who reports each, what its time sets, what it needs, and what bars it.
+use Rattle.std.specs.Prelude.{ℕ, ◌^◌, Bool, true, ◌||◌, ◌&&◌, ◌==◌, not, nat_le, if◌then◌else◌}
+use Rattle.std.specs.Prelude.{List, [], ◌∷◌, bit_or, Option, Result, Ok, Err, find}
 use Rattle.std.specs.List.{list_all}
 use Rattle.std.specs.Int.{bit_at}
 use Rattle.acdm_record.specs.declared.field.Field.{Field}
-use Rattle.acdm_record.specs.declared.field.Field.TheVariants.{Reached, Eobt, Ctot, Otot, Eldt, Aldt, Aibt, Acgt, Tobt, Tsat, Asbt, Ardt, Asrt, Asat, Aobt, Atot}
+use Rattle.acdm_record.specs.declared.field.Field.TheVariants.{Reached, Eobt, Ctot, Otot, Eldt}
+use Rattle.acdm_record.specs.declared.field.Field.TheVariants.{Aldt, Aibt, Acgt, Tobt, Tsat, Asbt}
+use Rattle.acdm_record.specs.declared.field.Field.TheVariants.{Ardt, Asrt, Asat, Aobt, Atot}
 use Rattle.acdm_record.specs.Fields.{Fields, number_of, set_number}
 use Rattle.acdm_record.specs.Assign.{Assignment, number_is, with_all}
 use Rattle.acdm_milestones.specs.declared.role.Role.{Role}
-use Rattle.acdm_milestones.specs.declared.role.Role.TheVariants.{NetworkManager, AirTrafficControl, AirportOperator, AircraftOperator, GroundHandler}
+use Rattle.acdm_milestones.specs.declared.role.Role.TheVariants.{NetworkManager, AirTrafficControl}
+use Rattle.acdm_milestones.specs.declared.role.Role.TheVariants.{AirportOperator, AircraftOperator}
+use Rattle.acdm_milestones.specs.declared.role.Role.TheVariants.{GroundHandler}
 use Rattle.acdm_milestones.specs.declared.role.Action.{Action}
-use Rattle.acdm_milestones.specs.declared.role.Action.TheVariants.{Report, Schedule, Load, Unload, Tick, Show, Alerts}
+use Rattle.acdm_milestones.specs.declared.role.Action.TheVariants.{Report, Schedule, Load, Unload}
+use Rattle.acdm_milestones.specs.declared.role.Action.TheVariants.{Tick, Show, Alerts}
 use Rattle.acdm_milestones.specs.declared.milestone.Milestone.{Milestone}
-use Rattle.acdm_milestones.specs.declared.milestone.Milestone.TheVariants.{FlightPlanActivated, TwoHoursBeforeEobt, TakeOffFromOutstation, LocalRadarUpdate, FinalApproach, Landed, InBlock, GroundHandlingStarts, TobtUpdate, TsatIssue, BoardingStarts, AircraftReady, StartUpRequest, StartUpApproved, OffBlock, TakeOff}
+use Rattle.acdm_milestones.specs.declared.milestone.Milestone.TheVariants.{FlightPlanActivated}
+use Rattle.acdm_milestones.specs.declared.milestone.Milestone.TheVariants.{TwoHoursBeforeEobt}
+use Rattle.acdm_milestones.specs.declared.milestone.Milestone.TheVariants.{TakeOffFromOutstation}
+use Rattle.acdm_milestones.specs.declared.milestone.Milestone.TheVariants.{LocalRadarUpdate}
+use Rattle.acdm_milestones.specs.declared.milestone.Milestone.TheVariants.{FinalApproach, Landed}
+use Rattle.acdm_milestones.specs.declared.milestone.Milestone.TheVariants.{InBlock}
+use Rattle.acdm_milestones.specs.declared.milestone.Milestone.TheVariants.{GroundHandlingStarts}
+use Rattle.acdm_milestones.specs.declared.milestone.Milestone.TheVariants.{TobtUpdate, TsatIssue}
+use Rattle.acdm_milestones.specs.declared.milestone.Milestone.TheVariants.{BoardingStarts}
+use Rattle.acdm_milestones.specs.declared.milestone.Milestone.TheVariants.{AircraftReady}
+use Rattle.acdm_milestones.specs.declared.milestone.Milestone.TheVariants.{StartUpRequest}
+use Rattle.acdm_milestones.specs.declared.milestone.Milestone.TheVariants.{StartUpApproved}
+use Rattle.acdm_milestones.specs.declared.milestone.Milestone.TheVariants.{OffBlock, TakeOff}
 use Rattle.acdm_milestones.specs.declared.refusal.Refusal.{Refusal}
-use Rattle.acdm_milestones.specs.declared.refusal.Refusal.TheVariants.{NotOwner, MissingMilestone, Barred, NotSet, TimeOrder}
+use Rattle.acdm_milestones.specs.declared.refusal.Refusal.TheVariants.{NotOwner, MissingMilestone}
+use Rattle.acdm_milestones.specs.declared.refusal.Refusal.TheVariants.{Barred, NotSet, TimeOrder}
 
 -- the number of a milestone, which is its bit in the reached word
 abbrev pub number : Milestone → ℕ
@@ -38,8 +57,10 @@ number TakeOff = 16
 -- all milestones, and the one of a number
 abbrev pub milestones : List Milestone
 milestones =
-    FlightPlanActivated ∷ TwoHoursBeforeEobt ∷ TakeOffFromOutstation ∷ LocalRadarUpdate ∷ FinalApproach ∷ Landed ∷ InBlock ∷ GroundHandlingStarts
-    ∷ TobtUpdate ∷ TsatIssue ∷ BoardingStarts ∷ AircraftReady ∷ StartUpRequest ∷ StartUpApproved ∷ OffBlock ∷ TakeOff ∷ []
+    FlightPlanActivated ∷ TwoHoursBeforeEobt ∷ TakeOffFromOutstation ∷ LocalRadarUpdate
+    ∷ FinalApproach ∷ Landed ∷ InBlock ∷ GroundHandlingStarts
+    ∷ TobtUpdate ∷ TsatIssue ∷ BoardingStarts ∷ AircraftReady ∷ StartUpRequest ∷ StartUpApproved
+    ∷ OffBlock ∷ TakeOff ∷ []
 
 abbrev pub milestone_numbered : ℕ → Option Milestone
 milestone_numbered n = find (λ m. n == number m) milestones
@@ -153,12 +174,15 @@ is_set r f = not (number_of r f == 0)
 
 -- the later is not before the earlier, where both are set
 abbrev pub follows : Fields → Field → Field → Bool
-follows r later earlier = number_of r earlier == 0 || (number_of r later == 0 || nat_le (number_of r earlier) (number_of r later))
+follows r later earlier = number_of r earlier == 0
+    || (number_of r later == 0 || nat_le (number_of r earlier) (number_of r later))
 
 abbrev pub is_in_order : Fields → Bool
-is_in_order r = follows r Aibt Aldt && (follows r Acgt Aibt && (follows r Asat Asrt && follows r Atot Aobt))
+is_in_order r = follows r Aibt Aldt
+    && (follows r Acgt Aibt && (follows r Asat Asrt && follows r Atot Aobt))
 
--- whether a role may report a milestone of a flight with this record at this time, else the first refusal
+-- whether a role may report a milestone of a flight with this record at this time, else the first
+-- refusal
 abbrev pub admission : Fields → Role → Milestone → ℕ → Result (Unit {0}) Refusal
 admission r role m time =
     if not (owns role (Report m)) then Err NotOwner

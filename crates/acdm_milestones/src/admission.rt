@@ -4,7 +4,10 @@ ghost use Rattle.std.specs.List.{list_all};
 ghost use Rattle.acdm_record.specs.Place.{width_of};
 ghost use Rattle.acdm_record.specs.Fields.{is_allowed};
 ghost use Rattle.acdm_record.specs.Assign.{with_all};
-ghost use Rattle.acdm_milestones.specs.Tables.{time_field, times_of, needs, needs_set, bar, has_reached as is_reached, is_set as is_given, follows as is_after, is_in_order as are_ordered, admission};
+ghost use Rattle.acdm_milestones.specs.Tables.{time_field, times_of, needs, needs_set, bar};
+ghost use Rattle.acdm_milestones.specs.Tables.{has_reached as is_reached, is_set as is_given};
+ghost use Rattle.acdm_milestones.specs.Tables.{follows as is_after, is_in_order as are_ordered};
+ghost use Rattle.acdm_milestones.specs.Tables.{admission};
 
 use crate::milestone::Milestone;
 use crate::reached::has_reached;
@@ -120,12 +123,13 @@ fn is_in_order(record: &Record) -> bool
         && follows(record, Field::Atot, Field::Aobt)
 }
 
-/// Whether a role may report a milestone of a flight with this record, at this time in minutes since
-/// 1970-01-01T00:00Z (0 is no time).
+/// Whether a role may report a milestone of a flight with this record, at this time in minutes
+/// since 1970-01-01T00:00Z (0 is no time).
 ///
-/// The first refusal that applies (this project's profile): 201 where the role does not own the milestone,
-/// 203 where a milestone that it needs was not reached, 204 where one that bars it was, 205 where a time
-/// that it needs is not set, 206 where the times would stand in the wrong order after the report.
+/// The first refusal that applies (this project's profile): 201 where the role does not own the
+/// milestone, 203 where a milestone that it needs was not reached, 204 where one that bars it was,
+/// 205 where a time that it needs is not set, 206 where the times would stand in the wrong order
+/// after the report.
 pub fn admit(record: &Record, role: Role, milestone: Milestone, time: u32) -> Result<(), Refusal>
     ensures { result ≡ admission record.now role milestone time }
 {

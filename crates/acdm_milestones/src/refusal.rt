@@ -25,7 +25,8 @@ pub enum Refusal {
     EmptySlot,
     /// 322: the program was checked against other signatures than the board's.
     OtherSignatures,
-    /// 599, which no reply has: an oracle left a question of the report's programs without an answer.
+    /// 599, which no reply has: an oracle left a question of the report's programs without an
+    /// answer.
     Unanswered,
 }
 

@@ -67,8 +67,8 @@ fn reports_milestone(role: Role, milestone: Milestone) -> bool
     }
 }
 
-/// Whether a role may do this (this project's profile): a milestone belongs to its reporters, schedule,
-/// load, unload and tick to the airport operator, and questions to everyone.
+/// Whether a role may do this (this project's profile): a milestone belongs to its reporters,
+/// schedule, load, unload and tick to the airport operator, and questions to everyone.
 pub fn owns(role: Role, action: Action) -> bool
     ensures { result ≡ is_owner role action }
 {

@@ -12,8 +12,8 @@ const AO: Role = Role::AircraftOperator;
 
 const GH: Role = Role::GroundHandler;
 
-// One row of the table: number, an owner, a role that is none, the milestones needed, whether TOBT or TSAT
-// is needed, and the milestone that bars it.
+// One row of the table: number, an owner, a role that is none, the milestones needed, whether TOBT
+// or TSAT is needed, and the milestone that bars it.
 #[derive(Clone, Copy)]
 struct Row {
     number: u64,
@@ -123,7 +123,8 @@ fn each_milestone_is_admitted_and_refused(rt: HostRuntime) {
     }
 }
 
-// The milestone that a time of its neighbor bounds, that neighbor, and whether the neighbor is the earlier.
+// The milestone that a time of its neighbor bounds, that neighbor, and whether the neighbor is the
+// earlier.
 #[test]
 fn times_stay_in_order(rt: HostRuntime) {
     let cases = [

@@ -1,13 +1,17 @@
 -- Worked rows: the bytes of a record, and one fault of each kind beside them.
 use Rattle.std.proofs.Common.{◌≡◌, ℕ, List, [], ◌∷◌, ◌++◌, take, set, replicate, Some, None, refl}
-use Rattle.acdm_record.specs.declared.fault.RecordError.TheVariants.{WrongLength, UnknownLayout, MalformedText, ReservedBits}
+use Rattle.acdm_record.specs.declared.fault.RecordError.TheVariants.{WrongLength, UnknownLayout}
+use Rattle.acdm_record.specs.declared.fault.RecordError.TheVariants.{MalformedText, ReservedBits}
 use Rattle.acdm_record.specs.Fields.{bytes_of, fields_at}
 use Rattle.acdm_record.specs.Faults.{first_fault}
 
 -- flight 7, scheduled and planned
 abbrev planned : List ℕ
 planned =
-    (7 ∷ 0 ∷ 0 ∷ 0 ∷ 0 ∷ 0 ∷ 0 ∷ 0 ∷ 68 ∷ 76 ∷ 72 ∷ 55 ∷ 0 ∷ 0 ∷ 0 ∷ 0 ∷ 65 ∷ 51 ∷ 50 ∷ 48 ∷ 65 ∷ 51 ∷ 50 ∷ 48 ∷ 68 ∷ 65 ∷ 73 ∷ 66 ∷ 67 ∷ 0 ∷ 0 ∷ 0 ∷ 68 ∷ 65 ∷ 73 ∷ 66 ∷ 67 ∷ 0 ∷ 0 ∷ 0 ∷ 69 ∷ 68 ∷ 68 ∷ 77 ∷ 69 ∷ 68 ∷ 68 ∷ 77 ∷ 3 ∷ 0 ∷ 0 ∷ 0 ∷ 0 ∷ 0 ∷ 0 ∷ 0 ∷ 40 ∷ 0 ∷ 10 ∷ 0 ∷ 12 ∷ 0 ∷ 1 ∷ 5 ∷ 56 ∷ 132 ∷ 186 ∷ 1 ∷ 56 ∷ 132 ∷ 186 ∷ 1 ∷ []) ++ replicate 56 0
+    (7 ∷ 0 ∷ 0 ∷ 0 ∷ 0 ∷ 0 ∷ 0 ∷ 0 ∷ 68 ∷ 76 ∷ 72 ∷ 55 ∷ 0 ∷ 0 ∷ 0 ∷ 0 ∷ 65 ∷ 51 ∷ 50 ∷ 48 ∷ 65 ∷ 51
+    ∷ 50 ∷ 48 ∷ 68 ∷ 65 ∷ 73 ∷ 66 ∷ 67 ∷ 0 ∷ 0 ∷ 0 ∷ 68 ∷ 65 ∷ 73 ∷ 66 ∷ 67 ∷ 0 ∷ 0 ∷ 0 ∷ 69
+    ∷ 68 ∷ 68 ∷ 77 ∷ 69 ∷ 68 ∷ 68 ∷ 77 ∷ 3 ∷ 0 ∷ 0 ∷ 0 ∷ 0 ∷ 0 ∷ 0 ∷ 0 ∷ 40 ∷ 0 ∷ 10 ∷ 0 ∷ 12
+    ∷ 0 ∷ 1 ∷ 5 ∷ 56 ∷ 132 ∷ 186 ∷ 1 ∷ 56 ∷ 132 ∷ 186 ∷ 1 ∷ []) ++ replicate 56 0
 
 no_fault : first_fault planned ≡ None
 unfolding first_fault

@@ -1,5 +1,6 @@
 -- A text is kept with zeros behind it.
-use Rattle.std.proofs.Common.{◌≡◌, ℕ, ◌≤◌, true, nat_le, List, length, Option, Some, refl, sym, ap, ◌∙◌, subst, arith}
+use Rattle.std.proofs.Common.{◌≡◌, ℕ, ◌≤◌, true, nat_le, List, length, Option, Some, refl, sym, ap}
+use Rattle.std.proofs.Common.{◌∙◌, subst, arith}
 use Rattle.acdm_record.specs.Fields.{padded, is_text}
 use Rattle.acdm_record.specs.Texts.{text_from, kept_text, IsKept}
 use Rattle.acdm_record.proofs.Places.{text-padded}

@@ -1,12 +1,16 @@
 -- What a record is: a number for each number field and a text for each text field; and its bytes.
-use Rattle.std.specs.Prelude.{ℕ, ◌-◌, ◌≡◌, Bool, true, ◌==◌, ◌&&◌, nat_le, nat_lt, List, [], ◌++◌, map, length, take, drop, slice_index, slice_index_or, slice_set, replicate}
+use Rattle.std.specs.Prelude.{ℕ, ◌-◌, ◌≡◌, Bool, true, ◌==◌, ◌&&◌, nat_le, nat_lt, List, [], ◌++◌}
+use Rattle.std.specs.Prelude.{map, length, take, drop, slice_index, slice_index_or, slice_set}
+use Rattle.std.specs.Prelude.{replicate}
 use Rattle.std.specs.List.{flat_map, before_first, list_all}
 use Rattle.std.specs.Int.{bit_at}
 use Rattle.byteorder.specs.Endian.{little_number, little_bytes}
 use Rattle.acdm_record.specs.declared.field.Field.{Field}
 use Rattle.acdm_record.specs.declared.field.Field.TheVariants.{Flight, Reached, Alerts, Layout}
 use Rattle.acdm_record.specs.declared.field.TextField.{TextField}
-use Rattle.acdm_record.specs.Place.{offset_of, width_of, index_of, fields, text_offset_of, text_width_of, text_index_of, text_fields, Name, number, text, layout}
+use Rattle.acdm_record.specs.Place.{offset_of, width_of, index_of, fields, text_offset_of}
+use Rattle.acdm_record.specs.Place.{text_width_of, text_index_of, text_fields, Name, number, text}
+use Rattle.acdm_record.specs.Place.{layout}
 
 -- the numbers in the order of `fields`, and the texts in that of `text_fields`
 pub record Fields : Type 0 where
@@ -61,7 +65,8 @@ fields_at bytes = fields_of (number_at bytes) (text_at bytes)
 
 -- each text is left-justified and filled with zeros
 abbrev pub ArePadded : List ℕ → Type 0
-ArePadded bytes = (t : TextField) → part (text_offset_of t) (text_width_of t) bytes ≡ padded (text_width_of t) (text_at bytes t)
+ArePadded bytes = (t : TextField)
+    → part (text_offset_of t) (text_width_of t) bytes ≡ padded (text_width_of t) (text_at bytes t)
 
 -- the bytes of a text: from 0x21 to 0x7E
 abbrev pub is_text_byte : ℕ → Bool
@@ -70,8 +75,8 @@ is_text_byte b = nat_le 33 b && nat_le b 126
 abbrev pub is_text : List ℕ → Bool
 is_text t = list_all is_text_byte t
 
--- what a number may be beside fitting its bytes: the layout is 1, the reached word has no bit above 16,
--- and the alert word has neither bit 0 nor bit 6
+-- what a number may be beside fitting its bytes: the layout is 1, the reached word has no bit above
+-- 16, and the alert word has neither bit 0 nor bit 6
 abbrev pub is_allowed : Field → ℕ → Bool
 is_allowed Layout v = v == 1
 is_allowed Reached v = nat_lt v 131072

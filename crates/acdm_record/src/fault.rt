@@ -21,7 +21,8 @@ pub enum RecordError {
     /// The layout, byte 62, is not 1.
     #[error("the layout is not 1")]
     UnknownLayout,
-    /// A text is not left-justified, or has a byte outside 0x21 to 0x7E before the zeros that fill it.
+    /// A text is not left-justified, or has a byte outside 0x21 to 0x7E before the zeros that fill
+    /// it.
     #[error("a text is not printable bytes filled with zeros")]
     MalformedText,
     /// The reached word has a bit above 16, or the alert word has bit 0 or 6.
@@ -57,7 +58,8 @@ fn is_filled(part: &[u8]) -> bool
 }
 
 fn has_texts(bytes: &[u8; 128]) -> bool
-    ensures { result ≡ list_all (λ t. is_filled (part (text_offset_of t) (text_width_of t) bytes.now)) text_fields }
+    ensures { result ≡ list_all (λ t. is_filled
+        (part (text_offset_of t) (text_width_of t) bytes.now)) text_fields }
 {
     TextField::ALL
         .iter()
@@ -82,7 +84,8 @@ fn has_allowed(bytes: &[u8; 128], field: Field) -> bool
 }
 
 fn has_known_bits(bytes: &[u8; 128]) -> bool
-    ensures { result ≡ (is_allowed Reached (number_at bytes.now Reached) && is_allowed Alerts (number_at bytes.now Alerts)) }
+    ensures { result ≡ (is_allowed Reached (number_at bytes.now Reached)
+        && is_allowed Alerts (number_at bytes.now Alerts)) }
 {
     has_allowed(bytes, Field::Reached) && has_allowed(bytes, Field::Alerts)
 }

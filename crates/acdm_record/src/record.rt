@@ -1,7 +1,9 @@
 //! The record itself.
-ghost use Rattle.std.specs.Prelude.{◌≡◌, ◌<◌, ◌≤◌, ◌^◌, ◌↔◌, length, IsTrue, IsOk, IfOk, IfErr, Some};
+ghost use Rattle.std.specs.Prelude.{◌≡◌, ◌<◌, ◌≤◌, ◌^◌, ◌↔◌, length, IsTrue, IsOk, IfOk, IfErr};
+ghost use Rattle.std.specs.Prelude.{Some};
 ghost use Rattle.acdm_record.specs.Place.{width_of, text_width_of};
-ghost use Rattle.acdm_record.specs.Fields.{fields_at, number_of, set_number, text_of, set_text, is_text, bytes_of, new_record, is_allowed};
+ghost use Rattle.acdm_record.specs.Fields.{fields_at, number_of, set_number, text_of, set_text};
+ghost use Rattle.acdm_record.specs.Fields.{is_text, bytes_of, new_record, is_allowed};
 ghost use Rattle.acdm_record.specs.Faults.{AreOfRecord, first_fault};
 
 use crate::fault::{RecordError, fault_of};
@@ -38,8 +40,8 @@ impl Record {
 
     /// Puts a number under a name, and leaves every other name as it is.
     ///
-    /// The number fits the bytes of its field. The layout stays 1, the reached word has no bit above 16,
-    /// and the alert word has neither bit 0 nor bit 6.
+    /// The number fits the bytes of its field. The layout stays 1, the reached word has no bit
+    /// above 16, and the alert word has neither bit 0 nor bit 6.
     pub fn set(&mut self, field: Field, value: u64)
         requires fits { value < 256 ^ width_of field }
         requires allowed { IsTrue (is_allowed field value) }

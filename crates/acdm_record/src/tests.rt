@@ -52,8 +52,8 @@ fn a_text_takes_as_many_bytes_as_it_may_have(rt: HostRuntime) {
     assert_eq!(rt; size_of::<Text<4>>(), 4);
 }
 
-// Flight 7, scheduled and planned: callsign DLH7, type A320, registration DAIBC, destination EDDM, SOBT and
-// EOBT 29,000,760, MTTT 40, EXIT 5, EXOT 10, stand 12.
+// Flight 7, scheduled and planned: callsign DLH7, type A320, registration DAIBC, destination EDDM,
+// SOBT and EOBT 29,000,760, MTTT 40, EXIT 5, EXOT 10, stand 12.
 const PLANNED: [u8; 72] =
     *b"\x07\0\0\0\0\0\0\0DLH7\0\0\0\0A320A320DAIBC\0\0\0DAIBC\0\0\0EDDMEDDM\x03\0\0\0\0\0\0\0\x28\0\x0a\0\x0c\0\x01\x05\x38\x84\xba\x01\x38\x84\xba\x01";
 

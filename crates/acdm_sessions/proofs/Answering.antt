@@ -20,7 +20,8 @@ use Rattle.acdm_sessions.specs.declared.answer.Answer.TheVariants.{Entered, Reje
 use Rattle.acdm_sessions.specs.Codes.{bad_of}
 use Rattle.acdm_sessions.specs.Meant.{Gives, meant}
 use Rattle.acdm_sessions.specs.Output.{Supply, no_supply, IsReadingFor, IsReadingOf, IsRight}
-use Rattle.acdm_sessions.specs.Output.{Completes, command_with, is_full, answer_command, desk_command}
+use Rattle.acdm_sessions.specs.Output.{Completes, command_with, is_full, answer_command}
+use Rattle.acdm_sessions.specs.Output.{desk_command}
 use Rattle.acdm_sessions.specs.Output.{answer_meant, desk_meant, Answers}
 
 -- what a reader says of a fault

@@ -16,7 +16,8 @@ json_ok bs d u e =
 pub json_bad : (bs : List ℕ) → (IsUtf8 bs → read bs ≡ None) → json_of bs ≡ Err NoJson
 unfolding json_of
 json_bad bs h =
-    elim (is_utf8 bs) as (λ b. is_utf8 bs ≡ b → cond b (or_fault NoJson (read bs)) (Err NoJson) ≡ Err NoJson) [
+    elim (is_utf8 bs) as (λ b. is_utf8 bs ≡ b
+    → cond b (or_fault NoJson (read bs)) (Err NoJson) ≡ Err NoJson) [
       | true ↦ λ e. ap (or_fault NoJson) (h (IsUtf8-from_is_utf8 bs e))
       | false ↦ λ e. refl
     ] refl

@@ -1,5 +1,6 @@
 -- What was answered at any time of the text that is read.
-use Rattle.std.proofs.Common.{◌≡◌, ℕ, ◌+◌, ◌-◌, ◌^◌, ◌<◌, ◌≤◌, ◌⊎◌, true, List, [], ◌∷◌, ◌++◌, length}
+use Rattle.std.proofs.Common.{◌≡◌, ℕ, ◌+◌, ◌-◌, ◌^◌, ◌<◌, ◌≤◌, ◌⊎◌, true, List, [], ◌∷◌, ◌++◌}
+use Rattle.std.proofs.Common.{length}
 use Rattle.std.proofs.Common.{Option, refl, sym, ap, subst, ◌∙◌, arith, append_assoc, append-nil}
 use Rattle.std.proofs.Common.{length-append, inl, inr}
 use Rattle.std.proofs.lemmas.Bool.{lt-ltb}
@@ -161,7 +162,8 @@ module _ {A R W : Type 0} (may : A → A → List ℕ → Answer → Type 0)
           is_whole = IsWhole-append so_far.whole (t.line ++ 10 ∷ []) so_far.is_whole
               (IsWhole-line t.line);
           split = ap (λ l. so_far.whole ++ l) t.split ∙ text_with so_far.whole t.line l2.window;
-          spoken = subst (λ ls. Spoken may ls before after old (contents w2.inner)) (sym lines) more;
+          spoken = subst (λ ls. Spoken may ls before after old (contents w2.inner)) (sym lines)
+              more;
         }
 
     -- its reply could not be written
@@ -236,7 +238,8 @@ module _ {A R W : Type 0} (may : A → A → List ℕ → Answer → Type 0)
         (contents w2.inner)
     sofar-rest after t some a =
         let rest : List ℕ = l1.window ++ t.text in
-        let there : 0 < length rest = kept-some 70000 rest (subst (λ l. 0 < length l) t.bytes_are some) in
+        let there : 0 < length rest = kept-some 70000 rest
+        (subst (λ l. 0 < length l) t.bytes_are some) in
         let more = spoken-more rest l2.line after t.bytes_are a in
         let lines = lines_to_end so_far.whole rest so_far.is_whole t.is_line there in
         record {
@@ -254,7 +257,8 @@ module _ {A R W : Type 0} (may : A → A → List ℕ → Answer → Type 0)
         (contents w2.inner)
     part-rest after error t some a =
         let rest : List ℕ = l1.window ++ t.text in
-        let there : 0 < length rest = kept-some 70000 rest (subst (λ l. 0 < length l) t.bytes_are some) in
+        let there : 0 < length rest = kept-some 70000 rest
+        (subst (λ l. 0 < length l) t.bytes_are some) in
         record {
           whole = so_far.whole;
           line = rest;

@@ -1,5 +1,6 @@
 -- Seats, and what is told of those who left them.
-use Rattle.std.proofs.Common.{◌≡◌, ℕ, ◌+◌, List, [], ◌∷◌, map, length, refl, sym, ap, subst, ◌∙◌, arith}
+use Rattle.std.proofs.Common.{◌≡◌, ℕ, ◌+◌, List, [], ◌∷◌, map, length, refl, sym, ap, subst, ◌∙◌}
+use Rattle.std.proofs.Common.{arith}
 use Rattle.acdm_milestones.specs.declared.role.Role.{Role}
 use Rattle.acdm_jobs.specs.Each.{Each}
 use Rattle.acdm_sessions.specs.Sessions.{SessionEnd, numbered, HaveEnded, EndsAs}
@@ -17,8 +18,10 @@ each_through f P [] (z ∷ zs) e = absurd e
 each_through f P (x ∷ xs) [] e = absurd e
 
 -- sessions that sat on numbered seats have ended
-pub have_ended : {Y : Type 0} (session_end : Y → SessionEnd) (n : ℕ) (roles : List Role) (ys : List Y)
-    → Each (λ s y. EndsAs s.0 s.1 (session_end y)) (numbered n roles) ys → HaveEnded n roles (map session_end ys)
+pub have_ended : {Y : Type 0} (session_end : Y
+    → SessionEnd) (n : ℕ) (roles : List Role) (ys : List Y)
+    → Each (λ s y. EndsAs s.0 s.1 (session_end y)) (numbered n roles) ys
+    → HaveEnded n roles (map session_end ys)
 have_ended session_end n [] [] e = tt
 have_ended session_end n (r ∷ rs) (y ∷ ys) e =
     (e.0.same_number, e.0.same_role, e.0.not_started, have_ended session_end (n + 1) rs ys e.1)
@@ -26,7 +29,8 @@ have_ended session_end n [] (y ∷ ys) e = absurd e
 have_ended session_end n (r ∷ rs) [] e = absurd e
 
 -- sessions that worked on seats of these roles have ended
-pub sessions_ended : {S W Y : Type 0} (seat : W → S) (place : S → ℕ × Role) (end_of : Y → SessionEnd)
+pub sessions_ended : {S W Y : Type 0} (seat : W → S) (place : S → ℕ × Role) (end_of : Y
+    → SessionEnd)
     (works : List W) (seats : List S) (ys : List Y) (roles : List Role) (ts : List SessionEnd)
     → Each (λ w y. EndsAs (place (seat w)).0 (place (seat w)).1 (end_of y)) works ys
     → map seat works ≡ seats → map place seats ≡ numbered 1 roles → ts ≡ map end_of ys

@@ -17,8 +17,10 @@ use Rattle.acdm_sessions.specs.declared.answer.Answer.TheVariants.{Rejected}
 use Rattle.acdm_sessions.specs.declared.request.Request.{Request}
 use Rattle.acdm_lines.specs.Lines.{lines_of}
 use Rattle.acdm_sessions.specs.Meant.{meant, most_line}
-use Rattle.acdm_sessions.specs.Output.{Supply, IsReadingOf, IsRight, AreRight, command_with, is_full}
-use Rattle.acdm_sessions.specs.Output.{answer_meant, desk_command, desk_meant, answer_to, desk_after}
+use Rattle.acdm_sessions.specs.Output.{Supply, IsReadingOf, IsRight, AreRight, command_with}
+use Rattle.acdm_sessions.specs.Output.{is_full}
+use Rattle.acdm_sessions.specs.Output.{answer_meant, desk_command, desk_meant, answer_to}
+use Rattle.acdm_sessions.specs.Output.{desk_after}
 use Rattle.acdm_sessions.specs.Output.{reply_text, replies, desk_after_all, Answers, Serves}
 use Rattle.acdm_sessions.specs.Reply.{AppendsPart}
 use Rattle.acdm_sessions.specs.Run.{ServesAll, ServesWhole, ServesPart}

@@ -1,7 +1,8 @@
 -- The numbers of faults in lines and of bad lines (this project's profile).
 use Rattle.std.specs.Prelude.{ℕ}
 use Rattle.acdm_sessions.specs.declared.fault.Fault.{Fault}
-use Rattle.acdm_sessions.specs.declared.fault.Fault.TheVariants.{Prefix, NoJson, UnknownCommand, Kind, Range, TooLong}
+use Rattle.acdm_sessions.specs.declared.fault.Fault.TheVariants.{Prefix, NoJson, UnknownCommand}
+use Rattle.acdm_sessions.specs.declared.fault.Fault.TheVariants.{Kind, Range, TooLong}
 use Rattle.acdm_sessions.specs.declared.fault.Bad.{Bad}
 use Rattle.acdm_sessions.specs.declared.fault.Bad.TheVariants as bad
 use Rattle.acdm_sessions.specs.declared.program.ProgramError.{ProgramError}

@@ -1,6 +1,9 @@
--- What a partner's line means (this project's profile). JSON (RFC 8259) is read as serde_json states it,
--- and times (RFC 3339 and its kin) as jiff states them.
-use Rattle.std.specs.Prelude.{ℕ, ◌+◌, ◌-◌, ◌*◌, ◌/◌, ◌^◌, ◌≡◌, ℤ, pos, negsuc, Bool, true, false, not, ◌||◌, ◌&&◌, ◌==◌, nat_le, nat_lt, if◌then◌else◌, List, [], ◌∷◌, length, codes, slice_index, take, drop, position, Option, Some, None, is_some, option_and_then, option_map, Result, Ok, Err}
+-- What a partner's line means (this project's profile). JSON (RFC 8259) is read as serde_json
+-- states it, and times (RFC 3339 and its kin) as jiff states them.
+use Rattle.std.specs.Prelude.{ℕ, ◌+◌, ◌-◌, ◌*◌, ◌/◌, ◌^◌, ◌≡◌, ℤ, pos, negsuc, Bool, true, false}
+use Rattle.std.specs.Prelude.{not, ◌||◌, ◌&&◌, ◌==◌, nat_le, nat_lt, if◌then◌else◌, List, [], ◌∷◌}
+use Rattle.std.specs.Prelude.{length, codes, slice_index, take, drop, position, Option, Some, None}
+use Rattle.std.specs.Prelude.{is_some, option_and_then, option_map, Result, Ok, Err}
 use Rattle.std.specs.Str.{is_utf8, bytes_eq}
 use Rattle.std.specs.Char.{is_ascii_digit}
 use Rattle.serde_json.specs.Data.{Data}
@@ -10,9 +13,13 @@ use Rattle.jiff_fmt.specs.Temporal.{parse_timestamp}
 use Rattle.hex.specs.Hex.{decode_of}
 use Rattle.acdm_record.specs.Texts.{text_from}
 use Rattle.acdm_milestones.specs.declared.role.Role.{Role}
-use Rattle.acdm_milestones.specs.declared.role.Role.TheVariants.{NetworkManager, AirTrafficControl, AirportOperator, AircraftOperator, GroundHandler}
+use Rattle.acdm_milestones.specs.declared.role.Role.TheVariants.{NetworkManager, AirTrafficControl}
+use Rattle.acdm_milestones.specs.declared.role.Role.TheVariants.{AirportOperator, AircraftOperator}
+use Rattle.acdm_milestones.specs.declared.role.Role.TheVariants.{GroundHandler}
 use Rattle.acdm_milestones.specs.declared.milestone.Milestone.{Milestone}
-use Rattle.acdm_milestones.specs.declared.milestone.Milestone.TheVariants.{FlightPlanActivated, TwoHoursBeforeEobt, TobtUpdate}
+use Rattle.acdm_milestones.specs.declared.milestone.Milestone.TheVariants.{FlightPlanActivated}
+use Rattle.acdm_milestones.specs.declared.milestone.Milestone.TheVariants.{TwoHoursBeforeEobt}
+use Rattle.acdm_milestones.specs.declared.milestone.Milestone.TheVariants.{TobtUpdate}
 use Rattle.acdm_milestones.specs.Tables.{milestone_numbered}
 use Rattle.acdm_slots.specs.declared.kind.Kind as kinds
 use Rattle.acdm_slots.specs.declared.kind.Kind.TheVariants.{Tobt, Alert}
@@ -23,7 +30,8 @@ use Rattle.acdm_step.specs.declared.command.Command.TheVariants as commands
 use Rattle.acdm_step.specs.declared.command.FlightCommand.TheVariants.{Schedule, Report}
 use Rattle.acdm_step.specs.Commands.{is_load}
 use Rattle.acdm_sessions.specs.declared.fault.Fault.{Fault}
-use Rattle.acdm_sessions.specs.declared.fault.Fault.TheVariants.{Prefix, NoJson, UnknownCommand, Kind, Range, TooLong}
+use Rattle.acdm_sessions.specs.declared.fault.Fault.TheVariants.{Prefix, NoJson, UnknownCommand}
+use Rattle.acdm_sessions.specs.declared.fault.Fault.TheVariants.{Kind, Range, TooLong}
 use Rattle.acdm_sessions.specs.declared.request.LineError.{LineError}
 use Rattle.acdm_sessions.specs.declared.request.LineError.TheVariants as errors
 use Rattle.acdm_sessions.specs.declared.request.Request.{Request}
@@ -68,7 +76,8 @@ is_space b = b == 32
 
 -- the bytes before the first space, and those after it
 abbrev pub word_at : List ℕ → Result (List ℕ × List ℕ) Fault
-word_at line = or_fault Prefix (option_map (λ i. (take i line, drop (i + 1) line)) (position is_space line))
+word_at line = or_fault Prefix
+    (option_map (λ i. (take i line, drop (i + 1) line)) (position is_space line))
 
 -- digits, the highest first
 abbrev pub digits_from : ℕ → List ℕ → Option ℕ
@@ -77,7 +86,8 @@ digits_from n (c ∷ cs) = if is_ascii_digit c then digits_from (n * 10 + (c - 4
 
 -- a number of at most ten digits, without leading zeros
 unfoldable pub natural_of : List ℕ → Option ℕ
-natural_of w = if length w == 0 || (nat_lt 10 (length w) || slice_index w 0 == 48) then None else digits_from 0 w
+natural_of w = if length w == 0 || (nat_lt 10 (length w) || slice_index w 0 == 48) then None else
+    digits_from 0 w
 
 abbrev pub within : Fault → ℕ → ℕ → ℕ → Result ℕ Fault
 within e low high n = if nat_le low n && nat_le n high then Ok n else Err e
@@ -117,11 +127,13 @@ head_of line = do
 
 -- a number under a key, within these bounds
 unfoldable pub number_field : List ℕ → ℕ → ℕ → Data → Result ℕ Fault
-number_field key low high d = or_fault Kind (option_and_then as_u64 (option_and_then as_number (get key d))) >>= within Range low high
+number_field key low high d = or_fault Kind
+    (option_and_then as_u64 (option_and_then as_number (get key d))) >>= within Range low high
 
 -- a text under a key, of 1 to so many printable bytes
 unfoldable pub text_field : List ℕ → ℕ → Data → Result (List ℕ) Fault
-text_field key most d = or_fault Kind (option_and_then as_str (get key d)) >>= λ t. or_fault Range (text_from most t)
+text_field key most d = or_fault Kind (option_and_then as_str (get key d)) >>= λ t. or_fault Range
+    (text_from most t)
 
 -- the minute of an instant, which must be after the first and fit 32 bits
 abbrev pub minute_of : ℤ → Result ℕ Fault
@@ -134,7 +146,8 @@ minute_read (Err e) = Err Range
 
 -- a time under a key
 unfoldable pub time_field : List ℕ → Data → Result ℕ Fault
-time_field key d = or_fault Kind (option_and_then as_str (get key d)) >>= λ t. minute_read (parse_timestamp t)
+time_field key d = or_fault Kind (option_and_then as_str (get key d)) >>= λ t. minute_read
+    (parse_timestamp t)
 
 -- what is planned: callsign, aircraft type, registration and destination
 unfoldable pub plan_field : Data → Result Plan Fault
@@ -143,7 +156,12 @@ plan_field d = do
   aircraft ← text_field (codes "type") 4 d
   registration ← text_field (codes "reg") 8 d
   destination ← text_field (codes "dest") 4 d
-  Ok (record { callsign = callsign; aircraft = aircraft; registration = registration; destination = destination })
+  Ok (record {
+    callsign = callsign;
+    aircraft = aircraft;
+    registration = registration;
+    destination = destination;
+  })
 
 -- there is a null under the key, which says that there is no time
 abbrev pub has_null : List ℕ → Data → Bool
@@ -179,7 +197,15 @@ schedule_field d = do
   exit ← number_field (codes "exit") 0 255 d
   exot ← number_field (codes "exot") 0 1440 d
   stand ← number_field (codes "stand") 0 65535 d
-  Ok (commands.Flight (Schedule record { flight = flight; plan = plan; sobt = sobt; mttt = mttt; exit = exit; exot = exot; stand = stand }))
+  Ok (commands.Flight (Schedule record {
+    flight = flight;
+    plan = plan;
+    sobt = sobt;
+    mttt = mttt;
+    exit = exit;
+    exot = exot;
+    stand = stand;
+  }))
 
 -- a plan comes with the first milestone alone
 abbrev pub plan_for : Milestone → Data → Result (Option Plan) Fault
@@ -193,7 +219,12 @@ report_field d = do
   milestone ← milestone_field d
   time ← time_for milestone d
   plan ← plan_for milestone d
-  Ok (commands.Flight (Report record { flight = flight; milestone = milestone; time = time; plan = plan }))
+  Ok (commands.Flight (Report record {
+    flight = flight;
+    milestone = milestone;
+    time = time;
+    plan = plan;
+  }))
 
 -- the flight of which the record is asked
 unfoldable pub show_field : Data → Result Command Fault
@@ -201,10 +232,12 @@ show_field d = number_field (codes "flight") 1 most_flight d >>= λ flight. Ok (
 
 -- the kind of a program by its name
 abbrev pub kind_named : List ℕ → Option kinds.Kind
-kind_named w = if bytes_eq w (codes "tobt") then Some Tobt else (if bytes_eq w (codes "alert") then Some Alert else None)
+kind_named w = if bytes_eq w (codes "tobt") then Some Tobt else
+    (if bytes_eq w (codes "alert") then Some Alert else None)
 
 unfoldable pub kind_field : Data → Result kinds.Kind Fault
-kind_field d = or_fault Kind (option_and_then as_str (get (codes "kind") d)) >>= λ t. or_fault Range (kind_named t)
+kind_field d = or_fault Kind (option_and_then as_str (get (codes "kind") d)) >>= λ t. or_fault Range
+    (kind_named t)
 
 -- the slot of a program
 abbrev pub slot_field : Data → Result (Milestone × kinds.Kind) Fault
@@ -219,7 +252,8 @@ bytes_read (Ok bytes) = Ok bytes
 bytes_read (Err e) = Err Range
 
 unfoldable pub program_field : Data → Result (List ℕ) Fault
-program_field d = or_fault Kind (option_and_then as_str (get (codes "program") d)) >>= λ t. bytes_read (decode_of t)
+program_field d = or_fault Kind (option_and_then as_str (get (codes "program") d)) >>=
+    λ t. bytes_read (decode_of t)
 
 -- the fields of a load
 unfoldable pub load_field : Data → Result Asked Fault
@@ -246,11 +280,13 @@ plain_named name d =
 
 -- what the command of this name asks for
 unfoldable pub command_named : List ℕ → Data → Result Asked Fault
-command_named name d = if bytes_eq name (codes "load") then load_field d else plain_named name d >>= λ c. Ok (Plain c)
+command_named name d = if bytes_eq name (codes "load") then load_field d else
+    plain_named name d >>= λ c. Ok (Plain c)
 
 -- the command under `cmd`; a value that has none is no known command
 unfoldable pub command_of : Data → Result Asked Fault
-command_of d = or_fault UnknownCommand (option_and_then as_str (get (codes "cmd") d)) >>= λ name. command_named name d
+command_of d = or_fault UnknownCommand (option_and_then as_str (get (codes "cmd") d)) >>=
+    λ name. command_named name d
 
 -- a command that is asked for as it is, is no load
 abbrev pub is_plain : Asked → Bool
@@ -265,7 +301,8 @@ json_of bytes = if is_utf8 bytes then or_fault NoJson (read bytes) else Err NoJs
 abbrev pub most_line : ℕ
 most_line = 70000
 
--- what a line asks for, or the first fault in it: the order of tests is 105, 100, 101, 102, and then the fields
+-- what a line asks for, or the first fault in it: the order of tests is 105, 100, 101, 102, and
+-- then the fields
 unfoldable pub meant : List ℕ → Result Request Fault
 meant line = do
   _ ← demand TooLong (nat_le (length line) most_line)

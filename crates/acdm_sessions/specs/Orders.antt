@@ -36,8 +36,8 @@ order_asked minute reading (Err f) = Err (Faulty f)
 order_asked None reading (Ok asked) = Err NoMinute
 order_asked (Some m) reading (Ok asked) = order_at m (command_with reading asked)
 
--- what the line asks to be done, and when: the order of tests is 105, 101, 102, the fields, 106, and
--- then the program
+-- what the line asks to be done, and when: the order of tests is 105, 101, 102, the fields, 106,
+-- and then the program
 abbrev pub order_of : OrderFacts → List ℕ → Result Order Bad
 order_of facts line =
     if facts.short then Err NoMemory

@@ -19,7 +19,8 @@ use Rattle.acdm_step.specs.Verdicts.{outcome_of}
 use Rattle.acdm_board.specs.Desk.{DeskView, entered}
 use Rattle.acdm_sessions.specs.declared.fault.Fault.{Fault}
 use Rattle.acdm_sessions.specs.declared.fault.Bad.{Bad}
-use Rattle.acdm_sessions.specs.declared.fault.Bad.TheVariants.{Faulty, Program, NoMemory, FullJournal}
+use Rattle.acdm_sessions.specs.declared.fault.Bad.TheVariants.{Faulty, Program, NoMemory}
+use Rattle.acdm_sessions.specs.declared.fault.Bad.TheVariants.{FullJournal}
 use Rattle.acdm_sessions.specs.declared.answer.Answer.{Answer}
 use Rattle.acdm_sessions.specs.declared.answer.Answer.TheVariants.{Entered, Rejected}
 use Rattle.acdm_sessions.specs.declared.program.ProgramError.{ProgramError}
@@ -143,8 +144,8 @@ list_text (a ∷ more) = alerted_text a ++ flat_map next_text more
 abbrev pub list_head : ℕ → List ℕ
 list_head n = codes "alerts " ++ decimal n ++ 32 ∷ []
 
--- the reply: `ok N`, `rec N HEX`, `alerts N LIST`, `no N CODE`, `bad CODE` or `bad CODE SLOT`, and a
--- line feed
+-- the reply: `ok N`, `rec N HEX`, `alerts N LIST`, `no N CODE`, `bad CODE` or `bad CODE SLOT`, and
+-- a line feed
 abbrev pub entry_text : ℕ → Outcome → List ℕ
 entry_text n Done = codes "ok " ++ decimal n ++ 10 ∷ []
 entry_text n (Shown r) = codes "rec " ++ decimal n ++ 32 ∷ encode_lower (bytes_of r) ++ 10 ∷ []

@@ -3,7 +3,13 @@ ghost use Rattle.std.specs.Prelude.{◌≡◌, ◌≤◌, true, false, IfOk, IsT
 ghost use Rattle.acdm_step.specs.Facts.{has_its_plan, has_its_time};
 ghost use Rattle.acdm_step.specs.Commands.{is_load};
 ghost use Rattle.serde_json.specs.View.{view};
-ghost use Rattle.acdm_sessions.specs.Meant.{Gives, GivesView, number_field, text_field, minute_of, time_field, time_or_null, time_for, plan_field, plan_for, milestone_of, milestone_field, schedule_field, report_field, show_field, kind_named, kind_field, slot_field, program_field, load_field, unload_field, plain_named, command_of, is_plain, json_of};
+ghost use Rattle.acdm_sessions.specs.Meant.{Gives, GivesView, number_field, text_field, minute_of};
+ghost use Rattle.acdm_sessions.specs.Meant.{time_field, time_or_null, time_for, plan_field};
+ghost use Rattle.acdm_sessions.specs.Meant.{plan_for, milestone_of, milestone_field};
+ghost use Rattle.acdm_sessions.specs.Meant.{schedule_field, report_field, show_field, kind_named};
+ghost use Rattle.acdm_sessions.specs.Meant.{kind_field, slot_field, program_field, load_field};
+ghost use Rattle.acdm_sessions.specs.Meant.{unload_field, plain_named, command_of, is_plain};
+ghost use Rattle.acdm_sessions.specs.Meant.{json_of};
 
 use crate::fault::Fault;
 use crate::program::ProgramBytes;

@@ -1,6 +1,7 @@
 //! The words before the JSON of a line.
 ghost use Rattle.std.specs.Prelude.{◌≡◌, ◌<◌, ◌≤◌, length, position, true, IfSome, IfOk};
-ghost use Rattle.acdm_sessions.specs.Meant.{Gives, Sees, is_space, word_at, natural_of, number_word, head_of, meant, is_plain};
+ghost use Rattle.acdm_sessions.specs.Meant.{Gives, Sees, is_space, word_at, natural_of};
+ghost use Rattle.acdm_sessions.specs.Meant.{number_word, head_of, meant, is_plain};
 
 use crate::fault::Fault;
 use crate::field::{command_in, json_in};

@@ -1,5 +1,6 @@
 //! What lies under the lock.
-ghost use Rattle.std.specs.Prelude.{◌≡◌, ◌≢◌, ◌+◌, ◌<◌, ◌≤◌, ◌^◌, ◌↔◌, ℕ, List, [], false, length, Err, OnOk, OnErr, IfOk};
+ghost use Rattle.std.specs.Prelude.{◌≡◌, ◌≢◌, ◌+◌, ◌<◌, ◌≤◌, ◌^◌, ◌↔◌, ℕ, List, [], false, length};
+ghost use Rattle.std.specs.Prelude.{Err, OnOk, OnErr, IfOk};
 ghost use Rattle.bpf_helpers.specs.Promise.{Promise};
 ghost use Rattle.acdm_board.specs.Desk.{Enters, is_foreign};
 

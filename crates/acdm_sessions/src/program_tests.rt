@@ -49,7 +49,8 @@ const IN_BLOCK: &str =
 1 29000700 APT {"cmd":"alerts"}
 "#;
 
-/// What a stream leads to: its replies, the TOBT of flight 7, and the answers of helpers in an entry.
+/// What a stream leads to: its replies, the TOBT of flight 7, and the answers of helpers in an
+/// entry.
 struct Expected<'a> {
     replies: &'a str,
     tobt: u64,

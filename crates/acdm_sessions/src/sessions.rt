@@ -1,5 +1,6 @@
 //! All sessions at once, each on a thread of its own.
-ghost use Rattle.std.specs.Prelude.{◌≡◌, ◌+◌, ◌<◌, ◌≤◌, [], length, map, IfOk, IfErr, OnOk, vec_len, vec_capacity, sum_by};
+ghost use Rattle.std.specs.Prelude.{◌≡◌, ◌+◌, ◌<◌, ◌≤◌, [], length, map, IfOk, IfErr, OnOk};
+ghost use Rattle.std.specs.Prelude.{vec_len, vec_capacity, sum_by};
 ghost use Rattle.acdm_jobs.specs.Each.{Each};
 ghost use Rattle.acdm_sessions.specs.Sessions.{HaveEnded, numbered, session_end};
 
@@ -323,14 +324,14 @@ fn run_named<
     Ok(close(shared.into_inner(), all, served, ended))
 }
 
-/// Serves all sessions at once, each on a thread of its own, and waits for all. Session k, from 1, is
-/// the k-th, at most 64. All call one desk, behind one lock; lines are read, decoded and verified
-/// outside of it, and replies are written outside of it too.
+/// Serves all sessions at once, each on a thread of its own, and waits for all. Session k, from 1,
+/// is the k-th, at most 64. All call one desk, behind one lock; lines are read, decoded and
+/// verified outside of it, and replies are written outside of it too.
 ///
-/// A line of a session is JSON (RFC 8259); the moment of its command is the minute that the session's
-/// clock tells when the line was read, and `bad 106` is answered where it tells none. Replies are
-/// those of `run`. A session whose reader or writer fails ends alone; one that no thread can be
-/// started for ends as `Start`, and the others run.
+/// A line of a session is JSON (RFC 8259); the moment of its command is the minute that the
+/// session's clock tells when the line was read, and `bad 106` is answered where it tells none.
+/// Replies are those of `run`. A session whose reader or writer fails ends alone; one that no
+/// thread can be started for ends as `Start`, and the others run.
 ///
 /// `Err` only where memory was refused before any session started: the desk is as it was.
 pub fn run_sessions<

@@ -11,7 +11,8 @@ ghost use Rattle.bpf_verifier.specs.Verdict.{Verified};
 /// two have one place, and a change of the program in a slot is seen in that slot alone. It does
 /// nothing when it runs.
 pub fn places_are_apart()
-    ensures given { (sigs : List (ℕ × Promise)) (f : Milestone → Kind → Option Verified) (m : Milestone) (kind : Kind) →
+    ensures given { (sigs : List (ℕ × Promise)) (f : Milestone → Kind
+        → Option Verified) (m : Milestone) (kind : Kind) →
         program_in (loaded sigs f) m kind ≡ f m kind }
     ensures apart { (m n : Milestone) (kind other : Kind) →
         place m kind ≡ place n other → (m ≡ n) × (kind ≡ other) }

@@ -1,4 +1,5 @@
-//! The programs of a board: for each milestone one of each kind, checked under the board's signatures.
+//! The programs of a board: for each milestone one of each kind, checked under the board's
+//! signatures.
 #![tactic(auto)]
 
 mod error;

@@ -1,6 +1,7 @@
 //! The programs that are loaded, by milestone and kind.
 
-ghost use Rattle.std.specs.Prelude.{◌≡◌, ◌↔◌, ◌<◌, Some, None, IfOk, IfErr, IsOk, IsErr, OnOk, OnErr, MatchOption};
+ghost use Rattle.std.specs.Prelude.{◌≡◌, ◌↔◌, ◌<◌, Some, None, IfOk, IfErr, IsOk, IsErr, OnOk};
+ghost use Rattle.std.specs.Prelude.{OnErr, MatchOption};
 ghost use Rattle.acdm_slots.specs.Loaded.{AreFit, nothing_loaded, place, program_in, with_program};
 
 use crate::error::SlotError;
@@ -14,8 +15,9 @@ use std::marker::Model;
 /// The number of places: one for each of sixteen milestones and each of two kinds.
 const PLACES: usize = 32;
 
-/// The programs of a board, at most one for each milestone and kind, and the signatures of the board's helpers. Each program was
-/// checked under exactly these signatures. Contracts see a map from milestone and kind by the words of `specs/Loaded.antt`.
+/// The programs of a board, at most one for each milestone and kind, and the signatures of the
+/// board's helpers. Each program was checked under exactly these signatures. Contracts see a map
+/// from milestone and kind by the words of `specs/Loaded.antt`.
 #[derive(Drop)]
 pub struct Slots {
     sigs: Sigs,
@@ -67,14 +69,15 @@ impl Slots {
 
     /// The program of a kind at a milestone.
     pub fn get(&self, milestone: Milestone, kind: Kind) -> Option<&Checked>
-        ensures value { MatchOption result (program_in self.now milestone kind ≡ None) (λ checked. program_in self.now milestone kind ≡ Some checked.now) }
+        ensures value { MatchOption result (program_in self.now milestone kind ≡ None)
+            (λ checked. program_in self.now milestone kind ≡ Some checked.now) }
         ensures fit { AreFit self.now }
     {
         self.programs[place_of(milestone, kind)].as_ref()
     }
 
-    /// Loads a program in place of what stands there. It takes no memory. A program that was checked under other signatures is
-    /// dropped.
+    /// Loads a program in place of what stands there. It takes no memory. A program that was
+    /// checked under other signatures is dropped.
     pub fn load(
         &mut self,
         milestone: Milestone,
@@ -82,7 +85,8 @@ impl Slots {
         program: Checked,
     ) -> Result<(), SlotError>
         ensures same { IsOk result ↔ (program.sigs ≡ self.old.sigs) }
-        ensures loaded { OnOk result (self.new ≡ with_program self.old milestone kind (Some program)) }
+        ensures loaded { OnOk result (self.new
+            ≡ with_program self.old milestone kind (Some program)) }
         ensures other { IfErr result (λ e. e ≡ SlotError.OtherSignatures) }
         ensures kept { OnErr result (self.new ≡ self.old) }
     {

@@ -1,5 +1,6 @@
 -- What a plan would do to the board is what comes of its command.
-use Rattle.std.proofs.Common.{◌≡◌, ℕ, Bool, true, false, cond, not, map, Option, Some, None, is_some, refl, sym, ap, subst, ◌∙◌}
+use Rattle.std.proofs.Common.{◌≡◌, ℕ, Bool, true, false, cond, not, map, Option, Some, None}
+use Rattle.std.proofs.Common.{is_some, refl, sym, ap, subst, ◌∙◌}
 use Rattle.bpf_helpers.specs.Oracles.{OracleView, Unasked}
 use Rattle.bpf_helpers.specs.Same.{same_sigs}
 use Rattle.acdm_milestones.specs.declared.role.Role.{Role}
@@ -30,90 +31,128 @@ use Rattle.acdm_step.specs.Running.{Comes}
 use Rattle.acdm_step.specs.Prepared.{owns_change, after_change, Fits}
 use Rattle.acdm_step.proofs.Steps.{comes_refused, comes_loaded, comes_unloaded, comes_tick}
 
-refuses : (own : Bool) (rest : Verdict) → own ≡ false → Refused NotOwner ≡ cond (not own) (Refused NotOwner) rest
+refuses : (own : Bool) (rest : Verdict) → own ≡ false
+    → Refused NotOwner ≡ cond (not own) (Refused NotOwner) rest
 refuses own rest h = sym (ap (λ t. cond (not t) (Refused NotOwner) rest) h)
 
 -- whoever does not own a command is refused, whatever stands on the board
-pub not_owned : (b : Board) (role : Role) (k : FlightCommand) → owns_change role k ≡ false → Refused NotOwner ≡ board_verdict b role (commands.Flight k)
+pub not_owned : (b : Board) (role : Role) (k : FlightCommand) → owns_change role k ≡ false
+    → Refused NotOwner ≡ board_verdict b role (commands.Flight k)
 unfolding board_verdict
 not_owned b role (Schedule s) h = refuses (owns role actions.Schedule) _ h
 not_owned b role (Report r) h = refuses (owns role (actions.Report r.milestone)) _ h
 
 -- a plan on an equal board, for an equal command
-pub planned_as : (b other : Board) (role : Role) (moment : ℕ) (c same : Command) (from to : OracleView) (outcome : Outcome) (change : Change) → b ≡ other → same ≡ c
-    → Comes b role moment c from to outcome (after_change b change) → Comes other role moment same from to outcome (after_change other change)
+pub planned_as : (b other : Board) (role : Role) (moment : ℕ) (c same : Command)
+    (from to : OracleView) (outcome : Outcome) (change : Change) → b ≡ other → same ≡ c
+    → Comes b role moment c from to outcome (after_change b change)
+    → Comes other role moment same from to outcome (after_change other change)
 planned_as b other role moment c same from to outcome change e f h =
-    subst (λ x. Comes x role moment same from to outcome (after_change x change)) e (subst (λ x. Comes b role moment x from to outcome (after_change b change)) (sym f) h)
+    subst (λ x. Comes x role moment same from to outcome (after_change x change)) e
+    (subst (λ x. Comes b role moment x from to outcome (after_change b change)) (sym f) h)
 
 -- a plan that leaves the board as it is
-pub left_so : (b : Board) (role : Role) (moment : ℕ) (c : Command) (from to : OracleView) (outcome : Outcome) (change : Change)
-    → change ≡ changes.Nothing → Comes b role moment c from to outcome b → Comes b role moment c from to outcome (after_change b change)
-left_so b role moment c from to outcome change e h = subst (λ x. Comes b role moment c from to outcome (after_change b x)) (sym e) h
+pub left_so : (b : Board) (role : Role) (moment : ℕ) (c : Command) (from to : OracleView)
+    (outcome : Outcome) (change : Change)
+    → change ≡ changes.Nothing → Comes b role moment c from to outcome b
+    → Comes b role moment c from to outcome (after_change b change)
+left_so b role moment c from to outcome change e h =
+    subst (λ x. Comes b role moment c from to outcome (after_change b x)) (sym e) h
 
 -- a plan that was committed
-pub committed : (b new : Board) (role : Role) (moment : ℕ) (c : Command) (from to : OracleView) (planned outcome : Outcome) (change : Change) → outcome ≡ planned → new ≡ after_change b change
-    → Comes b role moment c from to planned (after_change b change) → Comes b role moment c from to outcome new
+pub committed : (b new : Board) (role : Role) (moment : ℕ) (c : Command) (from to : OracleView)
+    (planned outcome : Outcome) (change : Change) → outcome ≡ planned → new ≡ after_change b change
+    → Comes b role moment c from to planned (after_change b change)
+    → Comes b role moment c from to outcome new
 committed b new role moment c from to planned outcome change e f h =
-    subst (λ o. Comes b role moment c from to o new) (sym e) (subst (λ x. Comes b role moment c from to planned x) (sym f) h)
+    subst (λ o. Comes b role moment c from to o new) (sym e)
+    (subst (λ x. Comes b role moment c from to planned x) (sym f) h)
 
-module _ (b : Board) (role : Role) (moment : ℕ) (from to : OracleView) (outcome : Outcome) (same : Unasked from to) where
-  pub plans_nothing : (k : FlightCommand) → owns_change role k ≡ false → outcome ≡ outcomes.Refused NotOwner → Comes b role moment (commands.Flight k) from to outcome b
-  plans_nothing k h out = comes_refused b role moment (commands.Flight k) from to outcome (Refused NotOwner) refl (not_owned b role k h) refl same out
+module _ (b : Board) (role : Role) (moment : ℕ) (from to : OracleView) (outcome : Outcome)
+    (same : Unasked from to) where
+  pub plans_nothing : (k : FlightCommand) → owns_change role k ≡ false
+      → outcome ≡ outcomes.Refused NotOwner
+      → Comes b role moment (commands.Flight k) from to outcome b
+  plans_nothing k h out = comes_refused b role moment (commands.Flight k) from to outcome
+      (Refused NotOwner) refl (not_owned b role k h) refl same out
 
-  pub plans_tick : (change : Change) → outcome ≡ outcome_with outcomes.Done (tick_verdict role) → change ≡ cond (is_accepted (tick_verdict role)) (changes.Touch moment) changes.Nothing
+  pub plans_tick : (change : Change) → outcome ≡ outcome_with outcomes.Done (tick_verdict role)
+      → change ≡ cond (is_accepted (tick_verdict role)) (changes.Touch moment) changes.Nothing
       → Comes b role moment Tick from to outcome (after_change b change)
   plans_tick change out e =
-      subst (λ x. Comes b role moment Tick from to outcome x) (either (is_accepted (tick_verdict role)) ∙ ap (after_change b) (sym e))
-      (comes_tick b role moment from to outcome same (tick_verdict role) (cond (is_accepted (tick_verdict role)) (map (touched moment) b.records) b.records) refl out refl)
+      subst (λ x. Comes b role moment Tick from to outcome x)
+      (either (is_accepted (tick_verdict role)) ∙ ap (after_change b) (sym e))
+      (comes_tick b role moment from to outcome same (tick_verdict role)
+      (cond (is_accepted (tick_verdict role)) (map (touched moment) b.records) b.records) refl
+      out refl)
     where
-      either : (t : Bool) → board_of (cond t (map (touched moment) b.records) b.records) b.slots ≡ after_change b (cond t (changes.Touch moment) changes.Nothing)
+      either : (t : Bool) → board_of (cond t (map (touched moment) b.records) b.records) b.slots
+          ≡ after_change b (cond t (changes.Touch moment) changes.Nothing)
       either true = refl
       either false = refl
 
-  pub plans_load : (l : command_load.Load) (change : Change) → outcome ≡ outcome_with outcomes.Done (load_verdict (same_sigs l.program.sigs b.slots.sigs) role)
-      → change ≡ cond (is_accepted (load_verdict (same_sigs l.program.sigs b.slots.sigs) role)) (changes.Load l.milestone l.kind l.program) changes.Nothing
+  pub plans_load : (l : command_load.Load) (change : Change)
+      → outcome ≡ outcome_with outcomes.Done
+      (load_verdict (same_sigs l.program.sigs b.slots.sigs) role)
+      → change ≡ cond (is_accepted (load_verdict (same_sigs l.program.sigs b.slots.sigs) role))
+      (changes.Load l.milestone l.kind l.program) changes.Nothing
       → Comes b role moment (Load l) from to outcome (after_change b change)
   plans_load l change out e =
       let v : Verdict = load_verdict (same_sigs l.program.sigs b.slots.sigs) role in
-      subst (λ x. Comes b role moment (Load l) from to outcome x) (either (is_accepted v) ∙ ap (after_change b) (sym e))
-      (comes_loaded b role moment from to outcome same l v (cond (is_accepted v) (with_slots (Load l) b.slots) b.slots) refl out refl)
+      subst (λ x. Comes b role moment (Load l) from to outcome x) (either (is_accepted v)
+      ∙ ap (after_change b) (sym e))
+      (comes_loaded b role moment from to outcome same l v
+      (cond (is_accepted v) (with_slots (Load l) b.slots) b.slots) refl out refl)
     where
-      either : (t : Bool) → board_of b.records (cond t (with_slots (Load l) b.slots) b.slots) ≡ after_change b (cond t (changes.Load l.milestone l.kind l.program) changes.Nothing)
+      either : (t : Bool) → board_of b.records (cond t (with_slots (Load l) b.slots) b.slots)
+          ≡ after_change b (cond t (changes.Load l.milestone l.kind l.program) changes.Nothing)
       either true = refl
       either false = refl
 
-  pub plans_unload : (u : command_unload.Unload) (change : Change) → outcome ≡ outcome_with outcomes.Done (unload_verdict (is_some (program_in b.slots u.milestone u.kind)) role)
-      → change ≡ cond (is_accepted (unload_verdict (is_some (program_in b.slots u.milestone u.kind)) role)) (changes.Unload u.milestone u.kind) changes.Nothing
+  pub plans_unload : (u : command_unload.Unload) (change : Change)
+      → outcome ≡ outcome_with outcomes.Done
+      (unload_verdict (is_some (program_in b.slots u.milestone u.kind)) role)
+      → change ≡ cond (is_accepted (unload_verdict (is_some (program_in b.slots u.milestone u.kind))
+      role)) (changes.Unload u.milestone u.kind) changes.Nothing
       → Comes b role moment (Unload u) from to outcome (after_change b change)
   plans_unload u change out e =
       let v : Verdict = unload_verdict (is_some (program_in b.slots u.milestone u.kind)) role in
-      subst (λ x. Comes b role moment (Unload u) from to outcome x) (either (is_accepted v) ∙ ap (after_change b) (sym e))
-      (comes_unloaded b role moment from to outcome same u v (cond (is_accepted v) (with_slots (Unload u) b.slots) b.slots) refl out refl)
+      subst (λ x. Comes b role moment (Unload u) from to outcome x) (either (is_accepted v)
+      ∙ ap (after_change b) (sym e))
+      (comes_unloaded b role moment from to outcome same u v
+      (cond (is_accepted v) (with_slots (Unload u) b.slots) b.slots) refl out refl)
     where
-      either : (t : Bool) → board_of b.records (cond t (with_slots (Unload u) b.slots) b.slots) ≡ after_change b (cond t (changes.Unload u.milestone u.kind) changes.Nothing)
+      either : (t : Bool) → board_of b.records (cond t (with_slots (Unload u) b.slots) b.slots)
+          ≡ after_change b (cond t (changes.Unload u.milestone u.kind) changes.Nothing)
       either true = refl
       either false = refl
 
 -- ---- what a plan asks of its board
 
-pub fits_tick : (b : Board) (moment : ℕ) (t : Bool) (change : Change) → change ≡ cond t (changes.Touch moment) changes.Nothing → Fits b change
+pub fits_tick : (b : Board) (moment : ℕ) (t : Bool) (change : Change)
+    → change ≡ cond t (changes.Touch moment) changes.Nothing → Fits b change
 fits_tick b moment true change e = subst (Fits b) (sym e) tt
 fits_tick b moment false change e = subst (Fits b) (sym e) tt
 
-pub fits_load : (b : Board) (l : command_load.Load) (t : Bool) (change : Change) → change ≡ cond t (changes.Load l.milestone l.kind l.program) changes.Nothing
+pub fits_load : (b : Board) (l : command_load.Load) (t : Bool) (change : Change)
+    → change ≡ cond t (changes.Load l.milestone l.kind l.program) changes.Nothing
     → (t ≡ true → l.program.sigs ≡ b.slots.sigs) → Fits b change
 fits_load b l true change e h = subst (Fits b) (sym e) (h refl)
 fits_load b l false change e h = subst (Fits b) (sym e) tt
 
-none_filled : (own : Bool) → is_accepted (cond (not own) (Refused NotOwner) (Refused EmptySlot)) ≡ false
+none_filled : (own : Bool) → is_accepted (cond (not own) (Refused NotOwner) (Refused EmptySlot))
+    ≡ false
 none_filled true = refl
 none_filled false = refl
 
-filled : (p : Option Verified) (role : Role) → is_accepted (unload_verdict (is_some p) role) ≡ true → p ≡ None → ⊥
+filled : (p : Option Verified) (role : Role) → is_accepted (unload_verdict (is_some p) role) ≡ true
+    → p ≡ None → ⊥
 filled (Some p) role h e = absurd (cc)
 filled None role h e = absurd (cc (h, none_filled (owns role actions.Unload)))
 
-pub fits_unload : (b : Board) (u : command_unload.Unload) (role : Role) (t : Bool) (change : Change) → t ≡ is_accepted (unload_verdict (is_some (program_in b.slots u.milestone u.kind)) role)
+pub fits_unload : (b : Board) (u : command_unload.Unload) (role : Role) (t : Bool) (change : Change)
+    → t ≡ is_accepted (unload_verdict (is_some (program_in b.slots u.milestone u.kind)) role)
     → change ≡ cond t (changes.Unload u.milestone u.kind) changes.Nothing → Fits b change
-fits_unload b u role true change s e = subst (Fits b) (sym e) (filled (program_in b.slots u.milestone u.kind) role (sym s))
+fits_unload b u role true change s e =
+    subst (Fits b) (sym e) (filled (program_in b.slots u.milestone u.kind) role (sym s))
 fits_unload b u role false change s e = subst (Fits b) (sym e) tt

@@ -1,5 +1,8 @@
 -- A step on the replay of a legal history is the replay of the longer history.
-use Rattle.std.proofs.Common.{◌≡◌, ◌≢◌, ℕ, eq-eqb, ◌+◌, Bool, true, false, cond, not, ◌&&◌, ◌||◌, ◌==◌, nat_lt, List, [], ◌∷◌, ◌++◌, map, length, get_or, set, Option, Some, None, is_some, refl, sym, ap, subst, ◌∙◌, arith, eqb-true, ne_eqb}
+use Rattle.std.proofs.Common.{◌≡◌, ◌≢◌, ℕ, eq-eqb, ◌+◌, Bool, true, false, cond, not, ◌&&◌, ◌||◌}
+use Rattle.std.proofs.Common.{◌==◌, nat_lt, List, [], ◌∷◌, ◌++◌, map, length, get_or, set, Option}
+use Rattle.std.proofs.Common.{Some, None, is_some, refl, sym, ap, subst, ◌∙◌, arith, eqb-true}
+use Rattle.std.proofs.Common.{ne_eqb}
 use Rattle.std.proofs.lemmas.List.{length-map, map_push, get_or_past}
 use Rattle.std.specs.List.{position_or_len}
 use Rattle.acdm_record.specs.Fields.{Fields, new_record}
@@ -24,34 +27,50 @@ use Rattle.acdm_step.specs.declared.outcome.Outcome.TheVariants as outcomes
 use Rattle.acdm_step.specs.declared.entry.Verdict.{Verdict}
 use Rattle.acdm_step.specs.declared.entry.Verdict.TheVariants.{Refused}
 use Rattle.acdm_step.specs.declared.entry.Entry.{Entry}
-use Rattle.acdm_step.specs.Commands.{History, flight_of, bit_of, changes_flight, is_tick, is_load, is_of, ticks, is_accepted, creates, created, is_alerts}
-use Rattle.acdm_step.specs.InSlots.{slot_change, changed_or, program_in, programs_of, size_of, with_slots, slots_of, may_ask}
-use Rattle.acdm_step.specs.Summaries.{empty_summary, with_command, with_tick, summary, effect_on, record_from, record_of, with_flight, flights, exists, run_record_of}
-use Rattle.acdm_step.specs.Verdicts.{is_ready, verdict_for, verdict_of, answer, outcome_with, outcome_of}
+use Rattle.acdm_step.specs.Commands.{History, flight_of, bit_of, changes_flight, is_tick, is_load}
+use Rattle.acdm_step.specs.Commands.{is_of, ticks, is_accepted, creates, created, is_alerts}
+use Rattle.acdm_step.specs.InSlots.{slot_change, changed_or, program_in, programs_of, size_of}
+use Rattle.acdm_step.specs.InSlots.{with_slots, slots_of, may_ask}
+use Rattle.acdm_step.specs.Summaries.{empty_summary, with_command, with_tick, summary, effect_on}
+use Rattle.acdm_step.specs.Summaries.{record_from, record_of, with_flight, flights, exists}
+use Rattle.acdm_step.specs.Summaries.{run_record_of}
+use Rattle.acdm_step.specs.Verdicts.{is_ready, verdict_for, verdict_of, answer, outcome_with}
+use Rattle.acdm_step.specs.Verdicts.{outcome_of}
 use Rattle.acdm_step.specs.History.{IsAnswered, IsLegal, replay, after, needs_memory}
-use Rattle.acdm_step.specs.Board.{record_after, touched, place_of, is_there, record_on, put, assigned_to, programs_on, ready_on, board_verdict, board_creates, board_loads, board_answer, board_outcome, board_changed, board_after}
+use Rattle.acdm_step.specs.Board.{record_after, touched, place_of, is_there, record_on, put}
+use Rattle.acdm_step.specs.Board.{assigned_to, programs_on, ready_on, board_verdict, board_creates}
+use Rattle.acdm_step.specs.Board.{board_loads, board_answer, board_outcome, board_changed}
+use Rattle.acdm_step.specs.Board.{board_after}
 use Rattle.acdm_step.specs.Ran.{Ran}
 use Rattle.acdm_step.specs.Running.{AsksIn}
 use Rattle.acdm_step.proofs.Steps.{change_no_tick}
-use Rattle.acdm_step.proofs.Records.{assigned-reported, record_same, record_changed, record_ticked, touched-there}
-use Rattle.acdm_step.proofs.Flights.{is_it, has, and_false, found, inside, outside, absent, updated, flights_distinct, grows, has-with_flight}
+use Rattle.acdm_step.proofs.Records.{assigned-reported, record_same, record_changed, record_ticked}
+use Rattle.acdm_step.proofs.Records.{touched-there}
+use Rattle.acdm_step.proofs.Flights.{is_it, has, and_false, found, inside, outside, absent, updated}
+use Rattle.acdm_step.proofs.Flights.{flights_distinct, grows, has-with_flight}
 
 -- ---- creation
 
-first_owned : (a b : Bool) (rest : Verdict) → is_accepted (cond (not a) (Refused NotOwner) (cond (not false && not b) (Refused UnknownFlight) rest)) ≡ true → b ≡ true
+first_owned : (a b : Bool) (rest : Verdict)
+    → is_accepted (cond (not a) (Refused NotOwner)
+    (cond (not false && not b) (Refused UnknownFlight) rest)) ≡ true → b ≡ true
 first_owned true true rest h = refl
 first_owned true false rest h = h
 first_owned false true rest h = refl
 first_owned false false rest h = h
 
 -- a command that is accepted where its flight is not there creates it
-admitted_creates : (c : Command) (count : ℕ) (r : Fields) (ready : Bool) (role : Role) → changes_flight c ≡ true → is_accepted (verdict_for false count r ready role c) ≡ true → creates c ≡ true
+admitted_creates : (c : Command) (count : ℕ) (r : Fields) (ready : Bool) (role : Role)
+    → changes_flight c ≡ true → is_accepted (verdict_for false count r ready role c) ≡ true
+    → creates c ≡ true
 admitted_creates (commands.Flight (Schedule s)) count r ready role k h = refl
-admitted_creates (commands.Flight (Report p)) count r ready role k h = first_owned (owns role (actions.Report p.milestone)) (number p.milestone == 1) _ h
+admitted_creates (commands.Flight (Report p)) count r ready role k h =
+    first_owned (owns role (actions.Report p.milestone)) (number p.milestone == 1) _ h
 admitted_creates _ count r ready role k h = absurd (cc)
 
 -- what an accepted entry creates
-creates_or_not : (fs : List ℕ) (b : Bool) (f : ℕ) → has f fs ≡ true → with_flight fs (cond b (Some f) None) ≡ fs
+creates_or_not : (fs : List ℕ) (b : Bool) (f : ℕ) → has f fs ≡ true
+    → with_flight fs (cond b (Some f) None) ≡ fs
 creates_or_not fs true f h = ap (λ b. cond b fs (fs ++ f ∷ [])) h
 creates_or_not fs false f h = refl
 
@@ -73,32 +92,50 @@ not_all true false c h = refl
 not_all false b c h = refl
 
 -- an entry that is accepted is so by the tests
-pub is_right : (sigs : List (ℕ × Promise)) (J : History) (role : Role) (moment : ℕ) (c : Command) (v : Verdict) (answers : List ℕ)
-    → IsAnswered sigs J role moment c v answers → is_accepted v ≡ true → is_accepted (verdict_of sigs J role c) ≡ true
+pub is_right : (sigs : List (ℕ × Promise)) (J : History) (role : Role) (moment : ℕ) (c : Command)
+    (v : Verdict) (answers : List ℕ)
+    → IsAnswered sigs J role moment c v answers → is_accepted v ≡ true
+    → is_accepted (verdict_of sigs J role c) ≡ true
 is_right sigs J role moment c v answers h d = sym (ap is_accepted h.verdict_is) ∙ d
 
-module _ (sigs : List (ℕ × Promise)) (f : ℕ) (e : Entry) (J : History) (right : is_accepted e.verdict ≡ true → is_accepted (verdict_of sigs J e.role e.command) ≡ true) (gone : has f (with_flight (flights J) (created e)) ≡ false) where
+module _ (sigs : List (ℕ × Promise)) (f : ℕ) (e : Entry) (J : History)
+    (right : is_accepted e.verdict ≡ true
+    → is_accepted (verdict_of sigs J e.role e.command) ≡ true)
+    (gone : has f (with_flight (flights J) (created e)) ≡ false) where
   -- an accepted entry of a flight that is not there would have created it
-  not_named : is_accepted e.verdict ≡ true → changes_flight e.command ≡ true → (flight_of e.command == f) ≡ true → ⊥
+  not_named : is_accepted e.verdict ≡ true → changes_flight e.command ≡ true
+      → (flight_of e.command == f) ≡ true → ⊥
   not_named d k n =
       let same : flight_of e.command ≡ f = eqb-true (flight_of e.command) f n in
       let before : has f (flights J) ≡ false = grows f (flights J) (created e) gone in
-      let there : exists J (flight_of e.command) ≡ false = subst (λ g. has g (flights J) ≡ false) (sym same) before in
-      let done' : is_accepted (verdict_for false (length (flights J)) (record_of J (flight_of e.command)) (is_ready sigs J e.command) e.role e.command) ≡ true =
-      sym (ap (λ b. is_accepted (verdict_for b (length (flights J)) (record_of J (flight_of e.command)) (is_ready sigs J e.command) e.role e.command)) there) ∙ right d in
-      let makes = admitted_creates e.command (length (flights J)) (record_of J (flight_of e.command)) (is_ready sigs J e.command) e.role k done' in
-      let made : created e ≡ Some f = ap (λ b. cond (b && creates e.command) (Some (flight_of e.command)) None) d ∙ ap (λ b. cond b (Some (flight_of e.command)) None) makes ∙ ap Some same in
-      let yes : has f (with_flight (flights J) (created e)) ≡ true = ap (λ o. has f (with_flight (flights J) o)) made ∙ has-with_flight f (flights J) in
+      let there : exists J (flight_of e.command) ≡ false =
+      subst (λ g. has g (flights J) ≡ false) (sym same) before in
+      let done' : is_accepted (verdict_for false (length (flights J))
+      (record_of J (flight_of e.command)) (is_ready sigs J e.command) e.role e.command) ≡ true =
+      sym (ap (λ b. is_accepted (verdict_for b (length (flights J))
+      (record_of J (flight_of e.command)) (is_ready sigs J e.command) e.role e.command)) there)
+      ∙ right d in
+      let makes = admitted_creates e.command (length (flights J))
+      (record_of J (flight_of e.command)) (is_ready sigs J e.command) e.role k done' in
+      let made : created e ≡ Some f =
+      ap (λ b. cond (b && creates e.command) (Some (flight_of e.command)) None) d
+      ∙ ap (λ b. cond b (Some (flight_of e.command)) None) makes ∙ ap Some same in
+      let yes : has f (with_flight (flights J) (created e)) ≡ true =
+      ap (λ o. has f (with_flight (flights J) o)) made ∙ has-with_flight f (flights J) in
       cc
 
   unset : is_of f e ≡ false
-  unset = not_all (is_accepted e.verdict) (changes_flight e.command) (flight_of e.command == f) not_named
+  unset = not_all (is_accepted e.verdict) (changes_flight e.command) (flight_of e.command == f)
+      not_named
 
-nothing-summary : (sigs : List (ℕ × Promise)) (f : ℕ) (J : History) → IsLegal sigs J → exists J f ≡ false → summary J f ≡ empty_summary
+nothing-summary : (sigs : List (ℕ × Promise)) (f : ℕ) (J : History) → IsLegal sigs J
+    → exists J f ≡ false → summary J f ≡ empty_summary
 nothing-summary sigs f [] l h = refl
 nothing-summary sigs f (e ∷ J) l h =
     let before = nothing-summary sigs f J l.0 (grows f (flights J) (created e) h) in
-    ap (λ b. cond b (with_command e.command e.moment (effect_on (programs_of J e.command) e f (summary J f)) (summary J f)) (cond (ticks e) (with_tick e.moment (summary J f)) (summary J f)))
+    ap (λ b. cond b (with_command e.command e.moment
+    (effect_on (programs_of J e.command) e f (summary J f)) (summary J f))
+    (cond (ticks e) (with_tick e.moment (summary J f)) (summary J f)))
     (unset sigs f e J (is_right sigs J e.role e.moment e.command e.verdict e.answers l.4) h)
     ∙ ap (λ t. cond (ticks e) (with_tick e.moment t) t) before ∙ either (ticks e)
   where
@@ -106,62 +143,77 @@ nothing-summary sigs f (e ∷ J) l h =
     either true = refl
     either false = refl
 
-nothing_set : (sigs : List (ℕ × Promise)) (f : ℕ) (J : History) → IsLegal sigs J → exists J f ≡ false → record_of J f ≡ new_record f
+nothing_set : (sigs : List (ℕ × Promise)) (f : ℕ) (J : History) → IsLegal sigs J
+    → exists J f ≡ false → record_of J f ≡ new_record f
 nothing_set sigs f J l h = ap (record_from f) (nothing-summary sigs f J l h)
 
 -- ---- the programs in the slots
 
-either_slot : (b : Bool) (after before : Option Verified) → cond b after before ≡ changed_or (cond b (Some after) None) before
+either_slot : (b : Bool) (after before : Option Verified)
+    → cond b after before ≡ changed_or (cond b (Some after) None) before
 either_slot true after before = refl
 either_slot false after before = refl
 
 -- the program that stands in a slot is that of the last load or unload
-pub slot-replay : (sigs : List (ℕ × Promise)) (J : History) (m : Milestone) (k : Kind) → loaded.program_in (slots_of sigs J) m k ≡ program_in J m k
+pub slot-replay : (sigs : List (ℕ × Promise)) (J : History) (m : Milestone) (k : Kind)
+    → loaded.program_in (slots_of sigs J) m k ≡ program_in J m k
 slot-replay sigs J m k = given sigs (program_in J) m k
 
 -- a command changes what a slot is said to have
 module _ (sigs : List (ℕ × Promise)) (f : Milestone → Kind → Option Verified) where
   put_there : (m n : Milestone) (kind other : Kind) (after : Option Verified)
-      → cond (place m kind == place n other) after (loaded.program_in (loaded.loaded sigs f) n other)
+      → cond (place m kind == place n other) after
+      (loaded.program_in (loaded.loaded sigs f) n other)
       ≡ changed_or (cond (place m kind == place n other) (Some after) None) (f n other)
   put_there m n kind other after =
       ap (λ before. cond (place m kind == place n other) after before) (given sigs f n other)
       ∙ either_slot (place m kind == place n other) after (f n other)
 
-  changed_slots : (c : Command) → with_slots c (loaded.loaded sigs f) ≡ loaded.loaded sigs (λ m k. changed_or (slot_change m k c) (f m k))
-  changed_slots (Load c) = ap (loaded.loaded sigs) (λ i m k. put_there c.milestone m c.kind k (Some c.program) i)
-  changed_slots (Unload c) = ap (loaded.loaded sigs) (λ i m k. put_there c.milestone m c.kind k None i)
+  changed_slots : (c : Command) → with_slots c (loaded.loaded sigs f)
+      ≡ loaded.loaded sigs (λ m k. changed_or (slot_change m k c) (f m k))
+  changed_slots (Load c) = ap (loaded.loaded sigs)
+      (λ i m k. put_there c.milestone m c.kind k (Some c.program) i)
+  changed_slots (Unload c) = ap (loaded.loaded sigs)
+      (λ i m k. put_there c.milestone m c.kind k None i)
   changed_slots _ = refl
 
 -- an accepted entry changes the slots, and a refused one leaves them
-pub accepted-slots : (sigs : List (ℕ × Promise)) (e : Entry) (J : History) → is_accepted e.verdict ≡ true
+pub accepted-slots : (sigs : List (ℕ × Promise)) (e : Entry) (J : History)
+    → is_accepted e.verdict ≡ true
     → with_slots e.command (slots_of sigs J) ≡ slots_of sigs (e ∷ J)
 accepted-slots sigs e J d =
     changed_slots sigs (program_in J) e.command
-    ∙ sym (ap (λ b. loaded.loaded sigs (λ m k. cond b (changed_or (slot_change m k e.command) (program_in J m k)) (program_in J m k))) d)
+    ∙ sym (ap (λ b. loaded.loaded sigs
+    (λ m k. cond b (changed_or (slot_change m k e.command) (program_in J m k))
+    (program_in J m k))) d)
 
-refused-slots : (sigs : List (ℕ × Promise)) (e : Entry) (J : History) → is_accepted e.verdict ≡ false → slots_of sigs (e ∷ J) ≡ slots_of sigs J
+refused-slots : (sigs : List (ℕ × Promise)) (e : Entry) (J : History)
+    → is_accepted e.verdict ≡ false → slots_of sigs (e ∷ J) ≡ slots_of sigs J
 refused-slots sigs e J d =
-    ap (λ b. loaded.loaded sigs (λ m k. cond b (changed_or (slot_change m k e.command) (program_in J m k)) (program_in J m k))) d
+    ap (λ b. loaded.loaded sigs (λ m k. cond b
+    (changed_or (slot_change m k e.command) (program_in J m k)) (program_in J m k))) d
 
 pub with_slots-sigs : (c : Command) (l : Loaded) → (with_slots c l).sigs ≡ l.sigs
 with_slots-sigs (Load c) l = refl
 with_slots-sigs (Unload c) l = refl
 with_slots-sigs _ l = refl
 
-pub programs-replay : (sigs : List (ℕ × Promise)) (J : History) (c : Command) → programs_on (slots_of sigs J) c ≡ programs_of J c
+pub programs-replay : (sigs : List (ℕ × Promise)) (J : History) (c : Command)
+    → programs_on (slots_of sigs J) c ≡ programs_of J c
 programs-replay sigs J (commands.Flight (Report r)) =
     let tobt = slot-replay sigs J r.milestone kinds.Tobt in
     let alert = slot-replay sigs J r.milestone kinds.Alert in
     λ i. record { tobt = tobt i; alert = alert i }
 programs-replay sigs J _ = refl
 
-ready-replay : (sigs : List (ℕ × Promise)) (J : History) (c : Command) → ready_on (slots_of sigs J) c ≡ is_ready sigs J c
+ready-replay : (sigs : List (ℕ × Promise)) (J : History) (c : Command)
+    → ready_on (slots_of sigs J) c ≡ is_ready sigs J c
 ready-replay sigs J (Load c) = refl
 ready-replay sigs J (Unload c) = ap is_some (slot-replay sigs J c.milestone c.kind)
 ready-replay sigs J _ = refl
 
-pub room-replay : (sigs : List (ℕ × Promise)) (J : History) (m : Milestone) (k : Kind) → size_of (loaded.program_in (slots_of sigs J) m k) ≡ size_of (program_in J m k)
+pub room-replay : (sigs : List (ℕ × Promise)) (J : History) (m : Milestone) (k : Kind)
+    → size_of (loaded.program_in (slots_of sigs J) m k) ≡ size_of (program_in J m k)
 room-replay sigs J m k = ap size_of (slot-replay sigs J m k)
 
 pub may_ask-replay : (sigs : List (ℕ × Promise)) (J : History) (m : Milestone) (k : Kind)
@@ -173,77 +225,106 @@ may_ask-replay sigs J m k = ap may_ask (slot-replay sigs J m k)
 abbrev pub records_of : History → List Fields
 records_of J = map (record_of J) (flights J)
 
-place-replay : (J : History) (f : ℕ) (gs : List ℕ) → place_of (map (record_of J) gs) f ≡ position_or_len (is_it f) gs
+place-replay : (J : History) (f : ℕ) (gs : List ℕ)
+    → place_of (map (record_of J) gs) f ≡ position_or_len (is_it f) gs
 place-replay J f [] = refl
 place-replay J f (g ∷ gs) = ap (λ n. cond (not (is_it f g)) (1 + n) 0) (place-replay J f gs)
 
 pub there-replay : (J : History) (f : ℕ) → is_there (records_of J) f ≡ exists J f
 there-replay J f =
-    ap (λ n. nat_lt n (length (records_of J))) (place-replay J f (flights J)) ∙ ap (λ n. nat_lt (position_or_len (is_it f) (flights J)) n) (length-map (flights J) (record_of J)) ∙ inside f (flights J)
+    ap (λ n. nat_lt n (length (records_of J))) (place-replay J f (flights J))
+    ∙ ap (λ n. nat_lt (position_or_len (is_it f) (flights J)) n)
+    (length-map (flights J) (record_of J)) ∙ inside f (flights J)
 
-pub record_on-replay : (sigs : List (ℕ × Promise)) (J : History) (f : ℕ) → IsLegal sigs J → record_on (records_of J) f ≡ record_of J f
+pub record_on-replay : (sigs : List (ℕ × Promise)) (J : History) (f : ℕ) → IsLegal sigs J
+    → record_on (records_of J) f ≡ record_of J f
 record_on-replay sigs J f l =
     ap (λ n. get_or (records_of J) n (new_record f)) (place-replay J f (flights J))
-    ∙ (elim (exists J f) as (λ b. exists J f ≡ b → get_or (records_of J) (position_or_len (is_it f) (flights J)) (new_record f) ≡ record_of J f) [
+    ∙ (elim (exists J f) as (λ b. exists J f ≡ b
+    → get_or (records_of J) (position_or_len (is_it f) (flights J)) (new_record f)
+    ≡ record_of J f) [
       | true ↦ λ e. found f (record_of J) (new_record f) (flights J) e
       | false ↦ λ e.
           let out = outside f (flights J) e in
           let len = length-map (flights J) (record_of J) in
-          get_or_past (records_of J) (position_or_len (is_it f) (flights J)) (new_record f) (omega arith) ∙ sym (nothing_set sigs f J l e)
+          get_or_past (records_of J) (position_or_len (is_it f) (flights J)) (new_record f)
+          (omega arith) ∙ sym (nothing_set sigs f J l e)
     ] refl)
 
-pub verdict-replay : (sigs : List (ℕ × Promise)) (J : History) (role : Role) (c : Command) → IsLegal sigs J → board_verdict (replay sigs J) role c ≡ verdict_of sigs J role c
+pub verdict-replay : (sigs : List (ℕ × Promise)) (J : History) (role : Role) (c : Command)
+    → IsLegal sigs J → board_verdict (replay sigs J) role c ≡ verdict_of sigs J role c
 unfolding board_verdict
 verdict-replay sigs J role c l =
-    ap (λ b. verdict_for b (length (records_of J)) (record_on (records_of J) (flight_of c)) (ready_on (slots_of sigs J) c) role c) (there-replay J (flight_of c))
-    ∙ ap (λ n. verdict_for (exists J (flight_of c)) n (record_on (records_of J) (flight_of c)) (ready_on (slots_of sigs J) c) role c) (length-map (flights J) (record_of J))
-    ∙ ap (λ r. verdict_for (exists J (flight_of c)) (length (flights J)) r (ready_on (slots_of sigs J) c) role c) (record_on-replay sigs J (flight_of c) l)
-    ∙ ap (λ r. verdict_for (exists J (flight_of c)) (length (flights J)) (record_of J (flight_of c)) r role c) (ready-replay sigs J c)
+    ap (λ b. verdict_for b (length (records_of J)) (record_on (records_of J) (flight_of c))
+    (ready_on (slots_of sigs J) c) role c) (there-replay J (flight_of c))
+    ∙ ap (λ n. verdict_for (exists J (flight_of c)) n (record_on (records_of J) (flight_of c))
+    (ready_on (slots_of sigs J) c) role c) (length-map (flights J) (record_of J))
+    ∙ ap (λ r. verdict_for (exists J (flight_of c)) (length (flights J)) r
+    (ready_on (slots_of sigs J) c) role c) (record_on-replay sigs J (flight_of c) l)
+    ∙ ap (λ r. verdict_for (exists J (flight_of c)) (length (flights J)) (record_of J (flight_of c))
+    r role c) (ready-replay sigs J c)
 
 -- the record with what a command assigns, on the board and after the history
 assigned-replay : (sigs : List (ℕ × Promise)) (J : History) (c : Command) → IsLegal sigs J
     → assigned_to (record_on (records_of J) (flight_of c)) c ≡ run_record_of J c
 assigned-replay sigs J c l =
-    ap (λ r. assigned_to r c) (record_on-replay sigs J (flight_of c) l) ∙ assigned-reported (flight_of c) (summary J (flight_of c)) c
+    ap (λ r. assigned_to r c) (record_on-replay sigs J (flight_of c) l)
+    ∙ assigned-reported (flight_of c) (summary J (flight_of c)) c
 
 -- programs that ran on the board ran after it
-pub ran-replay : (sigs : List (ℕ × Promise)) (J : History) (c : Command) (moment : ℕ) (used : List ℕ) → IsLegal sigs J
-    → Ran (programs_on (slots_of sigs J) c) (assigned_to (record_on (records_of J) (flight_of c)) c) moment (bit_of c) used
+pub ran-replay : (sigs : List (ℕ × Promise)) (J : History) (c : Command) (moment : ℕ)
+    (used : List ℕ) → IsLegal sigs J
+    → Ran (programs_on (slots_of sigs J) c) (assigned_to (record_on (records_of J) (flight_of c)) c)
+    moment (bit_of c) used
     → Ran (programs_of J c) (run_record_of J c) moment (bit_of c) used
 ran-replay sigs J c moment used l h =
     subst (λ x. Ran (programs_of J c) x moment (bit_of c) used) (assigned-replay sigs J c l)
-    (subst (λ p. Ran p (assigned_to (record_on (records_of J) (flight_of c)) c) moment (bit_of c) used) (programs-replay sigs J c) h)
+    (subst (λ p. Ran p (assigned_to (record_on (records_of J) (flight_of c)) c) moment (bit_of c)
+    used) (programs-replay sigs J c) h)
 
 -- and a program that is left without an answer on the board is so after it
-pub asks-replay : (sigs : List (ℕ × Promise)) (J : History) (c : Command) (moment : ℕ) (from to : OracleView) → IsLegal sigs J
-    → AsksIn (programs_on (slots_of sigs J) c) (assigned_to (record_on (records_of J) (flight_of c)) c) moment (bit_of c) from to
+pub asks-replay : (sigs : List (ℕ × Promise)) (J : History) (c : Command) (moment : ℕ)
+    (from to : OracleView) → IsLegal sigs J
+    → AsksIn (programs_on (slots_of sigs J) c)
+    (assigned_to (record_on (records_of J) (flight_of c)) c) moment (bit_of c) from to
     → AsksIn (programs_of J c) (run_record_of J c) moment (bit_of c) from to
 asks-replay sigs J c moment from to l h =
     subst (λ x. AsksIn (programs_of J c) x moment (bit_of c) from to) (assigned-replay sigs J c l)
-    (subst (λ p. AsksIn p (assigned_to (record_on (records_of J) (flight_of c)) c) moment (bit_of c) from to) (programs-replay sigs J c) h)
+    (subst (λ p. AsksIn p (assigned_to (record_on (records_of J) (flight_of c)) c) moment (bit_of c)
+    from to) (programs-replay sigs J c) h)
 
 -- ---- one entry more
 
-module _ (sigs : List (ℕ × Promise)) (e : Entry) (J : History) (legal : IsLegal sigs J) (right : is_accepted e.verdict ≡ true → is_accepted (verdict_of sigs J e.role e.command) ≡ true) where
-  same_map : (gs : List ℕ) → is_accepted e.verdict ≡ false → map (record_of (e ∷ J)) gs ≡ map (record_of J) gs
+module _ (sigs : List (ℕ × Promise)) (e : Entry) (J : History) (legal : IsLegal sigs J)
+    (right : is_accepted e.verdict ≡ true
+    → is_accepted (verdict_of sigs J e.role e.command) ≡ true) where
+  same_map : (gs : List ℕ) → is_accepted e.verdict ≡ false
+      → map (record_of (e ∷ J)) gs ≡ map (record_of J) gs
   same_map [] d = refl
   same_map (g ∷ gs) d =
-      let here = record_same e J g (no_and (is_accepted e.verdict) (changes_flight e.command && flight_of e.command == g) d) (no_and (is_accepted e.verdict) (is_tick e.command) d) in
+      let here =
+      record_same e J g (no_and (is_accepted e.verdict) (changes_flight e.command
+      && flight_of e.command == g) d) (no_and (is_accepted e.verdict) (is_tick e.command) d) in
       let rest = same_map gs d in
       λ t. here t ∷ rest t
 
   refused-records : is_accepted e.verdict ≡ false → records_of (e ∷ J) ≡ records_of J
   refused-records d =
-      let none : created e ≡ None = ap (λ b. cond (b && creates e.command) (Some (flight_of e.command)) None) d in
+      let none : created e ≡ None = ap
+      (λ b. cond (b && creates e.command) (Some (flight_of e.command)) None) d in
       let fs : flights (e ∷ J) ≡ flights J = ap (with_flight (flights J)) none in
       ap (map (record_of (e ∷ J))) fs ∙ same_map (flights J) d
 
   -- a tick touches each flight
-  ticked_map : (gs : List ℕ) → ((g : ℕ) → has g gs ≡ true → exists J g ≡ true) → is_accepted e.verdict ≡ true → is_tick e.command ≡ true → map (record_of (e ∷ J)) gs ≡ map (touched e.moment) (map (record_of J) gs)
+  ticked_map : (gs : List ℕ) → ((g : ℕ) → has g gs ≡ true → exists J g ≡ true)
+      → is_accepted e.verdict ≡ true → is_tick e.command ≡ true
+      → map (record_of (e ∷ J)) gs ≡ map (touched e.moment) (map (record_of J) gs)
   ticked_map [] all d k = refl
   ticked_map (g ∷ gs) all d k =
       let tick : ticks e ≡ true = ap (λ b. b && is_tick e.command) d ∙ k in
-      let other : is_of g e ≡ false = ap (λ b. is_accepted e.verdict && (b && flight_of e.command == g)) (tick_no_change e.command k) ∙ and_false (is_accepted e.verdict) false refl in
+      let other : is_of g e ≡ false =
+      ap (λ b. is_accepted e.verdict && (b && flight_of e.command == g))
+      (tick_no_change e.command k) ∙ and_false (is_accepted e.verdict) false refl in
       let first : has g (g ∷ gs) ≡ true = ap (λ b. b || has g gs) (eq-eqb g g refl) in
       let here = record_ticked e J g other tick (touched-there J g (all g first)) in
       let more = λ (h : ℕ) (e : has h gs ≡ true). all h (later (is_it h g) (has h gs) e) in
@@ -261,86 +342,128 @@ module _ (sigs : List (ℕ × Promise)) (e : Entry) (J : History) (legal : IsLeg
   -- what changes no flight creates none
   same_flights : changes_flight e.command ≡ false → flights (e ∷ J) ≡ flights J
   same_flights k =
-      ap (λ b. with_flight (flights J) (cond (is_accepted e.verdict && b) (Some (flight_of e.command)) None)) (creates_none e.command k)
-      ∙ ap (λ b. with_flight (flights J) (cond b (Some (flight_of e.command)) None)) (and_false (is_accepted e.verdict) false refl)
+      ap (λ b. with_flight (flights J)
+      (cond (is_accepted e.verdict && b) (Some (flight_of e.command)) None))
+      (creates_none e.command k)
+      ∙ ap (λ b. with_flight (flights J) (cond b (Some (flight_of e.command)) None))
+      (and_false (is_accepted e.verdict) false refl)
 
-  tick-replay : is_accepted e.verdict ≡ true → is_tick e.command ≡ true → map (touched e.moment) (records_of J) ≡ records_of (e ∷ J)
+  tick-replay : is_accepted e.verdict ≡ true → is_tick e.command ≡ true
+      → map (touched e.moment) (records_of J) ≡ records_of (e ∷ J)
   tick-replay d k =
-      sym (ap (map (record_of (e ∷ J))) (same_flights (tick_no_change e.command k)) ∙ ticked_map (flights J) (λ g h. h) d k)
+      sym (ap (map (record_of (e ∷ J))) (same_flights (tick_no_change e.command k))
+      ∙ ticked_map (flights J) (λ g h. h) d k)
 
   -- a question leaves each record
-  asked-replay : changes_flight e.command ≡ false → is_tick e.command ≡ false → records_of J ≡ records_of (e ∷ J)
+  asked-replay : changes_flight e.command ≡ false → is_tick e.command ≡ false
+      → records_of J ≡ records_of (e ∷ J)
   asked-replay k t =
       let same : (g : ℕ) → record_of (e ∷ J) g ≡ record_of J g = λ g. record_same e J g
-      (and_false (is_accepted e.verdict) (changes_flight e.command && flight_of e.command == g) (no_and (changes_flight e.command) (flight_of e.command == g) k))
+      (and_false (is_accepted e.verdict) (changes_flight e.command && flight_of e.command == g)
+      (no_and (changes_flight e.command) (flight_of e.command == g) k))
       (and_false (is_accepted e.verdict) (is_tick e.command) t) in
-      sym (ap (map (record_of (e ∷ J))) (same_flights k) ∙ all_same (record_of (e ∷ J)) (record_of J) same (flights J))
+      sym (ap (map (record_of (e ∷ J))) (same_flights k)
+      ∙ all_same (record_of (e ∷ J)) (record_of J) same (flights J))
     where
       all_same : (p q : ℕ → Fields) → ((g : ℕ) → p g ≡ q g) → (gs : List ℕ) → map p gs ≡ map q gs
       all_same p q same [] = refl
-      all_same p q same (g ∷ gs) = let here = same g in let rest = all_same p q same gs in λ t. here t ∷ rest t
+      all_same p q same (g ∷ gs) = let here = same g in let rest = all_same p q same gs in
+          λ t. here t ∷ rest t
 
   module _ (k : changes_flight e.command ≡ true) where
     others : (g : ℕ) → g ≢ flight_of e.command → record_of (e ∷ J) g ≡ record_of J g
     others g ne =
         record_same e J g
-        (and_false (is_accepted e.verdict) (changes_flight e.command && flight_of e.command == g) (and_false (changes_flight e.command) (flight_of e.command == g) (ne_eqb (flight_of e.command) g (λ x. ne (sym x)))))
+        (and_false (is_accepted e.verdict) (changes_flight e.command && flight_of e.command == g)
+        (and_false (changes_flight e.command) (flight_of e.command == g)
+        (ne_eqb (flight_of e.command) g (λ x. ne (sym x)))))
         (and_false (is_accepted e.verdict) (is_tick e.command) (change_no_tick e.command k))
 
-    kept : is_accepted e.verdict ≡ true → exists J (flight_of e.command) ≡ true → flights (e ∷ J) ≡ flights J
+    kept : is_accepted e.verdict ≡ true → exists J (flight_of e.command) ≡ true
+        → flights (e ∷ J) ≡ flights J
     kept d t =
-        ap (λ b. with_flight (flights J) (cond (b && creates e.command) (Some (flight_of e.command)) None)) d
+        ap (λ b. with_flight (flights J)
+        (cond (b && creates e.command) (Some (flight_of e.command)) None)) d
         ∙ creates_or_not (flights J) (creates e.command) (flight_of e.command) t
 
-    added : is_accepted e.verdict ≡ true → exists J (flight_of e.command) ≡ false → flights (e ∷ J) ≡ flights J ++ flight_of e.command ∷ []
+    added : is_accepted e.verdict ≡ true → exists J (flight_of e.command) ≡ false
+        → flights (e ∷ J) ≡ flights J ++ flight_of e.command ∷ []
     added d t =
-        let done : is_accepted (verdict_for false (length (flights J)) (record_of J (flight_of e.command)) (is_ready sigs J e.command) e.role e.command) ≡ true =
-        sym (ap (λ b. is_accepted (verdict_for b (length (flights J)) (record_of J (flight_of e.command)) (is_ready sigs J e.command) e.role e.command)) t) ∙ right d in
-        ap (λ b. with_flight (flights J) (cond (b && creates e.command) (Some (flight_of e.command)) None)) d
-        ∙ ap (λ b. with_flight (flights J) (cond b (Some (flight_of e.command)) None)) (admitted_creates e.command (length (flights J)) (record_of J (flight_of e.command)) (is_ready sigs J e.command) e.role k done)
+        let done : is_accepted (verdict_for false (length (flights J))
+        (record_of J (flight_of e.command)) (is_ready sigs J e.command) e.role e.command)
+        ≡ true =
+        sym (ap (λ b. is_accepted (verdict_for b (length (flights J))
+        (record_of J (flight_of e.command)) (is_ready sigs J e.command) e.role e.command)) t)
+        ∙ right d in
+        ap (λ b. with_flight (flights J)
+        (cond (b && creates e.command) (Some (flight_of e.command)) None)) d
+        ∙ ap (λ b. with_flight (flights J) (cond b (Some (flight_of e.command)) None))
+        (admitted_creates e.command (length (flights J)) (record_of J (flight_of e.command))
+        (is_ready sigs J e.command) e.role k done)
         ∙ ap (λ b. cond b (flights J) (flights J ++ flight_of e.command ∷ [])) t
 
     accepted-replay : is_accepted e.verdict ≡ true
-        → put (records_of J) (flight_of e.command) (record_after (programs_on (slots_of sigs J) e.command) (record_on (records_of J) (flight_of e.command)) e.moment e.command e.answers) ≡ records_of (e ∷ J)
+        → put (records_of J) (flight_of e.command)
+        (record_after (programs_on (slots_of sigs J) e.command)
+        (record_on (records_of J) (flight_of e.command)) e.moment e.command e.answers)
+        ≡ records_of (e ∷ J)
     accepted-replay d =
         let f : ℕ = flight_of e.command in
-        let changed_now : record_after (programs_on (slots_of sigs J) e.command) (record_on (records_of J) f) e.moment e.command e.answers ≡ record_of (e ∷ J) f =
-        ap (λ ps. record_after ps (record_on (records_of J) f) e.moment e.command e.answers) (programs-replay sigs J e.command)
-        ∙ ap (λ r. record_after (programs_of J e.command) r e.moment e.command e.answers) (record_on-replay sigs J f legal) ∙ sym (record_changed e J d k) in
+        let changed_now : record_after (programs_on (slots_of sigs J) e.command)
+        (record_on (records_of J) f) e.moment e.command e.answers ≡ record_of (e ∷ J) f =
+        ap (λ ps. record_after ps (record_on (records_of J) f) e.moment e.command e.answers)
+        (programs-replay sigs J e.command)
+        ∙ ap (λ r. record_after (programs_of J e.command) r e.moment e.command e.answers)
+        (record_on-replay sigs J f legal) ∙ sym (record_changed e J d k) in
         ap (put (records_of J) f) changed_now ∙
-        (elim (exists J f) as (λ b. exists J f ≡ b → put (records_of J) f (record_of (e ∷ J) f) ≡ records_of (e ∷ J)) [
+        (elim (exists J f) as (λ b. exists J f ≡ b
+        → put (records_of J) f (record_of (e ∷ J) f) ≡ records_of (e ∷ J)) [
           | true ↦ λ t.
               let there : is_there (records_of J) f ≡ true = there-replay J f ∙ t in
               let fs : flights (e ∷ J) ≡ flights J = kept d t in
-              ap (λ b. cond b (set (records_of J) (place_of (records_of J) f) (record_of (e ∷ J) f)) (records_of J ++ record_of (e ∷ J) f ∷ [])) there
+              ap (λ b. cond b (set (records_of J) (place_of (records_of J) f) (record_of (e ∷ J) f))
+              (records_of J ++ record_of (e ∷ J) f ∷ [])) there
               ∙ ap (λ n. set (records_of J) n (record_of (e ∷ J) f)) (place-replay J f (flights J))
-              ∙ sym (updated f (record_of J) (record_of (e ∷ J)) others (flights J) (flights_distinct J) t)
+              ∙ sym (updated f (record_of J) (record_of (e ∷ J)) others (flights J)
+              (flights_distinct J) t)
               ∙ ap (map (record_of (e ∷ J))) (sym fs)
           | false ↦ λ t.
               let there : is_there (records_of J) f ≡ false = there-replay J f ∙ t in
               let fs : flights (e ∷ J) ≡ flights J ++ f ∷ [] = added d t in
-              ap (λ b. cond b (set (records_of J) (place_of (records_of J) f) (record_of (e ∷ J) f)) (records_of J ++ record_of (e ∷ J) f ∷ [])) there
-              ∙ ap (λ b. b ++ record_of (e ∷ J) f ∷ []) (sym (absent f (record_of J) (record_of (e ∷ J)) others (flights J) t))
+              ap (λ b. cond b (set (records_of J) (place_of (records_of J) f) (record_of (e ∷ J) f))
+              (records_of J ++ record_of (e ∷ J) f ∷ [])) there
+              ∙ ap (λ b. b ++ record_of (e ∷ J) f ∷ [])
+              (sym (absent f (record_of J) (record_of (e ∷ J)) others (flights J) t))
               ∙ sym (map_push (record_of (e ∷ J)) (flights J) f)
               ∙ ap (map (record_of (e ∷ J))) (sym fs)
         ] refl)
 
-  changed-replay : is_accepted e.verdict ≡ true → board_changed (replay sigs J) e.moment e.command e.answers ≡ records_of (e ∷ J)
+  changed-replay : is_accepted e.verdict ≡ true
+      → board_changed (replay sigs J) e.moment e.command e.answers ≡ records_of (e ∷ J)
   changed-replay d =
-      elim (is_tick e.command) as (λ b. is_tick e.command ≡ b → cond b (map (touched e.moment) (records_of J)) (cond (changes_flight e.command) here (records_of J)) ≡ records_of (e ∷ J)) [
+      elim (is_tick e.command) as (λ b. is_tick e.command ≡ b
+      → cond b (map (touched e.moment) (records_of J))
+      (cond (changes_flight e.command) here (records_of J)) ≡ records_of (e ∷ J)) [
         | true ↦ λ k. tick-replay d k
         | false ↦ λ t.
-            elim (changes_flight e.command) as (λ b. changes_flight e.command ≡ b → cond b here (records_of J) ≡ records_of (e ∷ J)) [
+            elim (changes_flight e.command) as (λ b. changes_flight e.command ≡ b
+            → cond b here (records_of J) ≡ records_of (e ∷ J)) [
               | true ↦ λ k. accepted-replay k d
               | false ↦ λ k. asked-replay k t
             ] refl
       ] refl
     where
       here : List Fields
-      here = put (records_of J) (flight_of e.command) (record_after (programs_on (slots_of sigs J) e.command) (record_on (records_of J) (flight_of e.command)) e.moment e.command e.answers)
+      here = put (records_of J) (flight_of e.command)
+          (record_after (programs_on (slots_of sigs J) e.command)
+          (record_on (records_of J) (flight_of e.command)) e.moment e.command e.answers)
 
   -- an accepted entry changes the board, and a refused one leaves it
-  accepted-board : is_accepted e.verdict ≡ true → record { records = board_changed (replay sigs J) e.moment e.command e.answers; slots = with_slots e.command (slots_of sigs J) } ≡ replay sigs (e ∷ J)
+  accepted-board : is_accepted e.verdict ≡ true
+      → record {
+        records = board_changed (replay sigs J) e.moment e.command e.answers;
+        slots = with_slots e.command (slots_of sigs J);
+      } ≡ replay sigs (e ∷ J)
   accepted-board d =
       let records = changed-replay d in
       let slots = accepted-slots sigs e J d in
@@ -352,49 +475,90 @@ module _ (sigs : List (ℕ × Promise)) (e : Entry) (J : History) (legal : IsLeg
       let slots = refused-slots sigs e J d in
       λ i. record { records = records i; slots = slots i }
 
-module _ (sigs : List (ℕ × Promise)) (J : History) (session : ℕ) (role : Role) (moment : ℕ) (c : Command) (legal : IsLegal sigs J) where
+module _ (sigs : List (ℕ × Promise)) (J : History) (session : ℕ) (role : Role) (moment : ℕ)
+    (c : Command) (legal : IsLegal sigs J) where
   -- a refused command changes no record and no slot
-  pub refused-replay : (v : Verdict) (answers : List ℕ) → is_accepted v ≡ false → replay sigs (after J session role moment c v answers) ≡ replay sigs J
+  pub refused-replay : (v : Verdict) (answers : List ℕ) → is_accepted v ≡ false
+      → replay sigs (after J session role moment c v answers) ≡ replay sigs J
   refused-replay v answers d =
-      let e : Entry = record { number = length J; session = session; role = role; moment = moment; command = c; verdict = v; answers = answers } in
+      let e : Entry = record {
+        number = length J;
+        session = session;
+        role = role;
+        moment = moment;
+        command = c;
+        verdict = v;
+        answers = answers;
+      } in
       refused-board sigs e J legal (λ t. absurd (cc)) d
 
   -- a step on the board with the verdict of the tests
-  pub step-replay : (answers : List ℕ) → board_after (replay sigs J) role moment c answers ≡ replay sigs (after J session role moment c (verdict_of sigs J role c) answers)
+  pub step-replay : (answers : List ℕ)
+      → board_after (replay sigs J) role moment c answers
+      ≡ replay sigs (after J session role moment c (verdict_of sigs J role c) answers)
   unfolding board_after
   step-replay answers =
-      let e : Entry = record { number = length J; session = session; role = role; moment = moment; command = c; verdict = verdict_of sigs J role c; answers = answers } in
-      ap (λ o. cond (is_accepted o) (record { records = board_changed (replay sigs J) moment c answers; slots = with_slots c (slots_of sigs J) }) (replay sigs J)) (verdict-replay sigs J role c legal)
-      ∙ (elim (is_accepted (verdict_of sigs J role c)) as (λ b. is_accepted (verdict_of sigs J role c) ≡ b → cond b (record { records = board_changed (replay sigs J) moment c answers; slots = with_slots c (slots_of sigs J) }) (replay sigs J) ≡ replay sigs (e ∷ J)) [
+      let e : Entry = record {
+        number = length J;
+        session = session;
+        role = role;
+        moment = moment;
+        command = c;
+        verdict = verdict_of sigs J role c;
+        answers = answers;
+      } in
+      ap (λ o. cond (is_accepted o) (record {
+        records = board_changed (replay sigs J) moment c answers;
+        slots = with_slots c (slots_of sigs J);
+      }) (replay sigs J))
+      (verdict-replay sigs J role c legal)
+      ∙ (elim (is_accepted (verdict_of sigs J role c))
+      as (λ b. is_accepted (verdict_of sigs J role c) ≡ b
+      → cond b (record {
+        records = board_changed (replay sigs J) moment c answers;
+        slots = with_slots c (slots_of sigs J);
+      }) (replay sigs J) ≡ replay sigs (e ∷ J)) [
         | true ↦ λ d. accepted-board sigs e J legal (λ t. d) d
         | false ↦ λ d. sym (refused-board sigs e J legal (λ t. absurd (cc)) d)
       ] refl)
 
 -- what is answered on the board is answered after the history
-pub answer-replay : (sigs : List (ℕ × Promise)) (J : History) (c : Command) → IsLegal sigs J → board_answer (replay sigs J) c ≡ answer J c
+pub answer-replay : (sigs : List (ℕ × Promise)) (J : History) (c : Command) → IsLegal sigs J
+    → board_answer (replay sigs J) c ≡ answer J c
 answer-replay sigs J (Show f) l = ap outcomes.Shown (record_on-replay sigs J f l)
 answer-replay sigs J _ l = refl
 
-pub outcome-replay : (sigs : List (ℕ × Promise)) (J : History) (role : Role) (c : Command) → IsLegal sigs J → board_outcome (replay sigs J) role c ≡ outcome_of sigs J role c
+pub outcome-replay : (sigs : List (ℕ × Promise)) (J : History) (role : Role) (c : Command)
+    → IsLegal sigs J → board_outcome (replay sigs J) role c ≡ outcome_of sigs J role c
 unfolding board_outcome
 outcome-replay sigs J role c l =
-    ap (λ v. outcome_with (board_answer (replay sigs J) c) v) (verdict-replay sigs J role c l) ∙ ap (λ o. outcome_with o (verdict_of sigs J role c)) (answer-replay sigs J c l)
+    ap (λ v. outcome_with (board_answer (replay sigs J) c) v) (verdict-replay sigs J role c l)
+    ∙ ap (λ o. outcome_with o (verdict_of sigs J role c)) (answer-replay sigs J c l)
 
 -- what needs memory on the board needs it after the history
-pub memory-replay : (sigs : List (ℕ × Promise)) (J : History) (role : Role) (c : Command) → IsLegal sigs J
-    → (is_alerts c || (board_loads (replay sigs J) role c || board_creates (replay sigs J) role c)) ≡ needs_memory sigs J role c
+pub memory-replay : (sigs : List (ℕ × Promise)) (J : History) (role : Role) (c : Command)
+    → IsLegal sigs J
+    → (is_alerts c || (board_loads (replay sigs J) role c || board_creates (replay sigs J) role c))
+    ≡ needs_memory sigs J role c
 memory-replay sigs J role c l =
-    ap (λ v. is_alerts c || (is_load c && is_accepted v || (is_accepted v && (changes_flight c && not (is_there (records_of J) (flight_of c)))))) (verdict-replay sigs J role c l)
-    ∙ ap (λ t. is_alerts c || (is_load c && is_accepted (verdict_of sigs J role c) || (is_accepted (verdict_of sigs J role c) && (changes_flight c && not t)))) (there-replay J (flight_of c))
+    ap (λ v. is_alerts c || (is_load c && is_accepted v
+    || (is_accepted v && (changes_flight c && not (is_there (records_of J) (flight_of c))))))
+    (verdict-replay sigs J role c l)
+    ∙ ap (λ t. is_alerts c || (is_load c && is_accepted (verdict_of sigs J role c)
+    || (is_accepted (verdict_of sigs J role c) && (changes_flight c && not t))))
+    (there-replay J (flight_of c))
 
 -- the record at a flight's place
-module _ (J : History) (f place : ℕ) (rs : List Fields) (is : rs ≡ records_of J) (at : place ≡ place_of rs f) where
+module _ (J : History) (f place : ℕ) (rs : List Fields) (is : rs ≡ records_of J)
+    (at : place ≡ place_of rs f) where
   at_flight : place ≡ position_or_len (is_it f) (flights J)
   at_flight = at ∙ ap (λ b. place_of b f) is ∙ place-replay J f (flights J)
 
   pub exists_by_place : exists J f ≡ nat_lt place (length rs)
-  exists_by_place = sym (there-replay J f) ∙ sym (ap (λ b. nat_lt (place_of b f) (length b)) is) ∙ sym (ap (λ n. nat_lt n (length rs)) at)
+  exists_by_place = sym (there-replay J f) ∙ sym (ap (λ b. nat_lt (place_of b f) (length b)) is)
+      ∙ sym (ap (λ n. nat_lt n (length rs)) at)
 
   pub record_by_place : exists J f ≡ true → (d : Fields) → get_or rs place d ≡ record_of J f
   record_by_place h d =
-      ap (λ b. get_or b place d) is ∙ ap (λ n. get_or (records_of J) n d) at_flight ∙ found f (record_of J) d (flights J) h
+      ap (λ b. get_or b place d) is ∙ ap (λ n. get_or (records_of J) n d) at_flight
+      ∙ found f (record_of J) d (flights J) h

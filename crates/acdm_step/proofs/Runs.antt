@@ -1,5 +1,7 @@
 -- Runs of the programs of a report, one after the other, and what they leave of the answers.
-use Rattle.std.proofs.Common.{◌≡◌, ℕ, Bool, true, false, ◌||◌, ◌+◌, ◌<◌, ◌≤◌, List, [], ◌++◌, length, Option, Some, refl, sym, ap, subst, ◌∙◌, append_assoc, append-nil, length-append, arith}
+use Rattle.std.proofs.Common.{◌≡◌, ℕ, Bool, true, false, ◌||◌, ◌+◌, ◌<◌, ◌≤◌, List, [], ◌++◌}
+use Rattle.std.proofs.Common.{length, Option, Some, refl, sym, ap, subst, ◌∙◌, append_assoc}
+use Rattle.std.proofs.Common.{append-nil, length-append, arith}
 use Rattle.acdm_record.specs.Fields.{Fields, bytes_of}
 use Rattle.bpf_decode.specs.declared.op.Op.{Op}
 use Rattle.bpf_helpers.specs.Promise.{Promise}
@@ -16,7 +18,8 @@ use Rattle.acdm_step.specs.declared.command.Command.TheVariants as commands
 use Rattle.acdm_step.specs.declared.command.FlightCommand.{FlightCommand}
 use Rattle.acdm_step.specs.declared.command.FlightCommand.TheVariants.{Schedule}
 use Rattle.acdm_step.specs.Facts.{ScheduleFacts}
-use Rattle.acdm_step.specs.Programs.{Programs, no_effect, suggestion, with_suggestion, local_alerts, with_local_alerts, with_effect}
+use Rattle.acdm_step.specs.Programs.{Programs, no_effect, suggestion, with_suggestion, local_alerts}
+use Rattle.acdm_step.specs.Programs.{with_local_alerts, with_effect}
 use Rattle.acdm_step.specs.Commands.{bit_of}
 use Rattle.acdm_step.specs.InSlots.{may_ask, size_of}
 use Rattle.acdm_step.specs.Board.{assigned_to, touched, programs_on}
@@ -25,30 +28,56 @@ use Rattle.acdm_step.specs.Running.{EndsAt, AsksAt, EndsIn, AsksIn, first, secon
 use Rattle.acdm_step.proofs.Saying.{none_ran}
 
 -- the program that stands in a slot has run to its end
-pub ends_at : (p : Option Verified) (v : Verified) (r : Fields) (moment m : ℕ) (from to : OracleView) (ended : Ended) (ops : List Op) (sigs : List (ℕ × Promise)) (bytes : List ℕ)
-    → p ≡ Some v → ops ≡ v.ops → sigs ≡ v.sigs → bytes ≡ bytes_of r → EndsOver ops sigs bytes moment m from to ended → ended.steps ≤ instruction_count ops → to.refusals ≡ from.refusals → EndsAt p r moment m from to (Some ended.r0)
+pub ends_at : (p : Option Verified) (v : Verified) (r : Fields) (moment m : ℕ)
+    (from to : OracleView) (ended : Ended) (ops : List Op) (sigs : List (ℕ × Promise))
+    (bytes : List ℕ)
+    → p ≡ Some v → ops ≡ v.ops → sigs ≡ v.sigs → bytes ≡ bytes_of r
+    → EndsOver ops sigs bytes moment m from to ended → ended.steps ≤ instruction_count ops
+    → to.refusals ≡ from.refusals → EndsAt p r moment m from to (Some ended.r0)
 ends_at p v r moment m from to ended ops sigs bytes there eo es eb h few counts =
     let run : RunEnds v.ops v.sigs (bytes_of r) moment m h.0 ended.r0 ended.steps =
     subst (λ o. RunEnds o v.sigs (bytes_of r) moment m h.0 ended.r0 ended.steps) eo
     (subst (λ s. RunEnds ops s (bytes_of r) moment m h.0 ended.r0 ended.steps) es
     (subst (λ b. RunEnds ops sigs b moment m h.0 ended.r0 ended.steps) eb h.2)) in
-    let used : length h.0 < ended.steps = end_uses_fewer v.ops v.sigs (bytes_of r) moment m h.0 ended.r0 ended.steps run in
-    let size : instruction_count ops ≡ size_of p = ap instruction_count eo ∙ ap size_of (sym there) in
-    (h.0, h.1, subst (λ x. EndsWith x r moment m h.0 (Some ended.r0)) (sym there) (ended.r0, ended.steps, run, refl), omega (arith, used, few, size), counts)
+    let used : length h.0 < ended.steps =
+    end_uses_fewer v.ops v.sigs (bytes_of r) moment m h.0 ended.r0 ended.steps run in
+    let size : instruction_count ops ≡ size_of p = ap instruction_count eo
+    ∙ ap size_of (sym there) in (
+      h.0,
+      h.1,
+      subst (λ x. EndsWith x r moment m h.0 (Some ended.r0)) (sym there) (
+        ended.r0,
+        ended.steps,
+        run,
+        refl,
+      ),
+      omega (arith, used, few, size),
+      counts,
+    )
 
 -- it is left without an answer
-pub asks_at : (p : Option Verified) (v : Verified) (r : Fields) (moment m : ℕ) (from to : OracleView) (bytes : List ℕ) → p ≡ Some v → bytes ≡ bytes_of r
-    → AsksOver v.ops v.sigs bytes moment m from to → length to.log < length from.log + instruction_count v.ops → to.refusals ≡ from.refusals + 1 → AsksAt p r moment m from to
+pub asks_at : (p : Option Verified) (v : Verified) (r : Fields) (moment m : ℕ)
+    (from to : OracleView) (bytes : List ℕ) → p ≡ Some v → bytes ≡ bytes_of r
+    → AsksOver v.ops v.sigs bytes moment m from to
+    → length to.log < length from.log + instruction_count v.ops
+    → to.refusals ≡ from.refusals + 1 → AsksAt p r moment m from to
 asks_at p v r moment m from to bytes there eb h few counts =
-    let size : instruction_count v.ops ≡ size_of p = ap size_of (sym there) in
-    (v, there, subst (λ b. AsksOver v.ops v.sigs b moment m from to) eb h, omega (arith, few, size), counts)
+    let size : instruction_count v.ops ≡ size_of p = ap size_of (sym there) in (
+      v,
+      there,
+      subst (λ b. AsksOver v.ops v.sigs b moment m from to) eb h,
+      omega (arith, few, size),
+      counts,
+    )
 
 -- fewer answers are gained than both programs have instructions where the oracle declines one
-pub asked_few : (ps : Programs) (r : Fields) (moment m : ℕ) (from to : OracleView) → AsksIn ps r moment m from to
+pub asked_few : (ps : Programs) (r : Fields) (moment m : ℕ) (from to : OracleView)
+    → AsksIn ps r moment m from to
     → length to.log < length from.log + (size_of ps.tobt + size_of ps.alert)
 asked_few ps r moment m from to (first h) = omega (arith, h.3)
 asked_few ps r moment m from to (second between r0 same ends h) =
-    let gained : length between.log ≡ length from.log + length ends.0 = ap length ends.1 ∙ length-append from.log ends.0 in
+    let gained : length between.log ≡ length from.log + length ends.0 = ap length ends.1
+    ∙ length-append from.log ends.0 in
     omega (arith, h.3, gained, ends.3)
 
 -- and one of them calls a helper
@@ -67,18 +96,23 @@ asked_calls ps r moment m from to (second between r0 same ends h) =
     or_true false = refl
 
 -- and one question more was declined
-pub asked_once : (ps : Programs) (r : Fields) (moment m : ℕ) (from to : OracleView) → AsksIn ps r moment m from to → to.refusals ≡ from.refusals + 1
+pub asked_once : (ps : Programs) (r : Fields) (moment m : ℕ) (from to : OracleView)
+    → AsksIn ps r moment m from to → to.refusals ≡ from.refusals + 1
 asked_once ps r moment m from to (first h) = h.4
 asked_once ps r moment m from to (second between r0 same ends h) = h.4 ∙ ap (λ n. n + 1) ends.4
 
-module _ (ps : Programs) (r next : Fields) (moment m : ℕ) (from between to : OracleView) (r0 : Option ℕ) (same : SameRule from between)
-    (ends : EndsAt ps.tobt r moment m from between r0) (is : next ≡ with_suggestion (suggestion r moment r0) r) where
+module _ (ps : Programs) (r next : Fields) (moment m : ℕ) (from between to : OracleView)
+    (r0 : Option ℕ) (same : SameRule from between)
+    (ends : EndsAt ps.tobt r moment m from between r0)
+    (is : next ≡ with_suggestion (suggestion r moment r0) r) where
   -- the second one is left without an answer
   pub asks_second : AsksAt ps.alert next moment m between to → AsksIn ps r moment m from to
-  asks_second h = second between r0 same ends (subst (λ x. AsksAt ps.alert x moment m between to) is h)
+  asks_second h = second between r0 same ends
+      (subst (λ x. AsksAt ps.alert x moment m between to) is h)
 
   -- both have ended
-  pub ends_in : (last : Fields) (more : Option ℕ) → EndsAt ps.alert next moment m between to more → last ≡ with_local_alerts (local_alerts more) next
+  pub ends_in : (last : Fields) (more : Option ℕ) → EndsAt ps.alert next moment m between to more
+      → last ≡ with_local_alerts (local_alerts more) next
       → EndsIn ps r moment m from to last
   ends_in last more h e = (
     ends.0 ++ h.0,
@@ -99,21 +133,33 @@ module _ (ps : Programs) (r next : Fields) (moment m : ℕ) (from between to : O
   )
 
 -- an accepted report has changed its record
-pub changes_to : (ps : Programs) (r a s new : Fields) (moment m : ℕ) (c : Command) (from to : OracleView) → a ≡ assigned_to r c → m ≡ bit_of c
+pub changes_to : (ps : Programs) (r a s new : Fields) (moment m : ℕ) (c : Command)
+    (from to : OracleView) → a ≡ assigned_to r c → m ≡ bit_of c
     → EndsIn ps a moment m from to s → new ≡ touched moment s → ChangesTo ps r moment c from to new
 changes_to ps r a s new moment m c from to ea em h e = (
   h.0,
   h.1,
   h.2,
-  subst (λ n. HasEffect ps (assigned_to r c) moment n h.0 h.1) em (subst (λ x. HasEffect ps x moment m h.0 h.1) ea h.3),
+  subst (λ n. HasEffect ps (assigned_to r c) moment n h.0 h.1) em
+      (subst (λ x. HasEffect ps x moment m h.0 h.1) ea h.3),
   e ∙ ap (touched moment) (h.4 ∙ ap (with_effect h.1) ea),
   h.5,
 )
 
 -- an accepted schedule has
-pub changes_scheduled : (l : Loaded) (r a new : Fields) (moment : ℕ) (k : FlightCommand) (s : ScheduleFacts) (from to : OracleView)
-    → k ≡ Schedule s → a ≡ assigned_to r (commands.Flight (Schedule s)) → new ≡ touched moment a → Unasked from to
+pub changes_scheduled : (l : Loaded) (r a new : Fields) (moment : ℕ) (k : FlightCommand)
+    (s : ScheduleFacts) (from to : OracleView)
+    → k ≡ Schedule s → a ≡ assigned_to r (commands.Flight (Schedule s)) → new ≡ touched moment a
+    → Unasked from to
     → ChangesTo (programs_on l (commands.Flight k)) r moment (commands.Flight k) from to new
 changes_scheduled l r a new moment k s from to is ea e same =
-    subst (λ x. ChangesTo (programs_on l (commands.Flight x)) r moment (commands.Flight x) from to new) (sym is)
-    ([], no_effect, same.log ∙ sym (append-nil from.log), none_ran (assigned_to r (commands.Flight (Schedule s))) moment (bit_of (commands.Flight (Schedule s))), e ∙ ap (touched moment) ea, same.refusals)
+    subst (λ x. ChangesTo (programs_on l (commands.Flight x)) r moment (commands.Flight x) from to
+    new) (sym is) (
+      [],
+      no_effect,
+      same.log ∙ sym (append-nil from.log),
+      none_ran (assigned_to r (commands.Flight (Schedule s))) moment
+          (bit_of (commands.Flight (Schedule s))),
+      e ∙ ap (touched moment) ea,
+      same.refusals,
+    )

@@ -1,5 +1,6 @@
 -- One step on the records themselves, in order of creation, and on the slots.
-use Rattle.std.specs.Prelude.{ℕ, Bool, true, not, ◌&&◌, map, ◌==◌, nat_lt, if◌then◌else◌, List, [], ◌∷◌, ◌++◌, length, slice_index_or, slice_set, is_some}
+use Rattle.std.specs.Prelude.{ℕ, Bool, true, not, ◌&&◌, map, ◌==◌, nat_lt, if◌then◌else◌, List, []}
+use Rattle.std.specs.Prelude.{◌∷◌, ◌++◌, length, slice_index_or, slice_set, is_some}
 use Rattle.std.specs.List.{position_or_len}
 use Rattle.acdm_record.specs.declared.field.Field.TheVariants.{Flight, Alerts}
 use Rattle.acdm_record.specs.Fields.{Fields, number_of, set_number, new_record}
@@ -19,7 +20,8 @@ use Rattle.acdm_step.specs.declared.entry.Verdict.{Verdict}
 use Rattle.acdm_step.specs.declared.outcome.Outcome.{Outcome}
 use Rattle.acdm_step.specs.declared.outcome.Outcome.TheVariants as outcomes
 use Rattle.acdm_step.specs.Programs.{Programs, no_programs, effect, with_effect}
-use Rattle.acdm_step.specs.Commands.{assigned_by, bit_of, flight_of, is_tick, is_load, changes_flight, is_accepted}
+use Rattle.acdm_step.specs.Commands.{assigned_by, bit_of, flight_of, is_tick, is_load}
+use Rattle.acdm_step.specs.Commands.{changes_flight, is_accepted}
 use Rattle.acdm_step.specs.InSlots.{with_slots}
 use Rattle.acdm_step.specs.Verdicts.{verdict_for, alert_list, outcome_with}
 use Rattle.acdm_step.specs.History.{Board}
@@ -36,9 +38,12 @@ touched moment r = set_number r Alerts (alert_word r moment)
 abbrev pub assigned_to : Fields → Command → Fields
 assigned_to r c = marked (with_all r (assigned_by c)) (bit_of c)
 
--- the record of a flight after an accepted command of it, with what these programs say with these answers
+-- the record of a flight after an accepted command of it, with what these programs say with these
+-- answers
 abbrev pub record_after : Programs → Fields → ℕ → Command → List ℕ → Fields
-record_after ps r moment c answers = touched moment (with_effect (effect ps (assigned_to r c) moment (bit_of c) answers) (assigned_to r c))
+record_after ps r moment c answers =
+    touched moment (with_effect (effect ps (assigned_to r c) moment (bit_of c) answers)
+    (assigned_to r c))
 
 -- the place of a flight's record, or how many there are
 abbrev pub has_number : ℕ → Fields → Bool
@@ -59,7 +64,11 @@ put board f r = if is_there board f then slice_set board (place_of board f) r el
 
 -- the programs that a command runs
 abbrev pub programs_on : Loaded → Command → Programs
-programs_on l (commands.Flight (Report r)) = record { tobt = slots.program_in l r.milestone kinds.Tobt; alert = slots.program_in l r.milestone kinds.Alert }
+programs_on l (commands.Flight (Report r)) =
+    record {
+      tobt = slots.program_in l r.milestone kinds.Tobt;
+      alert = slots.program_in l r.milestone kinds.Alert;
+    }
 programs_on l _ = no_programs
 
 -- the last test of a load and of an unload
@@ -69,11 +78,13 @@ ready_on l (Unload c) = is_some (slots.program_in l c.milestone c.kind)
 ready_on l _ = true
 
 unfoldable pub board_verdict : Board → Role → Command → Verdict
-board_verdict b role c = verdict_for (is_there b.records (flight_of c)) (length b.records) (record_on b.records (flight_of c)) (ready_on b.slots c) role c
+board_verdict b role c = verdict_for (is_there b.records (flight_of c)) (length b.records)
+    (record_on b.records (flight_of c)) (ready_on b.slots c) role c
 
 -- whether a command creates a flight
 abbrev pub board_creates : Board → Role → Command → Bool
-board_creates b role c = is_accepted (board_verdict b role c) && (changes_flight c && not (is_there b.records (flight_of c)))
+board_creates b role c = is_accepted (board_verdict b role c)
+    && (changes_flight c && not (is_there b.records (flight_of c)))
 
 -- whether it is a load that is taken
 abbrev pub board_loads : Board → Role → Command → Bool
@@ -92,7 +103,11 @@ board_outcome b role c = outcome_with (board_answer b c) (board_verdict b role c
 abbrev pub board_changed : Board → ℕ → Command → List ℕ → List Fields
 board_changed b moment c answers =
     if is_tick c then map (touched moment) b.records
-    else (if changes_flight c then put b.records (flight_of c) (record_after (programs_on b.slots c) (record_on b.records (flight_of c)) moment c answers) else b.records)
+    else (if changes_flight c then
+    put b.records (flight_of c) (record_after (programs_on b.slots c)
+    (record_on b.records (flight_of c)) moment c answers) else b.records)
 
 unfoldable pub board_after : Board → Role → ℕ → Command → List ℕ → Board
-board_after b role moment c answers = if is_accepted (board_verdict b role c) then record { records = board_changed b moment c answers; slots = with_slots c b.slots } else b
+board_after b role moment c answers =
+    if is_accepted (board_verdict b role c) then
+    record { records = board_changed b moment c answers; slots = with_slots c b.slots } else b

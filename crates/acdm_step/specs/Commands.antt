@@ -1,8 +1,14 @@
--- What one command says, and what one entry of a history says (this project's profile). A history is the list of its entries, the
--- newest first.
-use Rattle.std.specs.Prelude.{ℕ, Bool, true, false, ◌&&◌, ◌==◌, if◌then◌else◌, List, [], ◌∷◌, ◌++◌, Option, Some, None}
-use Rattle.acdm_record.specs.declared.field.Field.TheVariants.{Alerts, Mttt, Exot, Stand, Exit, Sobt}
-use Rattle.acdm_record.specs.declared.field.TextField.TheVariants.{Callsign, ScheduledType, PlanType, ScheduledRegistration, PlanRegistration, ScheduledDestination, PlanDestination}
+-- What one command says, and what one entry of a history says (this project's profile). A history
+-- is the list of its entries, the newest first.
+use Rattle.std.specs.Prelude.{ℕ, Bool, true, false, ◌&&◌, ◌==◌, if◌then◌else◌, List, [], ◌∷◌, ◌++◌}
+use Rattle.std.specs.Prelude.{Option, Some, None}
+use Rattle.acdm_record.specs.declared.field.Field.TheVariants.{Alerts, Mttt, Exot, Stand, Exit}
+use Rattle.acdm_record.specs.declared.field.Field.TheVariants.{Sobt}
+use Rattle.acdm_record.specs.declared.field.TextField.TheVariants.{Callsign, ScheduledType}
+use Rattle.acdm_record.specs.declared.field.TextField.TheVariants.{PlanType, ScheduledRegistration}
+use Rattle.acdm_record.specs.declared.field.TextField.TheVariants.{PlanRegistration}
+use Rattle.acdm_record.specs.declared.field.TextField.TheVariants.{ScheduledDestination}
+use Rattle.acdm_record.specs.declared.field.TextField.TheVariants.{PlanDestination}
 use Rattle.acdm_record.specs.Assign.{Assignment, number_is, text_is}
 use Rattle.acdm_milestones.specs.Tables.{number, times_of}
 use Rattle.acdm_step.specs.declared.command.Plan.{Plan}
@@ -44,13 +50,17 @@ is_load _ = false
 
 abbrev pub plan_assignments : Option Plan → List Assignment
 plan_assignments None = []
-plan_assignments (Some p) = text_is Callsign p.callsign ∷ text_is PlanType p.aircraft ∷ text_is PlanRegistration p.registration ∷ text_is PlanDestination p.destination ∷ []
+plan_assignments (Some p) = text_is Callsign p.callsign ∷ text_is PlanType p.aircraft
+    ∷ text_is PlanRegistration p.registration ∷ text_is PlanDestination p.destination ∷ []
 
 -- what a command assigns to its flight where it is accepted
 abbrev pub assigned_by : Command → List Assignment
 assigned_by (commands.Flight (Schedule s)) =
-    text_is Callsign s.plan.callsign ∷ text_is ScheduledType s.plan.aircraft ∷ text_is ScheduledRegistration s.plan.registration ∷ text_is ScheduledDestination s.plan.destination
-    ∷ number_is Sobt s.sobt ∷ number_is Mttt s.mttt ∷ number_is Exit s.exit ∷ number_is Exot s.exot ∷ number_is Stand s.stand ∷ []
+    text_is Callsign s.plan.callsign ∷ text_is ScheduledType s.plan.aircraft
+    ∷ text_is ScheduledRegistration s.plan.registration
+    ∷ text_is ScheduledDestination s.plan.destination
+    ∷ number_is Sobt s.sobt ∷ number_is Mttt s.mttt ∷ number_is Exit s.exit ∷ number_is Exot s.exot
+    ∷ number_is Stand s.stand ∷ []
 assigned_by (commands.Flight (Report r)) = times_of r.milestone r.time ++ plan_assignments r.plan
 assigned_by _ = []
 

@@ -1,7 +1,9 @@
 -- What a command says, and the ranges that its type keeps (this project's profile).
 use Rattle.std.specs.Prelude.{ℕ, ◌≤◌, ◌≡◌, Bool, true, ◌==◌, not, Option, is_some}
 use Rattle.acdm_milestones.specs.declared.milestone.Milestone.{Milestone}
-use Rattle.acdm_milestones.specs.declared.milestone.Milestone.TheVariants.{FlightPlanActivated, TwoHoursBeforeEobt, TobtUpdate}
+use Rattle.acdm_milestones.specs.declared.milestone.Milestone.TheVariants.{FlightPlanActivated}
+use Rattle.acdm_milestones.specs.declared.milestone.Milestone.TheVariants.{TwoHoursBeforeEobt}
+use Rattle.acdm_milestones.specs.declared.milestone.Milestone.TheVariants.{TobtUpdate}
 use Rattle.acdm_step.specs.declared.command.Plan.{Plan}
 
 pub record ScheduleFacts : Type 0 where
@@ -36,7 +38,8 @@ has_its_time TwoHoursBeforeEobt time = true
 has_its_time TobtUpdate time = true
 has_its_time _ time = not (time == 0)
 
-pub record IsReport (flight : ℕ) (milestone : Milestone) (time : ℕ) (plan : Option Plan) : Type 0 where
-  pub flight_given : 1 ≤ flight
-  pub plan_with_first : has_its_plan milestone plan ≡ true
-  pub timed : has_its_time milestone time ≡ true
+pub record IsReport (flight : ℕ) (milestone : Milestone) (time : ℕ) (plan : Option Plan) : Type 0
+  where
+    pub flight_given : 1 ≤ flight
+    pub plan_with_first : has_its_plan milestone plan ≡ true
+    pub timed : has_its_time milestone time ≡ true

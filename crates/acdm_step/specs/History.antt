@@ -1,5 +1,7 @@
--- Histories that the platform may have, and the board after one: each question is asked of the whole history (this project's profile).
-use Rattle.std.specs.Prelude.{ℕ, ◌^◌, ◌≡◌, ◌≤◌, ◌<◌, Bool, true, false, ◌&&◌, ◌||◌, not, List, [], ◌∷◌, map, length, Option, Some, option_map}
+-- Histories that the platform may have, and the board after one: each question is asked of the
+-- whole history (this project's profile).
+use Rattle.std.specs.Prelude.{ℕ, ◌^◌, ◌≡◌, ◌≤◌, ◌<◌, Bool, true, false, ◌&&◌, ◌||◌, not, List, []}
+use Rattle.std.specs.Prelude.{◌∷◌, map, length, Option, Some, option_map}
 use Rattle.acdm_record.specs.Fields.{Fields}
 use Rattle.acdm_milestones.specs.declared.role.Role.{Role}
 use Rattle.acdm_milestones.specs.Tables.{number}
@@ -10,32 +12,39 @@ use Rattle.acdm_step.specs.Programs.{Effect, effect_with}
 use Rattle.acdm_step.specs.declared.command.Command.{Command}
 use Rattle.acdm_step.specs.declared.command.Command.TheVariants.{Load}
 use Rattle.acdm_step.specs.declared.entry.Verdict.{Verdict}
-use Rattle.acdm_step.specs.Commands.{History, flight_of, changes_flight, is_load, bit_of, is_accepted, is_alerts}
+use Rattle.acdm_step.specs.Commands.{History, flight_of, changes_flight, is_load, bit_of}
+use Rattle.acdm_step.specs.Commands.{is_accepted, is_alerts}
 use Rattle.acdm_step.specs.InSlots.{programs_of, slots_of}
 use Rattle.acdm_step.specs.Summaries.{record_of, flights, exists, run_record_of}
 use Rattle.acdm_step.specs.Verdicts.{verdict_of}
 
 -- ---- histories that the platform may have
 
--- a program that is loaded was checked against the signatures of the board, and is accepted under them
+-- a program that is loaded was checked against the signatures of the board, and is accepted under
+-- them
 abbrev pub IsChecked : List (ℕ × Promise) → Command → Type 0
 IsChecked sigs (Load l) = (l.program.sigs ≡ sigs) × Accepts 128 l.program.ops sigs
 IsChecked sigs _ = Unit {0}
 
--- the answers that are left of those that an accepted command was given, once its programs have ended
+-- the answers that are left of those that an accepted command was given, once its programs have
+-- ended
 abbrev pub left_after : Option (Effect × List ℕ) → Option (List ℕ)
 left_after s = option_map (λ x. x.1) s
 
 abbrev pub left_by : History → Command → ℕ → List ℕ → Option (List ℕ)
-left_by J c moment answers = left_after (effect_with (programs_of J c) (run_record_of J c) moment (bit_of c) answers)
+left_by J c moment answers = left_after
+    (effect_with (programs_of J c) (run_record_of J c) moment (bit_of c) answers)
 
--- the verdict is that of the tests, and the answers are those that the programs of an accepted command use
-pub record IsAnswered (sigs : List (ℕ × Promise)) (J : History) (role : Role) (moment : ℕ) (c : Command) (verdict : Verdict) (answers : List ℕ) : Type 0 where
+-- the verdict is that of the tests, and the answers are those that the programs of an accepted
+-- command use
+pub record IsAnswered (sigs : List (ℕ × Promise)) (J : History) (role : Role) (moment : ℕ)
+    (c : Command) (verdict : Verdict) (answers : List ℕ) : Type 0 where
   pub verdict_is : verdict ≡ verdict_of sigs J role c
   pub used : is_accepted verdict ≡ true → left_by J c moment answers ≡ Some []
   pub unused : is_accepted verdict ≡ false → answers ≡ []
 
--- the ranges of what an entry says beside its command: sessions from 1 to 64, moments from 1, in minutes since 1970-01-01T00:00Z
+-- the ranges of what an entry says beside its command: sessions from 1 to 64, moments from 1, in
+-- minutes since 1970-01-01T00:00Z
 pub record IsInRange (session minute : ℕ) : Type 0 where
   pub session_given : 1 ≤ session
   pub few_sessions : session ≤ 64
@@ -59,12 +68,23 @@ replay sigs J = record { records = map (record_of J) (flights J); slots = slots_
 -- the history with one more command, with what came of it and the answers of helpers
 abbrev pub after : History → ℕ → Role → ℕ → Command → Verdict → List ℕ → History
 after J session role moment command verdict answers =
-    record { number = length J; session = session; role = role; moment = moment; command = command; verdict = verdict; answers = answers } ∷ J
+    record {
+      number = length J;
+      session = session;
+      role = role;
+      moment = moment;
+      command = command;
+      verdict = verdict;
+      answers = answers;
+    } ∷ J
 
 -- whether a command would create a flight
 abbrev pub would_create : List (ℕ × Promise) → History → Role → Command → Bool
-would_create sigs J role c = is_accepted (verdict_of sigs J role c) && (changes_flight c && not (exists J (flight_of c)))
+would_create sigs J role c = is_accepted (verdict_of sigs J role c)
+    && (changes_flight c && not (exists J (flight_of c)))
 
--- whether a command needs memory: for the record of a new flight, for a copy of a program, or for a list of alerts
+-- whether a command needs memory: for the record of a new flight, for a copy of a program, or for a
+-- list of alerts
 abbrev pub needs_memory : List (ℕ × Promise) → History → Role → Command → Bool
-needs_memory sigs J role c = is_alerts c || (is_load c && is_accepted (verdict_of sigs J role c) || would_create sigs J role c)
+needs_memory sigs J role c = is_alerts c
+    || (is_load c && is_accepted (verdict_of sigs J role c) || would_create sigs J role c)

@@ -1,5 +1,6 @@
 -- Which programs stand in the slots after a history (this project's profile).
-use Rattle.std.specs.Prelude.{ℕ, ◌+◌, ◌==◌, if◌then◌else◌, List, [], ◌∷◌, Option, Some, None, Bool, false, ◌||◌}
+use Rattle.std.specs.Prelude.{ℕ, ◌+◌, ◌==◌, if◌then◌else◌, List, [], ◌∷◌, Option, Some, None, Bool}
+use Rattle.std.specs.Prelude.{false, ◌||◌}
 use Rattle.acdm_record.specs.declared.field.Field.TheVariants.{Tobt}
 use Rattle.acdm_milestones.specs.declared.milestone.Milestone.{Milestone}
 use Rattle.bpf_helpers.specs.Promise.{Promise}
@@ -20,7 +21,8 @@ use Rattle.acdm_step.specs.Commands.{History, is_accepted}
 
 -- what an accepted command puts into a slot, where it loads or unloads that one
 abbrev pub slot_change : Milestone → Kind → Command → Option (Option Verified)
-slot_change m k (Load l) = if place l.milestone l.kind == place m k then Some (Some l.program) else None
+slot_change m k (Load l) = if place l.milestone l.kind == place m k then Some (Some l.program) else
+    None
 slot_change m k (Unload u) = if place u.milestone u.kind == place m k then Some None else None
 slot_change m k _ = None
 
@@ -31,11 +33,16 @@ changed_or (Some after) before = after
 -- the program in a slot: that of the last accepted load or unload of the slot, or none
 abbrev pub program_in : History → Milestone → Kind → Option Verified
 program_in [] m k = None
-program_in (e ∷ J) m k = if is_accepted e.verdict then changed_or (slot_change m k e.command) (program_in J m k) else program_in J m k
+program_in (e ∷ J) m k = if is_accepted e.verdict then
+    changed_or (slot_change m k e.command) (program_in J m k) else program_in J m k
 
 -- those that a command runs: a report the two of its milestone, any other command none
 abbrev pub programs_of : History → Command → Programs
-programs_of J (commands.Flight (Report r)) = record { tobt = program_in J r.milestone kinds.Tobt; alert = program_in J r.milestone kinds.Alert }
+programs_of J (commands.Flight (Report r)) =
+    record {
+      tobt = program_in J r.milestone kinds.Tobt;
+      alert = program_in J r.milestone kinds.Alert;
+    }
 programs_of J _ = no_programs
 
 -- how many answers they use at most: the instructions of both

@@ -17,5 +17,6 @@ says J commands.Alerts Accepted = refl
 says J _ Accepted = refl
 
 -- the verdict that an outcome says is the verdict on the command
-pub verdict_in-outcome_of : (sigs : List (ℕ × Promise)) (J : History) (role : Role) (c : Command) → verdict_in (outcome_of sigs J role c) ≡ verdict_of sigs J role c
+pub verdict_in-outcome_of : (sigs : List (ℕ × Promise)) (J : History) (role : Role) (c : Command)
+    → verdict_in (outcome_of sigs J role c) ≡ verdict_of sigs J role c
 verdict_in-outcome_of sigs J role c = says J c (verdict_of sigs J role c)

@@ -31,7 +31,8 @@ after_change b (changes.Unload m k) = board_of b.records (with_program b.slots m
 -- what a change asks of the board that it is made to, which a plan made on that board ensures
 abbrev pub Fits : Board → Change → Type 0
 Fits b (changes.Put i r) = (i < length b.records) × Keeps b.records i r
-Fits b (changes.Add r) = (length b.records < 4096) × (place_of b.records (number_of r Flight) ≡ length b.records)
+Fits b (changes.Add r) = (length b.records < 4096)
+    × (place_of b.records (number_of r Flight) ≡ length b.records)
 Fits b (changes.Load m k p) = p.sigs ≡ b.slots.sigs
 Fits b (changes.Unload m k) = program_in b.slots m k ≡ None → ⊥
 Fits b _ = Unit {0}

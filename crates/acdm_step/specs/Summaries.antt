@@ -1,15 +1,19 @@
--- What the whole history says of a flight: its record, and which flights there are (this project's profile).
-use Rattle.std.specs.Prelude.{ℕ, ◌^◌, ◌+◌, Bool, true, false, ◌&&◌, ◌||◌, ◌==◌, if◌then◌else◌, List, [], ◌∷◌, ◌++◌, bit_or, Option, Some, None, option_map}
+-- What the whole history says of a flight: its record, and which flights there are (this project's
+-- profile).
+use Rattle.std.specs.Prelude.{ℕ, ◌^◌, ◌+◌, Bool, true, false, ◌&&◌, ◌||◌, ◌==◌, if◌then◌else◌, List}
+use Rattle.std.specs.Prelude.{[], ◌∷◌, ◌++◌, bit_or, Option, Some, None, option_map}
 use Rattle.std.specs.List.{list_any}
 use Rattle.acdm_record.specs.declared.field.Field.{Field}
-use Rattle.acdm_record.specs.declared.field.Field.TheVariants.{Flight, Reached, Alerts, Layout, Tobt}
+use Rattle.acdm_record.specs.declared.field.Field.TheVariants.{Flight, Reached, Alerts, Layout}
+use Rattle.acdm_record.specs.declared.field.Field.TheVariants.{Tobt}
 use Rattle.acdm_record.specs.declared.field.TextField.{TextField}
 use Rattle.acdm_record.specs.Place.{index_of, text_index_of}
 use Rattle.acdm_record.specs.Fields.{Fields, fields_of}
 use Rattle.acdm_record.specs.Assign.{Assignment, number_is, text_is}
 use Rattle.acdm_alerts.specs.Conditions.{conditions}
 use Rattle.acdm_alerts.specs.Decided.{decided_word}
-use Rattle.acdm_step.specs.Programs.{Programs, Suggestion, Nothing, Usable, Unusable, Effect, effect}
+use Rattle.acdm_step.specs.Programs.{Programs, Suggestion, Nothing, Usable, Unusable, Effect}
+use Rattle.acdm_step.specs.Programs.{effect}
 use Rattle.acdm_step.specs.declared.command.Command.{Command}
 use Rattle.acdm_step.specs.declared.entry.Entry.{Entry}
 use Rattle.acdm_step.specs.Commands.{History, flight_of, assigned_by, bit_of, is_of, ticks, created}
@@ -17,9 +21,9 @@ use Rattle.acdm_step.specs.InSlots.{programs_of}
 
 -- ---- what the whole history says of a flight
 
--- all that was assigned, the last first, the bits that were reached, the moment of its last touch (an accepted schedule or
--- report of it, or an accepted tick after its creation), and what programs decided last: whether a TOBT was rejected, and the
--- local alerts
+-- all that was assigned, the last first, the bits that were reached, the moment of its last touch
+-- (an accepted schedule or report of it, or an accepted tick after its creation), and what programs
+-- decided last: whether a TOBT was rejected, and the local alerts
 pub record Summary : Type 0 where
   pub assigned : List Assignment
   pub reached : ℕ
@@ -36,7 +40,8 @@ last_number (text_is t v ∷ more) f = last_number more f
 abbrev pub last_text : List Assignment → TextField → List ℕ
 last_text [] t = []
 last_text (number_is g v ∷ more) t = last_text more t
-last_text (text_is u v ∷ more) t = if text_index_of u == text_index_of t then v else last_text more t
+last_text (text_is u v ∷ more) t =
+    if text_index_of u == text_index_of t then v else last_text more t
 
 -- the record of flight f with these assignments, reached bits and alert word
 abbrev pub number_with : ℕ → List Assignment → ℕ → ℕ → Field → ℕ
@@ -47,7 +52,8 @@ number_with f assigned reached alerts Alerts = alerts
 number_with f assigned reached alerts name = last_number assigned name
 
 abbrev pub record_with : ℕ → List Assignment → ℕ → ℕ → Fields
-record_with f assigned reached alerts = fields_of (number_with f assigned reached alerts) (last_text assigned)
+record_with f assigned reached alerts =
+    fields_of (number_with f assigned reached alerts) (last_text assigned)
 
 -- its alerts: what programs decided, and the conditions at the moment of its last touch
 abbrev pub computed_at : ℕ → List Assignment → ℕ → Option ℕ → ℕ
@@ -67,7 +73,8 @@ onto (a ∷ more) earlier = onto more (a ∷ earlier)
 
 -- what a command assigns and reaches, while the alerts are still those before it
 abbrev pub run_record : ℕ → Command → Summary → Fields
-run_record f c t = record_with f (onto (assigned_by c) t.assigned) (bit_or t.reached (2 ^ bit_of c)) (alerts_from f t)
+run_record f c t = record_with f (onto (assigned_by c) t.assigned) (bit_or t.reached (2 ^ bit_of c))
+    (alerts_from f t)
 
 -- what programs say of that
 abbrev pub effect_on : Programs → Entry → ℕ → Summary → Effect
@@ -105,9 +112,11 @@ with_command c moment s t = record {
 abbrev pub with_tick : ℕ → Summary → Summary
 with_tick moment t = record t { touch = option_map (λ m. moment) t.touch }
 
--- what one entry adds, with the programs that stood when it came; a refused entry, or one of another flight, adds nothing
+-- what one entry adds, with the programs that stood when it came; a refused entry, or one of
+-- another flight, adds nothing
 abbrev pub summary_after : Programs → Entry → ℕ → Summary → Summary
-summary_after ps e f t = if is_of f e then with_command e.command e.moment (effect_on ps e f t) t else (if ticks e then with_tick e.moment t else t)
+summary_after ps e f t = if is_of f e then with_command e.command e.moment (effect_on ps e f t) t
+    else (if ticks e then with_tick e.moment t else t)
 
 abbrev pub empty_summary : Summary
 empty_summary = record { assigned = []; reached = 0; touch = None; rejected = false; locals = 0 }
@@ -131,7 +140,8 @@ gives_tobt _ = false
 
 -- the bits that an accepted entry of the flight reached: its own, and 9 where a program gave a TOBT
 abbrev pub reaches : History → Entry → ℕ → ℕ → Bool
-reaches J e f m = bit_of e.command == m || (gives_tobt (effect_on (programs_of J e.command) e f (summary J f)).tobt && 9 == m)
+reaches J e f m = bit_of e.command == m
+    || (gives_tobt (effect_on (programs_of J e.command) e f (summary J f)).tobt && 9 == m)
 
 -- whether an accepted entry of the flight reached this bit: what a bit of the reached word means
 abbrev pub has_come_to : History → ℕ → ℕ → Bool

@@ -1,5 +1,7 @@
--- Verdicts, by the first refusal that applies, and what comes of a command after a history (this project's profile).
-use Rattle.std.specs.Prelude.{ℕ, Bool, true, false, ◌&&◌, ◌==◌, not, nat_lt, if◌then◌else◌, List, [], ◌∷◌, map, length, is_some, Result, Ok, Err}
+-- Verdicts, by the first refusal that applies, and what comes of a command after a history (this
+-- project's profile).
+use Rattle.std.specs.Prelude.{ℕ, Bool, true, false, ◌&&◌, ◌==◌, not, nat_lt, if◌then◌else◌, List}
+use Rattle.std.specs.Prelude.{[], ◌∷◌, map, length, is_some, Result, Ok, Err}
 use Rattle.std.specs.List.{flat_map}
 use Rattle.acdm_record.specs.declared.field.Field.TheVariants.{Flight, Alerts}
 use Rattle.acdm_record.specs.Fields.{Fields, number_of}
@@ -7,7 +9,9 @@ use Rattle.acdm_milestones.specs.declared.role.Role.{Role}
 use Rattle.acdm_milestones.specs.declared.role.Action.TheVariants as actions
 use Rattle.acdm_milestones.specs.declared.milestone.Milestone.{Milestone}
 use Rattle.acdm_milestones.specs.declared.refusal.Refusal.{Refusal}
-use Rattle.acdm_milestones.specs.declared.refusal.Refusal.TheVariants.{UnknownFlight, NotOwner, AlreadyPlanned, FullBoard, EmptySlot, OtherSignatures}
+use Rattle.acdm_milestones.specs.declared.refusal.Refusal.TheVariants.{UnknownFlight, NotOwner}
+use Rattle.acdm_milestones.specs.declared.refusal.Refusal.TheVariants.{AlreadyPlanned, FullBoard}
+use Rattle.acdm_milestones.specs.declared.refusal.Refusal.TheVariants.{EmptySlot, OtherSignatures}
 use Rattle.acdm_milestones.specs.Tables.{number, owns, has_reached, admission}
 use Rattle.bpf_helpers.specs.Promise.{Promise}
 use Rattle.bpf_helpers.specs.Same.{same_sigs}
@@ -54,10 +58,12 @@ show_verdict there = if there then Accepted else Refused UnknownFlight
 
 -- a program may be loaded that was checked against the signatures of the board
 abbrev pub load_verdict : Bool → Role → Verdict
-load_verdict fits role = if not (owns role actions.Load) then Refused NotOwner else (if not fits then Refused OtherSignatures else Accepted)
+load_verdict fits role = if not (owns role actions.Load) then Refused NotOwner else
+    (if not fits then Refused OtherSignatures else Accepted)
 
 abbrev pub unload_verdict : Bool → Role → Verdict
-unload_verdict filled role = if not (owns role actions.Unload) then Refused NotOwner else (if not filled then Refused EmptySlot else Accepted)
+unload_verdict filled role = if not (owns role actions.Unload) then Refused NotOwner else
+    (if not filled then Refused EmptySlot else Accepted)
 
 -- the last test of a load and of an unload
 abbrev pub is_ready : List (ℕ × Promise) → History → Command → Bool
@@ -66,8 +72,10 @@ is_ready sigs J (Unload u) = is_some (program_in J u.milestone u.kind)
 is_ready sigs J _ = true
 
 abbrev pub verdict_for : Bool → ℕ → Fields → Bool → Role → Command → Verdict
-verdict_for there count r ready role (commands.Flight (Schedule s)) = schedule_verdict there count r role
-verdict_for there count r ready role (commands.Flight (Report p)) = report_verdict there count r role p.milestone p.time
+verdict_for there count r ready role (commands.Flight (Schedule s)) =
+    schedule_verdict there count r role
+verdict_for there count r ready role (commands.Flight (Report p)) =
+    report_verdict there count r role p.milestone p.time
 verdict_for there count r ready role (Load l) = load_verdict ready role
 verdict_for there count r ready role (Unload u) = unload_verdict ready role
 verdict_for there count r ready role Tick = tick_verdict role
@@ -76,18 +84,21 @@ verdict_for there count r ready role commands.Alerts = Accepted
 
 -- the verdict on a command after a history, on a board with these signatures
 abbrev pub verdict_of : List (ℕ × Promise) → History → Role → Command → Verdict
-verdict_of sigs J role c = verdict_for (exists J (flight_of c)) (length (flights J)) (record_of J (flight_of c)) (is_ready sigs J c) role c
+verdict_of sigs J role c = verdict_for (exists J (flight_of c)) (length (flights J))
+    (record_of J (flight_of c)) (is_ready sigs J c) role c
 
 -- ---- what comes of a command
 
 -- a record's flight with its alerts, where it has any
 abbrev pub alerted : Fields → List Alerted
-alerted r = if number_of r Alerts == 0 then [] else record { flight = number_of r Flight; alerts = number_of r Alerts } ∷ []
+alerted r = if number_of r Alerts == 0 then [] else
+    record { flight = number_of r Flight; alerts = number_of r Alerts } ∷ []
 
 abbrev pub alert_list : List Fields → List Alerted
 alert_list rs = flat_map alerted rs
 
--- what an accepted command is answered: the record of a flight, or all flights with alerts in order of creation
+-- what an accepted command is answered: the record of a flight, or all flights with alerts in order
+-- of creation
 abbrev pub answer : History → Command → Outcome
 answer J (Show f) = outcomes.Shown (record_of J f)
 answer J commands.Alerts = outcomes.Listed (alert_list (map (record_of J) (flights J)))

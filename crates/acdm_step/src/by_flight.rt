@@ -1,5 +1,6 @@
 //! The records of the flights, found by flight.
-ghost use Rattle.std.specs.Prelude.{◌≡◌, ◌<◌, ◌++◌, [], ◌∷◌, map, length, slice_get, slice_set, Some, IfOk};
+ghost use Rattle.std.specs.Prelude.{◌≡◌, ◌<◌, ◌++◌, [], ◌∷◌, map, length, slice_get, slice_set};
+ghost use Rattle.std.specs.Prelude.{Some, IfOk};
 ghost use Rattle.acdm_record.specs.declared.field.Field.TheVariants.{Flight};
 ghost use Rattle.acdm_record.specs.Fields.{number_of};
 ghost use Rattle.acdm_step.specs.Board.{place_of, touched};
@@ -111,7 +112,8 @@ impl Flights {
         }
     }
 
-    /// The flights with an alert, and with all of its alerts each. `Err` only where memory was refused.
+    /// The flights with an alert, and with all of its alerts each. `Err` only where memory was
+    /// refused.
     pub(crate) fn alerted(&self) -> Result<AlertList, AllocError>
         ensures { IfOk result (λ list. list ≡ alert_list self.now) }
     {

@@ -24,7 +24,8 @@ pub(crate) fn touch(record: &mut Record, moment: u32)
 }
 
 fn set_scheduled(record: &mut Record, schedule: &Schedule)
-    ensures { record.new ≡ assigned_to record.old (Command.Flight (FlightCommand.Schedule schedule.now)) }
+    ensures { record.new ≡ assigned_to record.old
+        (Command.Flight (FlightCommand.Schedule schedule.now)) }
 {
     record.set_text(TextField::Callsign, schedule.plan.callsign.as_bytes());
     record.set_text(TextField::ScheduledType, schedule.plan.aircraft.as_bytes());
@@ -56,7 +57,8 @@ fn set_planned(record: &mut Record, plan: &Option<Plan>)
 }
 
 fn set_reported(record: &mut Record, report: &Report)
-    ensures { record.new ≡ assigned_to record.old (Command.Flight (FlightCommand.Report report.now)) }
+    ensures { record.new ≡ assigned_to record.old
+        (Command.Flight (FlightCommand.Report report.now)) }
 {
     set_time(record, report.milestone, report.time);
     set_planned(record, &report.plan);
@@ -72,8 +74,14 @@ fn change_reported<O: Oracle>(
     oracle: &mut O,
 ) -> Result<(), BadAnswer>
     requires oracle { MayBeAsked slots.now.sigs (O.view oracle.old) }
-    ensures changed { OnOk result (ChangesTo (programs_on slots.now (Command.Flight (FlightCommand.Report report.now))) record.old moment (Command.Flight (FlightCommand.Report report.now)) (O.view oracle.old) (O.view oracle.new) record.new) }
-    ensures unanswered { OnErr result (AsksIn (programs_on slots.now (Command.Flight (FlightCommand.Report report.now))) (assigned_to record.old (Command.Flight (FlightCommand.Report report.now))) moment (number report.now.milestone) (O.view oracle.old) (O.view oracle.new)) }
+    ensures changed { OnOk result (ChangesTo
+        (programs_on slots.now (Command.Flight (FlightCommand.Report report.now))) record.old moment
+        (Command.Flight (FlightCommand.Report report.now)) (O.view oracle.old) (O.view oracle.new)
+        record.new) }
+    ensures unanswered { OnErr result
+        (AsksIn (programs_on slots.now (Command.Flight (FlightCommand.Report report.now)))
+        (assigned_to record.old (Command.Flight (FlightCommand.Report report.now))) moment
+        (number report.now.milestone) (O.view oracle.old) (O.view oracle.new)) }
     ensures same_rule { SameRule (O.view oracle.old) (O.view oracle.new) }
 {
     set_reported(record, report);
@@ -82,7 +90,8 @@ fn change_reported<O: Oracle>(
     Ok(())
 }
 
-/// What an accepted command does to the record of its flight, at a moment. Where a program of it is left without an answer the record is of no use.
+/// What an accepted command does to the record of its flight, at a moment. Where a program of it is
+/// left without an answer the record is of no use.
 pub(crate) fn change<O: Oracle>(
     record: &mut Record,
     slots: &Slots,
@@ -91,8 +100,13 @@ pub(crate) fn change<O: Oracle>(
     oracle: &mut O,
 ) -> Result<(), BadAnswer>
     requires oracle { MayBeAsked slots.now.sigs (O.view oracle.old) }
-    ensures changed { OnOk result (ChangesTo (programs_on slots.now (Command.Flight command.now)) record.old moment (Command.Flight command.now) (O.view oracle.old) (O.view oracle.new) record.new) }
-    ensures unanswered { OnErr result (AsksIn (programs_on slots.now (Command.Flight command.now)) (assigned_to record.old (Command.Flight command.now)) moment (bit_of (Command.Flight command.now)) (O.view oracle.old) (O.view oracle.new)) }
+    ensures changed { OnOk result (ChangesTo (programs_on slots.now (Command.Flight command.now))
+        record.old moment (Command.Flight command.now) (O.view oracle.old) (O.view oracle.new)
+        record.new) }
+    ensures unanswered { OnErr result
+        (AsksIn (programs_on slots.now (Command.Flight command.now))
+        (assigned_to record.old (Command.Flight command.now)) moment
+        (bit_of (Command.Flight command.now)) (O.view oracle.old) (O.view oracle.new)) }
     ensures same_rule { SameRule (O.view oracle.old) (O.view oracle.new) }
 {
     match command {

@@ -20,8 +20,8 @@ pub struct Plan {
 
 /// Creates a flight, or sets what is scheduled of one.
 ///
-/// The flight is at least 1, SOBT is a minute since 1970-01-01T00:00Z and at least 1, MTTT and EXOT are at
-/// most 1440 minutes, EXIT is in minutes.
+/// The flight is at least 1, SOBT is a minute since 1970-01-01T00:00Z and at least 1, MTTT and EXOT
+/// are at most 1440 minutes, EXIT is in minutes.
 #[derive(Drop)]
 pub struct Schedule {
     pub(crate) flight: u64,
@@ -38,7 +38,15 @@ impl Model for Schedule {
 
     ghost Value = { ScheduleFacts };
 
-    ghost view = { λ s. record { flight = s.flight; plan = s.plan; sobt = s.sobt; mttt = s.mttt; exit = s.exit; exot = s.exot; stand = s.stand } };
+    ghost view = { λ s. record {
+      flight = s.flight;
+      plan = s.plan;
+      sobt = s.sobt;
+      mttt = s.mttt;
+      exit = s.exit;
+      exot = s.exot;
+      stand = s.stand;
+    } };
 
     ghost invariant = { λ s. IsSchedule s.flight s.sobt s.mttt s.exot };
 }
@@ -58,7 +66,15 @@ impl Schedule {
         requires sobt_given { 1 ≤ sobt }
         requires mttt_in_range { mttt ≤ 1440 }
         requires exot_in_range { exot ≤ 1440 }
-        ensures { result ≡ record { flight = flight; plan = plan; sobt = sobt; mttt = mttt; exit = exit; exot = exot; stand = stand } }
+        ensures { result ≡ record {
+          flight = flight;
+          plan = plan;
+          sobt = sobt;
+          mttt = mttt;
+          exit = exit;
+          exot = exot;
+          stand = stand;
+        } }
     {
         Schedule {
             flight,
@@ -124,8 +140,8 @@ impl Schedule {
 
 /// Reports a milestone of a flight.
 ///
-/// The flight is at least 1. The time is in minutes since 1970-01-01T00:00Z, and 0 (no time) with milestones
-/// 2 and 9 alone. A plan comes with milestone 1, and with it alone.
+/// The flight is at least 1. The time is in minutes since 1970-01-01T00:00Z, and 0 (no time) with
+/// milestones 2 and 9 alone. A plan comes with milestone 1, and with it alone.
 #[derive(Drop)]
 pub struct Report {
     pub(crate) flight: u64,
@@ -139,7 +155,12 @@ impl Model for Report {
 
     ghost Value = { ReportFacts };
 
-    ghost view = { λ r. record { flight = r.flight; milestone = r.milestone; time = r.time; plan = r.plan } };
+    ghost view = { λ r. record {
+      flight = r.flight;
+      milestone = r.milestone;
+      time = r.time;
+      plan = r.plan;
+    } };
 
     ghost invariant = { λ r. IsReport r.flight r.milestone r.time r.plan };
 }
@@ -150,7 +171,12 @@ impl Report {
         requires flight_given { 1 ≤ flight }
         requires plan_with_first { IsTrue (has_its_plan milestone plan) }
         requires timed { IsTrue (has_its_time milestone time) }
-        ensures { result ≡ record { flight = flight; milestone = milestone; time = time; plan = plan } }
+        ensures { result ≡ record {
+          flight = flight;
+          milestone = milestone;
+          time = time;
+          plan = plan;
+        } }
     {
         Report {
             flight,

@@ -65,8 +65,8 @@ impl From<Vec<u64>> for Answers {
     }
 }
 
-/// One command, with the verdict on it and the answers that its programs used. What an accepted question was answered can be
-/// told from the entries before.
+/// One command, with the verdict on it and the answers that its programs used. What an accepted
+/// question was answered can be told from the entries before.
 ///
 /// The moment is in minutes since 1970-01-01T00:00Z.
 #[derive(Drop)]

@@ -17,17 +17,24 @@ ghost use Rattle.acdm_step.specs.History.{IsLegal};
 /// What a history computes of the programs of a report is what their runs end with.
 pub fn programs_say_what_their_runs_end_with()
     // What is computed is what two runs say that end, which used the answers that are not left.
-    ensures computed { (ps : Programs) (r : Fields) (moment m : ℕ) (answers : List ℕ) (s : Effect) (left : List ℕ) →
-        effect_with ps r moment m answers ≡ Some (s, left) → (used : List ℕ) × (answers ≡ used ++ left) × HasEffect ps r moment m used s }
+    ensures computed { (ps : Programs) (r : Fields) (moment m : ℕ) (answers : List ℕ) (s : Effect)
+        (left : List ℕ) →
+        effect_with ps r moment m answers ≡ Some (s, left) →
+        (used : List ℕ) × (answers ≡ used ++ left) × HasEffect ps r moment m used s }
     // What two runs say that end is computed, and the answers that they did not use are left.
     ensures complete { (ps : Programs) (r : Fields) (moment m : ℕ) (used : List ℕ) (s : Effect) →
-        HasEffect ps r moment m used s → (left : List ℕ) → effect_with ps r moment m (used ++ left) ≡ Some (s, left) }
-    // In a legal history the programs of each accepted entry ran, and ended with exactly the answers that the entry keeps.
-    ensures legal { (sigs : List (ℕ × Promise)) (J : History) (e : Entry) → IsLegal sigs (e ∷ J) → is_accepted e.verdict ≡ true →
-        Ran (programs_of J e.command) (run_record_of J e.command) e.moment (bit_of e.command) e.answers }
+        HasEffect ps r moment m used s → (left : List ℕ)
+        → effect_with ps r moment m (used ++ left) ≡ Some (s, left) }
+    // In a legal history the programs of each accepted entry ran, and ended with exactly the
+    // answers that the entry keeps.
+    ensures legal { (sigs : List (ℕ × Promise)) (J : History) (e : Entry) → IsLegal sigs (e ∷ J)
+        → is_accepted e.verdict ≡ true →
+        Ran (programs_of J e.command) (run_record_of J e.command) e.moment
+        (bit_of e.command) e.answers }
 {}
 
-/// The programs in the slots of a board are those of the last accepted loads and unloads of its history.
+/// The programs in the slots of a board are those of the last accepted loads and unloads of its
+/// history.
 pub fn slots_are_asked_of_the_history()
     ensures { (sigs : List (ℕ × Promise)) (J : History) (m : Milestone) (kind : Kind) →
         loaded.program_in (slots_of sigs J) m kind ≡ program_in J m kind }

@@ -79,7 +79,8 @@ impl Outcome {
         }
     }
 
-    /// An outcome that equals this one. `Err` only where memory was refused, which a list of alerts needs.
+    /// An outcome that equals this one. `Err` only where memory was refused, which a list of alerts
+    /// needs.
     pub fn copy(&self) -> Result<Outcome, AllocError>
         ensures copied { IfOk result (λ outcome. outcome ≡ self.now) }
         ensures memory { OnErr result (IsTrue (is_list self.now)) }

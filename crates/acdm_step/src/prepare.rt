@@ -4,7 +4,8 @@ ghost use Rattle.bpf_helpers.specs.Oracles.{MayBeAsked, SameRule};
 ghost use Rattle.bpf_helpers.specs.Same.{same_sigs};
 ghost use Rattle.acdm_slots.specs.Loaded.{program_in};
 ghost use Rattle.acdm_step.specs.Commands.{is_accepted};
-ghost use Rattle.acdm_step.specs.Verdicts.{load_verdict, outcome_with, show_verdict, tick_verdict, unload_verdict};
+ghost use Rattle.acdm_step.specs.Verdicts.{load_verdict, outcome_with, show_verdict, tick_verdict};
+ghost use Rattle.acdm_step.specs.Verdicts.{unload_verdict};
 ghost use Rattle.acdm_step.specs.Board.{board_of, is_there, place_of, record_on};
 ghost use Rattle.acdm_step.specs.Running.{Comes};
 ghost use Rattle.acdm_step.specs.Prepared.{Fits, after_change};
@@ -72,7 +73,8 @@ fn record_at(flights: &Flights, place: usize, flight: u64) -> Record
     }
 }
 
-/// What a schedule or a report does. It takes no memory, and looks for the flight only where the role owns the command.
+/// What a schedule or a report does. It takes no memory, and looks for the flight only where the
+/// role owns the command.
 pub(crate) fn prepare_flight<O: Oracle>(
     flights: &Flights,
     slots: &Slots,
@@ -82,7 +84,8 @@ pub(crate) fn prepare_flight<O: Oracle>(
     command: &FlightCommand,
 ) -> Prepared
     requires oracle { MayBeAsked slots.now.sigs (O.view oracle.old) }
-    ensures comes { Comes (board_of flights.now slots.now) role moment (Command.Flight command.now) (O.view oracle.old) (O.view oracle.new)
+    ensures comes { Comes (board_of flights.now slots.now) role moment (Command.Flight command.now)
+        (O.view oracle.old) (O.view oracle.new)
         result.outcome (after_change (board_of flights.now slots.now) result.change) }
     ensures fits { Fits (board_of flights.now slots.now) result.change }
     ensures same_rule { SameRule (O.view oracle.old) (O.view oracle.new) }
@@ -119,13 +122,18 @@ pub(crate) fn prepare_flight<O: Oracle>(
 
 /// A load: a copy of its program comes into its slot. `Err` only where memory was refused.
 pub(crate) fn prepare_load(slots: &Slots, role: Role, load: &Load) -> Result<Prepared, AllocError>
-    ensures outcome { IfOk result (λ p. p.outcome ≡ outcome_with Outcome.Done (load_verdict (same_sigs load.now.program.sigs slots.now.sigs) role)) }
+    ensures outcome { IfOk result (λ p. p.outcome
+        ≡ outcome_with Outcome.Done (load_verdict (same_sigs load.now.program.sigs slots.now.sigs)
+        role)) }
     ensures change { IfOk result (λ p. p.change ≡
         (if is_accepted (load_verdict (same_sigs load.now.program.sigs slots.now.sigs) role)
         then Change.Load load.now.milestone load.now.kind load.now.program else Change.Nothing)) }
-    ensures same { IfOk result (λ p. IsTrue (is_accepted (load_verdict (same_sigs load.now.program.sigs slots.now.sigs) role)) →
+    ensures same { IfOk result (λ p. IsTrue
+        (is_accepted (load_verdict (same_sigs load.now.program.sigs slots.now.sigs) role)) →
         load.now.program.sigs ≡ slots.now.sigs) }
-    ensures loading { OnErr result (IsTrue (is_accepted (load_verdict (same_sigs load.now.program.sigs slots.now.sigs) role))) }
+    ensures loading { OnErr result
+        (IsTrue (is_accepted (load_verdict (same_sigs load.now.program.sigs slots.now.sigs)
+        role))) }
 {
     match verdict_on_load(slots, role, load) {
         Verdict::Refused(refusal) => Ok(refused(refusal)),
@@ -141,9 +149,12 @@ pub(crate) fn prepare_load(slots: &Slots, role: Role, load: &Load) -> Result<Pre
 
 /// An unload: its slot becomes empty.
 pub(crate) fn prepare_unload(slots: &Slots, role: Role, unload: &Unload) -> Prepared
-    ensures outcome { result.outcome ≡ outcome_with Outcome.Done (unload_verdict (is_some (program_in slots.now unload.now.milestone unload.now.kind)) role) }
+    ensures outcome { result.outcome
+        ≡ outcome_with Outcome.Done (unload_verdict
+        (is_some (program_in slots.now unload.now.milestone unload.now.kind)) role) }
     ensures change { result.change ≡
-        (if is_accepted (unload_verdict (is_some (program_in slots.now unload.now.milestone unload.now.kind)) role)
+        (if is_accepted (unload_verdict
+        (is_some (program_in slots.now unload.now.milestone unload.now.kind)) role)
         then Change.Unload unload.now.milestone unload.now.kind else Change.Nothing) }
 {
     match verdict_on_unload(slots, role, unload) {
@@ -158,7 +169,8 @@ pub(crate) fn prepare_unload(slots: &Slots, role: Role, unload: &Unload) -> Prep
 /// A tick: each record is touched.
 pub(crate) fn prepare_tick(role: Role, moment: u32) -> Prepared
     ensures outcome { result.outcome ≡ outcome_with Outcome.Done (tick_verdict role) }
-    ensures change { result.change ≡ (if is_accepted (tick_verdict role) then Change.Touch moment else Change.Nothing) }
+    ensures change { result.change
+        ≡ (if is_accepted (tick_verdict role) then Change.Touch moment else Change.Nothing) }
 {
     match verdict_on_tick(role) {
         Verdict::Accepted => Prepared {
@@ -171,7 +183,8 @@ pub(crate) fn prepare_tick(role: Role, moment: u32) -> Prepared
 
 /// The record of a flight, as it is answered.
 pub(crate) fn show(flights: &Flights, flight: u64) -> Outcome
-    ensures { result ≡ outcome_with (Outcome.Shown (record_on flights.now flight)) (show_verdict (is_there flights.now flight)) }
+    ensures { result ≡ outcome_with (Outcome.Shown (record_on flights.now flight))
+        (show_verdict (is_there flights.now flight)) }
 {
     let place = flights.place(flight);
     match verdict_on_show(place < flights.len()) {

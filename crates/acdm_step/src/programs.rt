@@ -1,9 +1,12 @@
 //! The local programs of a report (this project's profile).
-ghost use Rattle.std.specs.Prelude.{◌≡◌, ◌||◌, ◌+◌, ◌<◌, ◌≤◌, ◌^◌, OnOk, OnErr, IfOk, if◌then◌else◌, option_map};
+ghost use Rattle.std.specs.Prelude.{◌≡◌, ◌||◌, ◌+◌, ◌<◌, ◌≤◌, ◌^◌, OnOk, OnErr, IfOk};
+ghost use Rattle.std.specs.Prelude.{if◌then◌else◌, option_map};
 ghost use Rattle.acdm_milestones.specs.Tables.{number};
 ghost use Rattle.acdm_slots.specs.Loaded.{program_in};
 ghost use Rattle.bpf_helpers.specs.Oracles.{MayBeAsked, SameRule};
-ghost use Rattle.acdm_step.specs.Programs.{Programs, is_usable as may_be_set, rejecting, suggestion, with_suggestion, local_alerts, with_local_alerts};
+ghost use Rattle.acdm_step.specs.Programs.{Programs, is_usable as may_be_set, rejecting};
+ghost use Rattle.acdm_step.specs.Programs.{suggestion, with_suggestion, local_alerts};
+ghost use Rattle.acdm_step.specs.Programs.{with_local_alerts};
 ghost use Rattle.acdm_step.specs.InSlots.{may_ask as asks_helpers, size_of};
 ghost use Rattle.acdm_step.specs.Running.{EndsAt, AsksAt, EndsIn, AsksIn};
 
@@ -30,8 +33,11 @@ fn run_slot<O: Oracle>(
     oracle: &mut O,
 ) -> Result<Option<u64>, BadAnswer>
     requires oracle { MayBeAsked slots.now.sigs (O.view oracle.old) }
-    ensures ended { IfOk result (EndsAt (program_in slots.now milestone kind) record.now moment (number milestone) (O.view oracle.old) (O.view oracle.new)) }
-    ensures unanswered { OnErr result (AsksAt (program_in slots.now milestone kind) record.now moment (number milestone) (O.view oracle.old) (O.view oracle.new)) }
+    ensures ended { IfOk result (EndsAt (program_in slots.now milestone kind) record.now moment
+        (number milestone) (O.view oracle.old) (O.view oracle.new)) }
+    ensures unanswered { OnErr result
+        (AsksAt (program_in slots.now milestone kind) record.now moment (number milestone)
+        (O.view oracle.old) (O.view oracle.new)) }
     ensures counted { OnOk result ((O.view oracle.new).refusals ≡ (O.view oracle.old).refusals) }
     ensures same_rule { SameRule (O.view oracle.old) (O.view oracle.new) }
 {
@@ -91,8 +97,9 @@ fn decide_locals(record: &mut Record, r0: Option<u64>)
         .store(record);
 }
 
-/// Runs the two programs of a reported milestone on the record of its flight: the TOBT program, and the alert program on what
-/// came of it. Where one of them is left without an answer the record is of no use.
+/// Runs the two programs of a reported milestone on the record of its flight: the TOBT program, and
+/// the alert program on what came of it. Where one of them is left without an answer the record is
+/// of no use.
 pub(crate) fn run_programs<O: Oracle>(
     slots: &Slots,
     milestone: Milestone,
@@ -101,9 +108,17 @@ pub(crate) fn run_programs<O: Oracle>(
     oracle: &mut O,
 ) -> Result<(), BadAnswer>
     requires oracle { MayBeAsked slots.now.sigs (O.view oracle.old) }
-    ensures ended { OnOk result (EndsIn (record { tobt = program_in slots.now milestone Kind.Tobt; alert = program_in slots.now milestone Kind.Alert })
+    ensures ended { OnOk result (EndsIn
+        (record {
+          tobt = program_in slots.now milestone Kind.Tobt;
+          alert = program_in slots.now milestone Kind.Alert;
+        })
         record.old moment (number milestone) (O.view oracle.old) (O.view oracle.new) record.new) }
-    ensures unanswered { OnErr result (AsksIn (record { tobt = program_in slots.now milestone Kind.Tobt; alert = program_in slots.now milestone Kind.Alert })
+    ensures unanswered { OnErr result
+        (AsksIn (record {
+          tobt = program_in slots.now milestone Kind.Tobt;
+          alert = program_in slots.now milestone Kind.Alert;
+        })
         record.old moment (number milestone) (O.view oracle.old) (O.view oracle.new)) }
     ensures same_rule { SameRule (O.view oracle.old) (O.view oracle.new) }
 {

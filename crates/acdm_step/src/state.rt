@@ -1,5 +1,6 @@
 //! The core: the records of the flights in order of creation, and the programs in the slots.
-ghost use Rattle.std.specs.Prelude.{◌≡◌, ◌||◌, ℕ, List, [], IsTrue, IfOk, OnErr, IfSome, true, if◌then◌else◌, Some, None};
+ghost use Rattle.std.specs.Prelude.{◌≡◌, ◌||◌, ℕ, List, [], IsTrue, IfOk, OnErr, IfSome, true};
+ghost use Rattle.std.specs.Prelude.{if◌then◌else◌, Some, None};
 ghost use Rattle.std.specs.Option.{option_copied};
 ghost use Rattle.acdm_milestones.specs.Tables.{has_reached};
 ghost use Rattle.bpf_helpers.specs.Promise.{Promise};
@@ -27,7 +28,8 @@ use bpf_helpers::{Oracle, Sigs};
 use std::alloc::{AllocError, Global};
 use std::marker::Model;
 
-/// The board of a history: the record of each flight, in order of creation, and the programs in the slots.
+/// The board of a history: the record of each flight, in order of creation, and the programs in the
+/// slots.
 #[derive(Drop)]
 pub struct Core {
     flights: Flights,
@@ -43,8 +45,8 @@ impl Model for Core {
 }
 
 impl Core {
-    /// The board of the empty history, for programs that were checked against these signatures. It has room for all flights
-    /// that a board may have. `Err` only where memory was refused.
+    /// The board of the empty history, for programs that were checked against these signatures. It
+    /// has room for all flights that a board may have. `Err` only where memory was refused.
     pub fn new(alloc: Global, sigs: Sigs) -> Result<Core, AllocError>
         ensures { IfOk result (λ core. core ≡ replay sigs []) }
     {
@@ -76,10 +78,11 @@ impl Core {
         }
     }
 
-    /// How many answers of helpers the programs of a command use at most: for a report the instructions of both of its
-    /// milestone's programs, else 0.
+    /// How many answers of helpers the programs of a command use at most: for a report the
+    /// instructions of both of its milestone's programs, else 0.
     pub fn room(&self, command: &Command) -> u64
-        ensures { (sigs : List (ℕ × Promise)) (J : History) → self.now ≡ replay sigs J → result ≡ room_of J command.now }
+        ensures { (sigs : List (ℕ × Promise)) (J : History) → self.now ≡ replay sigs J
+            → result ≡ room_of J command.now }
     {
         let Command::Flight(command) = command else {
             return 0;
@@ -95,7 +98,8 @@ impl Core {
 
     /// Whether a program of a command calls a helper.
     fn asks(&self, command: &Command) -> bool
-        ensures { (sigs : List (ℕ × Promise)) (J : History) → self.now ≡ replay sigs J → result ≡ asks_in J command.now }
+        ensures { (sigs : List (ℕ × Promise)) (J : History) → self.now ≡ replay sigs J
+            → result ≡ asks_in J command.now }
     {
         let Command::Flight(command) = command else {
             return false;
@@ -109,7 +113,8 @@ impl Core {
     /// For how many answers there has to be room so that none is missing: for `room` where a
     /// program of the command calls a helper, else for none.
     pub fn answers_room(&self, command: &Command) -> u64
-        ensures { (sigs : List (ℕ × Promise)) (J : History) → self.now ≡ replay sigs J → result ≡ room_for_answers J command.now }
+        ensures { (sigs : List (ℕ × Promise)) (J : History) → self.now ≡ replay sigs J
+            → result ≡ room_for_answers J command.now }
     {
         if self.asks(command) {
             self.room(command)
@@ -118,9 +123,9 @@ impl Core {
         }
     }
 
-    /// What would come of a command at a moment (minutes since 1970-01-01T00:00Z), and what it would do to the board, which
-    /// stays as it is. All memory is taken here. `Err` only where memory was refused, for a load and for a list of alerts; no
-    /// program has run then.
+    /// What would come of a command at a moment (minutes since 1970-01-01T00:00Z), and what it
+    /// would do to the board, which stays as it is. All memory is taken here. `Err` only where
+    /// memory was refused, for a load and for a list of alerts; no program has run then.
     pub(crate) fn plan<O: Oracle>(
         &self,
         oracle: &mut O,
@@ -129,12 +134,15 @@ impl Core {
         command: &Command,
     ) -> Result<Prepared, AllocError>
         requires oracle { MayBeAsked self.now.slots.sigs (O.view oracle.old) }
-        ensures comes { IfOk result (λ p. Comes self.now role moment command.now (O.view oracle.old) (O.view oracle.new)
+        ensures comes { IfOk result (λ p. Comes self.now role moment command.now (O.view oracle.old)
+            (O.view oracle.new)
             p.outcome (after_change self.now p.change)) }
         ensures fits { IfOk result (λ p. Fits self.now p.change) }
         ensures unasked { OnErr result (Unasked (O.view oracle.old) (O.view oracle.new)) }
         ensures same_rule { SameRule (O.view oracle.old) (O.view oracle.new) }
-        ensures memory { OnErr result (IsTrue (is_alerts command.now || (board_loads self.now role command.now || board_creates self.now role command.now))) }
+        ensures memory { OnErr result (IsTrue (is_alerts command.now
+            || (board_loads self.now role command.now
+            || board_creates self.now role command.now))) }
     {
         match command {
             Command::Flight(command) => Ok(prepare_flight(
@@ -191,11 +199,12 @@ impl Core {
         outcome
     }
 
-    /// What comes of a command at a moment (minutes since 1970-01-01T00:00Z), and the board after it. Helpers that its programs
-    /// call are answered by the oracle.
+    /// What comes of a command at a moment (minutes since 1970-01-01T00:00Z), and the board after
+    /// it. Helpers that its programs call are answered by the oracle.
     ///
-    /// Where the oracle leaves a program without an answer, the report is refused as `Unanswered` and nothing has changed. `Err`
-    /// only where memory was refused, which is asked for for a load and for a list of alerts, before anything changes.
+    /// Where the oracle leaves a program without an answer, the report is refused as `Unanswered`
+    /// and nothing has changed. `Err` only where memory was refused, which is asked for for a load
+    /// and for a list of alerts, before anything changes.
     pub fn apply<O: Oracle>(
         &mut self,
         oracle: &mut O,
@@ -203,22 +212,29 @@ impl Core {
         moment: u32,
         command: &Command,
     ) -> Result<Outcome, AllocError>
-        // The oracle answers by the signatures of the board, and may still count one more call without an answer.
+        // The oracle answers by the signatures of the board, and may still count one more call
+        // without an answer.
         requires oracle { MayBeAsked self.old.slots.sigs (O.view oracle.old) }
 
         // The answers meant are those that the oracle gave in the call, by which its log has grown.
-        ensures outcome { IfOk result (λ outcome. (sigs : List (ℕ × Promise)) (J : History) → IsLegal sigs J → self.old ≡ replay sigs J →
-            ComesOf sigs J role moment command.now (O.view oracle.old) (O.view oracle.new) outcome) }
-        ensures board { IfOk result (λ outcome. (sigs : List (ℕ × Promise)) (J : History) (session : ℕ) (answers : List ℕ) →
+        ensures outcome { IfOk result (λ outcome. (sigs : List (ℕ × Promise)) (J : History)
+            → IsLegal sigs J → self.old ≡ replay sigs J →
+            ComesOf sigs J role moment command.now (O.view oracle.old) (O.view oracle.new)
+            outcome) }
+        ensures board { IfOk result (λ outcome. (sigs : List (ℕ × Promise)) (J : History)
+            (session : ℕ) (answers : List ℕ) →
             IsLegal sigs J → self.old ≡ replay sigs J →
-            (is_accepted (verdict_in outcome) ≡ true → Gained (O.view oracle.old) (O.view oracle.new) answers) →
-            self.new ≡ replay sigs (after J session role moment command.now (verdict_in outcome) answers)) }
+            (is_accepted (verdict_in outcome) ≡ true
+            → Gained (O.view oracle.old) (O.view oracle.new) answers) →
+            self.new ≡ replay sigs
+            (after J session role moment command.now (verdict_in outcome) answers)) }
         ensures sigs { self.new.slots.sigs ≡ self.old.slots.sigs }
         ensures err { OnErr result (self.new ≡ self.old) }
         ensures unasked { OnErr result (Unasked (O.view oracle.old) (O.view oracle.new)) }
         // What the oracle answers from stays the same.
         ensures same_rule { SameRule (O.view oracle.old) (O.view oracle.new) }
-        ensures memory { OnErr result ((sigs : List (ℕ × Promise)) (J : History) → IsLegal sigs J → self.old ≡ replay sigs J →
+        ensures memory { OnErr result ((sigs : List (ℕ × Promise)) (J : History) → IsLegal sigs J
+            → self.old ≡ replay sigs J →
             IsTrue (needs_memory sigs J role command.now)) }
     {
         let plan = self.plan(oracle, role, moment, command)?;

@@ -3,7 +3,8 @@ ghost use Rattle.std.specs.Prelude.{◌≡◌, ◌↔◌, IsTrue, true, is_some}
 ghost use Rattle.bpf_helpers.specs.Same.{same_sigs};
 ghost use Rattle.acdm_slots.specs.Loaded.{program_in};
 ghost use Rattle.acdm_step.specs.Commands.{flight_of};
-ghost use Rattle.acdm_step.specs.Verdicts.{schedule_verdict, report_verdict, load_verdict, unload_verdict, tick_verdict, show_verdict, verdict_for};
+ghost use Rattle.acdm_step.specs.Verdicts.{schedule_verdict, report_verdict, load_verdict};
+ghost use Rattle.acdm_step.specs.Verdicts.{unload_verdict, tick_verdict, show_verdict, verdict_for};
 ghost use Rattle.acdm_step.specs.Prepared.{owns_change};
 
 use crate::command::{Command, FlightCommand, Load, Unload};
@@ -90,7 +91,8 @@ pub(crate) fn verdict_on_load(slots: &Slots, role: Role, load: &Load) -> Verdict
 
 /// The verdict on an unload.
 pub(crate) fn verdict_on_unload(slots: &Slots, role: Role, unload: &Unload) -> Verdict
-    ensures { result ≡ unload_verdict (is_some (program_in slots.now unload.now.milestone unload.now.kind)) role }
+    ensures { result ≡ unload_verdict
+        (is_some (program_in slots.now unload.now.milestone unload.now.kind)) role }
 {
     if !owns(role, Action::Unload) {
         return Verdict::Refused(Refusal::NotOwner);
@@ -120,7 +122,8 @@ pub(crate) fn verdict(
     role: Role,
     command: &FlightCommand,
 ) -> Verdict
-    ensures { result ≡ verdict_for is_there count record.now true role (Command.Flight command.now) }
+    ensures { result ≡ verdict_for is_there count record.now true role
+        (Command.Flight command.now) }
 {
     match command {
         FlightCommand::Schedule(_) => verdict_on_schedule(record, is_there, count, role),

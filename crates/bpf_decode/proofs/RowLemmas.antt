@@ -1,5 +1,7 @@
 -- A slot that no row fits: what each form allows of the fields beside the opcode.
-use Rattle.std.proofs.Common.{◌≡◌, ◌≢◌, ℕ, ◌*◌, ◌/◌, ◌%◌, ◌^◌, ◌<◌, List, [], ◌∷◌, get_or, Bool, true, false, cond, eqb, refl, sym, ap, subst, ◌∙◌, arith, ◌⊎◌, inl, inr}
+use Rattle.std.proofs.Common.{◌≡◌, ◌≢◌, ℕ, ◌*◌, ◌/◌, ◌%◌, ◌^◌, ◌<◌, List, [], ◌∷◌, get_or, Bool}
+use Rattle.std.proofs.Common.{true, false, cond, eqb, refl, sym, ap, subst, ◌∙◌, arith, ◌⊎◌, inl}
+use Rattle.std.proofs.Common.{inr}
 use Rattle.std.specs.Prelude.{ℤ, pos, negsuc}
 use Rattle.std.specs.Int.{cast_signed, cast_unsigned, w16, w32}
 use Rattle.std.specs.Int.RustNames.{FitsSigned}
@@ -24,10 +26,13 @@ use Rattle.bpf_decode.specs.declared.op.Order.TheVariants.{Little, Big, Swap}
 use Rattle.bpf_decode.specs.declared.form.Source.{Source}
 use Rattle.bpf_decode.specs.declared.form.Source.TheVariants as source
 use Rattle.bpf_decode.specs.declared.form.Form.{Form}
-use Rattle.bpf_decode.specs.declared.form.Form.TheVariants.{Arith, Negate, End, Ja, Ja32, Jump, Call, Exit, Load, LoadSigned, Store, Wide}
+use Rattle.bpf_decode.specs.declared.form.Form.TheVariants.{Arith, Negate, End, Ja, Ja32, Jump}
+use Rattle.bpf_decode.specs.declared.form.Form.TheVariants.{Call, Exit, Load, LoadSigned, Store}
+use Rattle.bpf_decode.specs.declared.form.Form.TheVariants.{Wide}
 use Rattle.bpf_decode.specs.Words.{part_bits, count_of}
 use Rattle.bpf_decode.specs.Slots.{insn}
-use Rattle.bpf_decode.specs.Encoding.{number_of, sign_of, slot_of, HasRow, HasRegisters, RowFault, opcode, field, register}
+use Rattle.bpf_decode.specs.Encoding.{number_of, sign_of, slot_of, HasRow, HasRegisters, RowFault}
+use Rattle.bpf_decode.specs.Encoding.{opcode, field, register}
 use Rattle.bpf_decode.specs.Forms.{opcode_of, IsForm, form_of, unsigned_code}
 
 -- ---- an instruction of each form
@@ -102,13 +107,16 @@ form_is o = tt
 
 abbrev code_of_number : ℕ → Code
 code_of_number n =
-    get_or (codes.Add ∷ codes.Sub ∷ codes.Mul ∷ codes.Div ∷ codes.Or ∷ codes.And ∷ codes.LeftShift ∷ codes.RightShift
+    get_or (codes.Add ∷ codes.Sub ∷ codes.Mul ∷ codes.Div ∷ codes.Or ∷ codes.And ∷ codes.LeftShift
+    ∷ codes.RightShift
     ∷ codes.Add ∷ codes.Mod ∷ codes.Xor ∷ codes.Mov ∷ codes.ArithmeticShift ∷ []) n codes.Add
 
 abbrev condition_of_number : ℕ → Condition
 condition_of_number n =
-    get_or (conditions.Equal ∷ conditions.Equal ∷ conditions.Above ∷ conditions.AtLeast ∷ conditions.Meets ∷ conditions.NotEqual
-    ∷ conditions.SignedAbove ∷ conditions.SignedAtLeast ∷ conditions.Equal ∷ conditions.Equal ∷ conditions.Below
+    get_or (conditions.Equal ∷ conditions.Equal ∷ conditions.Above ∷ conditions.AtLeast
+    ∷ conditions.Meets ∷ conditions.NotEqual
+    ∷ conditions.SignedAbove ∷ conditions.SignedAtLeast ∷ conditions.Equal ∷ conditions.Equal
+    ∷ conditions.Below
     ∷ conditions.AtMost ∷ conditions.SignedBelow ∷ conditions.SignedAtMost ∷ []) n conditions.Equal
 
 abbrev source_of_number : ℕ → Source
@@ -117,11 +125,15 @@ source_of_number n = cond (eqb n 0) source.Immediate source.Register
 -- the opcodes that stand alone
 abbrev alone : List (ℕ × Form)
 alone =
-    (0x84, Negate W32) ∷ (0x87, Negate W64) ∷ (0xd4, End Little) ∷ (0xdc, End Big) ∷ (0xd7, End Swap) ∷ (0x05, Ja) ∷ (0x06, Ja32)
-    ∷ (0x85, Call) ∷ (0x95, Exit) ∷ (0x61, Load Word) ∷ (0x69, Load Half) ∷ (0x71, Load Byte) ∷ (0x79, Load Double)
+    (0x84, Negate W32) ∷ (0x87, Negate W64) ∷ (0xd4, End Little) ∷ (0xdc, End Big)
+    ∷ (0xd7, End Swap) ∷ (0x05, Ja) ∷ (0x06, Ja32)
+    ∷ (0x85, Call) ∷ (0x95, Exit) ∷ (0x61, Load Word) ∷ (0x69, Load Half) ∷ (0x71, Load Byte)
+    ∷ (0x79, Load Double)
     ∷ (0x81, LoadSigned Low32) ∷ (0x89, LoadSigned Low16) ∷ (0x91, LoadSigned Low8)
-    ∷ (0x62, Store Word source.Immediate) ∷ (0x6a, Store Half source.Immediate) ∷ (0x72, Store Byte source.Immediate)
-    ∷ (0x7a, Store Double source.Immediate) ∷ (0x63, Store Word source.Register) ∷ (0x6b, Store Half source.Register)
+    ∷ (0x62, Store Word source.Immediate) ∷ (0x6a, Store Half source.Immediate)
+    ∷ (0x72, Store Byte source.Immediate)
+    ∷ (0x7a, Store Double source.Immediate) ∷ (0x63, Store Word source.Register)
+    ∷ (0x6b, Store Half source.Register)
     ∷ (0x73, Store Byte source.Register) ∷ (0x7b, Store Double source.Register) ∷ (0x18, Wide) ∷ []
 
 abbrev found : List (ℕ × Form) → ℕ → Form → Form
@@ -132,7 +144,9 @@ found (e ∷ es) n other = cond (eqb n e.0) e.1 (found es n other)
 abbrev in_class : ℕ → ℕ → Source → Form
 in_class n class s =
     cond (eqb class 4) (Arith W32 (code_of_number n) s)
-    (cond (eqb class 7) (Arith W64 (code_of_number n) s) (cond (eqb class 6) (Jump W32 (condition_of_number n) s) (Jump W64 (condition_of_number n) s)))
+    (cond (eqb class 7) (Arith W64 (code_of_number n) s)
+    (cond (eqb class 6) (Jump W32 (condition_of_number n) s)
+    (Jump W64 (condition_of_number n) s)))
 
 abbrev pub form_by_opcode : ℕ → Form
 form_by_opcode n = found alone n (in_class (n / 16) (n % 8) (source_of_number (n / 8 % 2)))
@@ -174,12 +188,16 @@ one_form f g p q e = sym (form_by_opcode_of f p) ∙ ap form_by_opcode e ∙ for
 -- ---- what each form allows
 
 abbrev pub Allowed : Form → Insn → Type 0
-Allowed (Arith w code source.Immediate) i = (i.src ≡ 0) × ((other : Code) × (number_of other ≡ number_of code) × (sign_of other ≡ i.off))
+Allowed (Arith w code source.Immediate) i =
+    (i.src ≡ 0) × ((other : Code) × (number_of other ≡ number_of code) × (sign_of other ≡ i.off))
 Allowed (Arith w code source.Register) i =
-    (i.imm ≡ pos 0) × (((other : Code) × (number_of other ≡ number_of code) × (sign_of other ≡ i.off))
-    ⊎ ((part : Part) × (code ≡ codes.Mov) × HasRow (op.Extend w part 0 0) × (pos (part_bits part) ≡ i.off)))
+    (i.imm ≡ pos 0) × (((other : Code) × (number_of other ≡ number_of code)
+    × (sign_of other ≡ i.off))
+    ⊎ ((part : Part) × (code ≡ codes.Mov) × HasRow (op.Extend w part 0 0)
+    × (pos (part_bits part) ≡ i.off)))
 Allowed (Negate w) i = (i.src ≡ 0) × (i.off ≡ pos 0) × (i.imm ≡ pos 0)
-Allowed (End order) i = (i.src ≡ 0) × (i.off ≡ pos 0) × ((bytes : Bytes) × (pos (8 * count_of bytes) ≡ i.imm))
+Allowed (End order) i = (i.src ≡ 0) × (i.off ≡ pos 0)
+    × ((bytes : Bytes) × (pos (8 * count_of bytes) ≡ i.imm))
 Allowed Ja i = (i.dst ≡ 0) × (i.src ≡ 0) × (i.imm ≡ pos 0)
 Allowed Ja32 i = (i.dst ≡ 0) × (i.src ≡ 0) × (i.off ≡ pos 0)
 Allowed (Jump w condition source.Immediate) i = i.src ≡ 0
@@ -192,15 +210,18 @@ Allowed (Store size source.Immediate) i = i.src ≡ 0
 Allowed (Store size source.Register) i = i.imm ≡ pos 0
 Allowed Wide i = (i.src ≡ 0) × (i.off ≡ pos 0)
 
-extends : (w : Width) (part : Part) (dst src : ℕ) → HasRow (op.Extend w part dst src) → HasRow (op.Extend w part 0 0)
+extends : (w : Width) (part : Part) (dst src : ℕ) → HasRow (op.Extend w part dst src)
+    → HasRow (op.Extend w part 0 0)
 extends W32 Low32 dst src row = row
 extends W32 part dst src row = tt
 extends W64 Low32 dst src row = tt
 extends W64 part dst src row = tt
 
 allowed : (o : Op) → HasRow o → Allowed (form_of o) (slot_of o)
-allowed (op.Arith w code dst (Immediate v)) row = (refl, (code, sym (number_of-unsigned_code code), refl))
-allowed (op.Arith w code dst (From src)) row = (refl, inl (code, sym (number_of-unsigned_code code), refl))
+allowed (op.Arith w code dst (Immediate v)) row =
+    (refl, (code, sym (number_of-unsigned_code code), refl))
+allowed (op.Arith w code dst (From src)) row =
+    (refl, inl (code, sym (number_of-unsigned_code code), refl))
 allowed (op.Negate w dst) row = (refl, refl, refl)
 allowed (op.Extend w part dst src) row = (refl, inr (part, refl, extends w part dst src row, refl))
 allowed (op.End order bytes dst) row = (refl, refl, (bytes, refl))
@@ -218,25 +239,33 @@ allowed (op.Wide dst value) row = (refl, refl)
 allowed op.Tail row = elim row [ ]
 
 -- a form has the opcode and its other fields are none that it allows
-pub field_fault : (f : Form) (i : Insn) → IsForm f × (opcode_of f ≡ i.opc) → (Allowed f i → ⊥) → RowFault i 304
+pub field_fault : (f : Form) (i : Insn) → IsForm f × (opcode_of f ≡ i.opc) → (Allowed f i → ⊥)
+    → RowFault i 304
 field_fault f i heads wrong = field (sample f) (sample_row f) (sample_opcode f ∙ heads.1) others
   where
     others : (other : Op) → HasRow other → slot_of other ≢ i
     others o row e =
-        let same_opcode : opcode_of (form_of o) ≡ opcode_of f = sym (form_opcode o row) ∙ ap (λ (j : Insn). j.opc) e ∙ sym heads.1 in
+        let same_opcode : opcode_of (form_of o) ≡ opcode_of f = sym (form_opcode o row)
+        ∙ ap (λ (j : Insn). j.opc) e ∙ sym heads.1 in
         let same_form : form_of o ≡ f = one_form (form_of o) f (form_is o) heads.0 same_opcode in
-        wrong (subst (λ (j : Insn). Allowed f j) e (subst (λ (g : Form). Allowed g (slot_of o)) same_form (allowed o row)))
+        wrong (subst (λ (j : Insn). Allowed f j) e
+        (subst (λ (g : Form). Allowed g (slot_of o)) same_form (allowed o row)))
 
 -- no form has the opcode
 pub opcode_fault : (i : Insn) → ((f : Form) → IsForm f → opcode_of f ≢ i.opc) → RowFault i 303
-opcode_fault i none = opcode (λ (o : Op) (row : HasRow o) (e : (slot_of o).opc ≡ i.opc). none (form_of o) (form_is o) (sym (form_opcode o row) ∙ e))
+opcode_fault i none =
+    opcode (λ (o : Op) (row : HasRow o) (e : (slot_of o).opc ≡ i.opc). none (form_of o) (form_is o)
+    (sym (form_opcode o row) ∙ e))
 
 -- a row fits but for a register
-pub register_fault : (o : Op) (f : Form) (i : Insn) → HasRow o → (slot_of o).opc ≡ opcode_of f → IsForm f × (opcode_of f ≡ i.opc)
-    → (slot_of o).dst ≡ i.dst → (slot_of o).src ≡ i.src → (slot_of o).off ≡ i.off → (slot_of o).imm ≡ i.imm → (HasRegisters o → ⊥) → RowFault i 305
+pub register_fault : (o : Op) (f : Form) (i : Insn) → HasRow o → (slot_of o).opc ≡ opcode_of f
+    → IsForm f × (opcode_of f ≡ i.opc)
+    → (slot_of o).dst ≡ i.dst → (slot_of o).src ≡ i.src → (slot_of o).off ≡ i.off
+    → (slot_of o).imm ≡ i.imm → (HasRegisters o → ⊥) → RowFault i 305
 register_fault o f i row opc heads dst src off imm bad =
     let fits : slot_of o ≡ i =
-    ap (λ (x : ℕ). insn x (slot_of o).dst (slot_of o).src (slot_of o).off (slot_of o).imm) (opc ∙ heads.1)
+    ap (λ (x : ℕ). insn x (slot_of o).dst (slot_of o).src (slot_of o).off (slot_of o).imm) (opc
+    ∙ heads.1)
     ∙ ap (λ (x : ℕ). insn i.opc x (slot_of o).src (slot_of o).off (slot_of o).imm) dst
     ∙ ap (λ (x : ℕ). insn i.opc i.dst x (slot_of o).off (slot_of o).imm) src
     ∙ ap (λ (x : ℤ). insn i.opc i.dst i.src x (slot_of o).imm) off
@@ -251,7 +280,8 @@ pub zero32 : (z : ℤ) → FitsSigned w32 z → cast_unsigned w32 z ≡ 0 → po
 zero32 z fits e = omega (arith, ints)
 
 -- a part that may be extended has a row at any registers
-pub extends_at : (w : Width) (part : Part) (dst src : ℕ) → HasRow (op.Extend w part 0 0) → HasRow (op.Extend w part dst src)
+pub extends_at : (w : Width) (part : Part) (dst src : ℕ) → HasRow (op.Extend w part 0 0)
+    → HasRow (op.Extend w part dst src)
 extends_at W32 Low32 dst src row = row
 extends_at W32 part dst src row = tt
 extends_at W64 Low32 dst src row = tt
@@ -263,7 +293,8 @@ mov_sign codes.SignedMod e = absurd (omega arith)
 mov_sign code e = refl
 
 -- what MOV allows at an offset that is not 0
-pub extension_allowed : (w : Width) (i : Insn) → Allowed (Arith w codes.Mov source.Register) i → i.off ≢ pos 0
+pub extension_allowed : (w : Width) (i : Insn) → Allowed (Arith w codes.Mov source.Register) i
+    → i.off ≢ pos 0
     → ((part : Part) → HasRow (op.Extend w part 0 0) → pos (part_bits part) ≢ i.off) → ⊥
 extension_allowed w i a ne none =
     elim a.1 [

@@ -1,12 +1,16 @@
 -- Whole instructions, one after the other.
-use Rattle.std.proofs.Common.{◌≡◌, ℕ, ◌+◌, ◌*◌, ◌<◌, ◌≤◌, Bool, true, false, List, [], ◌∷◌, ◌++◌, length, drop, refl, sym, ap, subst, ◌∙◌, append_assoc, arith, length-append}
+use Rattle.std.proofs.Common.{◌≡◌, ℕ, ◌+◌, ◌*◌, ◌<◌, ◌≤◌, Bool, true, false, List, [], ◌∷◌, ◌++◌}
+use Rattle.std.proofs.Common.{length, drop, refl, sym, ap, subst, ◌∙◌, append_assoc, arith}
+use Rattle.std.proofs.Common.{length-append}
 use Rattle.std.specs.Prelude.{◌&&◌}
 use Rattle.std.specs.List.{AllByRecursion}
 use Rattle.std.proofs.lemmas.List.{append-nil, drop_at, nil_from_length}
 use Rattle.std.proofs.lemmas.Grind.{flat_map-append}
 use Rattle.bpf_decode.specs.declared.op.Op.{Op}
 use Rattle.bpf_decode.specs.declared.op.Op.TheVariants.{Wide, Tail}
-use Rattle.bpf_decode.specs.Encoding.{is_tail, is_wide, same, tails_fit, IsInstruction, FitsSlot, AreWhole, Encodes, AreSlots, FirstFault, StartFault, behind, encoding, encoding_of}
+use Rattle.bpf_decode.specs.Encoding.{is_tail, is_wide, same, tails_fit, IsInstruction, FitsSlot}
+use Rattle.bpf_decode.specs.Encoding.{AreWhole, Encodes, AreSlots, FirstFault, StartFault, behind}
+use Rattle.bpf_decode.specs.Encoding.{encoding, encoding_of}
 use Rattle.bpf_decode.specs.declared.fault.DecodeError.{DecodeError}
 use Rattle.bpf_decode.specs.declared.fault.DecodeError.TheVariants.{Refused, Memory}
 use Rattle.bpf_decode.specs.Faults.{code_of}
@@ -24,7 +28,8 @@ encoding-parts_of (Wide dst value) is = refl
 encoding-parts_of Tail is = elim is.0 [ ]
 encoding-parts_of op is = append-nil (encoding_of op)
 
-pub length-encoding_of : (op : Op) → IsInstruction op → length (encoding_of op) ≡ 8 * length (parts_of op)
+pub length-encoding_of : (op : Op) → IsInstruction op
+    → length (encoding_of op) ≡ 8 * length (parts_of op)
 length-encoding_of (Wide dst value) is = refl
 length-encoding_of Tail is = elim is.0 [ ]
 length-encoding_of op is = refl
@@ -39,14 +44,17 @@ and_true : (a b : Bool) → a ≡ true → b ≡ true → (a && b) ≡ true
 and_true true b e f = f
 and_true false b e f = absurd cc
 
-tails_fit-append : (due : Bool) (xs ys : List Op) → tails_fit due xs ≡ true → tails_fit false ys ≡ true → tails_fit due (xs ++ ys) ≡ true
+tails_fit-append : (due : Bool) (xs ys : List Op) → tails_fit due xs ≡ true
+    → tails_fit false ys ≡ true → tails_fit due (xs ++ ys) ≡ true
 tails_fit-append true [] ys p q = absurd cc
 tails_fit-append false [] ys p q = q
 tails_fit-append due (op ∷ ops) ys p q =
     let both = and_both (same due (is_tail op)) (tails_fit (is_wide op) ops) p in
-    and_true (same due (is_tail op)) (tails_fit (is_wide op) (ops ++ ys)) both.0 (tails_fit-append (is_wide op) ops ys both.1 q)
+    and_true (same due (is_tail op)) (tails_fit (is_wide op) (ops ++ ys)) both.0
+    (tails_fit-append (is_wide op) ops ys both.1 q)
 
-fit-append : (xs ys : List Op) → AllByRecursion FitsSlot xs → AllByRecursion FitsSlot ys → AllByRecursion FitsSlot (xs ++ ys)
+fit-append : (xs ys : List Op) → AllByRecursion FitsSlot xs → AllByRecursion FitsSlot ys
+    → AllByRecursion FitsSlot (xs ++ ys)
 fit-append [] ys p q = q
 fit-append (op ∷ ops) ys p q = (p.0, fit-append ops ys p.1 q)
 
@@ -64,18 +72,27 @@ pub record IsRead (bytes : List ℕ) (front : List Op) (rest : List ℕ) : Type 
 pub nothing_read : (bytes : List ℕ) → IsRead bytes [] bytes
 nothing_read bytes = record { bytes_are = refl; whole = (refl, tt); count = omega arith }
 
-pub goes_on : (bytes rest : List ℕ) (old new : List Op) (len : ℕ) → IsRead bytes old rest → Grows old new rest len → IsRead bytes new (drop len rest) × (len ≤ length rest) × (0 < len)
+pub goes_on : (bytes rest : List ℕ) (old new : List Op) (len : ℕ) → IsRead bytes old rest
+    → Grows old new rest len → IsRead bytes new (drop len rest) × (len ≤ length rest) × (0 < len)
 goes_on bytes rest old new len read (op, (is, (after, rest-is)), new-is, len-is) =
     let long : length (encoding_of op) ≡ len = length-encoding_of op is ∙ sym len-is in
-    let after-is : drop len rest ≡ after = ap (drop len) rest-is ∙ drop_at (encoding_of op) after len long in
-    let total : length rest ≡ len + length after = ap length rest-is ∙ length-append (encoding_of op) after ∙ ap (λ (n : ℕ). n + length after) long in
-    let front : encoding new ≡ encoding old ++ encoding_of op = ap encoding new-is ∙ flat_map-append encoding_of old (parts_of op) ∙ ap (λ (x : List ℕ). encoding old ++ x) (encoding-parts_of op is) in
-    let grown : length new ≡ length old + length (parts_of op) = ap length new-is ∙ length-append old (parts_of op) in
+    let after-is : drop len rest ≡ after = ap (drop len) rest-is
+    ∙ drop_at (encoding_of op) after len long in
+    let total : length rest ≡ len + length after = ap length rest-is
+    ∙ length-append (encoding_of op) after ∙ ap (λ (n : ℕ). n + length after) long in
+    let front : encoding new ≡ encoding old ++ encoding_of op = ap encoding new-is
+    ∙ flat_map-append encoding_of old (parts_of op)
+    ∙ ap (λ (x : List ℕ). encoding old ++ x) (encoding-parts_of op is) in
+    let grown : length new ≡ length old + length (parts_of op) = ap length new-is
+    ∙ length-append old (parts_of op) in
     let some : 0 < length (parts_of op) = parts_some op in (
       record {
-        bytes_are = read.bytes_are ∙ ap (λ (x : List ℕ). encoding old ++ x) rest-is ∙ sym (append_assoc (encoding old) (encoding_of op) after)
-            ∙ ap (λ (x : List ℕ). x ++ after) (sym front) ∙ ap (λ (x : List ℕ). encoding new ++ x) (sym after-is);
-        whole = subst AreWhole (sym new-is) (AreWhole-append old (parts_of op) read.whole (parts_whole op is));
+        bytes_are = read.bytes_are ∙ ap (λ (x : List ℕ). encoding old ++ x) rest-is
+            ∙ sym (append_assoc (encoding old) (encoding_of op) after)
+            ∙ ap (λ (x : List ℕ). x ++ after) (sym front)
+            ∙ ap (λ (x : List ℕ). encoding new ++ x) (sym after-is);
+        whole = subst AreWhole (sym new-is)
+            (AreWhole-append old (parts_of op) read.whole (parts_whole op is));
         count = rw after-is (omega (arith, read.count));
       },
       omega arith,
@@ -86,22 +103,32 @@ goes_on bytes rest old new len read (op, (is, (after, rest-is)), new-is, len-is)
     parts_some (Wide dst value) = omega arith
     parts_some op = omega arith
 
-pub all_read : (bytes rest : List ℕ) (front : List Op) → length bytes ≤ 32768 → AreSlots bytes → IsRead bytes front rest → length rest ≡ 0 → Encodes bytes front
+pub all_read : (bytes rest : List ℕ) (front : List Op) → length bytes ≤ 32768 → AreSlots bytes
+    → IsRead bytes front rest → length rest ≡ 0 → Encodes bytes front
 all_read bytes rest front few slots read none =
     let empty : rest ≡ [] = nil_from_length rest none in
     record {
-      program = record { some = omega (arith, read.count, slots.0); few = omega (arith, read.count); whole = read.whole };
-      bytes_are = read.bytes_are ∙ ap (λ (x : List ℕ). encoding front ++ x) empty ∙ append-nil (encoding front);
+      program = record {
+        some = omega (arith, read.count, slots.0);
+        few = omega (arith, read.count);
+        whole = read.whole;
+      };
+      bytes_are = read.bytes_are ∙ ap (λ (x : List ℕ). encoding front ++ x) empty
+          ∙ append-nil (encoding front);
     }
 
-pub stops_behind : (bytes rest : List ℕ) (front : List Op) (code more slot : ℕ) → length bytes ≤ 32768 → AreSlots bytes → IsRead bytes front rest
+pub stops_behind : (bytes rest : List ℕ) (front : List Op) (code more slot : ℕ)
+    → length bytes ≤ 32768 → AreSlots bytes → IsRead bytes front rest
     → slot ≡ length front + more → StartFault rest code more → FirstFault bytes code slot
 stops_behind bytes rest front code more slot few slots read at fault =
-    subst (λ (s : ℕ). FirstFault bytes code s) (sym at) (behind front rest few slots read.whole read.bytes_are fault)
+    subst (λ (s : ℕ). FirstFault bytes code s) (sym at)
+    (behind front rest few slots read.whole read.bytes_are fault)
 
-pub refuses_behind : (bytes rest : List ℕ) (front : List Op) (e : DecodeError) → length bytes ≤ 32768 → AreSlots bytes → IsRead bytes front rest
+pub refuses_behind : (bytes rest : List ℕ) (front : List Op) (e : DecodeError)
+    → length bytes ≤ 32768 → AreSlots bytes → IsRead bytes front rest
     → IsStop rest (length front) e → Refuses bytes e
-refuses_behind bytes rest front (Refused fault at) few slots read stop = stops_behind bytes rest front (code_of fault) stop.0 at few slots read stop.1 stop.2
+refuses_behind bytes rest front (Refused fault at) few slots read stop =
+    stops_behind bytes rest front (code_of fault) stop.0 at few slots read stop.1 stop.2
 refuses_behind bytes rest front Memory few slots read stop = tt
 
 -- ---- lengths

@@ -18,7 +18,8 @@ Begins bytes op = IsInstruction op × ((after : List ℕ) × (bytes ≡ encoding
 
 -- no instruction begins at this slot
 abbrev pub Stops : List ℕ → ℕ → DecodeError → Type 0
-Stops bytes slot (Refused fault at) = (more : ℕ) × (at ≡ slot + more) × StartFault bytes (code_of fault) more
+Stops bytes slot (Refused fault at) =
+    (more : ℕ) × (at ≡ slot + more) × StartFault bytes (code_of fault) more
 Stops bytes slot Memory = ⊥
 
 -- the error is the first fault of the bytes, or want of memory
@@ -32,7 +33,8 @@ IsStop bytes slot Memory = Unit {0}
 
 -- the instruction at the front of the bytes is added, and it has so many bytes
 abbrev pub Grows : List Op → List Op → List ℕ → ℕ → Type 0
-Grows old new bytes len = (op : Op) × Begins bytes op × (new ≡ old ++ parts_of op) × (len ≡ 8 * length (parts_of op))
+Grows old new bytes len = (op : Op) × Begins bytes op × (new ≡ old ++ parts_of op)
+    × (len ≡ 8 * length (parts_of op))
 
 -- the answer is this program, or want of memory
 abbrev pub AnswersProgram : List Op → Result (List Op) DecodeError → Type 0

@@ -1,7 +1,8 @@
 -- The numbers of faults (this project's profile).
 use Rattle.std.specs.Prelude.{ℕ}
 use Rattle.bpf_decode.specs.declared.fault.Fault.{Fault}
-use Rattle.bpf_decode.specs.declared.fault.Fault.TheVariants.{Length, TooLong, Opcode, Field, Register, CutWide}
+use Rattle.bpf_decode.specs.declared.fault.Fault.TheVariants.{Length, TooLong, Opcode, Field}
+use Rattle.bpf_decode.specs.declared.fault.Fault.TheVariants.{Register, CutWide}
 use Rattle.bpf_decode.specs.declared.fault.DecodeError.{DecodeError}
 use Rattle.bpf_decode.specs.declared.fault.DecodeError.TheVariants.{Refused, Memory}
 

@@ -8,8 +8,11 @@ use Rattle.bpf_decode.specs.declared.op.Code.{Code}
 use Rattle.bpf_decode.specs.declared.form.Source.{Source}
 use Rattle.bpf_decode.specs.declared.form.Source.TheVariants as source
 use Rattle.bpf_decode.specs.declared.form.Form.{Form}
-use Rattle.bpf_decode.specs.declared.form.Form.TheVariants.{Arith, Negate, End, Ja, Ja32, Jump, Call, Exit, Load, LoadSigned, Store, Wide}
-use Rattle.bpf_decode.specs.Encoding.{class_of, jump_class_of, number_of, sign_of, jump_number_of, size_number_of, part_number_of, order_opcode_of}
+use Rattle.bpf_decode.specs.declared.form.Form.TheVariants.{Arith, Negate, End, Ja, Ja32, Jump}
+use Rattle.bpf_decode.specs.declared.form.Form.TheVariants.{Call, Exit, Load, LoadSigned, Store}
+use Rattle.bpf_decode.specs.declared.form.Form.TheVariants.{Wide}
+use Rattle.bpf_decode.specs.Encoding.{class_of, jump_class_of, number_of, sign_of, jump_number_of}
+use Rattle.bpf_decode.specs.Encoding.{size_number_of, part_number_of, order_opcode_of}
 
 abbrev pub source_number_of : Source → ℕ
 source_number_of source.Immediate = 0
@@ -21,7 +24,8 @@ opcode_of (Negate w) = 0x80 + class_of w
 opcode_of (End order) = order_opcode_of order
 opcode_of Ja = 0x05
 opcode_of Ja32 = 0x06
-opcode_of (Jump w condition s) = 16 * jump_number_of condition + 8 * source_number_of s + jump_class_of w
+opcode_of (Jump w condition s) =
+    16 * jump_number_of condition + 8 * source_number_of s + jump_class_of w
 opcode_of Call = 0x85
 opcode_of Exit = 0x95
 opcode_of (Load size) = 0x61 + 8 * size_number_of size

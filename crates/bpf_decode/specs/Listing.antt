@@ -1,16 +1,25 @@
--- The text of each slot (this project's profile; the mnemonics are the names of RFC 9669 in lower case).
-use Rattle.std.specs.Prelude.{ℕ, suc, ◌-◌, List, [], ◌++◌, length, replicate, codes, false, ℤ, pos, negsuc}
+-- The text of each slot (this project's profile; the mnemonics are the names of RFC 9669 in lower
+-- case).
+use Rattle.std.specs.Prelude.{ℕ, suc, ◌-◌, List, [], ◌++◌, length, replicate, codes, false, ℤ, pos}
+use Rattle.std.specs.Prelude.{negsuc}
 use Rattle.std.specs.Fmt.{decimal, signed_decimal, digits}
 use Rattle.bpf_decode.specs.declared.op.Op.{Op}
-use Rattle.bpf_decode.specs.declared.op.Op.TheVariants.{Arith, Negate, Extend, End, Ja, Ja32, Jump, Call, Exit, Load, LoadSigned, Store, Wide, Tail}
+use Rattle.bpf_decode.specs.declared.op.Op.TheVariants.{Arith, Negate, Extend, End, Ja, Ja32, Jump}
+use Rattle.bpf_decode.specs.declared.op.Op.TheVariants.{Call, Exit, Load, LoadSigned, Store, Wide}
+use Rattle.bpf_decode.specs.declared.op.Op.TheVariants.{Tail}
 use Rattle.bpf_decode.specs.declared.op.Operand.{Operand}
 use Rattle.bpf_decode.specs.declared.op.Operand.TheVariants.{From, Immediate}
 use Rattle.bpf_decode.specs.declared.op.Width.{Width}
 use Rattle.bpf_decode.specs.declared.op.Width.TheVariants.{W32, W64}
 use Rattle.bpf_decode.specs.declared.op.Code.{Code}
-use Rattle.bpf_decode.specs.declared.op.Code.TheVariants.{Add, Sub, Mul, Div, SignedDiv, Mod, SignedMod, Or, And, Xor, LeftShift, RightShift, ArithmeticShift, Mov}
+use Rattle.bpf_decode.specs.declared.op.Code.TheVariants.{Add, Sub, Mul, Div, SignedDiv, Mod}
+use Rattle.bpf_decode.specs.declared.op.Code.TheVariants.{SignedMod, Or, And, Xor, LeftShift}
+use Rattle.bpf_decode.specs.declared.op.Code.TheVariants.{RightShift, ArithmeticShift, Mov}
 use Rattle.bpf_decode.specs.declared.op.Condition.{Condition}
-use Rattle.bpf_decode.specs.declared.op.Condition.TheVariants.{Equal, NotEqual, Above, AtLeast, Below, AtMost, Meets, SignedAbove, SignedAtLeast, SignedBelow, SignedAtMost}
+use Rattle.bpf_decode.specs.declared.op.Condition.TheVariants.{Equal, NotEqual, Above, AtLeast}
+use Rattle.bpf_decode.specs.declared.op.Condition.TheVariants.{Below, AtMost, Meets, SignedAbove}
+use Rattle.bpf_decode.specs.declared.op.Condition.TheVariants.{SignedAtLeast, SignedBelow}
+use Rattle.bpf_decode.specs.declared.op.Condition.TheVariants.{SignedAtMost}
 use Rattle.bpf_decode.specs.declared.op.Size.{Size}
 use Rattle.bpf_decode.specs.declared.op.Size.TheVariants.{Byte, Half, Word, Double}
 use Rattle.bpf_decode.specs.declared.op.Part.{Part}
@@ -116,19 +125,31 @@ store_name (Immediate v) = codes "st"
 -- ---- one slot
 
 abbrev pub op_text : Op → List ℕ
-op_text (Arith w code dst operand) = code_name code ++ width_text w ++ codes " " ++ register_text dst ++ codes ", " ++ operand_text operand
+op_text (Arith w code dst operand) =
+    code_name code ++ width_text w ++ codes " " ++ register_text dst ++ codes ", "
+    ++ operand_text operand
 op_text (Negate w dst) = codes "neg" ++ width_text w ++ codes " " ++ register_text dst
-op_text (Extend w part dst src) = codes "movsx" ++ part_text part ++ codes "_" ++ width_text w ++ codes " " ++ register_text dst ++ codes ", " ++ register_text src
-op_text (End order bytes dst) = order_name order ++ bytes_text bytes ++ codes " " ++ register_text dst
+op_text (Extend w part dst src) =
+    codes "movsx" ++ part_text part ++ codes "_" ++ width_text w ++ codes " " ++ register_text dst
+    ++ codes ", " ++ register_text src
+op_text (End order bytes dst) =
+    order_name order ++ bytes_text bytes ++ codes " " ++ register_text dst
 op_text (Ja offset) = codes "ja " ++ offset_text offset
 op_text (Ja32 offset) = codes "ja32 " ++ offset_text offset
 op_text (Jump w condition dst operand offset) =
-    condition_name condition ++ jump_width_text w ++ codes " " ++ register_text dst ++ codes ", " ++ operand_text operand ++ codes ", " ++ offset_text offset
+    condition_name condition ++ jump_width_text w ++ codes " " ++ register_text dst ++ codes ", "
+    ++ operand_text operand ++ codes ", " ++ offset_text offset
 op_text (Call helper) = codes "call " ++ decimal helper
 op_text Exit = codes "exit"
-op_text (Load size dst base offset) = codes "ldx" ++ size_name size ++ codes " " ++ register_text dst ++ codes ", " ++ address_text base offset
-op_text (LoadSigned part dst base offset) = codes "ldxs" ++ part_name part ++ codes " " ++ register_text dst ++ codes ", " ++ address_text base offset
-op_text (Store size base offset value) = store_name value ++ size_name size ++ codes " " ++ address_text base offset ++ codes ", " ++ operand_text value
+op_text (Load size dst base offset) =
+    codes "ldx" ++ size_name size ++ codes " " ++ register_text dst ++ codes ", "
+    ++ address_text base offset
+op_text (LoadSigned part dst base offset) =
+    codes "ldxs" ++ part_name part ++ codes " " ++ register_text dst ++ codes ", "
+    ++ address_text base offset
+op_text (Store size base offset value) =
+    store_name value ++ size_name size ++ codes " " ++ address_text base offset ++ codes ", "
+    ++ operand_text value
 op_text (Wide dst value) = codes "lddw " ++ register_text dst ++ codes ", 0x" ++ hex_text value
 op_text Tail = codes "-"
 

@@ -1,10 +1,12 @@
 //! From bytes to a program.
 
-ghost use Rattle.std.specs.Prelude.{◌≡◌, ◌*◌, ◌%◌, ◌<◌, ◌≤◌, ◌++◌, ℕ, List, length, IfOk, IfErr, MatchResult, OnOk};
+ghost use Rattle.std.specs.Prelude.{◌≡◌, ◌*◌, ◌%◌, ◌<◌, ◌≤◌, ◌++◌, ℕ, List, length, IfOk, IfErr};
+ghost use Rattle.std.specs.Prelude.{MatchResult, OnOk};
 ghost use Rattle.std.specs.Int.{cast_unsigned, w32};
 ghost use Rattle.bpf_decode.specs.Slots.{fields};
 ghost use Rattle.bpf_decode.specs.Encoding.{Encodes, FirstFault, AreSlots, slot_of};
-ghost use Rattle.bpf_decode.specs.Decoding.{AnswersFault, AnswersProgram, Begins, Grows, IsStop, Refuses, Stops, parts_of};
+ghost use Rattle.bpf_decode.specs.Decoding.{AnswersFault, AnswersProgram, Begins, Grows, IsStop};
+ghost use Rattle.bpf_decode.specs.Decoding.{Refuses, Stops, parts_of};
 ghost use Rattle.bpf_decode.specs.declared.op.Op.{Op};
 
 use crate::fault::{DecodeError, Fault};
@@ -27,7 +29,8 @@ pub fn decode(alloc: Global, bytes: &[u8]) -> Result<Program, DecodeError>
 
     // There is no other program and no other first fault.
     ensures only_program { (ops : List Op) → Encodes bytes.now ops → AnswersProgram ops result }
-    ensures only_fault { (code slot : ℕ) → FirstFault bytes.now code slot → AnswersFault code slot result }
+    ensures only_fault { (code slot : ℕ) → FirstFault bytes.now code slot
+        → AnswersFault code slot result }
 {
     program_of(alloc, bytes)
 }
@@ -74,7 +77,8 @@ fn push_first(ops: &mut Vec<Op>, rest: &[u8]) -> Result<usize, DecodeError>
     requires long { 8 ≤ length rest.now }
     requires slots { length rest.now % 8 ≡ 0 }
     requires few { length ops.old.items < 4096 }
-    ensures { MatchResult result (λ len. Grows ops.old.items ops.new.items rest.now len) (λ e. IsStop rest.now (length ops.old.items) e) }
+    ensures { MatchResult result (λ len. Grows ops.old.items ops.new.items rest.now len)
+        (λ e. IsStop rest.now (length ops.old.items) e) }
 {
     match first_op(rest, ops.len()) {
         Ok(op) => {

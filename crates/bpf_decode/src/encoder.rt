@@ -1,7 +1,9 @@
 //! From a program to its bytes.
 
 ghost use Rattle.std.specs.Prelude.{◌≡◌, ◌+◌, ◌<◌, ◌++◌, IfOk, OnOk};
-ghost use Rattle.bpf_decode.specs.Encoding.{Encodes, encoding_of, slot_of, tail_of, number_of, sign_of, class_of, jump_number_of, jump_class_of, size_number_of, part_number_of, order_opcode_of};
+ghost use Rattle.bpf_decode.specs.Encoding.{Encodes, encoding_of, slot_of, tail_of, number_of};
+ghost use Rattle.bpf_decode.specs.Encoding.{sign_of, class_of, jump_number_of, jump_class_of};
+ghost use Rattle.bpf_decode.specs.Encoding.{size_number_of, part_number_of, order_opcode_of};
 ghost use Rattle.bpf_decode.specs.Words.{part_bits, count_of};
 
 use crate::fault::NoMemory;

@@ -1,7 +1,8 @@
 //! What an opcode alone says.
 
 ghost use Rattle.std.specs.Prelude.{◌≡◌, ◌≢◌, ◌<◌, ◌+◌, ◌*◌, ◌/◌, ◌%◌, pos, MatchOption};
-ghost use Rattle.bpf_decode.specs.Encoding.{number_of, sign_of, class_of, jump_number_of, jump_class_of};
+ghost use Rattle.bpf_decode.specs.Encoding.{number_of, sign_of, class_of, jump_number_of};
+ghost use Rattle.bpf_decode.specs.Encoding.{jump_class_of};
 ghost use Rattle.bpf_decode.specs.Forms.{HasOpcode, source_number_of};
 ghost use Rattle.bpf_decode.specs.declared.op.Code.{Code};
 ghost use Rattle.bpf_decode.specs.declared.op.Condition.{Condition};

@@ -2,7 +2,11 @@
 
 ghost use Rattle.std.specs.Prelude.{◌≡◌, ◌<◌, length, slice_get, IfSome, OnOk, Some};
 ghost use Rattle.std.specs.Io.KnownBytes.{Appends};
-ghost use Rattle.bpf_decode.specs.Listing.{register_text, operand_text, width_text, code_name, condition_name, size_name, part_name, order_name, bytes_text, part_text, offset_text, address_text, hex_text, jump_width_text, store_name, op_text, line_text};
+ghost use Rattle.bpf_decode.specs.Listing.{register_text, operand_text, width_text, code_name};
+ghost use Rattle.bpf_decode.specs.Listing.{condition_name, size_name, part_name, order_name};
+ghost use Rattle.bpf_decode.specs.Listing.{bytes_text, part_text, offset_text, address_text};
+ghost use Rattle.bpf_decode.specs.Listing.{hex_text, jump_width_text, store_name, op_text};
+ghost use Rattle.bpf_decode.specs.Listing.{line_text};
 
 use crate::op::{Bytes, Code, Condition, Op, Operand, Order, Part, Register, Size, Width};
 use crate::program::Program;

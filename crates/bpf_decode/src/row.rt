@@ -3,7 +3,8 @@
 ghost use Rattle.std.specs.Prelude.{◌≡◌, ◌≢◌, ◌<◌, pos, MatchOption, MatchResult};
 ghost use Rattle.bpf_decode.specs.Encoding.{sign_of};
 ghost use Rattle.bpf_decode.specs.Forms.{HasOpcode};
-ghost use Rattle.bpf_decode.specs.Rows.{SlotGives, SignGives, RegisterGives, RegistersGive, PartGives, BytesGive};
+ghost use Rattle.bpf_decode.specs.Rows.{SlotGives, SignGives, RegisterGives, RegistersGive};
+ghost use Rattle.bpf_decode.specs.Rows.{PartGives, BytesGive};
 
 use crate::fault::Fault;
 use crate::form::{Form, Source, form_at};

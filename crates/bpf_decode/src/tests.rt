@@ -192,7 +192,8 @@ fn faults(rt: HostRuntime) -> Result<(), Fail> {
     Ok(())
 }
 
-/// So many exits are a program, which is encoded and copied; with one more opcode of 255 it is none, by its last slot.
+/// So many exits are a program, which is encoded and copied; with one more opcode of 255 it is
+/// none, by its last slot.
 fn is_as_long(rt: &impl Abort, alloc: Global, slots: u16) -> Result<(), Fail> {
     let mut bytes = Vec::new(alloc);
     for _ in 0..slots {

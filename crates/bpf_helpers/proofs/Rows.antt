@@ -5,11 +5,13 @@ use Rattle.bpf_helpers.specs.Known.{sum, taxi, turn_round}
 
 -- ---- which signatures there are
 
-all_three : (is_well_formed turn_round ≡ true) × (is_well_formed taxi ≡ true) × (is_well_formed sum ≡ true)
+all_three : (is_well_formed turn_round ≡ true) × (is_well_formed taxi ≡ true)
+    × (is_well_formed sum ≡ true)
 all_three = (refl, refl, refl)
 
 six_arguments : is_well_formed (record {
-  args = record { lo = 0; hi = 1 } ∷ record { lo = 0; hi = 1 } ∷ record { lo = 0; hi = 1 } ∷ record { lo = 0; hi = 1 } ∷ record { lo = 0; hi = 1 } ∷ record { lo = 0; hi = 1 } ∷ [];
+  args = record { lo = 0; hi = 1 } ∷ record { lo = 0; hi = 1 } ∷ record { lo = 0; hi = 1 }
+      ∷ record { lo = 0; hi = 1 } ∷ record { lo = 0; hi = 1 } ∷ record { lo = 0; hi = 1 } ∷ [];
   answer = record { lo = 0; hi = 1 };
   table = [];
 }) ≡ false
@@ -33,7 +35,8 @@ answer_outside = refl
 -- ---- what one promises
 
 -- stand 5 isn't in the table, stand 12 is
-stand_5 : (is_promised taxi (5 ∷ []) 20 ≡ true) × (is_promised taxi (5 ∷ []) 61 ≡ false) × (is_promised taxi (5 ∷ []) 0 ≡ false)
+stand_5 : (is_promised taxi (5 ∷ []) 20 ≡ true) × (is_promised taxi (5 ∷ []) 61 ≡ false)
+    × (is_promised taxi (5 ∷ []) 0 ≡ false)
 stand_5 = (refl, refl, refl)
 
 stand_12 : (is_promised taxi (12 ∷ []) 20 ≡ false) × (is_promised taxi (12 ∷ []) 10 ≡ true)
@@ -48,8 +51,10 @@ missing = refl
 
 -- ---- questions by number
 
-asked : (is_question ((3, sum) ∷ []) 3 (7 ∷ 5 ∷ 0 ∷ 0 ∷ 0 ∷ []) ≡ true) × (is_question ((3, sum) ∷ []) 3 (7 ∷ 5 ∷ 1 ∷ 0 ∷ 0 ∷ []) ≡ false)
+asked : (is_question ((3, sum) ∷ []) 3 (7 ∷ 5 ∷ 0 ∷ 0 ∷ 0 ∷ []) ≡ true)
+    × (is_question ((3, sum) ∷ []) 3 (7 ∷ 5 ∷ 1 ∷ 0 ∷ 0 ∷ []) ≡ false)
 asked = (refl, refl)
 
-unknown : (is_question ((3, sum) ∷ []) 2 (7 ∷ 0 ∷ 0 ∷ 0 ∷ 0 ∷ []) ≡ false) × (is_answer ((3, sum) ∷ []) 2 (7 ∷ []) 7 ≡ false)
+unknown : (is_question ((3, sum) ∷ []) 2 (7 ∷ 0 ∷ 0 ∷ 0 ∷ 0 ∷ []) ≡ false)
+    × (is_answer ((3, sum) ∷ []) 2 (7 ∷ []) 7 ≡ false)
 unknown = (refl, refl)

@@ -9,4 +9,5 @@ IsCallable sig pre = (a b c d e : ℕ) → IsTrue (is_call sig (a ∷ b ∷ c �
 -- Whatever it then answers, the signature promises.
 abbrev pub KeepsPromise : Promise → (ℕ → ℕ → ℕ → ℕ → ℕ → ℕ → Type 0) → Type 0
 KeepsPromise sig post =
-    (a b c d e answer : ℕ) → IsTrue (is_call sig (a ∷ b ∷ c ∷ d ∷ e ∷ [])) → post a b c d e answer → IsTrue (is_promised sig (a ∷ b ∷ c ∷ d ∷ e ∷ []) answer)
+    (a b c d e answer : ℕ) → IsTrue (is_call sig (a ∷ b ∷ c ∷ d ∷ e ∷ [])) → post a b c d e answer
+    → IsTrue (is_promised sig (a ∷ b ∷ c ∷ d ∷ e ∷ []) answer)

@@ -1,8 +1,10 @@
--- The three helpers that programs of this project may call (profile): their signatures, and what their code answers.
+-- The three helpers that programs of this project may call (profile): their signatures, and what
+-- their code answers.
 use Rattle.std.specs.Prelude.{ℕ, [], ◌∷◌, ◌==◌, nat_lt, if◌then◌else◌}
 use Rattle.bpf_helpers.specs.Promise.{Promise}
 
--- Helper 1: the least turn-round time, in minutes, of an aircraft type, whose four bytes are a little-endian number.
+-- Helper 1: the least turn-round time, in minutes, of an aircraft type, whose four bytes are a
+-- little-endian number.
 abbrev pub turn_round : Promise
 turn_round = record {
   args = record { lo = 0; hi = 4294967295 } ∷ [];
@@ -11,7 +13,8 @@ turn_round = record {
 }
 
 abbrev pub turn_round_of : ℕ → ℕ
-turn_round_of kind = if kind == 808596289 then 45 else (if kind == 942880578 then 45 else (if kind == 943207233 then 120 else 60))
+turn_round_of kind = if kind == 808596289 then 45 else
+    (if kind == 942880578 then 45 else (if kind == 943207233 then 120 else 60))
 
 -- Helper 2: the taxi time, in minutes, from a stand.
 abbrev pub taxi : Promise

@@ -1,6 +1,7 @@
--- What a signature promises of a helper's answers. RFC 9669, section 4.3.1, has helper functions that a program calls by their number;
--- signatures, ranges and tables are this project's profile.
-use Rattle.std.specs.Prelude.{ℕ, ◌^◌, List, [], ◌∷◌, length, drop, filter, Bool, true, false, ◌&&◌, ◌==◌, nat_lt, nat_le, Option, Some, None, if◌then◌else◌}
+-- What a signature promises of a helper's answers. RFC 9669, section 4.3.1, has helper functions
+-- that a program calls by their number; signatures, ranges and tables are this project's profile.
+use Rattle.std.specs.Prelude.{ℕ, ◌^◌, List, [], ◌∷◌, length, drop, filter, Bool, true, false, ◌&&◌}
+use Rattle.std.specs.Prelude.{◌==◌, nat_lt, nat_le, Option, Some, None, if◌then◌else◌}
 use Rattle.std.specs.List.{list_all}
 use Rattle.bpf_helpers.specs.declared.range.Range.{Range}
 
@@ -32,10 +33,12 @@ abbrev pub is_key : List Range → ℕ → Bool
 is_key [] key = false
 is_key (first ∷ rest) key = is_in first key
 
--- at most five arguments, a range for each and for the answer, and a table within them by rising keys
+-- at most five arguments, a range for each and for the answer, and a table within them by rising
+-- keys
 abbrev pub is_well_formed : Promise → Bool
 is_well_formed sig =
-    nat_le (length sig.args) 5 && list_all is_ordered sig.args && is_ordered sig.answer && do_keys_rise sig.table
+    nat_le (length sig.args) 5 && list_all is_ordered sig.args && is_ordered sig.answer
+    && do_keys_rise sig.table
     && list_all (λ entry. is_key sig.args entry.0 && is_in sig.answer entry.1) sig.table
 
 -- ---- what a signature promises
@@ -46,16 +49,20 @@ are_in [] xs = true
 are_in (r ∷ rs) [] = false
 are_in (r ∷ rs) (x ∷ xs) = is_in r x && are_in rs xs
 
--- where the first argument is a key of the table, the answer is the table's: so says each entry of that key
+-- where the first argument is a key of the table, the answer is the table's: so says each entry of
+-- that key
 abbrev pub agrees : List (ℕ × ℕ) → List ℕ → ℕ → Bool
 agrees table [] answer = true
-agrees table (first ∷ xs) answer = list_all (λ entry. entry.1 == answer) (filter (λ entry. entry.0 == first) table)
+agrees table (first ∷ xs) answer =
+    list_all (λ entry. entry.1 == answer) (filter (λ entry. entry.0 == first) table)
 
 -- the helper may answer so
 abbrev pub is_promised : Promise → List ℕ → ℕ → Bool
-is_promised sig xs answer = are_in sig.args xs && is_in sig.answer answer && agrees sig.table xs answer
+is_promised sig xs answer = are_in sig.args xs && is_in sig.answer answer
+    && agrees sig.table xs answer
 
--- a helper may be called so: its arguments lie in their ranges, and nothing but zeros comes after them
+-- a helper may be called so: its arguments lie in their ranges, and nothing but zeros comes after
+-- them
 abbrev pub is_call : Promise → List ℕ → Bool
 is_call sig xs = are_in sig.args xs && list_all (λ x. x == 0) (drop (length sig.args) xs)
 
@@ -66,7 +73,8 @@ are_well_formed sigs = list_all (λ entry. is_well_formed entry.1) sigs
 
 abbrev pub signature_of : List (ℕ × Promise) → ℕ → Option Promise
 signature_of [] number = None
-signature_of (entry ∷ sigs) number = if entry.0 == number then Some entry.1 else signature_of sigs number
+signature_of (entry ∷ sigs) number =
+    if entry.0 == number then Some entry.1 else signature_of sigs number
 
 abbrev pub is_call_by : Option Promise → List ℕ → Bool
 is_call_by None xs = false

@@ -40,8 +40,8 @@ pub struct NotAdded {
     pub helper: Helper,
 }
 
-/// At most 32 helpers, with room for all of them from the start. Contracts see the numbers and the promises of its helpers
-/// by the word `entries_of`.
+/// At most 32 helpers, with room for all of them from the start. Contracts see the numbers and the
+/// promises of its helpers by the word `entries_of`.
 #[derive(Drop)]
 pub struct Bank {
     helpers: Vec<Helper>,
@@ -50,8 +50,10 @@ pub struct Bank {
 }
 
 impl Bank {
-    ghost use Rattle.std.specs.Prelude.{◌≡◌, [], ◌∷◌, ◌++◌, Some, None, MatchOption, IsTrue, IsOk, IsErrAnd, IfOk, IfErr, OnOk, OnErr};
-    ghost use Rattle.bpf_helpers.specs.Helpers.{HasRoom, IsFree, IsFull, IsTaken, entries_of, entry_of};
+    ghost use Rattle.std.specs.Prelude.{◌≡◌, [], ◌∷◌, ◌++◌, Some, None, MatchOption, IsTrue, IsOk};
+    ghost use Rattle.std.specs.Prelude.{IsErrAnd, IfOk, IfErr, OnOk, OnErr};
+    ghost use Rattle.bpf_helpers.specs.Helpers.{HasRoom, IsFree, IsFull, IsTaken, entries_of};
+    ghost use Rattle.bpf_helpers.specs.Helpers.{entry_of};
     ghost use Rattle.bpf_helpers.specs.Promise.{is_answer, is_question, signature_of};
 
     /// A bank without helpers that has room for 32. `Err` only where there is no memory.
@@ -64,7 +66,8 @@ impl Bank {
 
     /// The helper of this number.
     pub fn get(&self, number: u32) -> Option<&Helper>
-        ensures { MatchOption result (signature_of (entries_of self.now) number ≡ None) (λ helper. signature_of (entries_of self.now) number ≡ Some (entry_of helper.now).1) }
+        ensures { MatchOption result (signature_of (entries_of self.now) number ≡ None)
+            (λ helper. signature_of (entries_of self.now) number ≡ Some (entry_of helper.now).1) }
     {
         let mut rest = self.helpers.as_slice();
         while let Some((helper, more)) = rest.split_first() {
@@ -76,13 +79,17 @@ impl Bank {
         None
     }
 
-    /// Adds a helper, for which no memory is taken. A number that is taken is refused before a full bank is.
+    /// Adds a helper, for which no memory is taken. A number that is taken is refused before a full
+    /// bank is.
     pub fn add(&mut self, helper: Helper) -> Result<(), NotAdded>
-        ensures taken { IsTaken self.old helper → IsErrAnd result (λ e. e.fault ≡ BankFault.NumberTaken) }
-        ensures full { IsFree self.old helper → IsFull self.old → IsErrAnd result (λ e. e.fault ≡ BankFault.Full) }
+        ensures taken { IsTaken self.old helper
+            → IsErrAnd result (λ e. e.fault ≡ BankFault.NumberTaken) }
+        ensures full { IsFree self.old helper → IsFull self.old
+            → IsErrAnd result (λ e. e.fault ≡ BankFault.Full) }
         ensures fits { IsFree self.old helper → HasRoom self.old → IsOk result }
 
-        ensures added { OnOk result (entries_of self.new ≡ entries_of self.old ++ entry_of helper ∷ []) }
+        ensures added { OnOk result (entries_of self.new ≡ entries_of self.old ++ entry_of helper
+            ∷ []) }
         ensures unchanged { OnErr result (self.new ≡ self.old) }
         ensures returned { IfErr result (λ e. e.helper ≡ helper) }
     {
@@ -113,8 +120,8 @@ impl Bank {
         }
     }
 
-    /// The numbers and the signatures of the helpers, in the order in which they were added. `Err` only where there is no
-    /// memory.
+    /// The numbers and the signatures of the helpers, in the order in which they were added. `Err`
+    /// only where there is no memory.
     pub fn sigs(&self) -> Result<Sigs, NoMemory>
         ensures { IfOk result (λ sigs. sigs ≡ entries_of self.now) }
     {

@@ -4,12 +4,13 @@ ghost use Rattle.bpf_helpers.specs.Code.{IsCallable, KeepsPromise};
 
 use crate::signature::Signature;
 
-/// The code of a helper. It gets r1 to r5 of the caller, those beyond the signature as 0, and gives what r0 becomes (RFC
-/// 9669, section 4.3.1).
+/// The code of a helper. It gets r1 to r5 of the caller, those beyond the signature as 0, and gives
+/// what r0 becomes (RFC 9669, section 4.3.1).
 pub type Code = Box<dyn Fn(u64, u64, u64, u64, u64) -> u64 + Send>;
 
-/// A number, by which programs call the helper, a signature, and code that keeps it: the code may be called on all arguments
-/// of the signature, and answers as the signature promises. Contracts see the number and the promise by the word `entry_of`.
+/// A number, by which programs call the helper, a signature, and code that keeps it: the code may
+/// be called on all arguments of the signature, and answers as the signature promises. Contracts
+/// see the number and the promise by the word `entry_of`.
 #[derive(Drop)]
 pub struct Helper {
     number: u32,
@@ -57,7 +58,8 @@ impl Helper {
         requires { IsTrue (is_call (entry_of self.now).1 arguments) }
         ensures promised { IsTrue (is_promised (entry_of self.now).1 arguments result) }
         // It is one that the helper's own code gives.
-        ensures own { (a b c d e : ℕ) → arguments ≡ a ∷ b ∷ c ∷ d ∷ e ∷ [] → Code.post (code_of self.now) a b c d e result }
+        ensures own { (a b c d e : ℕ) → arguments ≡ a ∷ b ∷ c ∷ d ∷ e ∷ []
+            → Code.post (code_of self.now) a b c d e result }
     {
         let [a, b, c, d, e] = arguments;
         self.answer_to(a, b, c, d, e)
@@ -65,7 +67,8 @@ impl Helper {
 
     fn answer_to(&self, a: u64, b: u64, c: u64, d: u64, e: u64) -> u64
         requires { IsTrue (is_call (entry_of self.now).1 (a ∷ b ∷ c ∷ d ∷ e ∷ [])) }
-        ensures promised { IsTrue (is_promised (entry_of self.now).1 (a ∷ b ∷ c ∷ d ∷ e ∷ []) result) }
+        ensures promised { IsTrue (is_promised (entry_of self.now).1 (a ∷ b ∷ c ∷ d ∷ e ∷ [])
+            result) }
         ensures own { Code.post (code_of self.now) a b c d e result }
     {
         (self.code)(a, b, c, d, e)

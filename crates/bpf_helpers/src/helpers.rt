@@ -16,7 +16,8 @@ pub trait Helpers {
         requires { IsTrue (is_question (entries self.now) number arguments) }
         ensures { IsTrue (is_answer (entries self.now) number arguments result) };
 
-    /// The numbers and the signatures of the helpers, in order. `Err` only where there is no memory.
+    /// The numbers and the signatures of the helpers, in order. `Err` only where there is no
+    /// memory.
     fn sigs(&self) -> Result<Sigs, NoMemory>
         ensures { IfOk result (λ sigs. sigs ≡ entries self.now) };
 }

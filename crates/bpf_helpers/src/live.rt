@@ -23,15 +23,22 @@ impl<'a, H: Helpers> Model for Live<'a, H> {
 
     ghost Value = { Asking };
 
-    ghost view = { λ l. record { sigs = H.entries l.helpers.now; log = l.answers.items; refusals = l.refusals; room = l.room } };
+    ghost view = { λ l. record {
+      sigs = H.entries l.helpers.now;
+      log = l.answers.items;
+      refusals = l.refusals;
+      room = l.room;
+    } };
 
     ghost invariant = { λ l. (vec_len l.answers ≤ l.room) × (l.room ≤ vec_capacity l.answers) };
 }
 
 impl<'a, H: Helpers> Live<'a, H> {
-    /// An oracle over helpers that gives `room` answers at most. `Err` only where there is no memory.
+    /// An oracle over helpers that gives `room` answers at most. `Err` only where there is no
+    /// memory.
     pub fn new(alloc: Global, helpers: &'a H, room: u64) -> Result<Live<'a, H>, NoMemory>
-        ensures { IfOk result (λ live. live ≡ record { sigs = H.entries helpers.now; log = []; refusals = 0; room = room }) }
+        ensures { IfOk result (λ live. live
+            ≡ record { sigs = H.entries helpers.now; log = []; refusals = 0; room = room }) }
     {
         let room = room as usize;
         let answers = Vec::with_capacity(alloc, room)?;

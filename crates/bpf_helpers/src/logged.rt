@@ -17,7 +17,8 @@ pub struct Logged<'a> {
 
 impl<'a> Logged<'a> {
     ghost use Rattle.std.specs.Prelude.{◌≡◌, [], ◌++◌};
-    ghost use Rattle.bpf_helpers.specs.Oracles.{sigs_of_logged, log_of_logged, refusals_of_logged, answers_of_logged};
+    ghost use Rattle.bpf_helpers.specs.Oracles.{sigs_of_logged, log_of_logged, refusals_of_logged};
+    ghost use Rattle.bpf_helpers.specs.Oracles.{answers_of_logged};
 
     /// An oracle that gives these answers to calls of helpers with these signatures.
     pub fn new(sigs: &'a Sigs, answers: &'a [u64]) -> Logged<'a>

@@ -1,8 +1,10 @@
 //! The signature of a helper: what it takes, and what it may answer.
 
-ghost use Rattle.std.specs.Prelude.{◌≡◌, ◌≤◌, ◌↔◌, ◌&&◌, ◌==◌, drop, filter, length, IsTrue, IsSome, IfSome, IfOk};
+ghost use Rattle.std.specs.Prelude.{◌≡◌, ◌≤◌, ◌↔◌, ◌&&◌, ◌==◌, drop, filter, length, IsTrue};
+ghost use Rattle.std.specs.Prelude.{IsSome, IfSome, IfOk};
 ghost use Rattle.std.specs.List.{list_all};
-ghost use Rattle.bpf_helpers.specs.Promise.{agrees, are_in, do_keys_rise, is_call, is_in, is_key, is_ordered, is_promised, is_well_formed};
+ghost use Rattle.bpf_helpers.specs.Promise.{agrees, are_in, do_keys_rise, is_call, is_in, is_key};
+ghost use Rattle.bpf_helpers.specs.Promise.{is_ordered, is_promised, is_well_formed};
 
 use crate::NoMemory;
 use crate::range::Range;
@@ -11,8 +13,9 @@ use std::marker::Model;
 /// The most arguments that a helper takes.
 pub const MAX_ARGUMENTS: usize = 5;
 
-/// What a helper takes and answers: a range for each of its arguments, at most five, the range of its answers, and a
-/// table of the answers that its first argument fixes. Contracts see it as its `Promise`.
+/// What a helper takes and answers: a range for each of its arguments, at most five, the range of
+/// its answers, and a table of the answers that its first argument fixes. Contracts see it as its
+/// `Promise`.
 #[derive(Drop)]
 pub struct Signature {
     args: Vec<Range>,
@@ -28,7 +31,11 @@ impl Model for Signature {
 
     ghost view = { λ s. record { args = s.args.items; answer = s.answer; table = s.table.items } };
 
-    ghost invariant = { λ s. IsTrue (is_well_formed (record { args = s.args.items; answer = s.answer; table = s.table.items })) };
+    ghost invariant = { λ s. IsTrue (is_well_formed (record {
+      args = s.args.items;
+      answer = s.answer;
+      table = s.table.items;
+    })) };
 }
 
 /// Whether each key is above the one before.
@@ -85,7 +92,8 @@ fn are_zeros(words: &[u64], from: usize) -> bool
 
 /// Whether each entry of this key has this answer.
 fn agrees_at(table: &[(u64, u64)], key: u64, answer: u64) -> bool
-    ensures { result ≡ list_all (λ entry. entry.1 == answer) (filter (λ entry. entry.0 == key) table.now) }
+    ensures { result ≡ list_all (λ entry. entry.1 == answer)
+        (filter (λ entry. entry.0 == key) table.now) }
 {
     table
         .iter()
@@ -111,7 +119,8 @@ fn are_ordered(ranges: &[Range]) -> bool
 
 /// Whether each key may be a first argument and each answer may be given.
 fn are_entries(table: &[(u64, u64)], args: &[Range], answer: Range) -> bool
-    ensures { result ≡ list_all (λ entry. is_key args.now entry.0 && is_in answer entry.1) table.now }
+    ensures { result ≡ list_all (λ entry. is_key args.now entry.0 && is_in answer entry.1)
+        table.now }
 {
     table
         .iter()
@@ -120,7 +129,8 @@ fn are_entries(table: &[(u64, u64)], args: &[Range], answer: Range) -> bool
 
 /// Whether these make a signature.
 fn is_well_formed(args: &[Range], answer: Range, table: &[(u64, u64)]) -> bool
-    ensures { result ≡ is_well_formed (record { args = args.now; answer = answer; table = table.now }) }
+    ensures { result ≡ is_well_formed
+        (record { args = args.now; answer = answer; table = table.now }) }
 {
     args.len() <= MAX_ARGUMENTS
         && are_ordered(args)
@@ -142,12 +152,15 @@ fn are_same_entries(left: &[(u64, u64)], right: &[(u64, u64)]) -> bool
 }
 
 impl Signature {
-    /// The signature with these ranges and this table of pairs, each a first argument and its answer. `None` where there are
-    /// more than five arguments, a range is empty, the keys of the table do not rise, a key lies outside the first range or
-    /// there is no argument, or an answer of the table lies outside the range of answers.
+    /// The signature with these ranges and this table of pairs, each a first argument and its
+    /// answer. `None` where there are more than five arguments, a range is empty, the keys of the
+    /// table do not rise, a key lies outside the first range or there is no argument, or an answer
+    /// of the table lies outside the range of answers.
     pub fn new(args: Vec<Range>, answer: Range, table: Vec<(u64, u64)>) -> Option<Signature>
-        ensures exact { IsSome result ↔ IsTrue (is_well_formed (record { args = args.items; answer = answer; table = table.items })) }
-        ensures value { IfSome result (λ s. s ≡ record { args = args.items; answer = answer; table = table.items }) }
+        ensures exact { IsSome result ↔ IsTrue
+            (is_well_formed (record { args = args.items; answer = answer; table = table.items })) }
+        ensures value { IfSome result (λ s. s
+            ≡ record { args = args.items; answer = answer; table = table.items }) }
     {
         if is_well_formed(&args, answer, &table) {
             Some(Signature {
@@ -177,14 +190,16 @@ impl Signature {
         self.answer
     }
 
-    /// Whether the helper may be called on these arguments: each lies in its range, and those beyond the signature are 0.
+    /// Whether the helper may be called on these arguments: each lies in its range, and those
+    /// beyond the signature are 0.
     pub fn takes(&self, arguments: &[u64]) -> bool
         ensures { result ≡ is_call self.now arguments.now }
     {
         are_in(&self.args, arguments) && are_zeros(arguments, self.args.len())
     }
 
-    /// Whether the helper may give this answer to these arguments, of which those beyond the signature are not read.
+    /// Whether the helper may give this answer to these arguments, of which those beyond the
+    /// signature are not read.
     pub fn promises(&self, arguments: &[u64], answer: u64) -> bool
         ensures { result ≡ is_promised self.now arguments.now answer }
     {

@@ -1,6 +1,7 @@
 //! The signatures of several helpers, each with its number.
 
-ghost use Rattle.std.specs.Prelude.{◌≡◌, ◌↔◌, [], ◌∷◌, ◌++◌, IsTrue, IfOk, OnOk, MatchOption, Some, None};
+ghost use Rattle.std.specs.Prelude.{◌≡◌, ◌↔◌, [], ◌∷◌, ◌++◌, IsTrue, IfOk, OnOk, MatchOption, Some};
+ghost use Rattle.std.specs.Prelude.{None};
 ghost use Rattle.bpf_helpers.specs.Promise.{are_well_formed, is_answer, signature_of};
 
 use crate::NoMemory;
@@ -8,8 +9,8 @@ use crate::signature::Signature;
 use std::alloc::Global;
 use std::marker::Model;
 
-/// The signatures of the helpers that programs may call, each with the number of its helper. Contracts see them as pairs of
-/// a number and a promise.
+/// The signatures of the helpers that programs may call, each with the number of its helper.
+/// Contracts see them as pairs of a number and a promise.
 #[derive(Drop)]
 pub struct Sigs {
     entries: Vec<(u32, Signature)>,
@@ -54,7 +55,8 @@ impl Sigs {
 
     /// The signature of the helper of this number.
     pub fn get(&self, number: u32) -> Option<&Signature>
-        ensures value { MatchOption result (signature_of self.now number ≡ None) (λ signature. signature_of self.now number ≡ Some signature.now) }
+        ensures value { MatchOption result (signature_of self.now number ≡ None)
+            (λ signature. signature_of self.now number ≡ Some signature.now) }
         ensures well_formed { IsTrue (are_well_formed self.now) }
     {
         let mut rest = self.entries.as_slice();

@@ -8,7 +8,8 @@ use Rattle.bpf_helpers.specs.Promise.{Promise}
 use Rattle.bpf_regstate.specs.States.{Accepts}
 use Rattle.bpf_verifier.specs.Verdict as verdict
 use Rattle.bpf_machine.specs.declared.refusal.RegisterFault.{RegisterFault}
-use Rattle.bpf_machine.specs.declared.refusal.RegisterFault.TheVariants.{NumberTaken, Full, ProgramIsSet}
+use Rattle.bpf_machine.specs.declared.refusal.RegisterFault.TheVariants.{NumberTaken, Full}
+use Rattle.bpf_machine.specs.declared.refusal.RegisterFault.TheVariants.{ProgramIsSet}
 use Rattle.bpf_machine.specs.declared.refusal.SetError.{SetError}
 use Rattle.bpf_machine.specs.declared.refusal.SetError.TheVariants.{Decode, Verify, Memory}
 use Rattle.bpf_machine.specs.declared.refusal.ExecuteError.{ExecuteError}
@@ -38,10 +39,12 @@ pub record IsGood (bytes : List ℕ) (helpers : List (ℕ × Promise)) (ops : Li
   pub encoded : Encodes bytes ops
   pub accepted : Accepts 128 ops helpers
 
--- the error is the first fault of the bytes, or else of the program that they encode, or want of memory
+-- the error is the first fault of the bytes, or else of the program that they encode, or want of
+-- memory
 abbrev pub RefusesBytes : List ℕ → List (ℕ × Promise) → SetError → Type 0
 RefusesBytes bytes helpers (Decode e) = decoding.Refuses bytes e
-RefusesBytes bytes helpers (Verify e) = (ops : List Op) × Encodes bytes ops × verdict.Refuses 128 ops helpers e
+RefusesBytes bytes helpers (Verify e) =
+    (ops : List Op) × Encodes bytes ops × verdict.Refuses 128 ops helpers e
 RefusesBytes bytes helpers Memory = Unit {0}
 
 -- the error says that no program is set where none is, and else want of memory

@@ -1,4 +1,5 @@
--- What contracts see of an embeddable machine: the helpers that are registered, and the program that is set (this project's profile).
+-- What contracts see of an embeddable machine: the helpers that are registered, and the program
+-- that is set (this project's profile).
 use Rattle.std.specs.Prelude.{ℕ, List, Option, IsSome, IsNone, option_map}
 use Rattle.bpf_decode.specs.declared.op.Op.{Op}
 use Rattle.bpf_helpers.specs.Promise.{Promise}

@@ -22,7 +22,8 @@ pub(crate) fn execute<H: Helpers>(
     milestone: Milestone,
 ) -> Result<Ended, NoMemory>
     requires sigs { H.entries helpers.now ≡ checked.now.sigs }
-    ensures { IfOk result (EndsWithin checked.now.ops checked.now.sigs record_bytes.now moment (number_of milestone)) }
+    ensures { IfOk result (EndsWithin checked.now.ops checked.now.sigs record_bytes.now moment
+        (number_of milestone)) }
 {
     let room = checked.program().slot_count() as u64;
     let mut live = Live::new(alloc, helpers, room)?;

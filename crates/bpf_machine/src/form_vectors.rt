@@ -1,6 +1,7 @@
 //! Each form of instruction with its results. Written by bench/forms/generate.py, with what C says.
 
-/// Opcode, offset and immediate of an operation, the words of both registers before it, and the result.
+/// Opcode, offset and immediate of an operation, the words of both registers before it, and the
+/// result.
 pub(crate) static ARITHMETIC: [(u8, i16, i32, u64, u64, u64); 280] = [
     (0x07, 0, 1, 7, 0, 8),
     (0x07, 0, -7, 0x80000005, 0, 0x7ffffffe),

@@ -1,4 +1,5 @@
-//! Each form of instruction against results from outside, by bench/forms/generate.py, which says of what programs the rows are.
+//! Each form of instruction against results from outside, by bench/forms/generate.py, which says of
+//! what programs the rows are.
 use crate::form_vectors::{ARITHMETIC, JUMPS, LOADS, STORES};
 use crate::run_tested;
 use acdm_milestones::Milestone;
@@ -89,7 +90,8 @@ fn load(alloc: Global, row: (u8, i16, u64)) -> Result<Vec<u8>, AllocError> {
     Ok(bytes)
 }
 
-/// A store to the stack, of r6 or an immediate, and a load from there; the last 16 bytes were all ones.
+/// A store to the stack, of r6 or an immediate, and a load from there; the last 16 bytes were all
+/// ones.
 fn keep(alloc: Global, row: (u8, u8, i16, i32, u64, u64)) -> Result<Vec<u8>, AllocError> {
     let (store, read, offset, immediate, value, _) = row;
     let registers = if store & 7 == 3 { 0x6a } else { 0x0a };
@@ -139,7 +141,8 @@ fn stores_agree_with_c(rt: HostRuntime) -> Result<(), Fail> {
     Ok(())
 }
 
-/// Programs without a condition: jumps of both forms over nothing, an instruction and a wide load, and a wide load alone.
+/// Programs without a condition: jumps of both forms over nothing, an instruction and a wide load,
+/// and a wide load alone.
 #[test]
 fn ways_without_a_condition(rt: HostRuntime) -> Result<(), Fail> {
     let mov_1 = slot(0xb7, 0, 0, 1);

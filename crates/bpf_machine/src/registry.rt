@@ -5,8 +5,9 @@ ghost use Rattle.std.specs.Prelude.{◌≤◌, vec_capacity, vec_len};
 use bpf_helpers::{BankFault, Helper, Helpers, MAX_HELPERS, NoMemory, NotAdded, Sigs};
 use std::alloc::Global;
 
-/// At most 32 helpers, with room for all of them from the start, as those of a `Bank`. A method under `&mut` that calls a
-/// bank's is not proved in another crate than the bank's. Contracts see it by the word `entries_in`.
+/// At most 32 helpers, with room for all of them from the start, as those of a `Bank`. A method
+/// under `&mut` that calls a bank's is not proved in another crate than the bank's. Contracts see
+/// it by the word `entries_in`.
 #[derive(Drop)]
 pub struct Registry {
     helpers: Vec<Helper>,
@@ -15,7 +16,8 @@ pub struct Registry {
 }
 
 impl Registry {
-    ghost use Rattle.std.specs.Prelude.{◌≡◌, [], ◌∷◌, ◌++◌, Some, None, MatchOption, IsTrue, IsOk, IsErrAnd, IfOk, IfErr, OnOk, OnErr};
+    ghost use Rattle.std.specs.Prelude.{◌≡◌, [], ◌∷◌, ◌++◌, Some, None, MatchOption, IsTrue, IsOk};
+    ghost use Rattle.std.specs.Prelude.{IsErrAnd, IfOk, IfErr, OnOk, OnErr};
     ghost use Rattle.bpf_helpers.specs.Helpers.{entry_of};
     ghost use Rattle.bpf_helpers.specs.Promise.{is_answer, is_question, signature_of};
     ghost use Rattle.bpf_machine.specs.Registry.{HasRoom, IsFree, IsFull, IsTaken, entries_in};
@@ -30,7 +32,8 @@ impl Registry {
 
     /// The helper of this number.
     fn get(&self, number: u32) -> Option<&Helper>
-        ensures { MatchOption result (signature_of (entries_in self.now) number ≡ None) (λ helper. signature_of (entries_in self.now) number ≡ Some (entry_of helper.now).1) }
+        ensures { MatchOption result (signature_of (entries_in self.now) number ≡ None)
+            (λ helper. signature_of (entries_in self.now) number ≡ Some (entry_of helper.now).1) }
     {
         let mut rest = self.helpers.as_slice();
         while let Some((helper, more)) = rest.split_first() {
@@ -44,10 +47,13 @@ impl Registry {
 
     /// Adds a helper, for which no memory is taken.
     pub(crate) fn add(&mut self, helper: Helper) -> Result<(), NotAdded>
-        ensures taken { IsTaken self.old helper → IsErrAnd result (λ e. e.fault ≡ BankFault.NumberTaken) }
-        ensures full { IsFree self.old helper → IsFull self.old → IsErrAnd result (λ e. e.fault ≡ BankFault.Full) }
+        ensures taken { IsTaken self.old helper
+            → IsErrAnd result (λ e. e.fault ≡ BankFault.NumberTaken) }
+        ensures full { IsFree self.old helper → IsFull self.old
+            → IsErrAnd result (λ e. e.fault ≡ BankFault.Full) }
         ensures fits { IsFree self.old helper → HasRoom self.old → IsOk result }
-        ensures added { OnOk result (entries_in self.new ≡ entries_in self.old ++ entry_of helper ∷ []) }
+        ensures added { OnOk result (entries_in self.new ≡ entries_in self.old ++ entry_of helper
+            ∷ []) }
         ensures unchanged { OnErr result (self.new ≡ self.old) }
         ensures returned { IfErr result (λ e. e.helper ≡ helper) }
     {
@@ -83,7 +89,8 @@ impl Registry {
         }
     }
 
-    /// The numbers and the signatures of the helpers, in order. `Err` only where there is no memory.
+    /// The numbers and the signatures of the helpers, in order. `Err` only where there is no
+    /// memory.
     fn all_sigs(&self) -> Result<Sigs, NoMemory>
         ensures { IfOk result (λ sigs. sigs ≡ entries_in self.now) }
     {

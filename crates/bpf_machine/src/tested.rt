@@ -24,8 +24,11 @@ fn run_slots<O: Oracle>(
     requires few { length ops.now ≤ 4096 }
     requires short { length record_bytes.now < 2 ^ 16 }
     requires oracle { MayBeAsked sigs.now (O.view oracle.old) }
-    ensures ended { IfOk result (EndsOver ops.now sigs.now record_bytes.now moment milestone (O.view oracle.old) (O.view oracle.new)) }
-    ensures trapped { IfErr result (TrapsOver ops.now sigs.now record_bytes.now moment milestone (O.view oracle.old) (O.view oracle.new)) }
+    ensures ended { IfOk result (EndsOver ops.now sigs.now record_bytes.now moment milestone
+        (O.view oracle.old) (O.view oracle.new)) }
+    ensures trapped { IfErr result
+        (TrapsOver ops.now sigs.now record_bytes.now moment milestone (O.view oracle.old)
+        (O.view oracle.new)) }
     ensures counted { Counts (is_refused result) (O.view oracle.old) (O.view oracle.new) }
     ensures same_rule { SameRule (O.view oracle.old) (O.view oracle.new) }
 {
@@ -42,10 +45,11 @@ fn run_slots<O: Oracle>(
     }
 }
 
-/// Runs a program on a flight's record at a moment (minutes since 1970-01-01T00:00Z), for a milestone that was reported, with
-/// the answers of an oracle. Each step is tested first, so it also returns on a program that was never checked: what has no
-/// step is `Trap::Stuck`, and a call that the oracle leaves without an answer is `Trap::Unanswered`. The instructions are
-/// those of RFC 9669, and memory and calls those of this project's profile. It takes no memory.
+/// Runs a program on a flight's record at a moment (minutes since 1970-01-01T00:00Z), for a
+/// milestone that was reported, with the answers of an oracle. Each step is tested first, so it
+/// also returns on a program that was never checked: what has no step is `Trap::Stuck`, and a call
+/// that the oracle leaves without an answer is `Trap::Unanswered`. The instructions are those of
+/// RFC 9669, and memory and calls those of this project's profile. It takes no memory.
 pub fn run_tested<O: Oracle>(
     program: &Program,
     sigs: &Sigs,
@@ -58,10 +62,14 @@ pub fn run_tested<O: Oracle>(
     requires oracle { MayBeAsked sigs.now (O.view oracle.old) }
 
     // The answers meant are those that the oracle gave in the call, by which its log has grown.
-    ensures ended { IfOk result (EndsOver program.now sigs.now record_bytes.now moment (number_of milestone) (O.view oracle.old) (O.view oracle.new)) }
-    ensures trapped { IfErr result (TrapsOver program.now sigs.now record_bytes.now moment (number_of milestone) (O.view oracle.old) (O.view oracle.new)) }
+    ensures ended { IfOk result (EndsOver program.now sigs.now record_bytes.now moment
+        (number_of milestone) (O.view oracle.old) (O.view oracle.new)) }
+    ensures trapped { IfErr result
+        (TrapsOver program.now sigs.now record_bytes.now moment (number_of milestone)
+        (O.view oracle.old) (O.view oracle.new)) }
 
-    // The oracle gave no answer once where the run was left without one, and never where it was not.
+    // The oracle gave no answer once where the run was left without one, and never where it was
+    // not.
     ensures counted { Counts (is_refused result) (O.view oracle.old) (O.view oracle.new) }
     ensures same_rule { SameRule (O.view oracle.old) (O.view oracle.new) }
 {

@@ -12,7 +12,8 @@ use std::alloc::Global;
 use std::process::Abort;
 use std::test::Fail;
 
-/// The record of flight 7 from stand 12, scheduled and with a flight plan, both for 10:00, but for 56 zeros at its end.
+/// The record of flight 7 from stand 12, scheduled and with a flight plan, both for 10:00, but for
+/// 56 zeros at its end.
 const PLANNED: &str =
     "0700000000000000444c4837000000004133323041333230444149424300000044414942430000004544444d4544444d030000000000000028000a000c0001053884ba013884ba01";
 
@@ -23,8 +24,8 @@ pub(crate) fn planned() -> Result<[u8; 128], Fail> {
     Ok(record_bytes)
 }
 
-/// What a program comes to on that record, at 07:00 and with these answers. Where it is accepted, the machine without tests comes to
-/// the same.
+/// What a program comes to on that record, at 07:00 and with these answers. Where it is accepted,
+/// the machine without tests comes to the same.
 fn outcome(
     alloc: Global,
     sigs: &Sigs,

@@ -1,4 +1,5 @@
-//! A machine for other programs, in the manner of the crate rbpf: helpers are registered, a program is set, and it runs.
+//! A machine for other programs, in the manner of the crate rbpf: helpers are registered, a program
+//! is set, and it runs.
 
 ghost use Rattle.std.specs.Prelude.{◌≡◌};
 ghost use Rattle.std.specs.Option.{ForSome};
@@ -21,8 +22,8 @@ pub struct NotRegistered {
     pub helper: Helper,
 }
 
-/// A machine that holds helpers and at most one program, which was accepted with them. Contracts see it by the words
-/// `helpers_of` and `program_of`.
+/// A machine that holds helpers and at most one program, which was accepted with them. Contracts
+/// see it by the words `helpers_of` and `program_of`.
 #[derive(Drop)]
 pub struct EbpfVmRaw {
     registry: Registry,
@@ -31,7 +32,8 @@ pub struct EbpfVmRaw {
 }
 
 impl EbpfVmRaw {
-    ghost use Rattle.std.specs.Prelude.{◌≡◌, [], ◌∷◌, ◌++◌, List, None, IfSome, IsOk, IsErrAnd, IfOk, IfErr, OnOk, OnErr};
+    ghost use Rattle.std.specs.Prelude.{◌≡◌, [], ◌∷◌, ◌++◌, List, None, IfSome, IsOk, IsErrAnd};
+    ghost use Rattle.std.specs.Prelude.{IfOk, IfErr, OnOk, OnErr};
     ghost use Rattle.bpf_decode.specs.declared.op.Op.{Op};
     ghost use Rattle.bpf_helpers.specs.Helpers.{entry_of};
     ghost use Rattle.bpf_machine.specs.Registry.{HasRoom, IsFree, IsFull, IsTaken};
@@ -40,7 +42,8 @@ impl EbpfVmRaw {
     ghost use Rattle.bpf_machine.specs.Outcome.{EndsSet};
     ghost use Rattle.bpf_machine.specs.Vm.{HasNoProgram, HasProgram, helpers_of, program_of};
 
-    /// A machine without helpers and without a program, with room for 32 helpers. `Err` only where there is no memory.
+    /// A machine without helpers and without a program, with room for 32 helpers. `Err` only where
+    /// there is no memory.
     pub fn new(alloc: Global) -> Result<EbpfVmRaw, NoMemory>
         ensures helpers { IfOk result (λ vm. helpers_of vm ≡ []) }
         ensures program { IfOk result (λ vm. program_of vm ≡ None) }
@@ -52,15 +55,20 @@ impl EbpfVmRaw {
         })
     }
 
-    /// Registers a helper, for which no memory is taken. It is refused where a program is set, else where its number is taken,
-    /// else where 32 helpers are registered; then it comes back.
+    /// Registers a helper, for which no memory is taken. It is refused where a program is set, else
+    /// where its number is taken, else where 32 helpers are registered; then it comes back.
     pub fn register_helper(&mut self, helper: Helper) -> Result<(), NotRegistered>
-        ensures set { HasProgram self.old → IsErrAnd result (λ e. e.fault ≡ RegisterFault.ProgramIsSet) }
-        ensures taken { HasNoProgram self.old → IsTaken self.old.registry helper → IsErrAnd result (λ e. e.fault ≡ RegisterFault.NumberTaken) }
-        ensures full { HasNoProgram self.old → IsFree self.old.registry helper → IsFull self.old.registry → IsErrAnd result (λ e. e.fault ≡ RegisterFault.Full) }
-        ensures fits { HasNoProgram self.old → IsFree self.old.registry helper → HasRoom self.old.registry → IsOk result }
+        ensures set { HasProgram self.old
+            → IsErrAnd result (λ e. e.fault ≡ RegisterFault.ProgramIsSet) }
+        ensures taken { HasNoProgram self.old → IsTaken self.old.registry helper
+            → IsErrAnd result (λ e. e.fault ≡ RegisterFault.NumberTaken) }
+        ensures full { HasNoProgram self.old → IsFree self.old.registry helper
+            → IsFull self.old.registry → IsErrAnd result (λ e. e.fault ≡ RegisterFault.Full) }
+        ensures fits { HasNoProgram self.old → IsFree self.old.registry helper
+            → HasRoom self.old.registry → IsOk result }
 
-        ensures added { OnOk result (helpers_of self.new ≡ helpers_of self.old ++ entry_of helper ∷ []) }
+        ensures added { OnOk result (helpers_of self.new ≡ helpers_of self.old ++ entry_of helper
+            ∷ []) }
         ensures kept { OnErr result (helpers_of self.new ≡ helpers_of self.old) }
         ensures program { program_of self.new ≡ program_of self.old }
         ensures returned { IfErr result (λ e. e.helper ≡ helper) }
@@ -91,7 +99,8 @@ impl EbpfVmRaw {
         ensures good { IfOk result (λ checked. IsGood bytes.now (helpers_of self.now) checked.ops) }
         ensures sigs { IfOk result (λ checked. checked.sigs ≡ helpers_of self.now) }
         ensures refused { IfErr result (RefusesBytes bytes.now (helpers_of self.now)) }
-        ensures only_good { (ops : List Op) → IsGood bytes.now (helpers_of self.now) ops → IfErr result (λ e. set_code e ≡ 501) }
+        ensures only_good { (ops : List Op) → IsGood bytes.now (helpers_of self.now) ops
+            → IfErr result (λ e. set_code e ≡ 501) }
     {
         let program = match decode(self.registry.allocator(), bytes) {
             Ok(program) => program,
@@ -107,13 +116,15 @@ impl EbpfVmRaw {
         }
     }
 
-    /// Sets the program that the bytes encode, if it may run with the helpers that are registered. A refusal is the first fault
-    /// of the bytes, or else of the program, and leaves what was set.
+    /// Sets the program that the bytes encode, if it may run with the helpers that are registered.
+    /// A refusal is the first fault of the bytes, or else of the program, and leaves what was set.
     pub fn set_program(&mut self, bytes: &[u8]) -> Result<(), SetError>
-        ensures set { OnOk result (IfSome (program_of self.new) (IsGood bytes.now (helpers_of self.old))) }
+        ensures set { OnOk result (IfSome (program_of self.new)
+            (IsGood bytes.now (helpers_of self.old))) }
         ensures some { OnOk result (HasProgram self.new) }
         ensures refused { IfErr result (RefusesBytes bytes.now (helpers_of self.old)) }
-        ensures only_good { (ops : List Op) → IsGood bytes.now (helpers_of self.old) ops → IfErr result (λ e. set_code e ≡ 501) }
+        ensures only_good { (ops : List Op) → IsGood bytes.now (helpers_of self.old) ops
+            → IfErr result (λ e. set_code e ≡ 501) }
         ensures kept { OnErr result (program_of self.new ≡ program_of self.old) }
         ensures helpers { helpers_of self.new ≡ helpers_of self.old }
     {
@@ -122,15 +133,17 @@ impl EbpfVmRaw {
         Ok(())
     }
 
-    /// Runs the program that is set on a flight's record, at a moment (minutes since 1970-01-01T00:00Z) and for a milestone, with
-    /// the helpers' answers. It is refused where no program is set, and else only where there is no memory for the answers.
+    /// Runs the program that is set on a flight's record, at a moment (minutes since
+    /// 1970-01-01T00:00Z) and for a milestone, with the helpers' answers. It is refused where no
+    /// program is set, and else only where there is no memory for the answers.
     pub fn execute_program(
         &mut self,
         record_bytes: &[u8; 128],
         moment: u32,
         milestone: Milestone,
     ) -> Result<Ended, ExecuteError>
-        ensures ended { IfOk result (EndsSet (program_of self.old) (helpers_of self.old) record_bytes.now moment (number_of milestone)) }
+        ensures ended { IfOk result (EndsSet (program_of self.old) (helpers_of self.old)
+            record_bytes.now moment (number_of milestone)) }
         ensures refused { IfErr result (RefusesRun (program_of self.old)) }
         ensures program { program_of self.new ≡ program_of self.old }
         ensures helpers { helpers_of self.new ≡ helpers_of self.old }

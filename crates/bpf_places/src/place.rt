@@ -24,12 +24,13 @@ pub enum Place {
     Nowhere,
 }
 
-/// Where so many bytes lie from a word plus an offset on, which are added as whole numbers, beside a record of
-/// `record_length` bytes.
+/// Where so many bytes lie from a word plus an offset on, which are added as whole numbers, beside
+/// a record of `record_length` bytes.
 pub fn place_at(record_length: usize, base: u64, offset: i32, count: usize) -> Place
     requires short { record_length < 2 ^ 16 }
     requires few { count < 2 ^ 32 }
-    ensures { PlaceIs result record_length count (place_of record_length (pos base +ℤ offset) count) }
+    ensures { PlaceIs result record_length count
+        (place_of record_length (pos base +ℤ offset) count) }
 {
     match base.checked_add_signed(offset as i64) {
         Some(address) => region(record_length, address, count),

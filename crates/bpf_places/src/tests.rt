@@ -1,4 +1,5 @@
-//! Places by hand: the record has the addresses from 0x100000000, 128 of them here, and the stack 512 from 0x200000000.
+//! Places by hand: the record has the addresses from 0x100000000, 128 of them here, and the stack
+//! 512 from 0x200000000.
 
 use super::*;
 use bpf_decode::{Part, Size};

@@ -1,8 +1,11 @@
 -- Counting the instructions of a program.
-use Rattle.std.proofs.Common.{◌≡◌, ℕ, zero, suc, ◌<◌, Bool, true, false, cond, List, [], ◌∷◌, take, Some, refl, arith}
+use Rattle.std.proofs.Common.{◌≡◌, ℕ, zero, suc, ◌<◌, Bool, true, false, cond, List, [], ◌∷◌, take}
+use Rattle.std.proofs.Common.{Some, refl, arith}
 use Rattle.std.specs.Prelude.{slice_get}
 use Rattle.bpf_decode.specs.declared.op.Op.{Op}
-use Rattle.bpf_decode.specs.declared.op.Op.TheVariants.{Arith, Negate, Extend, End, Ja, Ja32, Jump, Call, Exit, Load, LoadSigned, Store, Wide, Tail}
+use Rattle.bpf_decode.specs.declared.op.Op.TheVariants.{Arith, Negate, Extend, End, Ja, Ja32, Jump}
+use Rattle.bpf_decode.specs.declared.op.Op.TheVariants.{Call, Exit, Load, LoadSigned, Store, Wide}
+use Rattle.bpf_decode.specs.declared.op.Op.TheVariants.{Tail}
 use Rattle.bpf_decode.specs.Encoding.{is_tail}
 use Rattle.bpf_semantics.specs.Machine.{is_entry}
 use Rattle.bpf_regstate.specs.States.{instruction_count}
@@ -34,16 +37,21 @@ goes_on true a b h = h
 goes_on false a b h = omega arith
 
 -- an instruction counts from the next slot on
-pub count_more : (ops : List Op) (slot later : ℕ) → slot < later → is_entry (slice_get ops slot) ≡ true
+pub count_more : (ops : List Op) (slot later : ℕ) → slot < later
+    → is_entry (slice_get ops slot) ≡ true
     → instruction_count (take slot ops) < instruction_count (take later ops)
 count_more [] slot later h e = absurd cc
 count_more (op ∷ ops) slot zero h e = absurd (omega arith)
 count_more (op ∷ ops) zero (suc later) h e = begins op (take later ops) e
 count_more (op ∷ ops) (suc slot) (suc later) h e =
-    goes_on (is_tail op) (instruction_count (take slot ops)) (instruction_count (take later ops)) (count_more ops slot later (omega arith) e)
+    goes_on (is_tail op) (instruction_count (take slot ops)) (instruction_count (take later ops))
+    (count_more ops slot later (omega arith) e)
 
 -- and in the whole program
-pub count_all : (ops : List Op) (slot : ℕ) → is_entry (slice_get ops slot) ≡ true → instruction_count (take slot ops) < instruction_count ops
+pub count_all : (ops : List Op) (slot : ℕ) → is_entry (slice_get ops slot) ≡ true
+    → instruction_count (take slot ops) < instruction_count ops
 count_all [] slot e = absurd cc
 count_all (op ∷ ops) zero e = begins op ops e
-count_all (op ∷ ops) (suc slot) e = goes_on (is_tail op) (instruction_count (take slot ops)) (instruction_count ops) (count_all ops slot e)
+count_all (op ∷ ops) (suc slot) e =
+    goes_on (is_tail op) (instruction_count (take slot ops)) (instruction_count ops)
+    (count_all ops slot e)

@@ -1,5 +1,6 @@
 -- Integers modulo a width: what a difference comes to among natural numbers.
-use Rattle.std.proofs.Common.{◌≡◌, ◌≢◌, ℕ, zero, suc, ◌+◌, ◌-◌, ◌/◌, ◌%◌, ◌<◌, ◌≤◌, ◌⊎◌, inl, inr, Bool, true, false, cond, eqb, ltb, refl, sym, ap, arith}
+use Rattle.std.proofs.Common.{◌≡◌, ◌≢◌, ℕ, zero, suc, ◌+◌, ◌-◌, ◌/◌, ◌%◌, ◌<◌, ◌≤◌, ◌⊎◌, inl, inr}
+use Rattle.std.proofs.Common.{Bool, true, false, cond, eqb, ltb, refl, sym, ap, arith}
 use Rattle.std.specs.Prelude.{ℤ, pos, negsuc, ◌-ℤ◌}
 use Rattle.std.proofs.lemmas.Bool.{ltb-true, ltb-false, eqb-true, eqb-false, eq-eqb, ne_eqb}
 use Rattle.bpf_decode.specs.declared.op.Width.{Width}
@@ -17,7 +18,8 @@ abbrev IsDifference : ℕ → ℕ → ℤ → Type 0
 IsDifference a b z = ((b ≤ a) × (z ≡ pos (a - b))) ⊎ ((a < b) × (z ≡ negsuc (b - suc a)))
 
 difference : (a b : ℕ) → IsDifference a b (pos a -ℤ pos b)
-difference a zero = let same : a + 0 ≡ a - 0 = omega arith in inl (omega arith, ap (λ (n : ℕ). pos n) same)
+difference a zero = let same : a + 0 ≡ a - 0 = omega arith in
+    inl (omega arith, ap (λ (n : ℕ). pos n) same)
 difference a (suc b) = by_test (ltb a (suc b)) refl
   where
     by_test : (t : Bool) → ltb a (suc b) ≡ t → IsDifference a (suc b) (pos a -ℤ pos (suc b))
@@ -48,11 +50,13 @@ same_suc a b = by_test (eqb a b) refl
   where
     by_test : (t : Bool) → eqb a b ≡ t → eqb (suc a) (suc b) ≡ t
     by_test true e = let same = eqb-true _ _ e in eq-eqb (suc a) (suc b) (omega arith)
-    by_test false e = let other = eqb-false _ _ e in ne_eqb (suc a) (suc b) (λ same. other (omega arith))
+    by_test false e = let other = eqb-false _ _ e in
+        ne_eqb (suc a) (suc b) (λ same. other (omega arith))
 
 -- the range of differences, with the modulus added to both ends
 pub wrapped_difference : (w : Width) (a b c d : ℕ) → b ≤ modulus w → d ≤ modulus w
-    → wrapped w (pos a -ℤ pos b) (pos c -ℤ pos d) ≡ wrapped_numbers w (a + (modulus w - b)) (c + (modulus w - d))
+    → wrapped w (pos a -ℤ pos b) (pos c -ℤ pos d)
+    ≡ wrapped_numbers w (a + (modulus w - b)) (c + (modulus w - d))
 wrapped_difference w a b c d first second =
     by_signs (pos a -ℤ pos b) (pos c -ℤ pos d) (difference a b) (difference c d)
   where
@@ -69,14 +73,16 @@ wrapped_difference w a b c d first second =
         let r = below w c d q.0 second in
         let other : suc ((a - b) / modulus w) ≢ 0 = λ same. absurd (omega arith) in
         rw (p.1, q.1, l.whole, r.whole)
-        (ap (λ (t : Bool). cond t (span ((a + (modulus w - b)) % modulus w) ((c + (modulus w - d)) % modulus w)) (full w))
+        (ap (λ (t : Bool). cond t (span ((a + (modulus w - b)) % modulus w)
+        ((c + (modulus w - d)) % modulus w)) (full w))
         (sym (ne_eqb (suc ((a - b) / modulus w)) 0 other)))
     by_signs x y (inr p) (inl q) =
         let l = below w a b p.0 first in
         let r = above w c d q.0 second in
         let other : 0 ≢ suc ((c - d) / modulus w) = λ same. absurd (omega arith) in
         rw (p.1, q.1, l.whole, r.whole)
-        (ap (λ (t : Bool). cond t (span ((a + (modulus w - b)) % modulus w) ((c + (modulus w - d)) % modulus w)) (full w))
+        (ap (λ (t : Bool). cond t (span ((a + (modulus w - b)) % modulus w)
+        ((c + (modulus w - d)) % modulus w)) (full w))
         (sym (ne_eqb 0 (suc ((c - d) / modulus w)) other)))
     by_signs x y (inr p) (inr q) =
         let l = below w a b p.0 first in

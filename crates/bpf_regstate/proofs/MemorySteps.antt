@@ -1,10 +1,15 @@
 -- Loads and stores without a fault lead along their edges.
-use Rattle.std.proofs.Common.{◌≡◌, ℕ, zero, suc, ◌+◌, ◌-◌, ◌*◌, ◌<◌, ◌≤◌, ◌^◌, Bool, true, false, cond, List, [], ◌∷◌, ◌++◌, length, take, drop, replicate, map, Option, Some, None, IsSome, IfSome, refl, sym, ap, ◌∙◌, arith, ◌⊎◌, inl, inr, get_or, ⊎_elim}
+use Rattle.std.proofs.Common.{◌≡◌, ℕ, zero, suc, ◌+◌, ◌-◌, ◌*◌, ◌<◌, ◌≤◌, ◌^◌, Bool, true, false}
+use Rattle.std.proofs.Common.{cond, List, [], ◌∷◌, ◌++◌, length, take, drop, replicate, map, Option}
+use Rattle.std.proofs.Common.{Some, None, IsSome, IfSome, refl, sym, ap, ◌∙◌, arith, ◌⊎◌, inl, inr}
+use Rattle.std.proofs.Common.{get_or, ⊎_elim}
 use Rattle.std.specs.Prelude.{slice_get, ℤ, pos, ◌+ℤ◌}
 use Rattle.std.specs.Int as int
 use Rattle.std.specs.Int.{byte_len, from_le_bytes, to_le_bytes, w64}
 use Rattle.std.proofs.lemmas.Bool.{cases_lt, eqb-true}
-use Rattle.std.proofs.lemmas.List.{get_or-drop, get_or-take, get_or-append_right, get_or_append_left, length-append, length-drop, length-map, length-take-le, length-replicate}
+use Rattle.std.proofs.lemmas.List.{get_or-drop, get_or-take, get_or-append_right}
+use Rattle.std.proofs.lemmas.List.{get_or_append_left, length-append, length-drop, length-map}
+use Rattle.std.proofs.lemmas.List.{length-take-le, length-replicate}
 use Rattle.bpf_decode.specs.declared.op.Op.{Op}
 use Rattle.bpf_decode.specs.declared.op.Op.TheVariants.{Load, LoadSigned, Store}
 use Rattle.bpf_decode.specs.declared.op.Operand.{Operand}
@@ -15,17 +20,22 @@ use Rattle.bpf_decode.specs.declared.op.Width.TheVariants.{W64}
 use Rattle.bpf_decode.specs.Words.{extended, part_type}
 use Rattle.bpf_helpers.specs.declared.range.Range.{Range}
 use Rattle.bpf_helpers.specs.Promise.{Promise}
-use Rattle.bpf_semantics.specs.Machine.{Machine, Place, InRecord, InStack, Nowhere, register, act_on, is_entry, bytes_at, loaded, place_of, size_type, stored}
+use Rattle.bpf_semantics.specs.Machine.{Machine, Place, InRecord, InStack, Nowhere, register}
+use Rattle.bpf_semantics.specs.Machine.{act_on, is_entry, bytes_at, loaded, place_of, size_type}
+use Rattle.bpf_semantics.specs.Machine.{stored}
 use Rattle.bpf_regstate.specs.Shape.{Shape, IsShape, known}
 use Rattle.bpf_regstate.specs.Ranges.{span, full, is_single}
 use Rattle.bpf_regstate.specs.Holds.{In, Holds, IsMachine, IsOperand, AreBytes}
 use Rattle.bpf_regstate.specs.Effect.{range_of, access, marked, store_marks}
 use Rattle.bpf_regstate.specs.Edges.{edges}
-use Rattle.bpf_regstate.specs.Faults.{is_in_record, is_nowhere, is_uninit, is_unmarked, all_marked, operand_uninit}
+use Rattle.bpf_regstate.specs.Faults.{is_in_record, is_nowhere, is_uninit, is_unmarked, all_marked}
+use Rattle.bpf_regstate.specs.Faults.{operand_uninit}
 use Rattle.bpf_regstate.proofs.ResultsInRange.{full_in}
 use Rattle.bpf_regstate.proofs.ResultsOfOne.{extended_below}
 use Rattle.bpf_regstate.proofs.RefinedHolds.{reg_held}
-use Rattle.bpf_regstate.proofs.AccessHolds.{IsSomewhere, further_on, access_moves, access_marked, inside_stack, marked_present, bytes_dropped, bytes_taken, size_below}
+use Rattle.bpf_regstate.proofs.AccessHolds.{IsSomewhere, further_on, access_moves, access_marked}
+use Rattle.bpf_regstate.proofs.AccessHolds.{inside_stack, marked_present, bytes_dropped}
+use Rattle.bpf_regstate.proofs.AccessHolds.{bytes_taken, size_below}
 use Rattle.bpf_regstate.proofs.NoFault.{IsClear, not_false, or_false}
 use Rattle.bpf_regstate.proofs.Steps.{LeadsTo, LeadsWell, operand_held, sets_well}
 
@@ -43,53 +53,82 @@ number w (Some bytes) = Some (from_le_bytes w bytes)
 
 -- ---- loads
 
-module _ (record_bytes : List ℕ) (short : length record_bytes < 2 ^ 32) (bytes : AreBytes record_bytes) (m : Machine) (s : Shape) (i : IsShape s) (k : IsMachine m) (h : Holds s m) where
+module _ (record_bytes : List ℕ) (short : length record_bytes < 2 ^ 32)
+    (bytes : AreBytes record_bytes) (m : Machine) (s : Shape) (i : IsShape s) (k : IsMachine m)
+    (h : Holds s m) where
   -- the bytes are there
-  bytes_there : (r : Range) (n : ℕ) (e : ℕ) (p : Place) → IsSomewhere p → e ≤ r.hi - r.lo → is_unmarked s r n p ≡ false
+  bytes_there : (r : Range) (n : ℕ) (e : ℕ) (p : Place) → IsSomewhere p → e ≤ r.hi - r.lo
+      → is_unmarked s r n p ≡ false
       → (bs : List ℕ) × (bytes_at record_bytes m.stack (further_on p e) n ≡ Some bs) × AreBytes bs
-  bytes_there r n e (InRecord at) some le u =
-      (take n (drop (at + e) record_bytes), refl, bytes_taken n (drop (at + e) record_bytes) (bytes_dropped (at + e) record_bytes bytes))
+  bytes_there r n e (InRecord at) some le u = (
+    take n (drop (at + e) record_bytes),
+    refl,
+    bytes_taken n (drop (at + e) record_bytes) (bytes_dropped (at + e) record_bytes bytes),
+  )
   bytes_there r n e (InStack at) some le u =
       let all = not_false (all_marked s at (r.hi - r.lo + n)) u in
-      marked_present n (at + e) s.marks m.stack (omega (arith, i.marks, k.stack)) (access_marked (r.hi - r.lo) e n at s.marks le all) h.marks k.bytes
+      marked_present n (at + e) s.marks m.stack (omega (arith, i.marks, k.stack))
+      (access_marked (r.hi - r.lo) e n at s.marks le all) h.marks k.bytes
   bytes_there r n e Nowhere some le u = elim some [ ]
 
   -- what is loaded
-  pub load_there : (w : int.Width) (r : Range) (a : ℕ) (offset : ℤ) → In r a → is_nowhere (Some (access (length record_bytes) r offset (byte_len w))) ≡ false
+  pub load_there : (w : int.Width) (r : Range) (a : ℕ) (offset : ℤ) → In r a
+      → is_nowhere (Some (access (length record_bytes) r offset (byte_len w))) ≡ false
       → is_unmarked s r (byte_len w) (access (length record_bytes) r offset (byte_len w)) ≡ false
       → (bs : List ℕ) × (loaded record_bytes m w a offset ≡ Some (from_le_bytes w bs)) × AreBytes bs
   load_there w r a offset there some u =
       let p = access (length record_bytes) r offset (byte_len w) in
-      let place = access_moves (length record_bytes) r a offset (byte_len w) p short (somewhere p some) there refl in
-      let bs = bytes_there r (byte_len w) (a - r.lo) p (somewhere p some) (omega (arith, there.low, there.high)) u in
-      (bs.0, ap (λ (q : Place). number w (bytes_at record_bytes m.stack q (byte_len w))) place ∙ ap (number w) bs.1, bs.2)
+      let place = access_moves (length record_bytes) r a offset (byte_len w) p short
+      (somewhere p some) there refl in
+      let bs = bytes_there r (byte_len w) (a - r.lo) p (somewhere p some)
+      (omega (arith, there.low, there.high)) u in (
+        bs.0,
+        ap (λ (q : Place). number w (bytes_at record_bytes m.stack q (byte_len w))) place
+            ∙ ap (number w) bs.1,
+        bs.2,
+      )
 
   module _ (ops : List Op) (sigs : List (ℕ × Promise)) where
-    pub load_steps : (size : Size) (dst base : ℕ) (offset : ℤ) → IsClear (length record_bytes) ops sigs m.slot s (Load size dst base offset)
-        → LeadsWell ops sigs (edges (length record_bytes) sigs m.slot (Load size dst base offset) s) m (act_on ops sigs record_bytes m (Load size dst base offset))
+    pub load_steps : (size : Size) (dst base : ℕ) (offset : ℤ)
+        → IsClear (length record_bytes) ops sigs m.slot s (Load size dst base offset)
+        → LeadsWell ops sigs (edges (length record_bytes) sigs m.slot (Load size dst base offset) s)
+        m (act_on ops sigs record_bytes m (Load size dst base offset))
     load_steps size dst base offset c =
-        let a = reg_held (known s base) (register m base) (i.ranges base) c.reads (h.registers base) in
-        let v = load_there (size_type size) (range_of (known s base)) a.0 offset a.2 c.place c.marked in
+        let a = reg_held (known s base) (register m base) (i.ranges base) c.reads (h.registers base)
+        in
+        let v = load_there (size_type size) (range_of (known s base)) a.0 offset a.2 c.place
+        c.marked in
         let below = size_below size v.0 v.2 in
-        rw (a.1, v.1) (sets_well ops sigs m s i k h (m.slot + 1) dst (from_le_bytes (size_type size) v.0) (span 0 (2 ^ (8 * byte_len (size_type size)) - 1))
-        (record { low = omega arith; high = omega (arith, below) }) c.end (not_false (is_entry (slice_get ops (m.slot + 1))) c.next) (omega arith))
+        rw (a.1, v.1) (sets_well ops sigs m s i k h (m.slot + 1) dst
+        (from_le_bytes (size_type size) v.0) (span 0 (2 ^ (8 * byte_len (size_type size)) - 1))
+        (record { low = omega arith; high = omega (arith, below) }) c.end
+        (not_false (is_entry (slice_get ops (m.slot + 1))) c.next) (omega arith))
 
-    pub load_signed_steps : (part : Part) (dst base : ℕ) (offset : ℤ) → IsClear (length record_bytes) ops sigs m.slot s (LoadSigned part dst base offset)
-        → LeadsWell ops sigs (edges (length record_bytes) sigs m.slot (LoadSigned part dst base offset) s) m (act_on ops sigs record_bytes m (LoadSigned part dst base offset))
+    pub load_signed_steps : (part : Part) (dst base : ℕ) (offset : ℤ)
+        → IsClear (length record_bytes) ops sigs m.slot s (LoadSigned part dst base offset)
+        → LeadsWell ops sigs (edges (length record_bytes) sigs m.slot
+        (LoadSigned part dst base offset) s) m
+        (act_on ops sigs record_bytes m (LoadSigned part dst base offset))
     load_signed_steps part dst base offset c =
-        let a = reg_held (known s base) (register m base) (i.ranges base) c.reads (h.registers base) in
-        let v = load_there (part_type part) (range_of (known s base)) a.0 offset a.2 c.place c.marked in
-        rw (a.1, v.1) (sets_well ops sigs m s i k h (m.slot + 1) dst (extended W64 part (from_le_bytes (part_type part) v.0)) (full W64)
-        (full_in W64 (extended W64 part (from_le_bytes (part_type part) v.0)) (extended_below W64 part (from_le_bytes (part_type part) v.0)))
+        let a = reg_held (known s base) (register m base) (i.ranges base) c.reads (h.registers base)
+        in
+        let v = load_there (part_type part) (range_of (known s base)) a.0 offset a.2 c.place
+        c.marked in
+        rw (a.1, v.1) (sets_well ops sigs m s i k h (m.slot + 1) dst
+        (extended W64 part (from_le_bytes (part_type part) v.0)) (full W64)
+        (full_in W64 (extended W64 part (from_le_bytes (part_type part) v.0))
+        (extended_below W64 part (from_le_bytes (part_type part) v.0)))
         c.end (not_false (is_entry (slice_get ops (m.slot + 1))) c.next) (omega arith))
 
 -- ---- a part of a list is replaced
 
-pub outside : {X : Type 0} (xs ys : List X) (at n j : ℕ) (d : X) → length ys ≡ n → at + n ≤ length xs → (j < at) ⊎ (at + n ≤ j)
+pub outside : {X : Type 0} (xs ys : List X) (at n j : ℕ) (d : X) → length ys ≡ n
+    → at + n ≤ length xs → (j < at) ⊎ (at + n ≤ j)
     → get_or (take at xs ++ (ys ++ drop (at + n) xs)) j d ≡ get_or xs j d
 outside xs ys at n j d len fits (inl less) =
     let front : length (take at xs) ≡ at = length-take-le at xs (omega arith) in
-    get_or_append_left (take at xs) (ys ++ drop (at + n) xs) d j (omega arith) ∙ get_or-take at xs j d less
+    get_or_append_left (take at xs) (ys ++ drop (at + n) xs) d j (omega arith)
+    ∙ get_or-take at xs j d less
 outside xs ys at n j d len fits (inr more) =
     let front : length (take at xs) ≡ at = length-take-le at xs (omega arith) in
     let there : (at + n) + ((j - at) - n) ≡ j = omega arith in
@@ -98,20 +137,31 @@ outside xs ys at n j d len fits (inr more) =
     ∙ get_or-drop (at + n) xs ((j - at) - n) d
     ∙ ap (λ (x : ℕ). get_or xs x d) there
 
-pub inside : {X : Type 0} (xs ys : List X) (at n j : ℕ) (d : X) → length ys ≡ n → at + n ≤ length xs → at ≤ j → j < at + n
+pub inside : {X : Type 0} (xs ys : List X) (at n j : ℕ) (d : X) → length ys ≡ n → at + n ≤ length xs
+    → at ≤ j → j < at + n
     → get_or (take at xs ++ (ys ++ drop (at + n) xs)) j d ≡ get_or ys (j - at) d
 inside xs ys at n j d len fits low high =
     let front : length (take at xs) ≡ at = length-take-le at xs (omega arith) in
     get_or-append_right (take at xs) (ys ++ drop (at + n) xs) at j d front low
     ∙ get_or_append_left ys (drop (at + n) xs) d (j - at) (omega arith)
 
-pub length-replaced : {X : Type 0} (xs ys : List X) (at n : ℕ) → length ys ≡ n → at + n ≤ length xs → length (take at xs ++ (ys ++ drop (at + n) xs)) ≡ length xs
+pub length-replaced : {X : Type 0} (xs ys : List X) (at n : ℕ) → length ys ≡ n → at + n ≤ length xs
+    → length (take at xs ++ (ys ++ drop (at + n) xs)) ≡ length xs
 length-replaced xs ys at n len fits =
-    omega (arith, length-append (take at xs) (ys ++ drop (at + n) xs), length-append ys (drop (at + n) xs), length-take-le at xs (omega arith), length-drop (at + n) xs, len)
+    omega (
+      arith,
+      length-append (take at xs) (ys ++ drop (at + n) xs),
+      length-append ys (drop (at + n) xs),
+      length-take-le at xs (omega arith),
+      length-drop (at + n) xs,
+      len,
+    )
 
 -- before, in or behind a part
 where_is : (at n j : ℕ) → ((j < at) ⊎ (at + n ≤ j)) ⊎ ((at ≤ j) × (j < at + n))
-where_is at n j = ⊎_elim (λ (less : j < at). inl (inl less)) (λ (low : at ≤ j). ⊎_elim (λ (high : j < at + n). inr (low, high)) (λ (past : at + n ≤ j). inl (inr past)) (cases_lt j (at + n))) (cases_lt j at)
+where_is at n j = ⊎_elim (λ (less : j < at). inl (inl less))
+    (λ (low : at ≤ j). ⊎_elim (λ (high : j < at + n). inr (low, high))
+    (λ (past : at + n ≤ j). inl (inr past)) (cases_lt j (at + n))) (cases_lt j at)
 
 -- ---- stores
 
@@ -120,7 +170,8 @@ some_there [] j lt = absurd (omega arith)
 some_there (b ∷ bs) zero lt = refl
 some_there (b ∷ bs) (suc j) lt = some_there bs j (omega arith)
 
-some_byte : (bs : List ℕ) (j : ℕ) → AreBytes bs → IfSome (get_or (map (λ b. Some b) bs) j None) (λ b. b < 256)
+some_byte : (bs : List ℕ) (j : ℕ) → AreBytes bs
+    → IfSome (get_or (map (λ b. Some b) bs) j None) (λ b. b < 256)
 some_byte [] j a = tt
 some_byte (b ∷ bs) zero a = a 0
 some_byte (b ∷ bs) (suc j) a = some_byte bs j (λ l. a (suc l))
@@ -136,7 +187,8 @@ le_bytes v (suc (suc (suc (suc (suc (suc zero)))))) = omega arith
 le_bytes v (suc (suc (suc (suc (suc (suc (suc zero))))))) = omega arith
 le_bytes v (suc (suc (suc (suc (suc (suc (suc (suc j)))))))) = omega arith
 
-length-stored : (size : Size) (v : ℕ) → length (take (byte_len (size_type size)) (to_le_bytes w64 v)) ≡ byte_len (size_type size)
+length-stored : (size : Size) (v : ℕ)
+    → length (take (byte_len (size_type size)) (to_le_bytes w64 v)) ≡ byte_len (size_type size)
 length-stored Byte v = refl
 length-stored Half v = refl
 length-stored Word v = refl
@@ -148,82 +200,119 @@ module _ (m : Machine) (s : Shape) (i : IsShape s) (k : IsMachine m) (h : Holds 
   after_store at bs = take at m.stack ++ (map (λ b. Some b) bs ++ drop (at + length bs) m.stack)
 
   -- where bytes were stored, and where none were
-  store_keeps : (at : ℕ) (bs : List ℕ) (j : ℕ) → at + length bs ≤ 512 → IsSome (get_or m.stack j None) → IsSome (get_or (after_store at bs) j None)
+  store_keeps : (at : ℕ) (bs : List ℕ) (j : ℕ) → at + length bs ≤ 512
+      → IsSome (get_or m.stack j None) → IsSome (get_or (after_store at bs) j None)
   store_keeps at bs j fits old = ⊎_elim
-      (λ (out : (j < at) ⊎ (at + length bs ≤ j)). rw (outside m.stack (map (λ b. Some b) bs) at (length bs) j None (length-map bs (λ b. Some b)) (omega (arith, k.stack)) out) old)
+      (λ (out : (j < at) ⊎ (at + length bs ≤ j)).
+      rw (outside m.stack (map (λ b. Some b) bs) at (length bs) j None
+      (length-map bs (λ b. Some b)) (omega (arith, k.stack)) out) old)
       (λ (part : (at ≤ j) × (j < at + length bs)).
-      rw (inside m.stack (map (λ b. Some b) bs) at (length bs) j None (length-map bs (λ b. Some b)) (omega (arith, k.stack)) part.0 part.1) (some_there bs (j - at) (omega (arith, part.0, part.1))))
+      rw (inside m.stack (map (λ b. Some b) bs) at (length bs) j None (length-map bs (λ b. Some b))
+      (omega (arith, k.stack)) part.0 part.1)
+      (some_there bs (j - at) (omega (arith, part.0, part.1))))
       (where_is at (length bs) j)
 
-  store_bytes : (at : ℕ) (bs : List ℕ) → at + length bs ≤ 512 → AreBytes bs → (j : ℕ) → IfSome (get_or (after_store at bs) j None) (λ b. b < 256)
+  store_bytes : (at : ℕ) (bs : List ℕ) → at + length bs ≤ 512 → AreBytes bs → (j : ℕ)
+      → IfSome (get_or (after_store at bs) j None) (λ b. b < 256)
   store_bytes at bs fits a j = ⊎_elim
-      (λ (out : (j < at) ⊎ (at + length bs ≤ j)). rw (outside m.stack (map (λ b. Some b) bs) at (length bs) j None (length-map bs (λ b. Some b)) (omega (arith, k.stack)) out) (k.bytes j))
+      (λ (out : (j < at) ⊎ (at + length bs ≤ j)).
+      rw (outside m.stack (map (λ b. Some b) bs) at (length bs) j None
+      (length-map bs (λ b. Some b)) (omega (arith, k.stack)) out) (k.bytes j))
       (λ (part : (at ≤ j) × (j < at + length bs)).
-      rw (inside m.stack (map (λ b. Some b) bs) at (length bs) j None (length-map bs (λ b. Some b)) (omega (arith, k.stack)) part.0 part.1) (some_byte bs (j - at) a))
+      rw (inside m.stack (map (λ b. Some b) bs) at (length bs) j None (length-map bs (λ b. Some b))
+      (omega (arith, k.stack)) part.0 part.1) (some_byte bs (j - at) a))
       (where_is at (length bs) j)
 
   -- what is marked by it is there
   marks_there : (at : ℕ) (bs : List ℕ) (j : ℕ) → at + length bs ≤ 512
-      → get_or (take at s.marks ++ (replicate (length bs) true ++ drop (at + length bs) s.marks)) j false ≡ true → IsSome (get_or (after_store at bs) j None)
+      → get_or (take at s.marks ++ (replicate (length bs) true ++ drop (at + length bs) s.marks)) j
+      false ≡ true → IsSome (get_or (after_store at bs) j None)
   marks_there at bs j fits e = ⊎_elim
       (λ (out : (j < at) ⊎ (at + length bs ≤ j)).
-      let same = outside s.marks (replicate (length bs) true) at (length bs) j false (length-replicate (length bs) true) (omega (arith, i.marks)) out in
+      let same = outside s.marks (replicate (length bs) true) at (length bs) j false
+      (length-replicate (length bs) true) (omega (arith, i.marks)) out in
       store_keeps at bs j fits (h.marks j (sym same ∙ e)))
       (λ (part : (at ≤ j) × (j < at + length bs)).
-      rw (inside m.stack (map (λ b. Some b) bs) at (length bs) j None (length-map bs (λ b. Some b)) (omega (arith, k.stack)) part.0 part.1) (some_there bs (j - at) (omega (arith, part.0, part.1))))
+      rw (inside m.stack (map (λ b. Some b) bs) at (length bs) j None (length-map bs (λ b. Some b))
+      (omega (arith, k.stack)) part.0 part.1)
+      (some_there bs (j - at) (omega (arith, part.0, part.1))))
       (where_is at (length bs) j)
 
   -- the marks after a store to one of these places
-  store_marks_there : (record_length : ℕ) (r : Range) (a : ℕ) (offset : ℤ) (n at : ℕ) (bs : List ℕ) → length bs ≡ n → In r a → at + (a - r.lo) + n ≤ 512
+  store_marks_there : (record_length : ℕ) (r : Range) (a : ℕ) (offset : ℤ) (n at : ℕ) (bs : List ℕ)
+      → length bs ≡ n → In r a → at + (a - r.lo) + n ≤ 512
       → access record_length r offset n ≡ InStack at
-      → (j : ℕ) → get_or (store_marks record_length s.marks r offset n) j false ≡ true → IsSome (get_or (after_store (at + (a - r.lo)) bs) j None)
-  store_marks_there record_length r a offset n at bs len there fits is j = by_test (is_single r) refl
+      → (j : ℕ) → get_or (store_marks record_length s.marks r offset n) j false ≡ true
+      → IsSome (get_or (after_store (at + (a - r.lo)) bs) j None)
+  store_marks_there record_length r a offset n at bs len there fits is j =
+      by_test (is_single r) refl
     where
-      by_test : (t : Bool) → is_single r ≡ t → get_or (cond t (marked s.marks (access record_length r offset n) n) s.marks) j false ≡ true
+      by_test : (t : Bool) → is_single r ≡ t
+          → get_or (cond t (marked s.marks (access record_length r offset n) n) s.marks) j false
+          ≡ true
           → IsSome (get_or (after_store (at + (a - r.lo)) bs) j None)
       by_test true e f =
           let one = eqb-true _ _ e in
           let same : at + (a - r.lo) ≡ at = omega (arith, there.low, there.high, one) in
           let marks : get_or (marked s.marks (InStack at) n) j false ≡ true = rw is at f in
           rw same (marks_there at bs j (omega (arith, len, fits, same)) (rw len marks))
-      by_test false e f = store_keeps (at + (a - r.lo)) bs j (omega (arith, len, fits)) (h.marks j f)
+      by_test false e f = store_keeps (at + (a - r.lo)) bs j (omega (arith, len, fits))
+          (h.marks j f)
 
-  module _ (ops : List Op) (sigs : List (ℕ × Promise)) (record_bytes : List ℕ) (short : length record_bytes < 2 ^ 32) where
-    in_stack_place : (p : Place) → is_nowhere (Some p) ≡ false → is_in_record p ≡ false → (at : ℕ) × (p ≡ InStack at)
+  module _ (ops : List Op) (sigs : List (ℕ × Promise)) (record_bytes : List ℕ)
+      (short : length record_bytes < 2 ^ 32) where
+    in_stack_place : (p : Place) → is_nowhere (Some p) ≡ false → is_in_record p ≡ false
+        → (at : ℕ) × (p ≡ InStack at)
     in_stack_place (InRecord at) e f = absurd cc
     in_stack_place (InStack at) e f = (at, refl)
     in_stack_place Nowhere e f = absurd cc
 
-    pub store_steps : (size : Size) (base : ℕ) (offset : ℤ) (from : Operand) → IsOperand from → IsClear (length record_bytes) ops sigs m.slot s (Store size base offset from)
-        → LeadsWell ops sigs (edges (length record_bytes) sigs m.slot (Store size base offset from) s) m (act_on ops sigs record_bytes m (Store size base offset from))
+    pub store_steps : (size : Size) (base : ℕ) (offset : ℤ) (from : Operand) → IsOperand from
+        → IsClear (length record_bytes) ops sigs m.slot s (Store size base offset from)
+        → LeadsWell ops sigs (edges (length record_bytes) sigs m.slot (Store size base offset from)
+        s) m (act_on ops sigs record_bytes m (Store size base offset from))
     store_steps size base offset from f c =
         let reads = or_false (is_uninit (known s base)) (operand_uninit s from) c.reads in
-        let a = reg_held (known s base) (register m base) (i.ranges base) reads.0 (h.registers base) in
+        let a = reg_held (known s base) (register m base) (i.ranges base) reads.0 (h.registers base)
+        in
         let v = operand_held ops sigs m s i k h from f reads.1 in
         let n = byte_len (size_type size) in
         let r = range_of (known s base) in
         let bs = take n (to_le_bytes w64 v.0) in
         let len : length bs ≡ n = length-stored size v.0 in
         let at = in_stack_place (access (length record_bytes) r offset n) c.place c.store in
-        let place : place_of (length record_bytes) (pos a.0 +ℤ offset) n ≡ InStack (at.0 + (a.0 - r.lo)) = access_moves (length record_bytes) r a.0 offset n (InStack at.0) short tt a.2 at.1 in
-        let fits : at.0 + (a.0 - r.lo) + n ≤ 512 = inside_stack (length record_bytes) (pos a.0 +ℤ offset) n (at.0 + (a.0 - r.lo)) place in
+        let place : place_of (length record_bytes) (pos a.0 +ℤ offset) n
+        ≡ InStack (at.0 + (a.0 - r.lo)) =
+        access_moves (length record_bytes) r a.0 offset n (InStack at.0) short tt a.2 at.1 in
+        let fits : at.0 + (a.0 - r.lo) + n ≤ 512 =
+        inside_stack (length record_bytes) (pos a.0 +ℤ offset) n (at.0 + (a.0 - r.lo)) place in
         let room : at.0 + (a.0 - r.lo) + length bs ≤ 512 = omega (arith, len, fits) in
-        let written : stored m.stack (place_of (length record_bytes) (pos a.0 +ℤ offset) n) bs ≡ Some (after_store (at.0 + (a.0 - r.lo)) bs) = ap (λ (p : Place). stored m.stack p bs) place in
+        let written : stored m.stack (place_of (length record_bytes) (pos a.0 +ℤ offset) n) bs
+        ≡ Some (after_store (at.0 + (a.0 - r.lo)) bs) =
+        ap (λ (p : Place). stored m.stack p bs) place in
         let next = not_false (is_entry (slice_get ops (m.slot + 1))) c.next in
-        let goes : LeadsTo ops m.slot (edges (length record_bytes) sigs m.slot (Store size base offset from) s)
-        (record { slot = m.slot + 1; registers = m.registers; stack = after_store (at.0 + (a.0 - r.lo)) bs }) = record {
+        let goes : LeadsTo ops m.slot (edges (length record_bytes) sigs m.slot
+        (Store size base offset from) s)
+        (record {
+          slot = m.slot + 1;
+          registers = m.registers;
+          stack = after_store (at.0 + (a.0 - r.lo)) bs;
+        }) = record {
           later = omega arith;
           entry = next;
           machine = record {
             registers = k.registers;
-            stack = length-replaced m.stack (map (λ b. Some b) bs) (at.0 + (a.0 - r.lo)) (length bs) (length-map bs (λ b. Some b)) (omega (arith, k.stack, room)) ∙ k.stack;
-            bytes = store_bytes (at.0 + (a.0 - r.lo)) bs room (bytes_taken n (to_le_bytes w64 v.0) (le_bytes v.0));
+            stack = length-replaced m.stack (map (λ b. Some b) bs) (at.0 + (a.0 - r.lo)) (length bs)
+                (length-map bs (λ b. Some b)) (omega (arith, k.stack, room)) ∙ k.stack;
+            bytes = store_bytes (at.0 + (a.0 - r.lo)) bs room
+                (bytes_taken n (to_le_bytes w64 v.0) (le_bytes v.0));
           };
           held = inl (
             refl,
             record {
               registers = h.registers;
-              marks = store_marks_there (length record_bytes) r a.0 offset n at.0 bs len a.2 fits at.1;
+              marks = store_marks_there (length record_bytes) r a.0 offset n at.0 bs len a.2 fits
+                  at.1;
             },
           );
         } in

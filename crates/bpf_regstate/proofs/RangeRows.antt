@@ -1,7 +1,9 @@
 -- Worked ranges: results, narrowing and joins.
 use Rattle.std.proofs.Common.{◌≡◌, Some, None, true, false, refl}
 use Rattle.bpf_decode.specs.declared.op.Bytes.TheVariants.{Two}
-use Rattle.bpf_decode.specs.declared.op.Code.TheVariants.{Add, Sub, Mul, Div, Mod, Or, Xor, LeftShift, RightShift, ArithmeticShift, Mov}
+use Rattle.bpf_decode.specs.declared.op.Code.TheVariants.{Add, Sub, Mul, Div, Mod, Or, Xor}
+use Rattle.bpf_decode.specs.declared.op.Code.TheVariants.{LeftShift, RightShift, ArithmeticShift}
+use Rattle.bpf_decode.specs.declared.op.Code.TheVariants.{Mov}
 use Rattle.bpf_decode.specs.declared.op.Condition.TheVariants.{Equal, NotEqual, Above, Below}
 use Rattle.bpf_decode.specs.declared.op.Order.TheVariants.{Little, Big}
 use Rattle.bpf_decode.specs.declared.op.Part.TheVariants.{Low8}
@@ -18,13 +20,16 @@ sum : arith_result Add W64 (span 1 16) (span 5 5) ≡ span 6 21
 sum = refl
 
 -- both ends wrap, or neither
-sum_wraps : arith_result Add W64 (span 1 16) (span 0xffffffffffffffff 0xffffffffffffffff) ≡ span 0 15
+sum_wraps : arith_result Add W64 (span 1 16) (span 0xffffffffffffffff 0xffffffffffffffff)
+    ≡ span 0 15
 sum_wraps = refl
 
-one_end_wraps : arith_result Add W64 (span 1 16) (span 0xfffffffffffffffe 0xfffffffffffffffe) ≡ full W64
+one_end_wraps : arith_result Add W64 (span 1 16) (span 0xfffffffffffffffe 0xfffffffffffffffe)
+    ≡ full W64
 one_end_wraps = refl
 
-difference_below_zero : arith_result Sub W64 (span 1 16) (span 17 17) ≡ span 0xfffffffffffffff0 0xffffffffffffffff
+difference_below_zero : arith_result Sub W64 (span 1 16) (span 17 17)
+    ≡ span 0xfffffffffffffff0 0xffffffffffffffff
 difference_below_zero = refl
 
 one_end_below_zero : arith_result Sub W64 (span 1 16) (span 2 2) ≡ full W64
@@ -71,7 +76,8 @@ some_low_half : arith_result Mov W32 (full W64) (span 0xffffffff 0x100000010) �
 some_low_half = refl
 
 -- one word gives the machine's own result
-one_word : arith_result ArithmeticShift W64 (span 0xfffffffffffffff0 0xfffffffffffffff0) (span 4 4) ≡ span 0xffffffffffffffff 0xffffffffffffffff
+one_word : arith_result ArithmeticShift W64 (span 0xfffffffffffffff0 0xfffffffffffffff0) (span 4 4)
+    ≡ span 0xffffffffffffffff 0xffffffffffffffff
 one_word = refl
 
 negated_word : negate_range W32 (span 1 1) ≡ span 0xffffffff 0xffffffff

@@ -15,7 +15,8 @@ edge (Some to) None = []
 edge (Some to) (Some s) = (to, s) ∷ []
 
 module _ (record_length : ℕ) (sigs : List (ℕ × Promise)) where
-  -- where a slot without a fault leads; a conditional jump has two edges, also where both lead to one slot
+  -- where a slot without a fault leads; a conditional jump has two edges, also where both lead to
+  -- one slot
   abbrev pub edges : ℕ → Op → Shape → List (ℕ × Shape)
   edges slot (Ja offset) s = edge (target slot offset) (Some s)
   edges slot (Ja32 offset) s = edge (target slot offset) (Some s)

@@ -1,9 +1,13 @@
--- What is known after an instruction that is no conditional jump. Sections are those of RFC 9669; "profile" is this project's profile.
-use Rattle.std.specs.Prelude.{ℕ, ◌+◌, ◌-◌, ◌*◌, ◌^◌, List, ◌∷◌, ◌++◌, take, drop, replicate, Bool, true, nat_lt, if◌then◌else◌, Option, Some, None, slice_set, ℤ, pos, ◌+ℤ◌}
+-- What is known after an instruction that is no conditional jump. Sections are those of RFC 9669;
+-- "profile" is this project's profile.
+use Rattle.std.specs.Prelude.{ℕ, ◌+◌, ◌-◌, ◌*◌, ◌^◌, List, ◌∷◌, ◌++◌, take, drop, replicate, Bool}
+use Rattle.std.specs.Prelude.{true, nat_lt, if◌then◌else◌, Option, Some, None, slice_set, ℤ, pos}
+use Rattle.std.specs.Prelude.{◌+ℤ◌}
 use Rattle.std.specs.Int as int
 use Rattle.std.specs.Int.{cast_unsigned, w64}
 use Rattle.bpf_decode.specs.declared.op.Op.{Op}
-use Rattle.bpf_decode.specs.declared.op.Op.TheVariants.{Arith, Negate, Extend, End, Call, Load, LoadSigned, Store, Wide}
+use Rattle.bpf_decode.specs.declared.op.Op.TheVariants.{Arith, Negate, Extend, End, Call, Load}
+use Rattle.bpf_decode.specs.declared.op.Op.TheVariants.{LoadSigned, Store, Wide}
 use Rattle.bpf_decode.specs.declared.op.Operand.{Operand}
 use Rattle.bpf_decode.specs.declared.op.Operand.TheVariants.{From, Immediate}
 use Rattle.bpf_decode.specs.declared.op.Code.{Code}
@@ -51,12 +55,14 @@ extend_range w part b =
 
 -- 4.2: of the whole register, also where a word has more bits (profile)
 abbrev pub order_range : Order → Bytes → Range → Range
-order_range Little n a = if nat_lt a.hi (2 ^ (8 * count_of n)) then a else span 0 (2 ^ (8 * count_of n) - 1)
+order_range Little n a = if nat_lt a.hi (2 ^ (8 * count_of n)) then a else
+    span 0 (2 ^ (8 * count_of n) - 1)
 order_range Big n a = span 0 (2 ^ (8 * count_of n) - 1)
 order_range Swap n a = span 0 (2 ^ (8 * count_of n) - 1)
 
 abbrev pub order_result : Order → Bytes → Range → Range
-order_result order n a = if is_single a then span (ordered order n a.lo) (ordered order n a.lo) else order_range order n a
+order_result order n a = if is_single a then span (ordered order n a.lo) (ordered order n a.lo) else
+    order_range order n a
 
 -- MOV reads its second operand alone.
 abbrev pub arith_result : Code → Width → Range → Range → Range
@@ -79,7 +85,8 @@ answer_reg (Some sig) = Known sig.answer
 -- ---- beside a record of this length
 
 module _ (record_length : ℕ) where
-  -- profile: where all addresses of an access lie, n bytes from each word of the range plus the offset
+  -- profile: where all addresses of an access lie, n bytes from each word of the range plus the
+  -- offset
   abbrev pub access : Range → ℤ → ℕ → Place
   access r offset n = place_of record_length (pos r.lo +ℤ offset) (r.hi - r.lo + n)
 
@@ -90,8 +97,10 @@ module _ (record_length : ℕ) where
   -- what is known after an instruction that is no conditional jump
   abbrev pub after_op : List (ℕ × Promise) → Op → Shape → Shape
   after_op sigs (Arith w code dst from) s =
-      with_register s dst (Known (arith_result code w (range_of (known s dst)) (range_of (operand_reg s from))))
-  after_op sigs (Negate w dst) s = with_register s dst (Known (negate_range w (range_of (known s dst))))
+      with_register s dst (Known (arith_result code w (range_of (known s dst))
+      (range_of (operand_reg s from))))
+  after_op sigs (Negate w dst) s =
+      with_register s dst (Known (negate_range w (range_of (known s dst))))
   after_op sigs (Extend w part dst src) s =
       with_register s dst (Known (extend_range w part (range_of (known s src))))
   after_op sigs (End order n dst) s =

@@ -1,9 +1,13 @@
 -- What may not stand in a program (this project's profile). Faults have numbers from 306 to 314.
-use Rattle.std.specs.Prelude.{ℕ, ◌+◌, ◌-◌, List, [], ◌∷◌, take, drop, Bool, true, false, not, ◌&&◌, ◌||◌, ◌==◌, nat_lt, nat_le, if◌then◌else◌, Option, Some, None, slice_get, ℤ}
+use Rattle.std.specs.Prelude.{ℕ, ◌+◌, ◌-◌, List, [], ◌∷◌, take, drop, Bool, true, false, not, ◌&&◌}
+use Rattle.std.specs.Prelude.{◌||◌, ◌==◌, nat_lt, nat_le, if◌then◌else◌, Option, Some, None}
+use Rattle.std.specs.Prelude.{slice_get, ℤ}
 use Rattle.std.specs.Int as int
 use Rattle.std.specs.List.{list_all}
 use Rattle.bpf_decode.specs.declared.op.Op.{Op}
-use Rattle.bpf_decode.specs.declared.op.Op.TheVariants.{Arith, Negate, Extend, End, Ja, Ja32, Jump, Call, Exit, Load, LoadSigned, Store, Wide, Tail}
+use Rattle.bpf_decode.specs.declared.op.Op.TheVariants.{Arith, Negate, Extend, End, Ja, Ja32, Jump}
+use Rattle.bpf_decode.specs.declared.op.Op.TheVariants.{Call, Exit, Load, LoadSigned, Store, Wide}
+use Rattle.bpf_decode.specs.declared.op.Op.TheVariants.{Tail}
 use Rattle.bpf_decode.specs.declared.op.Operand.{Operand}
 use Rattle.bpf_decode.specs.declared.op.Operand.TheVariants.{From, Immediate}
 use Rattle.bpf_decode.specs.declared.op.Code.{Code}
@@ -11,7 +15,8 @@ use Rattle.bpf_decode.specs.declared.op.Code.TheVariants.{Mov}
 use Rattle.bpf_decode.specs.Words.{part_type}
 use Rattle.bpf_helpers.specs.declared.range.Range.{Range}
 use Rattle.bpf_helpers.specs.Promise.{Promise, signature_of}
-use Rattle.bpf_semantics.specs.Machine.{Place, InStack, InRecord, Nowhere, size_type, target, next_slot, is_entry}
+use Rattle.bpf_semantics.specs.Machine.{Place, InStack, InRecord, Nowhere, size_type, target}
+use Rattle.bpf_semantics.specs.Machine.{next_slot, is_entry}
 use Rattle.bpf_regstate.specs.declared.reg.Reg.{Reg}
 use Rattle.bpf_regstate.specs.declared.reg.Reg.TheVariants.{Uninit, Known}
 use Rattle.bpf_regstate.specs.Shape.{Shape, known}
@@ -88,12 +93,14 @@ reads_uninit sigs s (Arith w code dst from) = destination_uninit code s dst || o
 reads_uninit sigs s (Negate w dst) = is_uninit (known s dst)
 reads_uninit sigs s (Extend w part dst src) = is_uninit (known s src)
 reads_uninit sigs s (End order n dst) = is_uninit (known s dst)
-reads_uninit sigs s (Jump w condition dst from offset) = is_uninit (known s dst) || operand_uninit s from
+reads_uninit sigs s (Jump w condition dst from offset) =
+    is_uninit (known s dst) || operand_uninit s from
 reads_uninit sigs s (Call helper) = call_uninit s (signature_of sigs helper)
 reads_uninit sigs s Exit = is_uninit (known s 0)
 reads_uninit sigs s (Load size dst base offset) = is_uninit (known s base)
 reads_uninit sigs s (LoadSigned part dst base offset) = is_uninit (known s base)
-reads_uninit sigs s (Store size base offset from) = is_uninit (known s base) || operand_uninit s from
+reads_uninit sigs s (Store size base offset from) =
+    is_uninit (known s base) || operand_uninit s from
 reads_uninit sigs s op = false
 
 -- 309: the addresses do not all lie in one region
@@ -119,7 +126,8 @@ lies_within inner outer = nat_le outer.lo inner.lo && nat_le inner.hi outer.hi
 
 abbrev pub arguments_within : Shape → List Range → ℕ → Bool
 arguments_within s [] first = true
-arguments_within s (r ∷ rs) first = lies_within (range_of (known s first)) r && arguments_within s rs (first + 1)
+arguments_within s (r ∷ rs) first =
+    lies_within (range_of (known s first)) r && arguments_within s rs (first + 1)
 
 abbrev pub call_within : Shape → Option Promise → Bool
 call_within s None = true
@@ -150,19 +158,25 @@ module _ (record_length : ℕ) where
 
   -- where the access of an instruction lies
   abbrev pub access_of : Shape → Op → Option Place
-  access_of s (Load size dst base offset) = Some (place_by s base offset (int.byte_len (size_type size)))
-  access_of s (LoadSigned part dst base offset) = Some (place_by s base offset (int.byte_len (part_type part)))
-  access_of s (Store size base offset from) = Some (place_by s base offset (int.byte_len (size_type size)))
+  access_of s (Load size dst base offset) =
+      Some (place_by s base offset (int.byte_len (size_type size)))
+  access_of s (LoadSigned part dst base offset) =
+      Some (place_by s base offset (int.byte_len (part_type part)))
+  access_of s (Store size base offset from) =
+      Some (place_by s base offset (int.byte_len (size_type size)))
   access_of s op = None
 
   -- a load of so many bytes from the stack, of which some may not be marked
   abbrev pub is_unmarked_by : Shape → ℕ → ℤ → ℕ → Bool
-  is_unmarked_by s base offset n = is_unmarked s (range_of (known s base)) n (place_by s base offset n)
+  is_unmarked_by s base offset n =
+      is_unmarked s (range_of (known s base)) n (place_by s base offset n)
 
   -- 310: a load from the stack of bytes that are not all marked
   abbrev pub loads_unmarked : Shape → Op → Bool
-  loads_unmarked s (Load size dst base offset) = is_unmarked_by s base offset (int.byte_len (size_type size))
-  loads_unmarked s (LoadSigned part dst base offset) = is_unmarked_by s base offset (int.byte_len (part_type part))
+  loads_unmarked s (Load size dst base offset) =
+      is_unmarked_by s base offset (int.byte_len (size_type size))
+  loads_unmarked s (LoadSigned part dst base offset) =
+      is_unmarked_by s base offset (int.byte_len (part_type part))
   loads_unmarked s op = false
 
   -- 311: a store to the record

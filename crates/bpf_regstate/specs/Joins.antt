@@ -26,4 +26,7 @@ join_marks xs ys = zip_with (λ a b. a && b) xs ys
 
 -- what both have in common
 abbrev pub joined : Shape → Shape → Shape
-joined s t = record { registers = join_registers s.registers t.registers; marks = join_marks s.marks t.marks }
+joined s t = record {
+  registers = join_registers s.registers t.registers;
+  marks = join_marks s.marks t.marks;
+}

@@ -1,10 +1,13 @@
--- What a conditional jump tells of its operands (this project's profile; RFC 9669, section 4.3, has the conditions).
-use Rattle.std.specs.Prelude.{ℕ, ◌+◌, ◌-◌, ◌^◌, Bool, true, false, not, ◌&&◌, ◌==◌, nat_lt, nat_le, min, max, if◌then◌else◌, Option, Some, None, ℤ}
+-- What a conditional jump tells of its operands (this project's profile; RFC 9669, section 4.3, has
+-- the conditions).
+use Rattle.std.specs.Prelude.{ℕ, ◌+◌, ◌-◌, ◌^◌, Bool, true, false, not, ◌&&◌, ◌==◌, nat_lt, nat_le}
+use Rattle.std.specs.Prelude.{min, max, if◌then◌else◌, Option, Some, None, ℤ}
 use Rattle.std.specs.Int.{cast_unsigned, w32, w64}
 use Rattle.bpf_decode.specs.declared.op.Operand.{Operand}
 use Rattle.bpf_decode.specs.declared.op.Operand.TheVariants.{From, Immediate}
 use Rattle.bpf_decode.specs.declared.op.Condition.{Condition}
-use Rattle.bpf_decode.specs.declared.op.Condition.TheVariants.{Equal, NotEqual, Above, AtLeast, Below, AtMost}
+use Rattle.bpf_decode.specs.declared.op.Condition.TheVariants.{Equal, NotEqual, Above, AtLeast}
+use Rattle.bpf_decode.specs.declared.op.Condition.TheVariants.{Below, AtMost}
 use Rattle.bpf_decode.specs.declared.op.Width.{Width}
 use Rattle.bpf_decode.specs.declared.op.Width.TheVariants.{W32, W64}
 use Rattle.bpf_helpers.specs.declared.range.Range.{Range}
@@ -21,19 +24,22 @@ both_of a b = if nat_le a.lo a.hi && nat_le b.lo b.hi then Some (a, b) else None
 
 -- equal words lie in both ranges
 abbrev pub narrow_equal : Range → Range → Option (Range × Range)
-narrow_equal a b = both_of (span (max a.lo b.lo) (min a.hi b.hi)) (span (max a.lo b.lo) (min a.hi b.hi))
+narrow_equal a b = both_of (span (max a.lo b.lo) (min a.hi b.hi))
+    (span (max a.lo b.lo) (min a.hi b.hi))
 
 -- a without the one word of b, where that is an end of a
 abbrev pub without : Range → Range → Range
 without a b =
-    if is_single b then (if a.lo == b.lo then span (a.lo + 1) a.hi else (if a.hi == b.lo then span a.lo (a.hi - 1) else a)) else a
+    if is_single b then (if a.lo == b.lo then span (a.lo + 1) a.hi else
+    (if a.hi == b.lo then span a.lo (a.hi - 1) else a)) else a
 
 abbrev pub narrow_different : Range → Range → Option (Range × Range)
 narrow_different a b = both_of (without a b) (without b a)
 
 -- no word lies below 0
 abbrev pub narrow_below : Range → Range → Option (Range × Range)
-narrow_below a b = if b.hi == 0 then None else both_of (span a.lo (min a.hi (b.hi - 1))) (span (max b.lo (a.lo + 1)) b.hi)
+narrow_below a b = if b.hi == 0 then None else
+    both_of (span a.lo (min a.hi (b.hi - 1))) (span (max b.lo (a.lo + 1)) b.hi)
 
 abbrev pub narrow_at_most : Range → Range → Option (Range × Range)
 narrow_at_most a b = both_of (span a.lo (min a.hi b.hi)) (span (max b.lo a.lo) b.hi)
@@ -77,7 +83,8 @@ abbrev pub is_low : Width → Range → Bool
 is_low W64 r = true
 is_low W32 r = nat_lt r.hi (2 ^ 32)
 
--- the word of an immediate: it is sign-extended, and among low halves the unsigned number of its 32 bits
+-- the word of an immediate: it is sign-extended, and among low halves the unsigned number of its 32
+-- bits
 abbrev pub immediate_word : Width → ℤ → ℕ
 immediate_word W32 v = cast_unsigned w32 v
 immediate_word W64 v = cast_unsigned w64 v
@@ -94,11 +101,14 @@ same_register dst (Immediate v) = false
 abbrev pub put_both : Shape → ℕ → Operand → Option (Range × Range) → Option Shape
 put_both s dst from None = None
 put_both s dst (Immediate v) (Some p) = Some (with_register s dst (Known p.0))
-put_both s dst (From src) (Some p) = Some (with_register (with_register s dst (Known p.0)) src (Known p.1))
+put_both s dst (From src) (Some p) =
+    Some (with_register (with_register s dst (Known p.0)) src (Known p.1))
 
--- The state along the edge where the condition holds, or along the one where it doesn't; none where no words of the two ranges lead there.
+-- The state along the edge where the condition holds, or along the one where it doesn't; none where
+-- no words of the two ranges lead there.
 abbrev pub refined : Width → Condition → ℕ → Operand → Bool → Shape → Option Shape
 refined w condition dst from taken s =
-    if narrows condition && not (same_register dst from) && is_low w (range_of (known s dst)) && is_low w (compared w s from)
+    if narrows condition && not (same_register dst from) && is_low w (range_of (known s dst))
+    && is_low w (compared w s from)
     then put_both s dst from (narrowed condition taken (range_of (known s dst)) (compared w s from))
     else Some s

@@ -1,4 +1,5 @@
--- One pass forward over a program: what its slots have brought to the later ones so far (this project's profile).
+-- One pass forward over a program: what its slots have brought to the later ones so far (this
+-- project's profile).
 use Rattle.std.specs.Prelude.{ℕ, List, [], ◌∷◌, ◌++◌, Option, Some, None}
 use Rattle.bpf_decode.specs.declared.op.Op.{Op}
 use Rattle.bpf_helpers.specs.Promise.{Promise}
@@ -20,4 +21,5 @@ module _ (record_length : ℕ) (ops : List Op) (sigs : List (ℕ × Promise)) wh
   -- what all edges from the first n slots bring to a slot
   abbrev pub so_far : ℕ → ℕ → Option Shape
   so_far n to =
-      join_all (entering record_length to ++ arriving record_length ops sigs to 0 (states record_length ops sigs n))
+      join_all (entering record_length to
+      ++ arriving record_length ops sigs to 0 (states record_length ops sigs n))

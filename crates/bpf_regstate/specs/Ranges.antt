@@ -1,9 +1,13 @@
 -- Ranges of results (this project's profile).
-use Rattle.std.specs.Prelude.{◌≡◌, ℕ, zero, suc, ◌≤◌, ◌+◌, ◌-◌, ◌*◌, ◌/◌, ◌%◌, ◌^◌, Bool, false, ◌&&◌, ◌==◌, nat_lt, nat_le, min, max, if◌then◌else◌, ℤ, pos, negsuc, ◌-ℤ◌}
+use Rattle.std.specs.Prelude.{◌≡◌, ℕ, zero, suc, ◌≤◌, ◌+◌, ◌-◌, ◌*◌, ◌/◌, ◌%◌, ◌^◌, Bool, false}
+use Rattle.std.specs.Prelude.{◌&&◌, ◌==◌, nat_lt, nat_le, min, max, if◌then◌else◌, ℤ, pos, negsuc}
+use Rattle.std.specs.Prelude.{◌-ℤ◌}
 use Rattle.bpf_decode.specs.declared.op.Width.{Width}
 use Rattle.bpf_decode.specs.declared.op.Width.TheVariants.{W32, W64}
 use Rattle.bpf_decode.specs.declared.op.Code.{Code}
-use Rattle.bpf_decode.specs.declared.op.Code.TheVariants.{Add, Sub, Mul, Div, SignedDiv, Mod, SignedMod, Or, And, Xor, LeftShift, RightShift, ArithmeticShift, Mov}
+use Rattle.bpf_decode.specs.declared.op.Code.TheVariants.{Add, Sub, Mul, Div, SignedDiv, Mod}
+use Rattle.bpf_decode.specs.declared.op.Code.TheVariants.{SignedMod, Or, And, Xor, LeftShift}
+use Rattle.bpf_decode.specs.declared.op.Code.TheVariants.{RightShift, ArithmeticShift, Mov}
 use Rattle.bpf_decode.specs.Words.{bits_of, arith_word}
 use Rattle.bpf_helpers.specs.declared.range.Range.{Range}
 
@@ -74,11 +78,13 @@ pub record AreLeastOnes (n ones : ℕ) : Type 0 where
 abbrev pub ranged : Code → Width → Range → Range → Range
 ranged Add w a b = wrapped w (pos (a.lo + b.lo)) (pos (a.hi + b.hi))
 ranged Sub w a b = wrapped w (pos a.lo -ℤ pos b.hi) (pos a.hi -ℤ pos b.lo)
-ranged Mul w a b = if nat_lt (a.hi * b.hi) (modulus w) then span (a.lo * b.lo) (a.hi * b.hi) else full w
+ranged Mul w a b = if nat_lt (a.hi * b.hi) (modulus w) then span (a.lo * b.lo) (a.hi * b.hi) else
+    full w
 ranged Div w a b = if nat_le 1 b.lo then span (a.lo / b.hi) (a.hi / b.lo) else span 0 a.hi
 ranged SignedDiv w a b = full w
 ranged Mod w a b =
-    if nat_le 1 b.lo then (if nat_lt a.hi b.lo then a else span 0 (min a.hi (b.hi - 1))) else span 0 a.hi
+    if nat_le 1 b.lo then (if nat_lt a.hi b.lo then a else span 0 (min a.hi (b.hi - 1))) else
+    span 0 a.hi
 ranged SignedMod w a b = full w
 ranged Or w a b = span (max a.lo b.lo) (filled (max a.hi b.hi))
 ranged And w a b = span 0 (min a.hi b.hi)
@@ -87,7 +93,8 @@ ranged LeftShift w a b =
     if is_single b && nat_lt (a.hi * 2 ^ (b.lo % bits_of w)) (modulus w)
     then span (a.lo * 2 ^ (b.lo % bits_of w)) (a.hi * 2 ^ (b.lo % bits_of w)) else full w
 ranged RightShift w a b =
-    if is_single b then span (a.lo / 2 ^ (b.lo % bits_of w)) (a.hi / 2 ^ (b.lo % bits_of w)) else span 0 a.hi
+    if is_single b then span (a.lo / 2 ^ (b.lo % bits_of w)) (a.hi / 2 ^ (b.lo % bits_of w)) else
+    span 0 a.hi
 ranged ArithmeticShift w a b = full w
 ranged Mov w a b = b
 
@@ -95,5 +102,6 @@ ranged Mov w a b = b
 -- machine's own result where both ranges have one word.
 abbrev pub arith_range : Code → Width → Range → Range → Range
 arith_range code w a b =
-    if is_single a && is_single b then span (arith_word code w a.lo b.lo) (arith_word code w a.lo b.lo)
+    if is_single a && is_single b then
+    span (arith_word code w a.lo b.lo) (arith_word code w a.lo b.lo)
     else ranged code w (reduced w a) (reduced w b)

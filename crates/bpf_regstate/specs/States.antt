@@ -1,5 +1,6 @@
 -- What is known at each slot, and which programs are accepted (this project's profile).
-use Rattle.std.specs.Prelude.{◌≡◌, ℕ, zero, suc, ◌+◌, ◌<◌, List, [], ◌∷◌, ◌++◌, length, replicate, false, ◌==◌, if◌then◌else◌, Option, Some, None, slice_get}
+use Rattle.std.specs.Prelude.{◌≡◌, ℕ, zero, suc, ◌+◌, ◌<◌, List, [], ◌∷◌, ◌++◌, length, replicate}
+use Rattle.std.specs.Prelude.{false, ◌==◌, if◌then◌else◌, Option, Some, None, slice_get}
 use Rattle.bpf_decode.specs.declared.op.Op.{Op}
 use Rattle.bpf_decode.specs.Encoding.{is_tail}
 use Rattle.bpf_helpers.specs.Promise.{Promise}
@@ -58,7 +59,8 @@ module _ (record_length : ℕ) (ops : List Op) (sigs : List (ℕ × Promise)) wh
   sends slot None s = []
   sends slot (Some op) None = []
   sends slot (Some op) (Some s) =
-      unless_fault (least (faults record_length ops sigs slot op (Some s))) (edges record_length sigs slot op s)
+      unless_fault (least (faults record_length ops sigs slot op (Some s)))
+      (edges record_length sigs slot op s)
 
   -- what comes to a slot from these slots, of which the first has this number
   abbrev pub arriving : ℕ → ℕ → List (Option Shape) → List Shape
@@ -105,4 +107,5 @@ module _ (record_length : ℕ) (ops : List Op) (sigs : List (ℕ × Promise)) wh
 -- how many instructions a program has: its slots but the second ones of wide loads
 abbrev pub instruction_count : List Op → ℕ
 instruction_count [] = 0
-instruction_count (op ∷ ops) = if is_tail op then instruction_count ops else suc (instruction_count ops)
+instruction_count (op ∷ ops) =
+    if is_tail op then instruction_count ops else suc (instruction_count ops)

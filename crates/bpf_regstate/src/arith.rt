@@ -3,8 +3,10 @@
 ghost use Rattle.std.specs.Prelude.{◌≡◌, ◌<◌, ◌≤◌, ◌^◌, pos};
 ghost use Rattle.bpf_regstate.specs.Effect.{arith_result};
 ghost use Rattle.bpf_regstate.specs.Shape.{IsRange};
-ghost use Rattle.bpf_regstate.specs.Ranges.{arith_range, ranged, full, reduced, wrapped, filled, modulus};
-ghost use Rattle.bpf_decode.specs.declared.op.Code.TheVariants.{Sub, Mul, Div, Mod, LeftShift, RightShift};
+ghost use Rattle.bpf_regstate.specs.Ranges.{arith_range, ranged, full, reduced, wrapped, filled};
+ghost use Rattle.bpf_regstate.specs.Ranges.{modulus};
+ghost use Rattle.bpf_decode.specs.declared.op.Code.TheVariants.{Sub, Mul, Div, Mod, LeftShift};
+ghost use Rattle.bpf_decode.specs.declared.op.Code.TheVariants.{RightShift};
 ghost use Rattle.bpf_decode.specs.Words.{bits_of};
 ghost use Rattle.bpf_decode.specs.declared.op.Width.TheVariants.{W32, W64};
 
@@ -257,7 +259,8 @@ fn results(code: Code, width: Width, a: Range, b: Range) -> Range
     results_of_ranges(code, width, reduce(width, a), reduce(width, b))
 }
 
-/// The range of the results of an operation on the words of a destination and an operand; MOV reads the operand alone.
+/// The range of the results of an operation on the words of a destination and an operand; MOV reads
+/// the operand alone.
 pub fn operate_on_ranges(code: Code, width: Width, a: Range, b: Range) -> Range
     requires first { IsRange a }
     requires second { IsRange b }

@@ -1,5 +1,5 @@
-//! What is known of registers and of the stack before each instruction of a program: the abstract states by which
-//! programs are accepted.
+//! What is known of registers and of the stack before each instruction of a program: the abstract
+//! states by which programs are accepted.
 #![tactic(auto)]
 
 mod arith;

@@ -4,7 +4,9 @@ ghost use Rattle.std.specs.Prelude.{◌≡◌, ◌==◌, ◌&&◌, ◌≤◌, tr
 ghost use Rattle.bpf_helpers.specs.declared.range.Range.{Range};
 ghost use Rattle.bpf_regstate.specs.Shape.{IsRange};
 ghost use Rattle.bpf_regstate.specs.Ranges.{is_single};
-ghost use Rattle.bpf_regstate.specs.Narrowing.{both_of, narrow_at_most, narrow_below, narrow_different, narrow_equal, narrowed, narrows, swapped, without};
+ghost use Rattle.bpf_regstate.specs.Narrowing.{both_of, narrow_at_most, narrow_below};
+ghost use Rattle.bpf_regstate.specs.Narrowing.{narrow_different, narrow_equal, narrowed, narrows};
+ghost use Rattle.bpf_regstate.specs.Narrowing.{swapped, without};
 
 use bpf_decode::Condition;
 use bpf_helpers::Range;
@@ -171,7 +173,8 @@ fn opposite(condition: Condition) -> Condition
     }
 }
 
-/// What is left of two ranges where a condition holds, or where it doesn't; `None` where no words of them lead there.
+/// What is left of two ranges where a condition holds, or where it doesn't; `None` where no words
+/// of them lead there.
 pub fn narrow(condition: Condition, taken: bool, a: Range, b: Range) -> Option<(Range, Range)>
     requires first { IsRange a }
     requires second { IsRange b }

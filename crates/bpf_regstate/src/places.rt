@@ -10,14 +10,15 @@ use bpf_places::{Place, STACK_LENGTH, place_at};
 /// How many bytes a record has.
 pub const RECORD_LENGTH: usize = 128;
 
-/// Where all bytes lie that an access of `count` bytes may touch, of a word of the range plus the offset, beside a record of
-/// `record_length` bytes (this project's profile): from the least address to the last byte at the greatest one, as whole
-/// numbers.
+/// Where all bytes lie that an access of `count` bytes may touch, of a word of the range plus the
+/// offset, beside a record of `record_length` bytes (this project's profile): from the least
+/// address to the last byte at the greatest one, as whole numbers.
 pub fn place_of_access(record_length: usize, range: Range, offset: i32, count: usize) -> Place
     requires short { record_length < 2 ^ 16 }
     requires ordered { range.lo ≤ range.hi }
     requires few { count ≤ 8 }
-    ensures { PlaceIs result record_length (range.hi - range.lo + count) (access record_length range offset count) }
+    ensures { PlaceIs result record_length (range.hi - range.lo + count)
+        (access record_length range offset count) }
 {
     let more = range.hi - range.lo;
     if more > (STACK_LENGTH + record_length) as u64 {

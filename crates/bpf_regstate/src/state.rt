@@ -21,8 +21,8 @@ use bpf_helpers::{Range, Sigs};
 use bpf_places::{Place, RECORD_BASE, STACK_BASE, STACK_LENGTH, byte_count};
 use std::marker::Model;
 
-/// What is known before an instruction: of each register, and which bytes of the stack were written on every way there.
-/// Contracts see it as a `Shape`.
+/// What is known before an instruction: of each register, and which bytes of the stack were written
+/// on every way there. Contracts see it as a `Shape`.
 #[derive(Drop)]
 pub struct State {
     registers: [Reg; 11],
@@ -37,7 +37,8 @@ impl Model for State {
 
     ghost view = { λ s. record { registers = s.registers; marks = marks_of s.marks } };
 
-    ghost invariant = { λ s. IsShape (record { registers = s.registers; marks = marks_of s.marks }) };
+    ghost invariant = { λ s.
+        IsShape (record { registers = s.registers; marks = marks_of s.marks }) };
 }
 
 /// The greatest number of this size.
@@ -87,10 +88,12 @@ fn join_each(xs: &mut [Reg], ys: &[Reg])
     }
 }
 
-/// Changes the registers as a call does: the answer in r0, nothing known of r1 to r5, and the others as they were.
+/// Changes the registers as a call does: the answer in r0, nothing known of r1 to r5, and the
+/// others as they were.
 fn after_call(registers: &mut [Reg], answer: Reg)
     requires { 6 ≤ length registers.old }
-    ensures { registers.new ≡ answer ∷ Uninit ∷ Uninit ∷ Uninit ∷ Uninit ∷ Uninit ∷ drop 6 registers.old }
+    ensures { registers.new ≡ answer ∷ Uninit ∷ Uninit ∷ Uninit ∷ Uninit ∷ Uninit
+        ∷ drop 6 registers.old }
 {
     let none = Reg::Uninit;
     registers[..6].copy_from_slice(&[answer, none, none, none, none, none]);
@@ -112,16 +115,17 @@ impl State {
     ghost use Rattle.bpf_decode.specs.declared.op.Op.TheVariants.{Call};
     ghost use Rattle.bpf_decode.specs.declared.op.Operand.TheVariants.{From, Immediate};
     ghost use Rattle.bpf_regstate.specs.Shape.{IsRange, IsReg, IsShape, known};
-    ghost use Rattle.bpf_regstate.specs.Effect.{after_op, operand_reg, range_of, store_marks, with_register};
+    ghost use Rattle.bpf_regstate.specs.Effect.{after_op, operand_reg, range_of, store_marks};
+    ghost use Rattle.bpf_regstate.specs.Effect.{with_register};
     ghost use Rattle.bpf_regstate.specs.Faults.{all_marked};
     ghost use Rattle.bpf_regstate.specs.Joins.{joined};
     ghost use Rattle.bpf_regstate.specs.Narrowing.{refined};
     ghost use Rattle.bpf_regstate.specs.States.{start_shape};
     ghost use Rattle.bpf_regstate.specs.declared.reg.Reg.TheVariants.{Known};
 
-    /// What is known before the first instruction (this project's profile): r1 is the first address of a record of 128 bytes,
-    /// r2 is 128, r3 a moment of 32 bits, r4 a milestone from 1 to 16, and r10 the end of the stack, of which no byte is
-    /// written.
+    /// What is known before the first instruction (this project's profile): r1 is the first address
+    /// of a record of 128 bytes, r2 is 128, r3 a moment of 32 bits, r4 a milestone from 1 to 16,
+    /// and r10 the end of the stack, of which no byte is written.
     #[tactic(auto, unfolding(crate::specs::States::start_shape))]
     pub fn start() -> State
         ensures { result ≡ start_shape 128 }
@@ -187,8 +191,8 @@ impl State {
         }
     }
 
-    /// Keeps what both have in common: a register is uninitialised if either says so, else it has the least range that has
-    /// both, and a byte of the stack is marked if both mark it.
+    /// Keeps what both have in common: a register is uninitialised if either says so, else it has
+    /// the least range that has both, and a byte of the stack is marked if both mark it.
     pub fn join(&mut self, other: &State)
         ensures { self.new ≡ joined self.old other.now }
     {
@@ -200,7 +204,10 @@ impl State {
     fn mark(&mut self, address: Range, offset: i32, count: usize)
         requires range { IsRange address }
         requires few { count ≤ 8 }
-        ensures { self.new ≡ record { registers = self.old.registers; marks = store_marks 128 self.old.marks address offset count } }
+        ensures { self.new ≡ record {
+          registers = self.old.registers;
+          marks = store_marks 128 self.old.marks address offset count;
+        } }
     {
         if address.lo != address.hi {
             return;
@@ -220,8 +227,8 @@ impl State {
         }
     }
 
-    /// What is known after an instruction, of those that are no conditional jumps (this project's profile). Jumps and the exit
-    /// change nothing.
+    /// What is known after an instruction, of those that are no conditional jumps (this project's
+    /// profile). Jumps and the exit change nothing.
     pub fn transfer(&self, op: Op, sigs: &Sigs) -> State
         ensures { result ≡ after_op 128 sigs.now op self.now }
     {
@@ -285,9 +292,10 @@ impl State {
         after_call(&mut self.registers, answer_of(sigs, helper));
     }
 
-    /// What is known along one edge of a conditional jump: where the condition holds if `taken`, else where it doesn't.
-    /// `None` where no words of the two ranges lead there. Unsigned comparisons of two different registers, or of a register
-    /// and an immediate, narrow both ranges; comparisons of low halves only where both ranges lie below 2^32 (this project's
+    /// What is known along one edge of a conditional jump: where the condition holds if `taken`,
+    /// else where it doesn't. `None` where no words of the two ranges lead there. Unsigned
+    /// comparisons of two different registers, or of a register and an immediate, narrow both
+    /// ranges; comparisons of low halves only where both ranges lie below 2^32 (this project's
     /// profile).
     pub fn refine(
         &self,
@@ -307,8 +315,8 @@ impl State {
         }
     }
 
-    /// Goes on to what is known along one edge of a conditional jump, as `refine` has it, in place; `false` where no words lead
-    /// there.
+    /// Goes on to what is known along one edge of a conditional jump, as `refine` has it, in place;
+    /// `false` where no words lead there.
     pub fn follow(
         &mut self,
         width: Width,
@@ -317,7 +325,8 @@ impl State {
         operand: Operand,
         taken: bool,
     ) -> bool
-        ensures { refined width condition dst operand taken self.old ≡ (if result then Some self.new else None) }
+        ensures { refined width condition dst operand taken self.old
+            ≡ (if result then Some self.new else None) }
     {
         match operand {
             Operand::From(src) => self.follow_registers(width, condition, dst, src, taken),
@@ -336,7 +345,8 @@ impl State {
         src: Register,
         taken: bool,
     ) -> bool
-        ensures { refined width condition dst (From src) taken self.old ≡ (if result then Some self.new else None) }
+        ensures { refined width condition dst (From src) taken self.old
+            ≡ (if result then Some self.new else None) }
     {
         if dst.index() == src.index() {
             return true;
@@ -365,7 +375,8 @@ impl State {
         value: i32,
         taken: bool,
     ) -> bool
-        ensures { refined width condition dst (Immediate value) taken self.old ≡ (if result then Some self.new else None) }
+        ensures { refined width condition dst (Immediate value) taken self.old
+            ≡ (if result then Some self.new else None) }
     {
         let a = self.range_of(dst);
         let b = single(word_of(width, value));
@@ -382,7 +393,8 @@ impl State {
     }
 }
 
-/// The word with which a jump of the width compares: the sign-extended immediate, of the low halves its 32 bits.
+/// The word with which a jump of the width compares: the sign-extended immediate, of the low halves
+/// its 32 bits.
 fn word_of(width: Width, value: i32) -> u64
     ensures { result ≡ immediate_word width value }
 {

@@ -2,7 +2,8 @@
 use Rattle.std.proofs.Common.{◌≡◌, ℕ, List, [], ◌∷◌, ◌++◌, Some, None, refl}
 use Rattle.std.specs.Prelude.{replicate, pos, negsuc}
 use Rattle.bpf_decode.specs.declared.op.Op.{Op}
-use Rattle.bpf_decode.specs.declared.op.Op.TheVariants.{Arith, Ja, Jump, Call, Exit, Load, Store, Wide, Tail}
+use Rattle.bpf_decode.specs.declared.op.Op.TheVariants.{Arith, Ja, Jump, Call, Exit, Load, Store}
+use Rattle.bpf_decode.specs.declared.op.Op.TheVariants.{Wide, Tail}
 use Rattle.bpf_decode.specs.declared.op.Operand.TheVariants.{From, Immediate}
 use Rattle.bpf_decode.specs.declared.op.Code.TheVariants.{Add, And, Div, SignedDiv, Mod, Mov}
 use Rattle.bpf_decode.specs.declared.op.Width.TheVariants.{W32, W64}
@@ -21,8 +22,10 @@ zeros = replicate 128 0
 planned : List ℕ
 planned =
     (7 ∷ 0 ∷ 0 ∷ 0 ∷ 0 ∷ 0 ∷ 0 ∷ 0 ∷ 0x44 ∷ 0x4c ∷ 0x48 ∷ 0x37 ∷ 0 ∷ 0 ∷ 0 ∷ 0 ∷ [])
-    ++ (0x41 ∷ 0x33 ∷ 0x32 ∷ 0x30 ∷ 0x41 ∷ 0x33 ∷ 0x32 ∷ 0x30 ∷ 0x44 ∷ 0x41 ∷ 0x49 ∷ 0x42 ∷ 0x43 ∷ 0 ∷ 0 ∷ 0 ∷ [])
-    ++ (0x44 ∷ 0x41 ∷ 0x49 ∷ 0x42 ∷ 0x43 ∷ 0 ∷ 0 ∷ 0 ∷ 0x45 ∷ 0x44 ∷ 0x44 ∷ 0x4d ∷ 0x45 ∷ 0x44 ∷ 0x44 ∷ 0x4d ∷ [])
+    ++ (0x41 ∷ 0x33 ∷ 0x32 ∷ 0x30 ∷ 0x41 ∷ 0x33 ∷ 0x32 ∷ 0x30 ∷ 0x44 ∷ 0x41 ∷ 0x49 ∷ 0x42 ∷ 0x43 ∷ 0
+    ∷ 0 ∷ 0 ∷ [])
+    ++ (0x44 ∷ 0x41 ∷ 0x49 ∷ 0x42 ∷ 0x43 ∷ 0 ∷ 0 ∷ 0 ∷ 0x45 ∷ 0x44 ∷ 0x44 ∷ 0x4d ∷ 0x45 ∷ 0x44
+    ∷ 0x44 ∷ 0x4d ∷ [])
     ++ (3 ∷ 0 ∷ 0 ∷ 0 ∷ 0 ∷ 0 ∷ 0 ∷ 0 ∷ 40 ∷ 0 ∷ 10 ∷ 0 ∷ 12 ∷ 0 ∷ 1 ∷ 5 ∷ [])
     ++ (0x38 ∷ 0x84 ∷ 0xba ∷ 1 ∷ 0x38 ∷ 0x84 ∷ 0xba ∷ 1 ∷ [])
     ++ replicate 56 0
@@ -61,7 +64,8 @@ backward = (0, _, refl, tt)
 
 twelve : List Op
 twelve =
-    Arith W64 Mov 0 (Immediate (pos 9)) ∷ Jump W64 Equal 4 (Immediate (pos 1)) (pos 1) ∷ Arith W64 Mov 0 (Immediate (pos 5)) ∷ Exit ∷ []
+    Arith W64 Mov 0 (Immediate (pos 9)) ∷ Jump W64 Equal 4 (Immediate (pos 1)) (pos 1)
+    ∷ Arith W64 Mov 0 (Immediate (pos 5)) ∷ Exit ∷ []
 
 taken : RunEnds twelve [] zeros 5 1 [] 9 3
 unfolding start twelve zeros
@@ -73,7 +77,8 @@ not_taken = (_, refl, refl)
 
 -- r2 is the record's length
 by_length : List Op
-by_length = Jump W64 NotEqual 2 (Immediate (pos 128)) (pos 1) ∷ Arith W64 Mov 0 (Immediate (pos 7)) ∷ Exit ∷ []
+by_length = Jump W64 NotEqual 2 (Immediate (pos 128)) (pos 1) ∷ Arith W64 Mov 0 (Immediate (pos 7))
+    ∷ Exit ∷ []
 
 length_128 : RunEnds by_length [] zeros 5 7 [] 7 3
 unfolding start by_length zeros
@@ -84,29 +89,34 @@ unfolding start by_length
 length_160 = (1, _, refl, tt)
 
 -- a register compared with itself
-with_itself : RunEnds (Jump W64 Above 2 (From 2) (pos 1) ∷ Arith W64 Mov 0 (Immediate (pos 7)) ∷ Exit ∷ []) [] zeros 5 7 [] 7 3
+with_itself : RunEnds (Jump W64 Above 2 (From 2) (pos 1) ∷ Arith W64 Mov 0 (Immediate (pos 7))
+    ∷ Exit ∷ []) [] zeros 5 7 [] 7 3
 unfolding start zeros
 with_itself = (_, refl, refl)
 
 -- an instruction that is jumped over
-over : RunEnds (Arith W64 Mov 0 (Immediate (pos 0)) ∷ Ja (pos 1) ∷ Arith W64 Mov 0 (From 6) ∷ Exit ∷ []) [] zeros 5 7 [] 0 3
+over : RunEnds (Arith W64 Mov 0 (Immediate (pos 0)) ∷ Ja (pos 1) ∷ Arith W64 Mov 0 (From 6) ∷ Exit
+    ∷ []) [] zeros 5 7 [] 0 3
 unfolding start zeros
 over = (_, refl, refl)
 
 -- ---- arithmetic
 
 -- division by zero gives 0
-by_zero : RunEnds (Arith W64 Mov 0 (Immediate (pos 7)) ∷ Arith W64 Mov 2 (Immediate (pos 0)) ∷ Arith W64 Div 0 (From 2) ∷ Exit ∷ []) [] zeros 5 7 [] 0 4
+by_zero : RunEnds (Arith W64 Mov 0 (Immediate (pos 7)) ∷ Arith W64 Mov 2 (Immediate (pos 0))
+    ∷ Arith W64 Div 0 (From 2) ∷ Exit ∷ []) [] zeros 5 7 [] 0 4
 unfolding start zeros
 by_zero = (_, refl, refl)
 
 -- a remainder by zero leaves the low half, and clears the upper one
-rest_by_zero : RunEnds (Wide 0 0x100000007 ∷ Tail ∷ Arith W64 Mov 2 (Immediate (pos 0)) ∷ Arith W32 Mod 0 (From 2) ∷ Exit ∷ []) [] zeros 5 7 [] 7 4
+rest_by_zero : RunEnds (Wide 0 0x100000007 ∷ Tail ∷ Arith W64 Mov 2 (Immediate (pos 0))
+    ∷ Arith W32 Mod 0 (From 2) ∷ Exit ∷ []) [] zeros 5 7 [] 7 4
 unfolding start zeros
 rest_by_zero = (_, refl, refl)
 
 -- the least signed number over -1
-least : RunEnds (Wide 0 0x8000000000000000 ∷ Tail ∷ Arith W64 SignedDiv 0 (Immediate (negsuc 0)) ∷ Exit ∷ []) [] zeros 5 7 [] 9223372036854775808 3
+least : RunEnds (Wide 0 0x8000000000000000 ∷ Tail ∷ Arith W64 SignedDiv 0 (Immediate (negsuc 0))
+    ∷ Exit ∷ []) [] zeros 5 7 [] 9223372036854775808 3
 unfolding start zeros
 least = (_, refl, refl)
 
@@ -115,7 +125,8 @@ least = (_, refl, refl)
 -- a byte of the record, by an index that is a byte of the record too
 indexed : List Op
 indexed =
-    Load Byte 5 1 (pos 63) ∷ Jump W64 Above 5 (Immediate (pos 124)) (pos 3) ∷ Arith W64 Add 1 (From 5) ∷ Load Byte 0 1 (pos 0) ∷ Exit
+    Load Byte 5 1 (pos 63) ∷ Jump W64 Above 5 (Immediate (pos 124)) (pos 3)
+    ∷ Arith W64 Add 1 (From 5) ∷ Load Byte 0 1 (pos 0) ∷ Exit
     ∷ Arith W64 Mov 0 (Immediate (pos 0)) ∷ Exit ∷ []
 
 by_index : RunEnds indexed [] planned 29000580 7 [] 0 5
@@ -132,14 +143,16 @@ unfolding start zeros
 past_record = (0, _, refl, tt)
 
 -- a store and a load of the stack
-top_byte : RunEnds (Store Byte 10 (negsuc 0) (Immediate (pos 5)) ∷ Load Byte 0 10 (negsuc 0) ∷ Exit ∷ []) [] zeros 5 7 [] 5 3
+top_byte : RunEnds (Store Byte 10 (negsuc 0) (Immediate (pos 5)) ∷ Load Byte 0 10 (negsuc 0) ∷ Exit
+    ∷ []) [] zeros 5 7 [] 5 3
 unfolding start zeros
 top_byte = (_, refl, refl)
 
 -- the same where only one way to the load has the store
 maybe_stored : List Op
 maybe_stored =
-    Jump W64 Equal 4 (Immediate (pos 1)) (pos 1) ∷ Store Byte 10 (negsuc 0) (Immediate (pos 0)) ∷ Load Byte 0 10 (negsuc 0) ∷ Exit ∷ []
+    Jump W64 Equal 4 (Immediate (pos 1)) (pos 1) ∷ Store Byte 10 (negsuc 0) (Immediate (pos 0))
+    ∷ Load Byte 0 10 (negsuc 0) ∷ Exit ∷ []
 
 with_store : RunEnds maybe_stored [] zeros 5 7 [] 0 4
 unfolding start maybe_stored zeros
@@ -152,7 +165,8 @@ without_store = (1, _, refl, tt)
 -- a load by one register from either region
 either_region : List Op
 either_region =
-    Jump W64 Equal 4 (Immediate (pos 1)) (pos 2) ∷ Arith W64 Mov 1 (From 10) ∷ Arith W64 Add 1 (Immediate (negsuc 7)) ∷ Load Byte 0 1 (pos 0)
+    Jump W64 Equal 4 (Immediate (pos 1)) (pos 2) ∷ Arith W64 Mov 1 (From 10)
+    ∷ Arith W64 Add 1 (Immediate (negsuc 7)) ∷ Load Byte 0 1 (pos 0)
     ∷ Exit ∷ []
 
 from_record : RunEnds either_region [] planned 5 1 [] 7 3
@@ -202,7 +216,8 @@ unfolding start on_stand sigs zeros
 stand_12_outside = refl
 
 -- the stand of the record, within the argument's range
-of_record : RunEnds (Load Half 1 1 (pos 60) ∷ Arith W64 And 1 (Immediate (pos 511)) ∷ Call 2 ∷ Exit ∷ []) sigs planned 29000580 9 (10 ∷ []) 10 4
+of_record : RunEnds (Load Half 1 1 (pos 60) ∷ Arith W64 And 1 (Immediate (pos 511)) ∷ Call 2 ∷ Exit
+    ∷ []) sigs planned 29000580 9 (10 ∷ []) 10 4
 unfolding start sigs planned
 of_record = (_, refl, refl)
 
@@ -235,7 +250,8 @@ stand_5_other_result : result_of (on_stand 5) sigs zeros 5 7 (61 ∷ []) ≡ Non
 unfolding start on_stand sigs zeros
 stand_5_other_result = refl
 
-into_record_result : result_of (Store Double 1 (pos 0) (Immediate (pos 0)) ∷ Exit ∷ []) [] zeros 5 7 [] ≡ None
+into_record_result : result_of (Store Double 1 (pos 0) (Immediate (pos 0)) ∷ Exit ∷ []) [] zeros 5 7
+    [] ≡ None
 unfolding start zeros
 into_record_result = refl
 

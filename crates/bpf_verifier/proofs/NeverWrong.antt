@@ -11,12 +11,14 @@ use Rattle.bpf_regstate.specs.Holds.{EdgesHold, HoldsAt}
 use Rattle.bpf_regstate.specs.Shape.{Shape}
 use Rattle.bpf_regstate.specs.Soundness.{IsAcceptedRun}
 use Rattle.bpf_regstate.specs.States.{Accepts, instruction_count, state_at}
-use Rattle.bpf_regstate.proofs.Safe.{few_steps, goes_to_its_end, never_trapped, reached_is_held, step_on_edges}
+use Rattle.bpf_regstate.proofs.Safe.{few_steps, goes_to_its_end, never_trapped, reached_is_held}
+use Rattle.bpf_regstate.proofs.Safe.{step_on_edges}
 use Rattle.bpf_semantics.specs.Machine.{start}
 use Rattle.bpf_verifier.specs.Runs.{GoesToItsEnd, IsInput, Leads, MayRun}
 use Rattle.bpf_verifier.specs.Verdict.{Verified}
 
-run_of : (v : Verified) (record_bytes : List ℕ) (moment milestone : ℕ) → MayRun v → IsInput record_bytes moment milestone
+run_of : (v : Verified) (record_bytes : List ℕ) (moment milestone : ℕ) → MayRun v
+    → IsInput record_bytes moment milestone
     → IsAcceptedRun v.ops v.sigs record_bytes moment milestone
 run_of v record_bytes moment milestone may input = record {
   program = may.program;
@@ -29,7 +31,8 @@ run_of v record_bytes moment milestone may input = record {
   accepts = subst (λ (n : ℕ). Accepts n v.ops v.sigs) (sym input.long) may.accepted;
 }
 
-module _ (v : Verified) (record_bytes : List ℕ) (moment milestone : ℕ) (answers : List ℕ) (n : ℕ) (m : Machine) (l : Leads v record_bytes moment milestone answers n m) where
+module _ (v : Verified) (record_bytes : List ℕ) (moment milestone : ℕ) (answers : List ℕ) (n : ℕ)
+    (m : Machine) (l : Leads v record_bytes moment milestone answers n m) where
   run : IsAcceptedRun v.ops v.sigs record_bytes moment milestone
   run = run_of v record_bytes moment milestone l.may_run l.input
 
@@ -38,26 +41,33 @@ module _ (v : Verified) (record_bytes : List ℕ) (moment milestone : ℕ) (answ
       subst (λ (k : ℕ). HoldsAt (state_at k v.ops v.sigs m.slot) m) l.input.long
       (reached_is_held v.ops v.sigs record_bytes moment milestone run answers n m l.reached)
 
-  pub steps : (op : Op) (s : Shape) → slice_get v.ops m.slot ≡ Some op → state_at 128 v.ops v.sigs m.slot ≡ Some s
+  pub steps : (op : Op) (s : Shape) → slice_get v.ops m.slot ≡ Some op
+      → state_at 128 v.ops v.sigs m.slot ≡ Some s
       → EdgesHold v.sigs (edges 128 v.sigs m.slot op s) m (action v.ops v.sigs record_bytes m)
   steps =
-      subst (λ (k : ℕ). (op : Op) (s : Shape) → slice_get v.ops m.slot ≡ Some op → state_at k v.ops v.sigs m.slot ≡ Some s
-      → EdgesHold v.sigs (edges k v.sigs m.slot op s) m (action v.ops v.sigs record_bytes m)) l.input.long
+      subst (λ (k : ℕ). (op : Op) (s : Shape) → slice_get v.ops m.slot ≡ Some op
+      → state_at k v.ops v.sigs m.slot ≡ Some s
+      → EdgesHold v.sigs (edges k v.sigs m.slot op s) m (action v.ops v.sigs record_bytes m))
+      l.input.long
       (step_on_edges v.ops v.sigs record_bytes moment milestone run answers n m l.reached)
 
   pub free : IsTrapped v.sigs (action v.ops v.sigs record_bytes m) → ⊥
   free = never_trapped v.ops v.sigs record_bytes moment milestone run answers n m l.reached
 
-  pub asks : (helper : ℕ) (passed : List ℕ) → action v.ops v.sigs record_bytes m ≡ Asks helper passed → IsTrue (is_question v.sigs helper passed)
+  pub asks : (helper : ℕ) (passed : List ℕ)
+      → action v.ops v.sigs record_bytes m ≡ Asks helper passed
+      → IsTrue (is_question v.sigs helper passed)
   asks = asks_questions v.ops v.sigs record_bytes m
 
   pub few : n < instruction_count v.ops
   few = few_steps v.ops v.sigs record_bytes moment milestone run answers n m l.reached
 
   pub answers_are_few : length answers ≤ n
-  answers_are_few = few_answers v.ops v.sigs record_bytes n answers (start (length record_bytes) moment milestone) m l.reached
+  answers_are_few = few_answers v.ops v.sigs record_bytes n answers
+      (start (length record_bytes) moment milestone) m l.reached
 
   pub ends : GoesToItsEnd v record_bytes moment milestone answers
   ends =
-      let on = goes_to_its_end v.ops v.sigs record_bytes moment milestone run answers n m l.reached in
+      let on = goes_to_its_end v.ops v.sigs record_bytes moment milestone run answers n m l.reached
+      in
       record { more = on.0; r0 = on.1; steps = on.2; few = on.3; ends = on.4 }

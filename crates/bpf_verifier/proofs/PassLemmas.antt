@@ -1,5 +1,8 @@
 -- A forward pass over a table: what its rows are before each slot.
-use Rattle.std.proofs.Common.{◌≡◌, ℕ, zero, suc, ◌+◌, ◌-◌, ◌<◌, ◌≤◌, Bool, true, false, cond, eqb, List, [], ◌∷◌, length, set, replicate, Option, Some, None, refl, sym, ap, subst, ◌∙◌, arith, below_more, length-set, get_or-set_same, get_or-set_other, ◌≢◌}
+use Rattle.std.proofs.Common.{◌≡◌, ℕ, zero, suc, ◌+◌, ◌-◌, ◌<◌, ◌≤◌, Bool, true, false, cond, eqb}
+use Rattle.std.proofs.Common.{List, [], ◌∷◌, length, set, replicate, Option, Some, None, refl, sym}
+use Rattle.std.proofs.Common.{ap, subst, ◌∙◌, arith, below_more, length-set, get_or-set_same}
+use Rattle.std.proofs.Common.{get_or-set_other, ◌≢◌}
 use Rattle.std.specs.Prelude.{slice_get, slice_index_or}
 use Rattle.std.proofs.lemmas.Bool.{eqb-true, eqb-false}
 use Rattle.bpf_decode.specs.declared.op.Op.{Op}
@@ -7,16 +10,19 @@ use Rattle.bpf_helpers.specs.Promise.{Promise}
 use Rattle.bpf_regstate.specs.Shape.{Shape}
 use Rattle.bpf_regstate.specs.Faults.{faults, least}
 use Rattle.bpf_regstate.specs.Edges.{edges}
-use Rattle.bpf_regstate.specs.States.{Accepts, IsFirstFault, fault_at, fault_of, into, sends, start_shape, state_at, unless_fault}
+use Rattle.bpf_regstate.specs.States.{Accepts, IsFirstFault, fault_at, fault_of, into, sends}
+use Rattle.bpf_regstate.specs.States.{start_shape, state_at, unless_fault}
 use Rattle.bpf_regstate.specs.Pass.{with_edge, with_edges, so_far}
 use Rattle.bpf_verifier.specs.Table.{put_edge, sent, sent_from}
 
 -- ---- edges that are put into a table
 
-put_length : (table : List (Option Shape)) (e : ℕ × Shape) → length (put_edge table e) ≡ length table
+put_length : (table : List (Option Shape)) (e : ℕ × Shape)
+    → length (put_edge table e) ≡ length table
 put_length table e = length-set table e.0 (with_edge (slice_index_or table e.0 None) e.1)
 
-pub sent_length : (table : List (Option Shape)) (es : List (ℕ × Shape)) → length (sent table es) ≡ length table
+pub sent_length : (table : List (Option Shape)) (es : List (ℕ × Shape))
+    → length (sent table es) ≡ length table
 sent_length table [] = refl
 sent_length table (e ∷ es) = sent_length (put_edge table e) es ∙ put_length table e
 
@@ -25,38 +31,45 @@ abbrev after_edge : Bool → Option Shape → Shape → Option Shape
 after_edge true row s = with_edge row s
 after_edge false row s = row
 
-put_row : (b : Bool) (table : List (Option Shape)) (e : ℕ × Shape) (to : ℕ) → to < length table → eqb e.0 to ≡ b
+put_row : (b : Bool) (table : List (Option Shape)) (e : ℕ × Shape) (to : ℕ) → to < length table
+    → eqb e.0 to ≡ b
     → slice_index_or (put_edge table e) to None ≡ after_edge b (slice_index_or table to None) e.1
 put_row true table e to inside is =
     let same : e.0 ≡ to = eqb-true e.0 to is in
     let there : e.0 < length table = omega arith in
-    subst (λ (k : ℕ). slice_index_or (put_edge table e) k None ≡ with_edge (slice_index_or table k None) e.1) same
+    subst (λ (k : ℕ). slice_index_or (put_edge table e) k None
+    ≡ with_edge (slice_index_or table k None) e.1) same
     (get_or-set_same table e.0 (with_edge (slice_index_or table e.0 None) e.1) None there)
 put_row false table e to inside is =
     let other : to ≢ e.0 = λ same. eqb-false e.0 to is (sym same) in
     get_or-set_other table e.0 to (with_edge (slice_index_or table e.0 None) e.1) None other
 
-chosen_row : (b : Bool) (row : Option Shape) (s : Shape) (ss : List Shape) → with_edges (after_edge b row s) ss ≡ with_edges row (cond b (s ∷ ss) ss)
+chosen_row : (b : Bool) (row : Option Shape) (s : Shape) (ss : List Shape)
+    → with_edges (after_edge b row s) ss ≡ with_edges row (cond b (s ∷ ss) ss)
 chosen_row true row s ss = refl
 chosen_row false row s ss = refl
 
 -- each row gets what the edges bring to it
 pub sent_row : (table : List (Option Shape)) (es : List (ℕ × Shape)) (to : ℕ) → to < length table
-    → slice_index_or (sent table es) to None ≡ with_edges (slice_index_or table to None) (into to es)
+    → slice_index_or (sent table es) to None
+    ≡ with_edges (slice_index_or table to None) (into to es)
 sent_row table [] to inside = refl
 sent_row table (e ∷ es) to inside =
     let still : to < length (put_edge table e) = omega (arith, put_length table e) in
     sent_row (put_edge table e) es to still
-    ∙ ap (λ (row : Option Shape). with_edges row (into to es)) (put_row (eqb e.0 to) table e to inside refl)
+    ∙ ap (λ (row : Option Shape). with_edges row (into to es))
+    (put_row (eqb e.0 to) table e to inside refl)
     ∙ chosen_row (eqb e.0 to) (slice_index_or table to None) e.1 (into to es)
 
 -- ---- the pass
 
 module _ (ops : List Op) (sigs : List (ℕ × Promise)) where
-  -- before a slot: each row from it on has what the edges of earlier slots bring, and none of those has a fault
+  -- before a slot: each row from it on has what the edges of earlier slots bring, and none of those
+  -- has a fault
   pub record Passed (slot : ℕ) (table : List (Option Shape)) : Type 0 where
     pub long : length table ≡ length ops
-    pub rows : (to : ℕ) → slot ≤ to → to < length ops → slice_index_or table to None ≡ so_far 128 ops sigs slot to
+    pub rows : (to : ℕ) → slot ≤ to → to < length ops
+        → slice_index_or table to None ≡ so_far 128 ops sigs slot to
     pub clear : (k : ℕ) → k < slot → fault_at 128 ops sigs k ≡ None
 
   abbrev nothing : Option Shape
@@ -71,12 +84,16 @@ module _ (ops : List Op) (sigs : List (ℕ × Promise)) where
   length_none zero = refl
   length_none (suc n) = ap suc (length_none n)
 
-  first_row : so_far 128 ops sigs 0 0 ≡ Some (start_shape 128) → ((to : ℕ) → so_far 128 ops sigs 0 (to + 1) ≡ None)
-      → (n to : ℕ) → slice_index_or (Some (start_shape 128) ∷ replicate n None) to None ≡ so_far 128 ops sigs 0 to
+  first_row : so_far 128 ops sigs 0 0 ≡ Some (start_shape 128)
+      → ((to : ℕ) → so_far 128 ops sigs 0 (to + 1) ≡ None)
+      → (n to : ℕ) → slice_index_or (Some (start_shape 128) ∷ replicate n None) to None
+      ≡ so_far 128 ops sigs 0 to
   first_row start empty n zero = sym start
-  first_row start empty n (suc to) = none_in n to ∙ sym (let one : to + 1 ≡ suc to = omega arith in rw one at (empty to))
+  first_row start empty n (suc to) = none_in n to
+      ∙ sym (let one : to + 1 ≡ suc to = omega arith in rw one at (empty to))
 
-  pub begins : so_far 128 ops sigs 0 0 ≡ Some (start_shape 128) → ((to : ℕ) → so_far 128 ops sigs 0 (to + 1) ≡ None)
+  pub begins : so_far 128 ops sigs 0 0 ≡ Some (start_shape 128)
+      → ((to : ℕ) → so_far 128 ops sigs 0 (to + 1) ≡ None)
       → 0 < length ops → Passed 0 (Some (start_shape 128) ∷ replicate (length ops - 1) None)
   begins start empty some = record {
     long = omega (arith, length_none (length ops - 1));
@@ -85,16 +102,20 @@ module _ (ops : List Op) (sigs : List (ℕ × Promise)) where
   }
 
   -- the fault of a slot, by what the table has there
-  here : (slot : ℕ) (table : List (Option Shape)) (op : Op) → Passed slot table → slot < length ops → slice_get ops slot ≡ Some op
-      → fault_at 128 ops sigs slot ≡ least (faults 128 ops sigs slot op (slice_index_or table slot None))
+  here : (slot : ℕ) (table : List (Option Shape)) (op : Op) → Passed slot table → slot < length ops
+      → slice_get ops slot ≡ Some op
+      → fault_at 128 ops sigs slot ≡ least
+      (faults 128 ops sigs slot op (slice_index_or table slot None))
   here slot table op passed inside is =
       let row = passed.rows slot (omega arith) inside in
       ap (λ (o : Option Op). fault_of 128 ops sigs slot o (state_at 128 ops sigs slot)) is
       ∙ ap (λ (s : Option Shape). least (faults 128 ops sigs slot op s)) (sym row)
 
   -- the first fault is found
-  pub found : (slot code : ℕ) (table : List (Option Shape)) (op : Op) → Passed slot table → slot < length ops → slice_get ops slot ≡ Some op
-      → Some code ≡ least (faults 128 ops sigs slot op (slice_index_or table slot None)) → IsFirstFault 128 ops sigs slot code
+  pub found : (slot code : ℕ) (table : List (Option Shape)) (op : Op) → Passed slot table
+      → slot < length ops → slice_get ops slot ≡ Some op
+      → Some code ≡ least (faults 128 ops sigs slot op (slice_index_or table slot None))
+      → IsFirstFault 128 ops sigs slot code
   found slot code table op passed inside is least_is = record {
     inside = inside;
     fault = here slot table op passed inside is ∙ sym least_is;
@@ -102,36 +123,47 @@ module _ (ops : List Op) (sigs : List (ℕ × Promise)) where
   }
 
   -- what a slot without a fault sends
-  sends_is : (slot : ℕ) (op : Op) (s : Shape) → least (faults 128 ops sigs slot op (Some s)) ≡ None → slice_get ops slot ≡ Some op
+  sends_is : (slot : ℕ) (op : Op) (s : Shape) → least (faults 128 ops sigs slot op (Some s)) ≡ None
+      → slice_get ops slot ≡ Some op
       → sends 128 ops sigs slot (slice_get ops slot) (Some s) ≡ edges 128 sigs slot op s
   sends_is slot op s none is =
       ap (λ (o : Option Op). sends 128 ops sigs slot o (Some s)) is
       ∙ ap (λ (fault : Option ℕ). unless_fault fault (edges 128 sigs slot op s)) none
 
-  sends_nothing : (slot : ℕ) (op : Op) → slice_get ops slot ≡ Some op → sends 128 ops sigs slot (slice_get ops slot) None ≡ []
+  sends_nothing : (slot : ℕ) (op : Op) → slice_get ops slot ≡ Some op
+      → sends 128 ops sigs slot (slice_get ops slot) None ≡ []
   sends_nothing slot op is = ap (λ (o : Option Op). sends 128 ops sigs slot o None) is
 
-  sent_on : (slot to : ℕ) (table : List (Option Shape)) (op : Op) (state : Option Shape) → to < length table
+  sent_on : (slot to : ℕ) (table : List (Option Shape)) (op : Op) (state : Option Shape)
+      → to < length table
       → least (faults 128 ops sigs slot op state) ≡ None → slice_get ops slot ≡ Some op
       → slice_index_or (sent_from sigs slot op state table) to None
-      ≡ with_edges (slice_index_or table to None) (into to (sends 128 ops sigs slot (slice_get ops slot) state))
+      ≡ with_edges (slice_index_or table to None)
+      (into to (sends 128 ops sigs slot (slice_get ops slot) state))
   sent_on slot to table op None inside none is =
-      ap (λ (es : List (ℕ × Shape)). with_edges (slice_index_or table to None) (into to es)) (sym (sends_nothing slot op is))
+      ap (λ (es : List (ℕ × Shape)). with_edges (slice_index_or table to None) (into to es))
+      (sym (sends_nothing slot op is))
   sent_on slot to table op (Some s) inside none is =
       sent_row table (edges 128 sigs slot op s) to inside
-      ∙ ap (λ (es : List (ℕ × Shape)). with_edges (slice_index_or table to None) (into to es)) (sym (sends_is slot op s none is))
+      ∙ ap (λ (es : List (ℕ × Shape)). with_edges (slice_index_or table to None) (into to es))
+      (sym (sends_is slot op s none is))
 
-  kept_length : (slot : ℕ) (table : List (Option Shape)) (op : Op) (state : Option Shape) → length (sent_from sigs slot op state table) ≡ length table
+  kept_length : (slot : ℕ) (table : List (Option Shape)) (op : Op) (state : Option Shape)
+      → length (sent_from sigs slot op state table) ≡ length table
   kept_length slot table op None = refl
   kept_length slot table op (Some s) = sent_length table (edges 128 sigs slot op s)
 
   abbrev Step : ℕ → Type 0
-  Step slot = (to : ℕ) → so_far 128 ops sigs (slot + 1) to ≡ with_edges (so_far 128 ops sigs slot to) (into to (sends 128 ops sigs slot (slice_get ops slot) (state_at 128 ops sigs slot)))
+  Step slot = (to : ℕ) → so_far 128 ops sigs (slot + 1) to
+      ≡ with_edges (so_far 128 ops sigs slot to)
+      (into to (sends 128 ops sigs slot (slice_get ops slot) (state_at 128 ops sigs slot)))
 
   -- one more slot
-  pub goes_on : (slot : ℕ) (table : List (Option Shape)) (op : Op) → Step slot → Passed slot table → slot < length ops → slice_get ops slot ≡ Some op
+  pub goes_on : (slot : ℕ) (table : List (Option Shape)) (op : Op) → Step slot → Passed slot table
+      → slot < length ops → slice_get ops slot ≡ Some op
       → least (faults 128 ops sigs slot op (slice_index_or table slot None)) ≡ None
-      → Passed (slot + 1) (sent_from sigs slot op (slice_index_or table slot None) (set table slot None))
+      → Passed (slot + 1) (sent_from sigs slot op (slice_index_or table slot None)
+      (set table slot None))
   goes_on slot table op step passed inside is none =
       let state = slice_index_or table slot None in
       let rest : List (Option Shape) = set table slot None in
@@ -143,18 +175,23 @@ module _ (ops : List Op) (sigs : List (ℕ × Promise)) where
             let later : slot ≤ to = omega arith in
             let other : to ≢ slot = omega arith in
             sent_on slot to rest op state in_table none is
-            ∙ ap (λ (row : Option Shape). with_edges row (into to (sends 128 ops sigs slot (slice_get ops slot) state)))
+            ∙ ap (λ (row : Option Shape). with_edges row
+            (into to (sends 128 ops sigs slot (slice_get ops slot) state)))
             (get_or-set_other table slot to None None other ∙ passed.rows to later in_ops)
-            ∙ ap (λ (s : Option Shape). with_edges (so_far 128 ops sigs slot to) (into to (sends 128 ops sigs slot (slice_get ops slot) s))) (passed.rows slot (omega arith) inside)
+            ∙ ap (λ (s : Option Shape). with_edges (so_far 128 ops sigs slot to)
+            (into to (sends 128 ops sigs slot (slice_get ops slot) s)))
+            (passed.rows slot (omega arith) inside)
             ∙ sym (step to);
-        clear = below_more (λ k. fault_at 128 ops sigs k ≡ None) slot passed.clear (here slot table op passed inside is ∙ none);
+        clear = below_more (λ k. fault_at 128 ops sigs k ≡ None) slot passed.clear
+            (here slot table op passed inside is ∙ none);
       }
 
   pub all_clear : (table : List (Option Shape)) → Passed (length ops) table → Accepts 128 ops sigs
   all_clear table passed = λ slot inside. passed.clear slot inside
 
 -- an instruction or a tail stands at each slot
-pub op_in : (ops : List Op) (slot : ℕ) → slot < length ops → (op : Op) × (slice_get ops slot ≡ Some op)
+pub op_in : (ops : List Op) (slot : ℕ) → slot < length ops
+    → (op : Op) × (slice_get ops slot ≡ Some op)
 op_in [] slot inside = absurd (omega arith)
 op_in (op ∷ ops) zero inside = (op, refl)
 op_in (op ∷ ops) (suc slot) inside = op_in ops slot (omega arith)

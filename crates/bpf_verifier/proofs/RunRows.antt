@@ -1,5 +1,5 @@
--- A worked program that meets the premises of the law on what `verify` answers: with a jump, a join, a store, a load from the
--- stack and a call.
+-- A worked program that meets the premises of the law on what `verify` answers: with a jump, a
+-- join, a store, a load from the stack and a call.
 use Rattle.std.proofs.Common.{◌≡◌, ℕ, zero, List, [], ◌∷◌, refl, arith}
 use Rattle.std.specs.Prelude.{pos, negsuc, replicate}
 use Rattle.std.proofs.lemmas.List.{length-replicate}

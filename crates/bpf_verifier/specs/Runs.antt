@@ -8,7 +8,8 @@ use Rattle.bpf_regstate.specs.Holds.{AreBytes}
 use Rattle.bpf_regstate.specs.States.{Accepts, instruction_count}
 use Rattle.bpf_verifier.specs.Verdict.{Verified}
 
--- a program of which no slot has a fault beside a record of 128 bytes, and signatures that promise something
+-- a program of which no slot has a fault beside a record of 128 bytes, and signatures that promise
+-- something
 pub record MayRun (v : Verified) : Type 0 where
   pub program : IsProgram v.ops
   pub signatures : IsTrue (are_well_formed v.sigs)
@@ -23,13 +24,16 @@ pub record IsInput (record_bytes : List ℕ) (moment milestone : ℕ) : Type 0 w
   pub last_milestone : milestone ≤ 16
 
 module _ (v : Verified) (record_bytes : List ℕ) (moment milestone : ℕ) (answers : List ℕ) where
-  -- such a program on such an input reaches this machine in so many steps, with exactly these promised answers
+  -- such a program on such an input reaches this machine in so many steps, with exactly these
+  -- promised answers
   pub record Leads (n : ℕ) (m : Machine) : Type 0 where
     pub may_run : MayRun v
     pub input : IsInput record_bytes moment milestone
-    pub reached : Reaches v.ops v.sigs record_bytes (start (length record_bytes) moment milestone) answers n m
+    pub reached : Reaches v.ops v.sigs record_bytes (start (length record_bytes) moment milestone)
+        answers n m
 
-  -- with some more promised answers it ends, at the latest in the step of the number of its instructions
+  -- with some more promised answers it ends, at the latest in the step of the number of its
+  -- instructions
   pub record GoesToItsEnd : Type 0 where
     pub more : List ℕ
     pub r0 : ℕ

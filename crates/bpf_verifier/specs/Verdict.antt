@@ -1,10 +1,13 @@
--- What `verify` answers (this project's profile: the numbers of faults, and which of several is told).
+-- What `verify` answers (this project's profile: the numbers of faults, and which of several is
+-- told).
 use Rattle.std.specs.Prelude.{◌≡◌, ℕ, List, Result, Ok, Err}
 use Rattle.bpf_decode.specs.declared.op.Op.{Op}
 use Rattle.bpf_helpers.specs.Promise.{Promise}
 use Rattle.bpf_regstate.specs.States.{IsFirstFault}
 use Rattle.bpf_verifier.specs.declared.fault.Fault.{Fault}
-use Rattle.bpf_verifier.specs.declared.fault.Fault.TheVariants.{Jump, FallsOff, Uninitialised, Address, StackByte, WritesRecord, Helper, Argument, WritesEnd}
+use Rattle.bpf_verifier.specs.declared.fault.Fault.TheVariants.{Jump, FallsOff, Uninitialised}
+use Rattle.bpf_verifier.specs.declared.fault.Fault.TheVariants.{Address, StackByte, WritesRecord}
+use Rattle.bpf_verifier.specs.declared.fault.Fault.TheVariants.{Helper, Argument, WritesEnd}
 use Rattle.bpf_verifier.specs.declared.fault.VerifyError.{VerifyError}
 use Rattle.bpf_verifier.specs.declared.fault.VerifyError.TheVariants.{Refused, Memory}
 
@@ -34,7 +37,8 @@ pub record Verified : Type 0 where
 
 -- the error is the first fault of the program, beside a record of this length, or want of memory
 abbrev pub Refuses : ℕ → List Op → List (ℕ × Promise) → VerifyError → Type 0
-Refuses record_length ops sigs (Refused fault slot) = IsFirstFault record_length ops sigs slot (code_of fault)
+Refuses record_length ops sigs (Refused fault slot) =
+    IsFirstFault record_length ops sigs slot (code_of fault)
 Refuses record_length ops sigs Memory = Unit {0}
 
 -- the answer is this fault, or want of memory

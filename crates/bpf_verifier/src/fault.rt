@@ -18,7 +18,8 @@ pub enum Fault {
     /// A register is read that may be uninitialised.
     #[error("uninitialised register")]
     Uninitialised,
-    /// A load or a store may go outside the record and the stack, or its addresses do not all lie in one of them.
+    /// A load or a store may go outside the record and the stack, or its addresses do not all lie
+    /// in one of them.
     #[error("address outside the record and the stack")]
     Address,
     /// A byte of the stack is loaded that may be uninitialised.

@@ -1,8 +1,10 @@
-//! Faults that a slot has whatever is known there: of jumps, of the end, of unknown helpers and of r10.
+//! Faults that a slot has whatever is known there: of jumps, of the end, of unknown helpers and of
+//! r10.
 
 ghost use Rattle.std.specs.Prelude.{◌≡◌, ◌==◌, ◌<◌, ◌^◌, slice_get};
 ghost use Rattle.bpf_semantics.specs.Machine.{is_entry, next_slot, target};
-ghost use Rattle.bpf_regstate.specs.Faults.{calls_unknown, falls_off, is_target, jumps_badly, writes_end};
+ghost use Rattle.bpf_regstate.specs.Faults.{calls_unknown, falls_off, is_target, jumps_badly};
+ghost use Rattle.bpf_regstate.specs.Faults.{writes_end};
 
 use bpf_decode::{Op, Register};
 use bpf_helpers::Sigs;

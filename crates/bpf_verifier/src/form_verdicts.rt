@@ -1,4 +1,5 @@
-//! Each form of instruction with its fault. Written by bench/forms/verdicts.py, by the table of faults.
+//! Each form of instruction with its fault. Written by bench/forms/verdicts.py, by the table of
+//! faults.
 
 /// Opcode, registers, offset and immediate of a slot, and the number of its fault, 0 for none.
 pub(crate) static VERDICTS: [(u8, u8, i16, i32, u16); 654] = [

@@ -1,4 +1,5 @@
-//! Each form of instruction in programs that are accepted and refused. bench/forms/verdicts.py says of what rows and why.
+//! Each form of instruction in programs that are accepted and refused. bench/forms/verdicts.py says
+//! of what rows and why.
 
 use crate::form_verdicts::VERDICTS;
 use crate::verify;
@@ -15,7 +16,8 @@ fn slot(opcode: u8, registers: u8, offset: i16, immediate: i32) -> [u8; 8] {
     [opcode, registers, o0, o1, i0, i1, i2, i3]
 }
 
-/// The slot has this fault behind three others, of which r0 and r6 are set and eight bytes stored, or none if that is 0.
+/// The slot has this fault behind three others, of which r0 and r6 are set and eight bytes stored,
+/// or none if that is 0.
 fn has_fault(
     rt: &impl Abort,
     alloc: Global,

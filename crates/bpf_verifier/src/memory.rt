@@ -4,7 +4,8 @@ ghost use Rattle.std.specs.Prelude.{◌≡◌, ◌≤◌, ◌+◌, ◌-◌};
 ghost use Rattle.bpf_places.specs.Places.{PlaceIs};
 ghost use Rattle.bpf_regstate.specs.Shape.{known};
 ghost use Rattle.bpf_regstate.specs.Effect.{access, range_of};
-ghost use Rattle.bpf_regstate.specs.Faults.{access_of, is_nowhere, is_unmarked, loads_unmarked, stores_in_record};
+ghost use Rattle.bpf_regstate.specs.Faults.{access_of, is_nowhere, is_unmarked, loads_unmarked};
+ghost use Rattle.bpf_regstate.specs.Faults.{stores_in_record};
 
 use crate::reads::range_of;
 use bpf_decode::{Op, Register};
@@ -14,12 +15,14 @@ use bpf_regstate::{RECORD_LENGTH, State, place_of_access};
 /// Where all addresses lie that so many bytes at a register plus the offset may have.
 fn place_at(state: &State, base: Register, offset: i32, count: usize) -> Place
     requires { count ≤ 8 }
-    ensures { let range = range_of (known state.now base) in PlaceIs result 128 (range.hi - range.lo + count) (access 128 range offset count) }
+    ensures { let range = range_of (known state.now base) in
+        PlaceIs result 128 (range.hi - range.lo + count) (access 128 range offset count) }
 {
     place_of_access(RECORD_LENGTH, range_of(state, base), offset, count)
 }
 
-/// Whether some address of the slot's load or store lies in no region, or not in that of the others.
+/// Whether some address of the slot's load or store lies in no region, or not in that of the
+/// others.
 pub fn misses_memory(state: &State, op: Op) -> bool
     ensures { result ≡ is_nowhere (access_of 128 state.now op) }
 {
@@ -49,7 +52,8 @@ pub fn misses_memory(state: &State, op: Op) -> bool
 /// Whether a load of so many bytes may read a byte of the stack that is not marked.
 fn is_unmarked(state: &State, base: Register, offset: i32, count: usize) -> bool
     requires { count ≤ 8 }
-    ensures { let range = range_of (known state.now base) in result ≡ is_unmarked state.now range count (access 128 range offset count) }
+    ensures { let range = range_of (known state.now base) in
+        result ≡ is_unmarked state.now range count (access 128 range offset count) }
 {
     match place_at(state, base, offset, count) {
         Place::Stack(at) => {

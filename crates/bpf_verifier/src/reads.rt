@@ -1,9 +1,12 @@
-//! Faults of the registers that a slot reads: uninitialised ones, and arguments of calls outside their ranges.
+//! Faults of the registers that a slot reads: uninitialised ones, and arguments of calls outside
+//! their ranges.
 
 ghost use Rattle.std.specs.Prelude.{◌≡◌, ◌≤◌, length};
 ghost use Rattle.bpf_regstate.specs.Effect.{range_of};
 ghost use Rattle.bpf_regstate.specs.Shape.{IsRange, known};
-ghost use Rattle.bpf_regstate.specs.Faults.{argument_uninit, arguments_within, destination_uninit, is_uninit, lies_within, operand_uninit, passes_badly, reads_uninit, call_uninit, call_within};
+ghost use Rattle.bpf_regstate.specs.Faults.{argument_uninit, arguments_within, destination_uninit};
+ghost use Rattle.bpf_regstate.specs.Faults.{is_uninit, lies_within, operand_uninit, passes_badly};
+ghost use Rattle.bpf_regstate.specs.Faults.{reads_uninit, call_uninit, call_within};
 ghost use Rattle.bpf_helpers.specs.Promise.{signature_of};
 
 use bpf_decode::{Code, Op, Operand, Register};

@@ -13,7 +13,8 @@ use bpf_decode::Op;
 use bpf_helpers::Sigs;
 use bpf_regstate::State;
 
-/// The fault of the least number that a slot has, by what is known there; nothing is known where no edge leads.
+/// The fault of the least number that a slot has, by what is known there; nothing is known where no
+/// edge leads.
 pub fn least_fault(
     ops: &[Op],
     sigs: &Sigs,
@@ -22,7 +23,8 @@ pub fn least_fault(
     state: &Option<Box<State>>,
 ) -> Option<Fault>
     requires { slot < 2 ^ 32 }
-    ensures { option_map code_of result ≡ least (faults 128 ops.now sigs.now slot op (contents state.now)) }
+    ensures { option_map code_of result
+        ≡ least (faults 128 ops.now sigs.now slot op (contents state.now)) }
 {
     if op == Op::Tail {
         return None;

@@ -95,7 +95,8 @@ fn send(
 }
 
 /// The fault of a slot, by what the edges of earlier slots have brought to it; where it has none,
-/// its own edges are sent. What was known at the slot is given up. `Err` only where there is no memory.
+/// its own edges are sent. What was known at the slot is given up. `Err` only where there is no
+/// memory.
 pub fn pass_slot(
     alloc: Global,
     waiting: &mut Waiting,

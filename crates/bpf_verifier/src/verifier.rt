@@ -1,6 +1,7 @@
 //! The verifier.
 
-ghost use Rattle.std.specs.Prelude.{◌≡◌, ◌∷◌, ◌<◌, ◌≤◌, ◌-◌, ℕ, Some, None, length, replicate, IfOk, IfErr, IsOkUnless, MatchOption};
+ghost use Rattle.std.specs.Prelude.{◌≡◌, ◌∷◌, ◌<◌, ◌≤◌, ◌-◌, ℕ, Some, None, length, replicate};
+ghost use Rattle.std.specs.Prelude.{IfOk, IfErr, IsOkUnless, MatchOption};
 ghost use Rattle.bpf_regstate.specs.States.{Accepts, IsFirstFault, start_shape};
 ghost use Rattle.bpf_verifier.specs.Runs.{MayRun};
 ghost use Rattle.bpf_verifier.specs.Verdict.{AnswersFault, Refuses, code_of};
@@ -14,8 +15,8 @@ use bpf_helpers::Sigs;
 use bpf_regstate::laws::one_pass_is_enough;
 use std::alloc::{AllocError, Global};
 
-/// The first fault of these slots with its slot, found in one pass forward from where the start alone waits. `Err` only where
-/// there is no memory.
+/// The first fault of these slots with its slot, found in one pass forward from where the start
+/// alone waits. `Err` only where there is no memory.
 fn first_fault(
     alloc: Global,
     ops: &[Op],
@@ -25,7 +26,8 @@ fn first_fault(
     requires some { 0 < length ops.now }
     requires few { length ops.now ≤ 4096 }
     requires table { waiting.old ≡ Some (start_shape 128) ∷ replicate (length ops.now - 1) None }
-    ensures { IfOk result (λ first. MatchOption first (Accepts 128 ops.now sigs.now) (λ found. IsFirstFault 128 ops.now sigs.now found.1 (code_of found.0))) }
+    ensures { IfOk result (λ first. MatchOption first (Accepts 128 ops.now sigs.now)
+        (λ found. IsFirstFault 128 ops.now sigs.now found.1 (code_of found.0))) }
 {
     one_pass_is_enough();
     for slot in 0..ops.len() {
@@ -36,8 +38,9 @@ fn first_fault(
     Ok(None)
 }
 
-/// Whether the program may run with these helpers: whether no slot has a fault. It is answered with a copy of the signatures,
-/// or dropped. A refusal holds the least faulty slot with its fault of the least number. Its time is linear in the slots.
+/// Whether the program may run with these helpers: whether no slot has a fault. It is answered with
+/// a copy of the signatures, or dropped. A refusal holds the least faulty slot with its fault of
+/// the least number. Its time is linear in the slots.
 pub fn verify(alloc: Global, program: Program, sigs: &Sigs) -> Result<Checked, VerifyError>
     // What is answered is accepted, or the first fault, unless memory runs out.
     ensures accepted { IfOk result (λ checked. Accepts 128 program sigs.now) }
@@ -47,7 +50,8 @@ pub fn verify(alloc: Global, program: Program, sigs: &Sigs) -> Result<Checked, V
 
     // No accepted program is refused, and no other fault is the first.
     ensures only_accepted { Accepts 128 program sigs.now → IsOkUnless result VerifyError.Memory }
-    ensures only_fault { (slot code : ℕ) → IsFirstFault 128 program sigs.now slot code → AnswersFault slot code result }
+    ensures only_fault { (slot code : ℕ) → IsFirstFault 128 program sigs.now slot code
+        → AnswersFault slot code result }
 {
     let mut waiting = Waiting::new(alloc, program.slot_count())?;
     if let Some((fault, slot)) = first_fault(alloc, program.ops(), sigs, &mut waiting)? {

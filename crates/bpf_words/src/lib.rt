@@ -1,4 +1,5 @@
-//! Word arithmetic of BPF programs (RFC 9669, sections 4.1 to 4.3) with Rust's operations on 32 and 64 bits.
+//! Word arithmetic of BPF programs (RFC 9669, sections 4.1 to 4.3) with Rust's operations on 32 and
+//! 64 bits.
 #![tactic(auto)]
 
 mod words;

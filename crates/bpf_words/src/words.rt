@@ -1,7 +1,8 @@
 //! Arithmetic on words, with Rust's operations.
 
 ghost use Rattle.std.specs.Prelude.{◌≡◌, ◌<◌, ◌≤◌, ◌^◌};
-ghost use Rattle.bpf_decode.specs.Words.{operation, arith_word, negated, extended, ordered, turned, comparison, holds};
+ghost use Rattle.bpf_decode.specs.Words.{operation, arith_word, negated, extended, ordered, turned};
+ghost use Rattle.bpf_decode.specs.Words.{comparison, holds};
 ghost use Rattle.bpf_decode.specs.declared.op.Width.TheVariants.{W32, W64};
 
 use bpf_decode::{Bytes, Code, Condition, Order, Part, Width};

@@ -10,4 +10,5 @@ returns-in_err-matches-clause-refuses c =
     let p = err_from_is_err_and failed.result failed.ensures.1 in
     rw (p.1, p.2) (λ right.
     c.in_err-matches.ensures.passes
-    (subst (λ (a : App). takes a (map (λ w. w.now) c.args.words.now) ≡ true) (sym c.in_ok-command.ensures) right.taken))
+    (subst (λ (a : App). takes a (map (λ w. w.now) c.args.words.now) ≡ true)
+    (sym c.in_ok-command.ensures) right.taken))

@@ -27,7 +27,8 @@ returns-in_err-judge_entry g c =
     rw (p.1, p.2) (record {
       audits = faulty c.args.sigs.now g.R.Read.remaining c.args.reader.now c.loop-lines.reader
           c.next_line.new.reader c.loop-lines.lines c.next_line.new.lines c.loop-lines.entry
-          c.loop-lines.core so_far c.judge_entry.new.core _ _ t (t.well ∙ c.loop-lines.invariant.well)
+          c.loop-lines.core so_far c.judge_entry.new.core _ _ t (t.well
+          ∙ c.loop-lines.invariant.well)
           c.as_slice.ensures judged;
     })
 

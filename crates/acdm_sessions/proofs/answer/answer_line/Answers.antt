@@ -1,5 +1,6 @@
 use Rattle.std.proofs.Common.{◌≢◌, length, Err, refl, ap}
-use Rattle.acdm_sessions.proofs.Answering.{fault_read, answers_short, answers_fault, answers_program, answers_full, answers_entered}
+use Rattle.acdm_sessions.proofs.Answering.{fault_read, answers_short, answers_fault}
+use Rattle.acdm_sessions.proofs.Answering.{answers_program, answers_full, answers_entered}
 use Rattle.acdm_sessions.proofs.answer.answer_line.Goals as goal
 
 pub returns-in-Err-Memory : goal.returns-in-Err-Memory

@@ -7,4 +7,5 @@ returns-in-Ok c = json_ok c.args.bytes.now _ c.in-Ok.ensures.ok.0 c.in-Ok.ensure
 
 pub returns-else-is_memory : goal.returns-else-is_memory
 returns-else-is_memory c =
-    json_bad c.args.bytes.now (c.in-Err.ensures.err (λ m. let t : IsTrue c.is_memory.result = c.is_memory.ensures.1 m in cc))
+    json_bad c.args.bytes.now (c.in-Err.ensures.err
+    (λ m. let t : IsTrue c.is_memory.result = c.is_memory.ensures.1 m in cc))

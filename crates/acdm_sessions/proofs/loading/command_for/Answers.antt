@@ -1,4 +1,5 @@
-use Rattle.acdm_sessions.proofs.Completing.{completes_plain, completes_load, completes_refused, same_is_no_other}
+use Rattle.acdm_sessions.proofs.Completing.{completes_plain, completes_load, completes_refused}
+use Rattle.acdm_sessions.proofs.Completing.{same_is_no_other}
 use Rattle.acdm_sessions.proofs.loading.command_for.Goals as goal
 
 pub returns-in-Err-clause-reads : goal.returns-in-Err-clause-reads

@@ -11,6 +11,7 @@ invariant-loop-one g l = record {
   amount : l.all.amount ≡ l.fn.all.amount + sum_by (λ e. e.calls) l.ended.items;
   session_end : map (λ e. session_end e.number e.role e.calls e.end)
       l.ended.items
-      ++ map (λ s. session_end s.number s.role s.caller.calls s.end) (into_iter_items l.one-iterator)
+      ++ map (λ s. session_end s.number s.role s.caller.calls s.end)
+      (into_iter_items l.one-iterator)
       ≡ map (λ s. session_end s.number s.role s.caller.calls s.end) l.fn.served.items;
 }

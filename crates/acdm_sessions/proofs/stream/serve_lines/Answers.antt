@@ -1,6 +1,7 @@
 use Rattle.std.proofs.Common.{◌<◌, ◌≢◌, length, refl, sym, ap, ◌∙◌, arith}
 use Rattle.std.proofs.lemmas.Bool.{eqb-true, eqb-false}
-use Rattle.acdm_sessions.proofs.Running.{sofar-begins, sofar-line, sofar-ends, sofar-rest, sofar-part}
+use Rattle.acdm_sessions.proofs.Running.{sofar-begins, sofar-line, sofar-ends, sofar-rest}
+use Rattle.acdm_sessions.proofs.Running.{sofar-part}
 use Rattle.acdm_sessions.proofs.Running.{part-line, part-rest}
 use Rattle.acdm_lines.proofs.Reading.{input-from_not_line_feed}
 use Rattle.acdm_sessions.proofs.stream.serve_lines.Goals as goal

@@ -19,7 +19,14 @@ returns-clause-changed g c =
     let from : OracleView = g.O.Oracle.view c.args.oracle.now in
     let to : OracleView = g.O.Oracle.view c.run_programs.new.oracle in
     let same = ap (λ (r : ReportFacts). r.milestone) c.report.view_is in
-    changes_to (programs_on c.args.slots.now command) c.args.record.now c.set_reported.new.record c.run_programs.new.record c.touch.new.record c.args.moment (number c.args.report.now.milestone) command from to
+    changes_to (programs_on c.args.slots.now command) c.args.record.now c.set_reported.new.record
+    c.run_programs.new.record c.touch.new.record c.args.moment
+    (number c.args.report.now.milestone) command from to
     c.set_reported.ensures refl
-    (subst (λ (m : Milestone). EndsIn (record { tobt = program_in c.args.slots.now m Tobt; alert = program_in c.args.slots.now m Alert }) c.set_reported.new.record c.args.moment (number m) from to c.run_programs.new.record)
+    (subst (λ (m : Milestone). EndsIn
+    (record {
+      tobt = program_in c.args.slots.now m Tobt;
+      alert = program_in c.args.slots.now m Alert;
+    }) c.set_reported.new.record c.args.moment
+    (number m) from to c.run_programs.new.record)
     same c.in_ok-run_programs.ensures.ended) c.touch.ensures

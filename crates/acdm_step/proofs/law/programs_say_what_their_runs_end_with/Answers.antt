@@ -9,5 +9,6 @@ returns c = record {
   computed = said_say;
   complete = say_said;
   legal = λ sigs J e l d.
-      left_ran (programs_of J e.command) (run_record_of J e.command) e.moment (bit_of e.command) e.answers (l.4.used d);
+      left_ran (programs_of J e.command) (run_record_of J e.command) e.moment (bit_of e.command)
+      e.answers (l.4.used d);
 }

@@ -1,4 +1,5 @@
-use Rattle.bpf_decode.proofs.ProgramLemmas.{first_is_no_tail, tail_follows_wide, slot_can_be_encoded}
+use Rattle.bpf_decode.proofs.ProgramLemmas.{first_is_no_tail, tail_follows_wide}
+use Rattle.bpf_decode.proofs.ProgramLemmas.{slot_can_be_encoded}
 use Rattle.bpf_decode.proofs.law.program_is_well_formed.Goals as goal
 
 pub returns-clause-first : goal.returns-clause-first

@@ -14,17 +14,21 @@ pub returns-in_default : goal.returns-in_default
 returns-in_default c =
     let fits : FitsSigned w16 c.args.insn.off = search rules in
     let none = rw (to_z-of_z w16 c.args.insn.off fits) at c.in_default.ensures in
-    field_fault (form.Arith c.args.width c.args.code source.Immediate) c.args.insn c.requires (λ a. none a.1.0 a.1.1 a.1.2)
+    field_fault (form.Arith c.args.width c.args.code source.Immediate) c.args.insn c.requires
+    (λ a. none a.1.0 a.1.1 a.1.2)
 
 pub returns-then-insn-ne0 : goal.returns-then-insn-ne0
 returns-then-insn-ne0 c =
-    field_fault (form.Arith c.args.width c.args.code source.Immediate) c.args.insn c.requires (λ a. c.if-insn-ne0.true a.0)
+    field_fault (form.Arith c.args.width c.args.code source.Immediate) c.args.insn c.requires
+    (λ a. c.if-insn-ne0.true a.0)
 
 pub returns-in_err-dst : goal.returns-in_err-dst
 returns-in_err-dst c =
     let p = err_from_is_err_and c.from_residual.result c.from_residual.ensures.1 in
     let fits : FitsSigned w16 c.args.insn.off = search rules in
     rw (p.1, p.2, c.in_err-dst.ensures.0)
-    (register_fault (op.Arith c.args.width c.in-Some.code c.args.insn.dst (Immediate c.args.insn.imm)) (form.Arith c.args.width c.args.code source.Immediate)
+    (register_fault (op.Arith c.args.width c.in-Some.code c.args.insn.dst
+    (Immediate c.args.insn.imm)) (form.Arith c.args.width c.args.code source.Immediate)
     c.args.insn tt (omega (arith, c.in-Some.ensures.0)) c.requires refl (sym c.if-insn-ne0.false)
-    (rw (to_z-of_z w16 c.args.insn.off fits) at c.in-Some.ensures.1) refl (λ h. omega (arith, c.in_err-dst.ensures.1)))
+    (rw (to_z-of_z w16 c.args.insn.off fits) at c.in-Some.ensures.1) refl
+    (λ h. omega (arith, c.in_err-dst.ensures.1)))

@@ -7,19 +7,22 @@ use Rattle.bpf_decode.specs.declared.op.Op.TheVariants as op
 use Rattle.bpf_decode.specs.declared.form.Form.TheVariants as form
 use Rattle.bpf_decode.proofs.RowLemmas.{field_fault, register_fault, zero16}
 use Rattle.bpf_decode.proofs.row.end.Goals as goal
-use Rattle.bpf_decode.proofs.row.end.Goals.{then-insn-ne0-via-then-insn-ne0, then-insn-ne0-via-else-insn-ne0+then-insn-ne0-2}
+use Rattle.bpf_decode.proofs.row.end.Goals.{then-insn-ne0-via-then-insn-ne0}
+use Rattle.bpf_decode.proofs.row.end.Goals.{then-insn-ne0-via-else-insn-ne0+then-insn-ne0-2}
 
 pub returns-then-insn-ne0 : goal.returns-then-insn-ne0
 returns-then-insn-ne0 c =
     field_fault (form.End c.args.order) c.args.insn c.requires (λ a. elim c.then-insn-ne0.branch [
       | then-insn-ne0-via-then-insn-ne0 w ↦ w.if-insn-ne0.true a.0
-      | then-insn-ne0-via-else-insn-ne0+then-insn-ne0-2 w ↦ w.if-insn-ne0-2.true (ap (cast_unsigned w16) a.1)
+      | then-insn-ne0-via-else-insn-ne0+then-insn-ne0-2 w ↦
+          w.if-insn-ne0-2.true (ap (cast_unsigned w16) a.1)
     ])
 
 pub returns-in_default : goal.returns-in_default
 returns-in_default c =
     let fits : FitsSigned w32 c.args.insn.imm = search rules in
-    field_fault (form.End c.args.order) c.args.insn c.requires (λ a. (rw (to_z-of_z w32 c.args.insn.imm fits) at c.in_default.ensures) a.2.0 a.2.1)
+    field_fault (form.End c.args.order) c.args.insn c.requires
+    (λ a. (rw (to_z-of_z w32 c.args.insn.imm fits) at c.in_default.ensures) a.2.0 a.2.1)
 
 pub returns-in_err-dst : goal.returns-in_err-dst
 returns-in_err-dst c =
@@ -27,4 +30,8 @@ returns-in_err-dst c =
     let fits16 : FitsSigned w16 c.args.insn.off = search rules in
     let fits32 : FitsSigned w32 c.args.insn.imm = search rules in
     rw (p.1, p.2, c.in_err-dst.ensures.0)
-    (register_fault (op.End c.args.order c.in-Some.bytes c.args.insn.dst) (form.End c.args.order) c.args.insn tt refl c.requires refl (sym c.if-insn-ne0.false) (zero16 c.args.insn.off fits16 c.if-insn-ne0-2.false) (rw (to_z-of_z w32 c.args.insn.imm fits32) at c.in-Some.ensures) (λ h. omega (arith, c.in_err-dst.ensures.1)))
+    (register_fault (op.End c.args.order c.in-Some.bytes c.args.insn.dst) (form.End c.args.order)
+    c.args.insn tt refl c.requires refl (sym c.if-insn-ne0.false)
+    (zero16 c.args.insn.off fits16 c.if-insn-ne0-2.false)
+    (rw (to_z-of_z w32 c.args.insn.imm fits32) at c.in-Some.ensures)
+    (λ h. omega (arith, c.in_err-dst.ensures.1)))

@@ -22,6 +22,9 @@ returns-in_err-dst c =
     let p = err_from_is_err_and c.from_residual.result c.from_residual.ensures.1 in
     let fits : FitsSigned w16 c.args.insn.off = search rules in
     rw (p.1, p.2, c.in_err-dst.ensures.0)
-    (register_fault (op.Extend c.args.width c.in-Some.part c.args.insn.dst c.args.insn.src) (form.Arith c.args.width Mov source.Register)
-    c.args.insn (extends_at c.args.width c.in-Some.part c.args.insn.dst c.args.insn.src c.in-Some.ensures.0) refl c.requires.opcode refl refl
-    (rw (to_z-of_z w16 c.args.insn.off fits) at c.in-Some.ensures.1) (sym c.requires.immediate) c.in_err-dst.ensures.1)
+    (register_fault (op.Extend c.args.width c.in-Some.part c.args.insn.dst c.args.insn.src)
+    (form.Arith c.args.width Mov source.Register)
+    c.args.insn (extends_at c.args.width c.in-Some.part c.args.insn.dst c.args.insn.src
+    c.in-Some.ensures.0) refl c.requires.opcode refl refl
+    (rw (to_z-of_z w16 c.args.insn.off fits) at c.in-Some.ensures.1) (sym c.requires.immediate)
+    c.in_err-dst.ensures.1)

@@ -9,11 +9,14 @@ use Rattle.bpf_decode.proofs.row.load_signed.Goals as goal
 
 pub returns-then-insn-ne0 : goal.returns-then-insn-ne0
 returns-then-insn-ne0 c =
-    field_fault (form.LoadSigned c.args.part) c.args.insn c.requires (λ a. c.if-insn-ne0.true (ap (cast_unsigned w32) a))
+    field_fault (form.LoadSigned c.args.part) c.args.insn c.requires
+    (λ a. c.if-insn-ne0.true (ap (cast_unsigned w32) a))
 
 pub returns-in_err-dst : goal.returns-in_err-dst
 returns-in_err-dst c =
     let p = err_from_is_err_and c.from_residual.result c.from_residual.ensures.1 in
     let fits32 : FitsSigned w32 c.args.insn.imm = search rules in
     rw (p.1, p.2, c.in_err-dst.ensures.0)
-    (register_fault (op.LoadSigned c.args.part c.args.insn.dst c.args.insn.src c.args.insn.off) (form.LoadSigned c.args.part) c.args.insn tt refl c.requires refl refl refl (zero32 c.args.insn.imm fits32 c.if-insn-ne0.false) c.in_err-dst.ensures.1)
+    (register_fault (op.LoadSigned c.args.part c.args.insn.dst c.args.insn.src c.args.insn.off)
+    (form.LoadSigned c.args.part) c.args.insn tt refl c.requires refl refl refl
+    (zero32 c.args.insn.imm fits32 c.if-insn-ne0.false) c.in_err-dst.ensures.1)

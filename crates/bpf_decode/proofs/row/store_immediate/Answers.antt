@@ -9,10 +9,14 @@ use Rattle.bpf_decode.proofs.row.store_immediate.Goals as goal
 
 pub returns-then-insn-ne0 : goal.returns-then-insn-ne0
 returns-then-insn-ne0 c =
-    field_fault (form.Store c.args.size source.Immediate) c.args.insn c.requires (λ a. c.if-insn-ne0.true a)
+    field_fault (form.Store c.args.size source.Immediate) c.args.insn c.requires
+    (λ a. c.if-insn-ne0.true a)
 
 pub returns-in_err-base : goal.returns-in_err-base
 returns-in_err-base c =
     let p = err_from_is_err_and c.from_residual.result c.from_residual.ensures.1 in
     rw (p.1, p.2, c.in_err-base.ensures.0)
-    (register_fault (op.Store c.args.size c.args.insn.dst c.args.insn.off (Immediate c.args.insn.imm)) (form.Store c.args.size source.Immediate) c.args.insn tt (omega arith) c.requires refl (sym c.if-insn-ne0.false) refl refl (λ h. omega (arith, c.in_err-base.ensures.1)))
+    (register_fault (op.Store c.args.size c.args.insn.dst c.args.insn.off
+    (Immediate c.args.insn.imm)) (form.Store c.args.size source.Immediate) c.args.insn tt
+    (omega arith) c.requires refl (sym c.if-insn-ne0.false) refl refl
+    (λ h. omega (arith, c.in_err-base.ensures.1)))

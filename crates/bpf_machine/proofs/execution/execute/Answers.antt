@@ -12,5 +12,6 @@ unreachable-requires g c =
     let log : c.in_ok-live.live.log ≡ [] = ap (λ (x : Asking). x.log) c.in_ok-live.ensures in
     let none : length c.in_ok-live.live.log ≡ 0 = ap length log in
     let room = ap (λ (x : Asking). x.room) c.in_ok-live.ensures in
-    let slots : c.slot_count-room.result ≡ length c.args.checked.now.ops = rw c.program.ensures.value at c.slot_count-room.ensures in
+    let slots : c.slot_count-room.result ≡ length c.args.checked.now.ops =
+    rw c.program.ensures.value at c.slot_count-room.ensures in
     omega (arith, few, within, full, none, room, slots)

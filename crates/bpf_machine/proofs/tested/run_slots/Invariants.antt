@@ -6,7 +6,8 @@ use Rattle.bpf_machine.proofs.tested.run_slots.Given as goal
 -- the steps so far are a run, with the answers that the log has gained
 abbrev pub invariant-loop-r0 : goal.invariant-loop-r0
 invariant-loop-r0 g l = record {
-  run : Running l.ops l.sigs l.record_bytes l.moment l.milestone (g.O.Oracle.view l.fn.oracle).log (g.O.Oracle.view l.oracle).log l.steps l.state;
+  run : Running l.ops l.sigs l.record_bytes l.moment l.milestone (g.O.Oracle.view l.fn.oracle).log
+      (g.O.Oracle.view l.oracle).log l.steps l.state;
   counts : (g.O.Oracle.view l.oracle).refusals ≡ (g.O.Oracle.view l.fn.oracle).refusals;
   same_rule : SameRule (g.O.Oracle.view l.fn.oracle) (g.O.Oracle.view l.oracle);
 }

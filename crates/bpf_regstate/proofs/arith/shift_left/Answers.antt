@@ -8,7 +8,8 @@ use Rattle.bpf_regstate.proofs.arith.shift_left.Goals as goal
 whole : (a s : ℕ) → a < 2 ^ 64 → s < 64 → a * 2 ^ s % 2 ^ 128 ≡ a * 2 ^ s
 whole a s h k = shl_whole a 64 s 128 h (omega arith)
 
-shifted : (lo hi s m : ℕ) → lo ≤ hi → hi < 2 ^ 64 → s < 64 → m ≤ 2 ^ 64 → hi * 2 ^ s % 2 ^ 128 < m → lo * 2 ^ s % 2 ^ 128 < 2 ^ 64
+shifted : (lo hi s m : ℕ) → lo ≤ hi → hi < 2 ^ 64 → s < 64 → m ≤ 2 ^ 64 → hi * 2 ^ s % 2 ^ 128 < m
+    → lo * 2 ^ s % 2 ^ 128 < 2 ^ 64
 shifted lo hi s m le h k fits lt =
     let e = whole hi s h k in
     let f = whole lo s (omega arith) k in
@@ -16,6 +17,10 @@ shifted lo hi s m le h k fits lt =
 
 pub overflow_cast-result-then-high-size_of_width-2 : goal.overflow_cast-result-then-high-size_of_width-2
 overflow_cast-result-then-high-size_of_width-2 c =
-    let below : c.args.b.lo % c.bits.result < 64 = omega (arith, mod_below c.args.b.lo c.bits.result c.bits.ensures.positive) in
-    let small = shifted c.args.a.lo c.args.a.hi (c.args.b.lo % c.bits.result) c.size_of_width.result c.requires (omega arith) below (omega (arith, width_fits c.args.width, c.size_of_width.ensures)) c.if-high-size_of_width.true in
+    let below : c.args.b.lo % c.bits.result < 64 =
+    omega (arith, mod_below c.args.b.lo c.bits.result c.bits.ensures.positive) in
+    let small = shifted c.args.a.lo c.args.a.hi (c.args.b.lo % c.bits.result) c.size_of_width.result
+    c.requires (omega arith) below
+    (omega (arith, width_fits c.args.width, c.size_of_width.ensures))
+    c.if-high-size_of_width.true in
     omega arith

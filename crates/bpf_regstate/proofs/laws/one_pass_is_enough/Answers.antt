@@ -8,11 +8,13 @@ unfolding states
 returns-clause-start c = λ record_length ops sigs. refl
 
 pub returns-clause-empty : goal.returns-clause-empty
-returns-clause-empty c = λ record_length ops sigs to. nothing_yet record_length ops sigs (to + 1) (omega arith)
+returns-clause-empty c = λ record_length ops sigs to. nothing_yet record_length ops sigs (to + 1)
+    (omega arith)
 
 pub returns-clause-step : goal.returns-clause-step
 returns-clause-step c = λ record_length ops sigs slot to.
-    let moved : slot + 1 ≡ suc slot = add-one slot in rw moved (one_slot record_length ops sigs slot to)
+    let moved : slot + 1 ≡ suc slot = add-one slot in
+    rw moved (one_slot record_length ops sigs slot to)
 
 pub returns-clause-turn : goal.returns-clause-turn
 returns-clause-turn c = λ record_length ops sigs slot. refl

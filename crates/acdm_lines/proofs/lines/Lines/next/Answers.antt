@@ -1,4 +1,5 @@
-use Rattle.std.proofs.Common.{◌≡◌, ◌≢◌, ◌<◌, true, [], ◌++◌, length, refl, sym, ap, ◌∙◌, arith, inl, inr}
+use Rattle.std.proofs.Common.{◌≡◌, ◌≢◌, ◌<◌, true, [], ◌++◌, length, refl, sym, ap, ◌∙◌, arith, inl}
+use Rattle.std.proofs.Common.{inr}
 use Rattle.std.proofs.lemmas.Bool.{eqb-true, eqb-false}
 use Rattle.std.proofs.lemmas.List.{nil_from_length}
 use Rattle.std.proofs.lemmas.Result.{err_from_is_err_and}
@@ -18,7 +19,8 @@ loop-self-init g c = record {
 pub returns-then-self-eq0-clause-takes : goal.returns-then-self-eq0-clause-takes
 returns-then-self-eq0-clause-takes g c =
     let all = c.take_held.ensures.all c.loop-self-test.true in
-    let t = taking-all g.row.MOST _ _ _ _ _ _ _ [] _ (all.0, refl, all.2) c.loop-self.invariant.taking in
+    let t = taking-all g.row.MOST _ _ _ _ _ _ _ [] _ (all.0, refl, all.2)
+    c.loop-self.invariant.taking in
     record {
       text = t.text;
       consumed = t.consumed;
@@ -31,7 +33,8 @@ returns-then-self-eq0-clause-takes g c =
 pub returns-in_err-fill-clause-takes : goal.returns-in_err-fill-clause-takes
 returns-in_err-fill-clause-takes g c =
     let all = c.take_held.ensures.all c.loop-self-test.true in
-    let t = taking-all g.row.MOST _ _ _ _ _ _ _ [] _ (all.0, refl, all.2) c.loop-self.invariant.taking in
+    let t = taking-all g.row.MOST _ _ _ _ _ _ _ [] _ (all.0, refl, all.2)
+    c.loop-self.invariant.taking in
     let failed = c.in_err-fill.ensures.fills in
     let p = err_from_is_err_and c.from_residual.result c.from_residual.ensures.1 in
     rw (p.1, p.2) (record {
@@ -46,7 +49,8 @@ returns-in_err-fill-clause-takes g c =
 pub returns-then-is_empty-clause-takes : goal.returns-then-is_empty-clause-takes
 returns-then-is_empty-clause-takes g c =
     let all = c.take_held.ensures.all c.loop-self-test.true in
-    let t = taking-all g.row.MOST _ _ _ _ _ _ _ [] _ (all.0, refl, all.2) c.loop-self.invariant.taking in
+    let t = taking-all g.row.MOST _ _ _ _ _ _ _ [] _ (all.0, refl, all.2)
+    c.loop-self.invariant.taking in
     let filled = c.in_ok-fill.ensures.fills in
     let empty = eqb-true _ _ (sym c.is_empty.ensures ∙ c.if-is_empty.true) in
     let none : c.fill.new.self ≡ [] =
@@ -64,10 +68,12 @@ returns-then-is_empty-clause-takes g c =
 pub loop-self-preserved : goal.loop-self-preserved
 loop-self-preserved g c =
     let all = c.take_held.ensures.all c.loop-self-test.true in
-    let t = taking-all g.row.MOST _ _ _ _ _ _ _ [] _ (all.0, refl, all.2) c.loop-self.invariant.taking in
+    let t = taking-all g.row.MOST _ _ _ _ _ _ _ [] _ (all.0, refl, all.2)
+    c.loop-self.invariant.taking in
     let filled = c.in_ok-fill.ensures.fills in
     let more : length c.fill.new.self ≢ 0 =
-    λ none. eqb-false (length c.as_slice.result.now) 0 (sym c.is_empty.ensures ∙ c.if-is_empty.false)
+    λ none. eqb-false (length c.as_slice.result.now) 0 (sym c.is_empty.ensures
+    ∙ c.if-is_empty.false)
     (ap length c.as_slice.ensures.bytes ∙ none) in
     let some : 0 < length c.fill.new.self = omega arith in
     let left : 0 < c.loop-self.self.reads_left = omega (arith, c.take_held.ensures.reads) in

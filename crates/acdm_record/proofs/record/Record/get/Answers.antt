@@ -5,9 +5,13 @@ use Rattle.acdm_record.proofs.record.Record.get.Goals as goal
 
 pub returns-clause-value : goal.returns-clause-value
 returns-clause-value c =
-    c.number_in.ensures.value ∙ sym (number_of-fields_of (number_at c.self.inside.bytes) (text_at c.self.inside.bytes) c.args.field) ∙ ap (λ r. number_of r c.args.field) c.self.view_is
+    c.number_in.ensures.value ∙ sym
+    (number_of-fields_of (number_at c.self.inside.bytes) (text_at c.self.inside.bytes)
+    c.args.field) ∙ ap (λ r. number_of r c.args.field) c.self.view_is
 
 pub returns-clause-allowed : goal.returns-clause-allowed
 returns-clause-allowed c =
-    ap (is_allowed c.args.field) (c.number_in.ensures.value ∙ sym (number_of-fields_of (number_at c.self.inside.bytes) (text_at c.self.inside.bytes) c.args.field))
+    ap (is_allowed c.args.field) (c.number_in.ensures.value
+    ∙ sym (number_of-fields_of (number_at c.self.inside.bytes) (text_at c.self.inside.bytes)
+    c.args.field))
     ∙ c.self.invariant.numbers c.args.field

@@ -6,7 +6,8 @@ use Rattle.bpf_machine.proofs.registry.Registry.get.Given as goal
 
 -- no helper that was passed by has the number, so those that are left decide
 abbrev pub invariant-loop-helper : goal.invariant-loop-helper
-invariant-loop-helper g l = signature_of (map entry_of l.rest) l.number ≡ signature_of (entries_in l.self) l.number
+invariant-loop-helper g l = signature_of (map entry_of l.rest) l.number
+    ≡ signature_of (entries_in l.self) l.number
 
 abbrev pub decreases-loop-helper : goal.decreases-loop-helper
 decreases-loop-helper g l = length l.rest

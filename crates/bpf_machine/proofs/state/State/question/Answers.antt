@@ -5,5 +5,6 @@ use Rattle.bpf_machine.proofs.state.State.question.Goals as goal
 
 pub returns-then-is_entry_at-clause-answerable : goal.returns-then-is_entry_at-clause-answerable
 returns-then-is_entry_at-clause-answerable c =
-    let known : IsTrue (is_question c.args.sigs.now c.args.helper c.in_ok-passed.passed) = search rules in
+    let known : IsTrue (is_question c.args.sigs.now c.args.helper c.in_ok-passed.passed) =
+    search rules in
     some_answer c.args.sigs.now c.args.helper c.in_ok-passed.passed c.get.ensures.well_formed known

@@ -5,4 +5,8 @@ use Rattle.bpf_regstate.proofs.state.State.call.Goals as goal
 pub invariant_of-self : goal.invariant_of-self
 invariant_of-self c =
     rw c.after_call.ensures
-    (call_is_shape (record { registers = c.self.inside.registers; marks = marks_of c.self.inside.marks }) c.answer_of.result c.answer_of.ensures.range c.self.invariant)
+    (call_is_shape (record {
+      registers = c.self.inside.registers;
+      marks = marks_of c.self.inside.marks;
+    }) c.answer_of.result c.answer_of.ensures.range
+    c.self.invariant)

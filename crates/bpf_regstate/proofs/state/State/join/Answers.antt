@@ -5,4 +5,9 @@ use Rattle.bpf_regstate.proofs.state.State.join.Goals as goal
 pub invariant_of-self : goal.invariant_of-self
 invariant_of-self c =
     rw (c.join_each.ensures, c.join_words.ensures)
-    (join_is_shape (record { registers = c.self.inside.registers; marks = marks_of c.self.inside.marks }) (record { registers = c.other.inside.registers; marks = marks_of c.other.inside.marks }) c.self.invariant c.other.invariant)
+    (join_is_shape (record {
+      registers = c.self.inside.registers;
+      marks = marks_of c.self.inside.marks;
+    })
+    (record { registers = c.other.inside.registers; marks = marks_of c.other.inside.marks })
+    c.self.invariant c.other.invariant)
