@@ -6,7 +6,7 @@ ghost use Rattle.acdm_sessions.specs.Output.{next_text, list_text, entry_text, r
 ghost use Rattle.acdm_step.specs.declared.outcome.Outcome.TheVariants.{Listed};
 
 use crate::answer::Answer;
-use crate::reply_text::{alerted, done, head, next, refused, rejected, shown};
+use crate::reply_text::{ReplyText, done, head, refused, rejected, shown};
 use acdm_board::Reply;
 use acdm_lines::{Counted, RunError};
 use acdm_step::{Alerted, Outcome};
@@ -30,9 +30,11 @@ fn write_whole<W: Write>(writer: &mut Counted<W>, bytes: &[u8]) -> Result<(), Ru
 fn write_more<W: Write>(writer: &mut Counted<W>, flights: &[Alerted]) -> Result<(), RunError>
     ensures { Writes W.contents writer.old writer.new (flat_map next_text flights.now) result }
 {
+    let mut text = ReplyText::new();
     let mut rest = flights;
     while let Some((flight, more)) = rest.split_first() {
-        write_whole(writer, next(flight).as_slice())?;
+        text.put_next(flight);
+        write_whole(writer, text.as_slice())?;
         rest = more;
     }
     Ok(())
@@ -45,7 +47,9 @@ fn write_flights<W: Write>(writer: &mut Counted<W>, flights: &[Alerted]) -> Resu
     let Some((first, more)) = flights.split_first() else {
         return write_whole(writer, b"-");
     };
-    write_whole(writer, alerted(first).as_slice())?;
+    let mut text = ReplyText::new();
+    text.put_first(first);
+    write_whole(writer, text.as_slice())?;
     write_more(writer, more)
 }
 

@@ -8,7 +8,7 @@ ghost use Rattle.acdm_sessions.specs.declared.answer.Answer.TheVariants.{Rejecte
 ghost use Rattle.acdm_sessions.specs.Output.{alerted_text, next_text, list_head, entry_text, bad_text, reply_text};
 
 use crate::fault::Bad;
-use acdm_alerts::names_of;
+use acdm_alerts::push_names;
 use acdm_milestones::Refusal;
 use acdm_record::Record;
 use acdm_step::Alerted;
@@ -32,7 +32,8 @@ impl Model for ReplyText {
 }
 
 impl ReplyText {
-    fn new() -> ReplyText
+    /// No byte yet.
+    pub(crate) fn new() -> ReplyText
         ensures { result ≡ [] }
     {
         ReplyText {
@@ -73,13 +74,29 @@ impl ReplyText {
 
     // A flight's number, and its alerts.
     fn push_alerted(&mut self, flight: &Alerted)
-        requires { length self.old + 245 ≤ 320 }
-        ensures text { self.new ≡ self.old ++ alerted_text flight.now }
+        requires { length self.old + 238 ≤ 320 }
+        ensures { self.new ≡ self.old ++ alerted_text flight.now }
     {
         self.push_number(flight.flight);
         self.push(b":");
-        let names = names_of(flight.alerts);
-        self.push(names.as_slice());
+        push_names(flight.alerts, &mut self.bytes);
+    }
+
+    /// The first flight with its alerts, in place of what stands there.
+    pub(crate) fn put_first(&mut self, flight: &Alerted)
+        ensures { self.new ≡ alerted_text flight.now }
+    {
+        self.bytes.clear();
+        self.push_alerted(flight);
+    }
+
+    /// Another flight with its alerts, in place of what stands there.
+    pub(crate) fn put_next(&mut self, flight: &Alerted)
+        ensures { self.new ≡ next_text flight.now }
+    {
+        self.bytes.clear();
+        self.push(b";");
+        self.push_alerted(flight);
     }
 
     pub(crate) fn as_slice(&self) -> &[u8]
@@ -131,25 +148,6 @@ pub(crate) fn head(number: u64) -> ReplyText
     text.push(b"alerts ");
     text.push_number(number);
     text.push(b" ");
-    text
-}
-
-/// The first flight with its alerts.
-pub(crate) fn alerted(flight: &Alerted) -> ReplyText
-    ensures { result ≡ alerted_text flight.now }
-{
-    let mut text = ReplyText::new();
-    text.push_alerted(flight);
-    text
-}
-
-/// Another flight with its alerts.
-pub(crate) fn next(flight: &Alerted) -> ReplyText
-    ensures { result ≡ next_text flight.now }
-{
-    let mut text = ReplyText::new();
-    text.push(b";");
-    text.push_alerted(flight);
     text
 }
 

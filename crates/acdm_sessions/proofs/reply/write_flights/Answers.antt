@@ -8,7 +8,7 @@ use Rattle.acdm_sessions.proofs.reply.write_flights.Goals as goal
 
 pub returns-in_err-write_whole : goal.returns-in_err-write_whole
 returns-in_err-write_whole g c =
-    let first = c.as_slice.ensures ∙ c.alerted.ensures in
+    let first = c.as_slice.ensures ∙ c.put_first.ensures in
     let p = err_from_is_err_and c.from_residual.result c.from_residual.ensures.1 in
     rw (p.1, p.2)
     (wrote-as _ _ _ _ _ _ (ap list_text (sym c.in-Some.ensures.cases.0))
@@ -17,7 +17,7 @@ returns-in_err-write_whole g c =
 
 pub returns : goal.returns
 returns g c =
-    let first = c.as_slice.ensures ∙ c.alerted.ensures in
+    let first = c.as_slice.ensures ∙ c.put_first.ensures in
     subst
     (λ t. Writes g.W.Write.contents c.args.writer.now c.write_more.new.writer t c.write_more.result)
     (ap list_text (sym c.in-Some.ensures.cases.0))

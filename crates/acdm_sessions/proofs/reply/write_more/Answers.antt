@@ -7,7 +7,7 @@ use Rattle.acdm_sessions.proofs.reply.write_more.Goals as goal
 
 pub returns-in_err-write_whole : goal.returns-in_err-write_whole
 returns-in_err-write_whole g c =
-    let piece = c.as_slice.ensures ∙ c.next.ensures in
+    let piece = c.as_slice.ensures ∙ c.put_next.ensures in
     let left = ap (flat_map next_text) c.in-Some.ensures.cases.0 in
     let p = err_from_is_err_and c.from_residual.result c.from_residual.ensures.1 in
     rw (p.1, p.2)
@@ -18,7 +18,7 @@ returns-in_err-write_whole g c =
 
 pub loop-flight-preserved : goal.loop-flight-preserved
 loop-flight-preserved g c =
-    let piece = c.as_slice.ensures ∙ c.next.ensures in
+    let piece = c.as_slice.ensures ∙ c.put_next.ensures in
     let left = ap (flat_map next_text) c.in-Some.ensures.cases.0 in
     record {
       done = c.loop-flight.invariant.done ++ next_text c.in-Some.flight.now;
