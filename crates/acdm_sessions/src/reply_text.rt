@@ -5,7 +5,8 @@ ghost use Rattle.hex.specs.Hex.{encode_lower};
 ghost use Rattle.acdm_record.specs.Fields.{bytes_of};
 ghost use Rattle.acdm_step.specs.declared.outcome.Outcome.TheVariants as outcomes;
 ghost use Rattle.acdm_sessions.specs.declared.answer.Answer.TheVariants.{Rejected};
-ghost use Rattle.acdm_sessions.specs.Output.{alerted_text, next_text, list_head, entry_text, bad_text, reply_text};
+ghost use Rattle.acdm_sessions.specs.Output.{alerted_text, next_text, list_head, entry_text};
+ghost use Rattle.acdm_sessions.specs.Output.{bad_text, reply_text};
 
 use crate::fault::Bad;
 use acdm_alerts::push_names;

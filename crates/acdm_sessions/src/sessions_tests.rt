@@ -204,7 +204,7 @@ fn last_of(alloc: Global, sessions: &mut Vec<Left>) -> Result<String, Fail> {
 }
 
 // What two sessions that meet were told, the second first, and what stands on the desk then.
-fn meeting<H: Helpers + Drop + Send, Rt: Threads + Wait + Sync>(
+fn both_meet<H: Helpers + Drop + Send, Rt: Threads + Wait + Sync>(
     rt: &Rt,
     alloc: Global,
     helpers: H,
@@ -229,7 +229,7 @@ fn meet<H: Helpers + Drop + Send, Rt: Threads + Wait + Abort + Sync>(
     alloc: Global,
     helpers: H,
 ) -> Result<(), Fail> {
-    let (second, first, desk) = meeting(rt, alloc, helpers)?;
+    let (second, first, desk) = both_meet(rt, alloc, helpers)?;
     assert_eq!(rt; second.as_str(), "2 1 End: ok 2\n");
     assert_eq!(rt; first.as_str(), "1 1 End: ok 3\n");
     assert!(rt; desk.len() == 4 && in_their_order(&desk)?);
