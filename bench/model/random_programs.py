@@ -4,8 +4,8 @@
     python3 bench/model/random_programs.py [--programs N] [--seed S] FOLDER > verdicts
     python3 bench/model/random_programs.py [--programs N] [--seed S] --against FILE FOLDER
 
-Program K, from 0, is the file FOLDER/K.bin. Printed is the last line that `acdm verify` owes to each of them. About a
-third are accepted. The same words give the same programs. The second form compares with FILE, which is what
+Program K, from 0, is the file FOLDER/K.bin. Printed is the last line that `acdm verify` owes to each of them. More than a
+quarter are accepted. The same words give the same programs. The second form compares with FILE, which is what
 `rt try --cases FOLDER -- verify {}` printed in the folder of the crate `acdm`.
 """
 
@@ -44,8 +44,8 @@ class Programs:
         if self.chance.random() < 0.9:
             instructions.append((0xB7, 0, 0, 0, self.number()))
             self.written.append(0)
-        draws = (self.arithmetic, self.jump, self.load, self.stack, self.index, self.call, self.rest)
-        weights = (8, 6, 4, 3, 3, 2, 2)
+        draws = (self.arithmetic, self.jump, self.load, self.stack, self.index, self.call, self.spill, self.rest)
+        weights = (8, 6, 4, 3, 3, 2, 4, 2)
         for _ in range(self.chance.randint(1, 12)):
             instructions += self.chance.choices(draws, weights)[0]()
         code = bytearray(encoded(instructions + [EXIT]))
@@ -125,6 +125,34 @@ class Programs:
         if number == 3:
             arguments.append((0xB7, 2, 0, 0, self.chance.choice((5, 10_000, 10_001, -1))))
         return arguments + [(0x85, 0, 0, 0, number), (0xBF, 1, 6, 0, 0)]
+
+    def spill(self):
+        """A value that goes to the stack and comes back, mostly whole, and is used as what it was."""
+        place = -8 * self.chance.randint(1, 4)
+        if self.chance.random() < 0.3:
+            # A pointer across a call.
+            self.written = [0, 1, 5, 10] + [number for number in self.written if number > 5 and number != 10]
+            called = [(0x61, 1, 1, 16, 0), (0x85, 0, 0, 0, 1), *self.disturbance(place)]
+            return [(0x7B, 10, 1, place, 0), *called, (0x79, 1, 10, place, 0), (0x71, 5, 1, 63, 0)]
+        index, bound = self.chance.choice((7, 8)), self.chance.choice((60, 63, 120, 127))
+        kept = [(0x71, index, 1, 63, 0), (0x57, index, 0, 0, bound), (0x7B, 10, index, place, 0)]
+        if self.chance.random() < 0.2:
+            kept = [(0x7A, 10, 0, place, self.number())]
+        back = (0x79 if self.chance.random() < 0.95 else 0x61, index, 10, place, 0)
+        self.written += [index, 0]
+        return [*kept, *self.disturbance(place), back, (0x0F, index, 1, 0, 0), (0x71, 0, index, 0, 0)]
+
+    def disturbance(self, place):
+        """What may stand between: mostly nothing that touches the word."""
+        return self.chance.choice(
+            (
+                [],
+                [],
+                [(self.chance.choice((0x72, 0x6A, 0x62, 0x7A)), 10, 0, place + self.chance.randint(-9, 9), self.number())],
+                [(0x65, 10, 0, 1, 0), (0x7A, 10, 0, place, self.number())],
+                [(0x45, 10, 0, 1, 1), (0x7A, 10, 0, place, self.chance.choice((0, 1, 64)))],
+            )
+        )
 
     def rest(self):
         goal, width = self.goal(), self.chance.choice((16, 32, 64))

@@ -12,6 +12,20 @@ ZERO = "b700000000000000"
 EXAMPLES = Path(__file__).resolve().parents[2] / "examples" / "rules"
 
 
+# Of a pointer or a number that is kept on the stack: with a change of each row beside it.
+KEPT, BACK, READ = "7b1af8ff00000000", "79a1f8ff00000000", "71103f0000000000" + EXIT
+CLEARED = "b701000000000000"
+SPILLS = (
+    (KEPT + CLEARED + BACK + READ, "accepted 5"),
+    (KEPT + "720affff00000000" + CLEARED + BACK + READ, "309 4"),
+    (KEPT + "720af7ff00000000" + CLEARED + BACK + READ, "accepted 6"),
+    ((KEPT + CLEARED + BACK + READ).replace("f8ff", "f4ff"), "309 3"),
+    (KEPT + "1504010001000000" "7b2af8ff00000000" + BACK + READ, "309 4"),
+    (KEPT + "1504010001000000" + KEPT + BACK + READ, "accepted 6"),
+    ("7a0af8ffffffffff" "79a0f8ff00000000" "5500010000000000" "b701000000000000" + READ, "accepted 6"),
+)
+
+
 def flight(kind=b"A320", stand=12, **times):
     """The flight of the worked lines: scheduled and planned, MTTT 40, EXIT 5, EXOT 10, stand 12; or another."""
     made = Flight(7, b"DLH7", reached=3, mttt=40, exot=10, stand=stand, exit=5)
@@ -97,9 +111,12 @@ class Verdicts(unittest.TestCase):
             ("620af8ff01000000" "79a0f8ff00000000" + EXIT, "310 1"),
             ("1504010001000000" "720affff05000000" "71a0ffff00000000" + EXIT, "310 2"),
             ("1504020001000000" "bfa1000000000000" "07010000f8ffffff" "7110000000000000" + EXIT, "309 3"),
-            ("7b1af8ff00000000" "b701000000000000" "79a1f8ff00000000" "71103f0000000000" + EXIT, "309 3"),
         )
         for digits, expected in rows:
+            self.assertEqual(verdict(digits), expected, digits[:64])
+
+    def test_words_of_the_stack(self):
+        for digits, expected in SPILLS:
             self.assertEqual(verdict(digits), expected, digits[:64])
 
     def test_narrowing_and_helpers(self):
@@ -143,6 +160,10 @@ class Runs(unittest.TestCase):
         )
         for digits, expected in rows:
             self.assertEqual(ended(digits), expected, digits[:64])
+        self.assertEqual(ended(SPILLS[0][0]), (5, 5))
+        self.assertEqual(ended(SPILLS[2][0]), (5, 6))
+        self.assertEqual(ended(SPILLS[5][0]), (5, 5))
+        self.assertEqual(ended(SPILLS[5][0], milestone=7), (5, 6))
         by_milestone = "b700000009000000" "1504010001000000" "b700000005000000" + EXIT
         self.assertEqual(ended(by_milestone, milestone=7), (5, 4))
         sum_of_minutes = "bf31000000000000" "b702000005000000" "8500000003000000" + EXIT
@@ -182,6 +203,25 @@ class Runs(unittest.TestCase):
         )
         for given, expected in rows:
             self.assertEqual(self.shipped("far-stand", flight(**given)), expected, given)
+
+    def test_the_margins_of_a_turn_round(self):
+        rows = (
+            ({}, 0),
+            ({"aibt": 29_000_715}, 0),
+            ({"aibt": 29_000_716}, 24),
+            ({"aibt": 29_000_716, "sobt": 29_000_761}, 8),
+            ({"aibt": 29_000_716, "eobt": 0, "sobt": 0}, 0),
+            ({"aibt": 29_000_640, "kind": b"A388"}, 0),
+            ({"aibt": 29_000_641, "kind": b"A388"}, 24),
+            ({"aibt": 29_000_700, "ctot": 29_000_770}, 0),
+            ({"aibt": 29_000_700, "ctot": 29_000_769}, 32),
+            ({"aibt": 29_000_720, "ctot": 29_000_770}, 88),
+            ({"aibt": 29_000_720, "ctot": 29_000_775}, 24),
+            ({"aibt": 29_000_700, "ctot": 29_000_774, "stand": 120}, 32),
+            ({"aibt": 29_000_720, "ctot": 29_000_700, "stand": 1000}, 0),
+        )
+        for given, expected in rows:
+            self.assertEqual(self.shipped("margins", flight(**given)), expected, given)
 
     def test_signed_arithmetic(self):
         negative = "b7000000f9ffffff"  # mov64 r0, -7

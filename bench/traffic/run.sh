@@ -9,7 +9,7 @@ compared="${2:-200}"
 work="$(mktemp -d)"
 trap 'rm -rf "$work"' EXIT
 
-"$top/acdm" run < /dev/null
+"$top/acdm" prove
 python3 "$here/generate.py" --flights "$flights" > "$work/day"
 python3 "$here/measure.py" "$work/day" "$work/replies" "$top/crates/acdm/out/acdm" run
 echo "replies: $(cut -d ' ' -f 1 "$work/replies" | sort | uniq -c | awk '{ print $1, $2 }' | paste -sd ,)"

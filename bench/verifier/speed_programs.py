@@ -79,10 +79,21 @@ def fan():
     return encode([ZERO_R0] + jumps + [ZERO_R0] * (SLOTS - 2 - len(jumps)) + [EXIT])
 
 
+def spills():
+    """Eight words of the stack that are kept throughout, stored and loaded again, with a jump in each third slot."""
+    instructions = [ZERO_R0] + [(0x7B, 10, 3, -8 * k, 0) for k in range(1, 9)]
+    for turn in range((SLOTS - 2 - len(instructions)) // 3):
+        place = -8 * (turn % 8 + 1)
+        instructions += [(0x79, 5, 10, place, 0), (0xA5, 5, 0, 1, 1000 + turn), (0x7B, 10, 5, place, 0)]
+    instructions += [ZERO_R0] * (SLOTS - 1 - len(instructions))
+    return encode(instructions + [EXIT])
+
+
 PROGRAMS = [
     ("straight line", straight(), 400),
     ("mixed", mixed(), 400),
     ("stack", stack(), 400),
+    ("spills", spills(), 200),
     ("ladder of jumps", ladder(), 200),
     ("fan of jumps", fan(), 200),
 ]

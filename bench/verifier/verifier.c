@@ -8,7 +8,7 @@
 #include <stdlib.h>
 #include <string.h>
 
-enum { RECORD_BYTES = 128, STACK_BYTES = 512, SLOTS = 4096, TAIL = 0, WIDE = 0x18 };
+enum { RECORD_BYTES = 128, STACK_BYTES = 512, WORDS = 64, SLOTS = 4096, TAIL = 0, WIDE = 0x18 };
 
 static const uint64_t RECORD = 0x100000000, STACK = 0x200000000;
 
@@ -25,10 +25,19 @@ struct range {
 
 static const struct range ALL = {0, UINT64_MAX};
 
+/* What is kept of words of the stack has a block of its own, which a state has only where some
+   word is kept: as bits, and their ranges. */
+struct words {
+    uint64_t kept;
+    struct range range[WORDS];
+    struct words *next;
+};
+
 struct state {
     struct range range[11];
     uint64_t marks[8];
     unsigned known;
+    struct words *words;
     struct state *next;
 };
 
@@ -45,6 +54,26 @@ static const struct helper helpers[] = {
 };
 
 static struct state *spare;
+static struct words *spare_words;
+
+static struct words *fresh_words(void)
+{
+    struct words *w = spare_words;
+    if (w)
+        spare_words = w->next;
+    else if (!(w = malloc(sizeof *w)))
+        abort();
+    return w;
+}
+
+static void drop_words(struct state *s)
+{
+    if (s->words) {
+        s->words->next = spare_words;
+        spare_words = s->words;
+        s->words = NULL;
+    }
+}
 
 static struct state *fresh(void)
 {
@@ -58,6 +87,7 @@ static struct state *fresh(void)
 
 static void give_back(struct state *s)
 {
+    drop_words(s);
     s->next = spare;
     spare = s;
 }
@@ -69,6 +99,46 @@ static void free_spare(void)
         spare = s->next;
         free(s);
     }
+    while (spare_words) {
+        struct words *w = spare_words;
+        spare_words = w->next;
+        free(w);
+    }
+}
+
+/* ---- words of the stack */
+
+static void copy_words(struct state *to, const struct state *from)
+{
+    to->words = NULL;
+    if (!from->words)
+        return;
+    to->words = fresh_words();
+    to->words->kept = from->words->kept;
+    for (uint64_t rest = from->words->kept; rest; rest &= rest - 1) {
+        int w = __builtin_ctzll(rest);
+        to->words->range[w] = from->words->range[w];
+    }
+}
+
+static void keep(struct state *s, int word, struct range r)
+{
+    if (!s->words) {
+        s->words = fresh_words();
+        s->words->kept = 0;
+    }
+    s->words->kept |= (uint64_t)1 << word;
+    s->words->range[word] = r;
+}
+
+static void forget(struct state *s, uint64_t first, uint64_t last)
+{
+    if (!s->words)
+        return;
+    for (uint64_t w = first; w <= last; w++)
+        s->words->kept &= ~((uint64_t)1 << w);
+    if (!s->words->kept)
+        drop_words(s);
 }
 
 /* ---- ranges */
@@ -303,6 +373,39 @@ static void set(struct state *s, int number, struct range r)
     s->known |= 1u << number;
 }
 
+/* Whether eight bytes at the one address of a range are an aligned word of the stack. */
+static int is_word(const struct instruction *i, struct range r)
+{
+    uint64_t at = r.lo + (uint64_t)(int64_t)i->offset;
+    return size_of(i->opcode) == 8 && is_single(r) && at >= STACK && at % 8 == 0;
+}
+
+static struct range loaded(const struct state *s, const struct instruction *i)
+{
+    struct range base = s->range[i->src];
+    uint64_t at = base.lo + (uint64_t)(int64_t)i->offset;
+    if (i->opcode >> 5 != 3)
+        return ALL;
+    if (s->words && is_word(i, base) && s->words->kept >> (at - STACK) / 8 & 1)
+        return s->words->range[(at - STACK) / 8];
+    return (struct range){0, UINT64_MAX >> (64 - 8 * size_of(i->opcode))};
+}
+
+static void store(struct state *s, const struct instruction *i)
+{
+    struct range base = s->range[i->dst], value = of((uint64_t)(int64_t)i->immediate);
+    uint64_t at = base.lo + (uint64_t)(int64_t)i->offset - STACK, bytes = (uint64_t)size_of(i->opcode);
+    if ((i->opcode & 7) == 3)
+        value = s->range[i->src];
+    if (is_word(i, base))
+        keep(s, (int)(at / 8), value);
+    else
+        forget(s, at / 8, (at + base.hi - base.lo + bytes - 1) / 8);
+    if (is_single(base))
+        for (uint64_t k = at; k < at + bytes; k++)
+            s->marks[k / 64] |= (uint64_t)1 << k % 64;
+}
+
 static void advance(struct state *s, const struct instruction *i)
 {
     int opcode = i->opcode, code = opcode >> 4, bits = (opcode & 7) == 4 ? 32 : 64;
@@ -312,18 +415,11 @@ static void advance(struct state *s, const struct instruction *i)
         set(s, i->dst, of(i->wide));
         break;
     case 1:
-        if (opcode >> 5 == 3)
-            set(s, i->dst, (struct range){0, UINT64_MAX >> (64 - 8 * size_of(opcode))});
-        else
-            set(s, i->dst, ALL);
+        set(s, i->dst, loaded(s, i));
         break;
     case 2:
     case 3:
-        if (is_single(a))
-            for (int k = 0; k < size_of(opcode); k++) {
-                uint64_t at = a.lo + (uint64_t)(int64_t)i->offset - STACK + (uint64_t)k;
-                s->marks[at / 64] |= (uint64_t)1 << at % 64;
-            }
+        store(s, i);
         break;
     case 5: {
         const struct helper *helper = helper_of(i);
@@ -438,6 +534,22 @@ static int follow(struct state *s, const struct instruction *i, int taken)
 
 static struct state *waiting[SLOTS];
 
+static void join_words(struct state *both, const struct state *s)
+{
+    if (!both->words)
+        return;
+    uint64_t kept = s->words ? both->words->kept & s->words->kept : 0;
+    for (uint64_t rest = kept; rest; rest &= rest - 1) {
+        int w = __builtin_ctzll(rest);
+        struct range *a = &both->words->range[w], *b = &s->words->range[w];
+        a->lo = least(a->lo, b->lo);
+        a->hi = most(a->hi, b->hi);
+    }
+    both->words->kept = kept;
+    if (!kept)
+        drop_words(both);
+}
+
 static void put(int64_t to, struct state *s)
 {
     struct state *both = waiting[to];
@@ -452,6 +564,7 @@ static void put(int64_t to, struct state *s)
     }
     for (int k = 0; k < 8; k++)
         both->marks[k] &= s->marks[k];
+    join_words(both, s);
     give_back(s);
 }
 
@@ -494,6 +607,7 @@ static int verify(const struct instruction *program, int slots, int *at)
         } else if (is_condition(i->opcode)) {
             struct state *taken = fresh();
             *taken = *s;
+            copy_words(taken, s);
             if (follow(taken, i, 1))
                 put(target(i, slot), taken);
             else

@@ -24,7 +24,10 @@ def connect(server):
     """One connection for each role, in the order of the printed addresses."""
     partners = {}
     for _ in ROLES:
-        _, _, role, address = server.stdout.readline().split()
+        line = server.stdout.readline()
+        if not line:
+            sys.exit(server.wait())
+        _, _, role, address = line.split()
         host, port = address.rsplit(":", 1)
         stream = socket.create_connection((host, int(port)))
         partners[role] = stream.makefile("rw", encoding="utf-8", newline="\n")

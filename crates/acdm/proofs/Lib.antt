@@ -1,3 +1,1 @@
-pub mod Words
-pub mod Rows
 pub mod Saved

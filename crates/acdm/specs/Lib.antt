@@ -1,4 +1,3 @@
-pub mod CommandLine
 pub mod Helpers
 pub mod Failures
 pub mod Served

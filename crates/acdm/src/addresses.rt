@@ -2,7 +2,6 @@
 use crate::failure::Failure;
 use crate::minutes::SystemMinutes;
 use acdm_milestones::Role;
-use acdm_sessions::role_of;
 use std::alloc::Global;
 use std::net::{Net, SocketAddr, TcpListener, TcpStream};
 use std::time::Clock as SystemClock;
@@ -15,7 +14,7 @@ fn partner_of<'a>(number: usize, word: &'a str) -> Result<(Role, &'a str), Failu
     let Some((role, address)) = word.split_once('=') else {
         return Err(Failure::Role(number));
     };
-    match role_of(role.as_bytes()) {
+    match Role::from_name(role.as_bytes()) {
         Some(role) => Ok((role, address)),
         None => Err(Failure::Role(number)),
     }

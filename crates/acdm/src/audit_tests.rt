@@ -1,6 +1,5 @@
 //! Journals that are saved, and the audit of them.
 use crate::auditing::audit_on;
-use crate::command_line::{Line, parse};
 use crate::serving::run_on;
 use std::alloc::Global;
 use std::io::{self, Read, Write};
@@ -159,21 +158,5 @@ fn what_fails_is_told(rt: HostRuntime) -> Result<(), Fail> {
     errors.clear();
     assert_eq!(rt; audit_on(alloc, b"".as_slice(), Broken, &mut errors), 2);
     assert_eq!(rt; errors.as_slice(), b"acdm: write failed\n".as_slice());
-    Ok(())
-}
-
-#[test]
-fn a_journal_is_saved_where_it_is_said(rt: HostRuntime) -> Result<(), Fail> {
-    let alloc = rt.alloc();
-    let words = ["acdm", "run", "--save", "day.txt"];
-    let line = parse(alloc, words.as_slice()).map_err(|_| "a command line is refused")?;
-    let save = Some("day.txt");
-    let journal = 100_000;
-    assert_eq!(rt; line, Line::Run { journal, save });
-    let words = ["acdm", "serve", "--save", "day.txt", "NM=127.0.0.1:0"];
-    match parse(alloc, words.as_slice()) {
-        Ok(Line::Serve { save, .. }) => assert_eq!(rt; save, Some("day.txt")),
-        _ => assert!(rt; false, "another command"),
-    }
     Ok(())
 }

@@ -1,11 +1,11 @@
 //! The commands, over the files, the reader and the writers that they are handed.
 use crate::auditing::audit_on;
-use crate::command_line::{Line, parse};
 use crate::failure::Failure;
 use crate::saving::file_of;
 use crate::serve_command::serve_words;
 use crate::serving::run_on;
 use crate::verifying::verify_on;
+use acdm_command_line::{Line, asked};
 use std::alloc::Global;
 use std::fs::{self, Files};
 use std::io::{Read, Write};
@@ -30,18 +30,19 @@ pub fn complete<
     W: Write + Drop,
     E: Write + Drop,
 >(alloc: Global, rt: &Rt, words: &[&str], input: R, output: W, mut errors: E) -> u8 {
-    match parse(alloc, words) {
-        Ok(Line::Run { journal, save }) => match file_of(rt, save) {
+    let Some(line) = asked(alloc, words, &mut errors) else {
+        return 2;
+    };
+    match line {
+        Line::Run { journal, save } => match file_of(rt, save) {
             Ok(file) => run_on(alloc, journal, input, output, file, errors),
             Err(failure) => failure.complain(errors),
         },
-        Ok(
-            Line::Serve {
-                journal,
-                save,
-                partners,
-            },
-        ) => match file_of(rt, save) {
+        Line::Serve {
+            journal,
+            save,
+            partners,
+        } => match file_of(rt, save) {
             Ok(file) => serve_words(
                 rt,
                 alloc,
@@ -53,17 +54,13 @@ pub fn complete<
             ),
             Err(failure) => failure.complain(errors),
         },
-        Ok(Line::Audit { file }) => match fs::open(rt, file) {
+        Line::Audit { file } => match fs::open(rt, file) {
             Ok(file) => audit_on(alloc, file, output, errors),
             Err(_) => Failure::Read.complain(errors),
         },
-        Ok(Line::Verify { file }) => match fs::open(rt, file) {
+        Line::Verify { file } => match fs::open(rt, file) {
             Ok(file) => verify_on(alloc, file, output, errors),
             Err(_) => Failure::Read.complain(errors),
         },
-        Err(error) => {
-            let _ = write!(errors, "{error}");
-            2
-        }
     }
 }

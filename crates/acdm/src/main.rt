@@ -5,7 +5,6 @@ mod addresses;
 #[cfg(test)]
 mod audit_tests;
 mod auditing;
-mod command_line;
 mod commands;
 mod failure;
 mod helpers;

@@ -4,7 +4,7 @@ ghost use Rattle.acdm_sessions.specs.Sessions.{HaveEnded, session_end};
 
 use acdm_board::Desk;
 use acdm_milestones::Role;
-use acdm_sessions::{Clock, Closed, Counted, End, Gate, Session, name_of, run_sessions};
+use acdm_sessions::{Clock, Closed, Counted, End, Gate, Session, run_sessions};
 use bpf_helpers::Helpers;
 use std::alloc::Global;
 use std::io::Write;
@@ -78,7 +78,7 @@ fn announce<C, W: Write>(
         let Ok(address) = listener.local_addr() else {
             return Err(ServeError::Accept(number));
         };
-        let role = name_of(*role);
+        let role = role.name();
         if writeln!(writer, "listen {number} {role} {address}").is_err() {
             return Err(ServeError::Write);
         }

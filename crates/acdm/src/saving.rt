@@ -1,15 +1,17 @@
 //! The saving of a desk's journal, as text.
 ghost use Rattle.std.specs.Prelude.{◌≡◌, OnOk};
-ghost use Rattle.std.specs.Io.KnownBytes.{Appends};
-ghost use Rattle.acdm_journal.specs.Text.{history_text};
+ghost use Rattle.acdm_board.specs.Desk.{row_of};
+ghost use Rattle.acdm_journal.specs.Whole.{Saves};
 
 use crate::failure::Failure;
 use acdm_board::Desk;
 use acdm_journal::write_entry;
+use acdm_row::Row;
 use bpf_helpers::Helpers;
 use std::alloc::Global;
 use std::fs::{self, Files};
 use std::io::{BufWriter, Write};
+use std::sync::Arc;
 
 /// How many bytes are written at once at most.
 const BUFFER: usize = 65_536;
@@ -28,7 +30,7 @@ pub(crate) fn file_of<Rt: Files>(rt: &Rt, path: Option<&str>) -> Result<Option<R
 /// Writes the journal of a desk, one line for each entry, to a writer if there is one.
 pub(crate) fn save<H: Helpers + Drop, W: Write + Drop>(
     alloc: Global,
-    desk: &Desk<H>,
+    desk: &mut Desk<H>,
     writer: Option<W>,
 ) -> Result<(), Failure> {
     let Some(writer) = writer else {
@@ -37,22 +39,27 @@ pub(crate) fn save<H: Helpers + Drop, W: Write + Drop>(
     let Ok(mut writer) = BufWriter::with_capacity(alloc, BUFFER, writer) else {
         return Err(Failure::Memory);
     };
-    write_journal(alloc, desk, &mut writer)
+    let Ok(row) = Arc::try_clone(desk.row()) else {
+        return Err(Failure::Memory);
+    };
+    write_journal(alloc, desk, &row, &mut writer)
 }
 
-// Writes all entries, the oldest first.
+// Writes all entries, the oldest first, as they stand in the desk's row.
 fn write_journal<H: Helpers + Drop, W: Write>(
     alloc: Global,
-    desk: &Desk<H>,
+    desk: &mut Desk<H>,
+    row: &Row,
     writer: &mut W,
 ) -> Result<(), Failure>
-    ensures { OnOk result (Appends (W.contents writer.old) (W.contents writer.new)
-        (history_text desk.now.history)) }
+    requires { row.now ≡ row_of desk.old }
+    ensures { OnOk result
+        (Saves desk.old.history (W.contents writer.old) (W.contents writer.new)) }
 {
     let count = desk.len();
     let mut number = 0;
     while number < count {
-        let Some(entry) = desk.entry(number) else {
+        let Some(entry) = desk.entry(row, number) else {
             unreachable!();
         };
         write_entry(alloc, entry, writer)?;

@@ -79,6 +79,6 @@ fn serve_with<
     if partners.len() > 64 {
         return Err(Failure::Address(65));
     }
-    let closed = serve_on(rt, alloc, partners, desk, &mut writer)?;
-    save(alloc, &closed.desk, saved)
+    let mut closed = serve_on(rt, alloc, partners, desk, &mut writer)?;
+    save(alloc, &mut closed.desk, saved)
 }

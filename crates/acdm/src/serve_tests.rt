@@ -1,5 +1,4 @@
 //! The command `serve`, over connections of this machine with itself.
-use crate::command_line::{Line, parse};
 use crate::commands::complete;
 use crate::partners::serve_on;
 use acdm_board::Desk;
@@ -134,35 +133,6 @@ fn a_silent_partner_holds_nobody_up(rt: HostRuntime) -> Result<(), Fail> {
     )?;
     assert!(rt; talking.join(&rt));
     assert!(rt; told.ends_with("\nsession 1 0 end\nsession 2 1 end\nclosed 1\n"));
-    Ok(())
-}
-
-// Whether these words ask to serve these partners with such a journal.
-fn asks_to_serve(alloc: Global, words: &[&str], wanted: usize, words_wanted: &[&str]) -> bool {
-    match parse(alloc, words) {
-        Ok(
-            Line::Serve {
-                journal,
-                save,
-                partners,
-            },
-        ) => journal == wanted && save.is_none() && partners.as_slice() == words_wanted,
-        _ => false,
-    }
-}
-
-fn is_refused(alloc: Global, words: &[&str]) -> bool {
-    parse(alloc, words).is_err()
-}
-
-#[test]
-fn words_of_serve_are_taken_as_they_stand(rt: HostRuntime) -> Result<(), Fail> {
-    let alloc = rt.alloc();
-    let words = ["acdm", "serve", "--journal", "5", "NM=one", "ATC=two"];
-    assert!(rt; asks_to_serve(alloc, &words, 5, &["NM=one", "ATC=two"]));
-    assert!(rt; asks_to_serve(alloc, &["acdm", "serve", "GH="], 100_000, &["GH="]));
-    assert!(rt; is_refused(alloc, &["acdm", "serve"]));
-    assert!(rt; is_refused(alloc, &["acdm", "serve", "--journal", "0", "NM=one"]));
     Ok(())
 }
 

@@ -62,8 +62,8 @@ fn serve_with<H: Helpers + Drop, R: Read + Drop, W: Write + Drop, F: Write + Dro
     };
     let mut reader = Counted::new(reader);
     let mut writer = Counted::new(writer);
-    let desk = serve_counted(alloc, helpers, journal, &mut reader, &mut writer)?;
-    save(alloc, &desk, saved)
+    let mut desk = serve_counted(alloc, helpers, journal, &mut reader, &mut writer)?;
+    save(alloc, &mut desk, saved)
 }
 
 // Serves a desk that is empty at first, and has room for so many entries. Answers that desk.

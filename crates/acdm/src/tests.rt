@@ -1,5 +1,4 @@
 //! Command lines, and the statuses and lines of the commands.
-use crate::command_line::{Line, parse};
 use crate::commands::complete;
 use crate::serving::run_on;
 use crate::verifying::verify_on;
@@ -25,47 +24,6 @@ const SCHEDULE: &str =
 const FLIGHT_PLAN: &str =
     r#"2 29000580 NM {"cmd":"report","flight":7,"milestone":1,"time":"2025-02-20T10:00:00Z","callsign":"DLH7","type":"A320","reg":"DAIBC","dest":"EDDM"}
 "#;
-
-#[test]
-fn a_journal_is_read_or_the_usual_one(rt: HostRuntime) -> Result<(), Fail> {
-    let alloc = rt.alloc();
-    for (words, journal) in [
-        (["acdm", "run"].as_slice(), 100_000),
-        (["acdm", "run", "--journal", "1"].as_slice(), 1),
-        (["acdm", "run", "--journal", "2"].as_slice(), 2),
-        (["acdm", "run", "--journal", "70000"].as_slice(), 70_000),
-        (["acdm", "run", "--journal", "999999"].as_slice(), 999_999),
-        (["acdm", "run", "--journal=1000000"].as_slice(), 1_000_000),
-    ] {
-        let line = parse(alloc, words).map_err(|_| "a command line is refused")?;
-        assert_eq!(rt;
-            line,
-            Line::Run {
-                journal,
-                save: None
-            }
-        );
-    }
-    Ok(())
-}
-
-#[test]
-fn other_words_are_refused(rt: HostRuntime) {
-    for words in [
-        ["acdm"].as_slice(),
-        ["acdm", "walk"].as_slice(),
-        ["acdm", "--help"].as_slice(),
-        ["acdm", "run", "now"].as_slice(),
-        ["acdm", "run", "--journal"].as_slice(),
-        ["acdm", "run", "--journal", "0"].as_slice(),
-        ["acdm", "run", "--journal", "1000001"].as_slice(),
-        ["acdm", "run", "--journal", "many"].as_slice(),
-        ["acdm", "run", "--save"].as_slice(),
-        ["acdm", "audit"].as_slice(),
-    ] {
-        assert!(rt; parse(rt.alloc(), words).is_err(), "{words:?}");
-    }
-}
 
 /// Fails at each read and write.
 #[derive(Drop)]
@@ -425,27 +383,5 @@ fn want_of_memory_is_no_verdict(rt: HostRuntime) -> Result<(), Fail> {
     assert_eq!(rt; verify_on(alloc, Short, &mut text, &mut errors), 2);
     assert!(rt; text.is_empty());
     assert_eq!(rt; errors.as_slice(), b"acdm: no memory\n".as_slice());
-    Ok(())
-}
-
-#[test]
-fn a_file_to_judge_is_taken_as_it_stands(rt: HostRuntime) -> Result<(), Fail> {
-    let words = ["acdm", "verify", "rules/tobt.bin"];
-    let line = parse(rt.alloc(), words.as_slice()).map_err(|_| "a command line is refused")?;
-    assert_eq!(rt;
-        line,
-        Line::Verify {
-            file: "rules/tobt.bin"
-        }
-    );
-    assert!(rt; parse(rt.alloc(), ["acdm", "verify"].as_slice()).is_err());
-    let words = ["acdm", "audit", "days/monday.txt"];
-    let line = parse(rt.alloc(), words.as_slice()).map_err(|_| "a command line is refused")?;
-    assert_eq!(rt;
-        line,
-        Line::Audit {
-            file: "days/monday.txt"
-        }
-    );
     Ok(())
 }

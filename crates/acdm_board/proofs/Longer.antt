@@ -146,30 +146,48 @@ module _ (old new : Board) (xs ys : List Entry) (capacity n session moment : ℕ
         fits = omega arith;
       }
 
-  -- the desk before and after
-  enters_here : Enters (record { history = reverse xs; capacity = capacity; sigs = old.slots.sigs })
-      session role moment c (record {
-        history = reverse ys;
-        capacity = capacity;
-        sigs = new.slots.sigs;
-      }) outcome
-  enters_here =
+  -- the desk before and after, in these cells
+  enters_here : (cells : List ℕ) → Enters (record {
+    history = reverse xs;
+    capacity = capacity;
+    sigs = old.slots.sigs;
+    cells = cells;
+  }) session role moment c (record {
+    history = reverse ys;
+    capacity = capacity;
+    sigs = new.slots.sigs;
+    cells = cells;
+  }) outcome
+  enters_here cells =
       record {
         answers = answers;
         entry = let longer = history-pushed
             ∙ ap (λ o. after (reverse xs) session role moment c o answers) verdict_here in
-            λ i. record { history = longer i; capacity = capacity; sigs = same_sigs i };
+            λ i. record {
+              history = longer i;
+              capacity = capacity;
+              sigs = same_sigs i;
+              cells = cells;
+            };
         outcome_is = outcome_here comes;
       }
 
-  pub enters : (d : DeskView) → record {
+  pub enters : (cells : List ℕ) (d : DeskView) → record {
     history = reverse xs;
     capacity = capacity;
     sigs = old.slots.sigs;
+    cells = cells;
   } ≡ d
-      → Enters d session role moment c
-      (record { history = reverse ys; capacity = capacity; sigs = new.slots.sigs }) outcome
-  enters d e =
-      subst (λ x. Enters x session role moment c
-      (record { history = reverse ys; capacity = capacity; sigs = new.slots.sigs }) outcome) e
-      enters_here
+      → Enters d session role moment c (record {
+        history = reverse ys;
+        capacity = capacity;
+        sigs = new.slots.sigs;
+        cells = cells;
+      }) outcome
+  enters cells d e =
+      subst (λ x. Enters x session role moment c (record {
+        history = reverse ys;
+        capacity = capacity;
+        sigs = new.slots.sigs;
+        cells = cells;
+      }) outcome) e (enters_here cells)

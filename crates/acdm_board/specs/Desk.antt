@@ -9,18 +9,32 @@ use Rattle.acdm_step.specs.declared.entry.Entry.{Entry}
 use Rattle.acdm_step.specs.declared.outcome.Outcome.{Outcome}
 use Rattle.acdm_step.specs.Verdicts.{outcome_of, verdict_of}
 use Rattle.acdm_step.specs.History.{Board, IsLegal, replay, after}
+use Rattle.acdm_row.specs.Views.{JournalView, RowView}
 
--- the entries, the newest first, how many there may be, and the signatures of the helpers
+-- the entries, the newest first, how many there may be, the signatures of the helpers, and the
+-- names
+-- of the cells in which the entries stand
 pub record DeskView : Type 0 where
   pub history : List Entry
   pub capacity : ℕ
   pub sigs : List (ℕ × Promise)
+  pub cells : List ℕ
+
+-- the row of a desk
+abbrev pub row_of : DeskView → RowView
+row_of d = record { cells = d.cells; sigs = d.sigs }
 
 -- the core is the replay of the entries, which are legal
 pub record Keeps (core : Board) (entries : List Entry) (capacity : ℕ) : Type 0 where
   pub replays : core ≡ replay core.slots.sigs (reverse entries)
   pub legal : IsLegal core.slots.sigs (reverse entries)
   pub fits : length entries ≤ capacity
+
+-- the core is the replay of the journal in the row, whose programs were checked against the core's
+-- signatures
+pub record IsBook (core : Board) (journal : JournalView) : Type 0 where
+  pub keeps : Keeps core journal.entries (length journal.row.cells)
+  pub sigs_are : journal.row.sigs ≡ core.slots.sigs
 
 -- the desk with one entry more, for a command with these answers of helpers
 abbrev pub entered : DeskView → ℕ → Role → ℕ → Command → List ℕ → DeskView

@@ -2,42 +2,42 @@
 ghost use Rattle.std.specs.Prelude.{◌≡◌, ◌<◌, ◌≤◌, [], true, false, length, reverse, slice_get};
 ghost use Rattle.std.specs.Prelude.{IfOk, OnErr};
 ghost use Rattle.std.specs.Option.{option_copied};
-ghost use Rattle.bpf_helpers.specs.Same.{same_sigs};
-ghost use Rattle.bpf_regstate.specs.States.{Accepts};
 ghost use Rattle.acdm_step.specs.Commands.{is_accepted};
 ghost use Rattle.acdm_step.specs.InSlots.{answers_room};
 ghost use Rattle.acdm_step.specs.Verdicts.{verdict_in};
 ghost use Rattle.acdm_step.specs.History.{IsChecked, IsLegal, replay};
-ghost use Rattle.acdm_board.specs.Desk.{DeskView, Enters, is_foreign as has_other_sigs};
+ghost use Rattle.std.specs.Arc.{arc_value};
+ghost use Rattle.acdm_board.specs.Desk.{DeskView, Enters, row_of, is_foreign as has_other_sigs};
 
 use acdm_milestones::Role;
+use acdm_row::{Journal, Row};
 use acdm_step::{Answers, Command, Core, Entry, Outcome};
 use bpf_helpers::{Helpers, Live, Sigs};
-use bpf_verifier::Checked;
 use std::alloc::{AllocError, Global};
 use std::marker::Model;
+use std::sync::Arc;
 
 /// A core and its journal, whose replay it is.
 #[derive(Drop)]
 pub(crate) struct Book {
     core: Core,
-    journal: Vec<Entry>,
-    capacity: usize,
+    journal: Journal,
 }
 
 impl Model for Book {
-    ghost use Rattle.std.specs.Prelude.{reverse};
-    ghost use Rattle.acdm_board.specs.Desk.{DeskView, Keeps};
+    ghost use Rattle.std.specs.Prelude.{reverse, length};
+    ghost use Rattle.acdm_board.specs.Desk.{DeskView, IsBook};
 
     ghost Value = { DeskView };
 
     ghost view = { λ b. record {
-      history = reverse b.journal.items;
-      capacity = b.capacity;
+      history = reverse b.journal.entries;
+      capacity = length b.journal.row.cells;
       sigs = b.core.slots.sigs;
+      cells = b.journal.row.cells;
     } };
 
-    ghost invariant = { λ b. Keeps b.core b.journal.items b.capacity };
+    ghost invariant = { λ b. IsBook b.core b.journal };
 }
 
 /// Whether a command loads a program that was checked against other signatures.
@@ -46,18 +46,9 @@ fn is_foreign(command: &Command, sigs: &Sigs) -> bool
     ensures checked { result ≡ false → IsChecked sigs.now command.now }
 {
     match command {
-        Command::Load(load) => !is_checked_against(&load.program, sigs),
+        Command::Load(load) => !load.was_checked(sigs),
         _ => false,
     }
-}
-
-/// Whether a program was checked against these signatures.
-fn is_checked_against(program: &Checked, sigs: &Sigs) -> bool
-    ensures value { result ≡ same_sigs program.now.sigs sigs.now }
-    ensures same { result ≡ true → (program.now.sigs ≡ sigs.now)
-        × Accepts 128 program.now.ops sigs.now }
-{
-    program.sigs().is_same(sigs)
 }
 
 /// The answers that the programs of an accepted command used, in no more room than they need; a
@@ -77,15 +68,13 @@ fn answers_of<H: Helpers>(alloc: Global, live: Live<'_, H>, outcome: &Outcome) -
 impl Book {
     /// An empty journal for so many entries, and its core. `Err` only where memory was refused.
     pub(crate) fn new(alloc: Global, sigs: Sigs, capacity: usize) -> Result<Book, AllocError>
-        ensures { IfOk result (λ book. book
-            ≡ record { history = []; capacity = capacity; sigs = sigs }) }
+        ensures empty { IfOk result (λ book. book.history ≡ []) }
+        ensures capacity { IfOk result (λ book. book.capacity ≡ capacity) }
+        ensures sigs { IfOk result (λ book. book.sigs ≡ sigs) }
     {
+        let journal = Journal::new(alloc, sigs.copy()?, capacity)?;
         let core = Core::new(alloc, sigs)?;
-        Ok(Book {
-            core,
-            journal: Vec::new(alloc),
-            capacity,
-        })
+        Ok(Book { core, journal })
     }
 
     /// The core, which is the replay of the journal. The journal is legal.
@@ -99,7 +88,14 @@ impl Book {
 
     /// Where its memory comes from.
     pub(crate) fn alloc(&self) -> Global {
-        *self.journal.allocator()
+        self.journal.alloc()
+    }
+
+    /// The row of cells in which the journal stands.
+    pub(crate) fn row(&self) -> &Arc<Row>
+        ensures { arc_value result.now ≡ row_of self.now }
+    {
+        self.journal.row()
     }
 
     /// The signatures against which programs must have been checked.
@@ -120,14 +116,16 @@ impl Book {
     pub(crate) fn capacity(&self) -> usize
         ensures { result ≡ self.now.capacity }
     {
-        self.capacity
+        self.journal.row().len()
     }
 
-    /// The entry of this number.
-    pub(crate) fn entry(&self, number: u64) -> Option<&Entry>
-        ensures { option_copied result ≡ slice_get (reverse self.now.history) number }
+    /// The entry of this number, as it stands in the row.
+    pub(crate) fn entry<'a>(&mut self, row: &'a Row, number: u64) -> Option<&'a Entry>
+        requires { row.now ≡ row_of self.old }
+        ensures same { self.new ≡ self.old }
+        ensures value { option_copied result ≡ slice_get (reverse self.old.history) number }
     {
-        self.journal.get(number as usize)
+        self.journal.entry(row, number)
     }
 
     /// Whether a command loads a program that was checked against other signatures than those of
@@ -140,8 +138,9 @@ impl Book {
     }
 
     /// Makes the next entry of a command, whose programs ask this oracle, which has room for all of
-    /// their answers, and tells what came of it. `Err` only where memory was refused; nothing has
-    /// changed then.
+    /// their answers, and tells what came of it. The command is planned, its entry published, and
+    /// the plan committed. `Err` where memory was refused or the cell of the entry was set; nothing
+    /// has changed then.
     pub(crate) fn enter<H: Helpers>(
         &mut self,
         live: Live<'_, H>,
@@ -164,21 +163,18 @@ impl Book {
         ensures err { OnErr result (self.new ≡ self.old) }
     {
         let mut live = live;
-        self.journal.reserve(1)?;
-        let outcome = self.core.apply(&mut live, role, moment, &command)?;
-        let answers = answers_of(*self.journal.allocator(), live, &outcome);
+        let plan = self.core.plan(&mut live, role, moment, &command)?;
+        let answers = answers_of(self.journal.alloc(), live, &plan.outcome);
         let entry = Entry {
             number: self.journal.len() as u64,
             session,
             role,
             moment,
             command,
-            verdict: outcome.verdict(),
+            verdict: plan.outcome.verdict(),
             answers,
         };
-        if self.journal.push(entry).is_err() {
-            unreachable!();
-        }
-        Ok(outcome)
+        self.journal.publish(entry)?;
+        Ok(self.core.commit(plan))
     }
 }

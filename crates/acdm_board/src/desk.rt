@@ -3,15 +3,18 @@ ghost use Rattle.std.specs.Prelude.{◌≡◌, ◌≢◌, ◌≤◌, ◌↔◌, 
 ghost use Rattle.std.specs.Prelude.{slice_get, IfOk, OnErr, Err};
 ghost use Rattle.std.specs.Option.{option_copied};
 ghost use Rattle.acdm_step.specs.History.{IsLegal, replay};
-ghost use Rattle.acdm_board.specs.Desk.{DeskView, Enters, is_foreign};
+ghost use Rattle.std.specs.Arc.{arc_value};
+ghost use Rattle.acdm_board.specs.Desk.{DeskView, Enters, is_foreign, row_of};
 
 use crate::book::Book;
 use crate::error::DeskError;
 use acdm_milestones::Role;
+use acdm_row::Row;
 use acdm_step::{Command, Core, Entry, Outcome};
 use bpf_helpers::{Helpers, Live, Sigs};
 use std::alloc::{AllocError, Global};
 use std::marker::Model;
+use std::sync::Arc;
 
 /// What is replied: the number of the command's entry, and what came of the command.
 #[derive(Drop)]
@@ -41,8 +44,9 @@ impl<H: Helpers + Drop> Model for Desk<H> {
 impl<H: Helpers + Drop> Desk<H> {
     /// An empty desk for so many entries, with these helpers. `Err` only where memory was refused.
     pub fn new(alloc: Global, helpers: H, capacity: usize) -> Result<Desk<H>, AllocError>
-        ensures { IfOk result (λ desk. desk
-            ≡ record { history = []; capacity = capacity; sigs = H.entries helpers }) }
+        ensures empty { IfOk result (λ desk. desk.history ≡ []) }
+        ensures capacity { IfOk result (λ desk. desk.capacity ≡ capacity) }
+        ensures sigs { IfOk result (λ desk. desk.sigs ≡ H.entries helpers) }
     {
         let sigs = helpers.sigs()?;
         let book = Book::new(alloc, sigs, capacity)?;
@@ -72,11 +76,20 @@ impl<H: Helpers + Drop> Desk<H> {
         self.book.len() as u64
     }
 
-    /// The entry of this number, the first being 0.
-    pub fn entry(&self, number: u64) -> Option<&Entry>
-        ensures { option_copied result ≡ slice_get (reverse self.now.history) number }
+    /// The row of cells in which the journal stands, for those that look at it without the desk.
+    pub fn row(&self) -> &Arc<Row>
+        ensures { arc_value result.now ≡ row_of self.now }
     {
-        self.book.entry(number)
+        self.book.row()
+    }
+
+    /// The entry of this number, the first being 0, as it stands in the desk's row.
+    pub fn entry<'a>(&mut self, row: &'a Row, number: u64) -> Option<&'a Entry>
+        requires { row.now ≡ row_of self.old }
+        ensures same { self.new ≡ self.old }
+        ensures value { option_copied result ≡ slice_get (reverse self.old.history) number }
+    {
+        self.book.entry(row, number)
     }
 
     /// One event: a command of a session, from 1 to 64, at a moment (minutes since

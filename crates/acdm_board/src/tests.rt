@@ -12,6 +12,7 @@ use bpf_helpers::{Bank, Code, Helper, Helpers, Range, Signature, Sigs};
 use bpf_verifier::verify;
 use std::alloc::Global;
 use std::process::Abort;
+use std::sync::Arc;
 use std::test::Fail;
 
 // 2025-02-20T09:00Z and 10:00Z.
@@ -114,11 +115,22 @@ fn tobt_on<H: Helpers + Drop>(desk: &Desk<H>) -> Option<u64> {
 }
 
 // Whether an entry has this number and this one answer.
-fn has_answer<H: Helpers + Drop>(desk: &Desk<H>, number: u64, answer: u64) -> bool {
-    match desk.entry(number) {
+fn has_answer<H: Helpers + Drop>(desk: &mut Desk<H>, number: u64, answer: u64) -> bool {
+    let Ok(row) = Arc::try_clone(desk.row()) else {
+        return false;
+    };
+    match desk.entry(&row, number) {
         Some(entry) => entry.number == number && entry.answers.as_slice() == [answer].as_slice(),
         None => false,
     }
+}
+
+// Whether there is an entry of this number.
+fn has_entry<H: Helpers + Drop>(desk: &mut Desk<H>, number: u64) -> bool {
+    let Ok(row) = Arc::try_clone(desk.row()) else {
+        return false;
+    };
+    desk.entry(&row, number).is_some()
 }
 
 // The in-block report of flight 7, after all that has to come before it.
@@ -148,8 +160,8 @@ fn five_minutes_later<H: Helpers + Drop>(
     assert_eq!(rt; reply.outcome.verdict(), Verdict::Accepted);
     assert_eq!(rt; tobt_on(&desk), Some(29_000_705));
     assert_eq!(rt; desk.len(), 5);
-    assert!(rt; has_answer(&desk, 4, 29_000_705));
-    assert!(rt; desk.entry(5).is_none());
+    assert!(rt; has_answer(&mut desk, 4, 29_000_705));
+    assert!(rt; !has_entry(&mut desk, 5));
     let empty = no_sigs(alloc)?;
     let foreign = loaded(alloc, &NOTHING, &empty)?;
     assert_eq!(rt;

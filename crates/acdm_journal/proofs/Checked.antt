@@ -1,8 +1,10 @@
--- The programs in the slots of a legal history were checked against the signatures of the board.
+-- The programs in the slots of a history are those that its entries load.
 use Rattle.std.proofs.Common.{◌≡◌, ℕ, Bool, true, false, cond, List, [], ◌∷◌, Option, Some, None}
-use Rattle.std.proofs.Common.{sym, ap, ◌∙◌}
-use Rattle.std.specs.Prelude.{◌==◌}
+use Rattle.std.proofs.Common.{subst}
+use Rattle.std.specs.Prelude.{◌==◌, ⊤}
+use Rattle.std.specs.List.{AllByRecursion}
 use Rattle.std.proofs.lemmas.Option.{same_Some}
+use Rattle.bpf_decode.specs.Encoding.{IsProgram}
 use Rattle.bpf_helpers.specs.Promise.{Promise}
 use Rattle.bpf_verifier.specs.Verdict.{Verified}
 use Rattle.acdm_milestones.specs.declared.milestone.Milestone.{Milestone}
@@ -16,27 +18,7 @@ use Rattle.acdm_step.specs.declared.command.FlightCommand.TheVariants.{Schedule,
 use Rattle.acdm_step.specs.Commands.{History, is_accepted}
 use Rattle.acdm_step.specs.InSlots.{slot_change, changed_or, program_in, programs_of}
 use Rattle.acdm_step.specs.History.{IsLegal, IsChecked}
-
-put_in : (b : Bool) (put before : Option Verified) (v : Verified) (sigs : List (ℕ × Promise))
-    → (put ≡ Some v → v.sigs ≡ sigs) → (before ≡ Some v → v.sigs ≡ sigs)
-    → changed_or (cond b (Some put) None) before ≡ Some v → v.sigs ≡ sigs
-put_in true put before v sigs now then h = now h
-put_in false put before v sigs now then h = then h
-
-changed_in : (sigs : List (ℕ × Promise)) (a : Milestone) (k : kinds.Kind) (v : Verified)
-    (c : Command)
-    → IsChecked sigs c → (before : Option Verified) → (before ≡ Some v → v.sigs ≡ sigs)
-    → changed_or (slot_change a k c) before ≡ Some v → v.sigs ≡ sigs
-changed_in sigs a k v (Load l) checked before then h =
-    put_in (place l.milestone l.kind == place a k) (Some l.program) before v sigs
-    (λ e. sym (ap (λ (x : Verified). x.sigs) (same_Some l.program v e)) ∙ checked.0) then h
-changed_in sigs a k v (Unload u) checked before then h =
-    put_in (place u.milestone u.kind == place a k) None before v sigs (λ e. absurd (cc e)) then h
-changed_in sigs a k v (commands.Flight (Schedule s)) checked before then h = then h
-changed_in sigs a k v (commands.Flight (Report r)) checked before then h = then h
-changed_in sigs a k v Tick checked before then h = then h
-changed_in sigs a k v (Show f) checked before then h = then h
-changed_in sigs a k v Alerts checked before then h = then h
+use Rattle.acdm_journal.specs.Ranges.{FitsTypes, LoadsProgram}
 
 either : (b : Bool) (x y : Option Verified) (v : Verified) (P : Type 0) → (x ≡ Some v → P)
     → (y ≡ Some v → P)
@@ -44,26 +26,100 @@ either : (b : Bool) (x y : Option Verified) (v : Verified) (P : Type 0) → (x �
 either true x y v P f g h = f h
 either false x y v P f g h = g h
 
-checked_in : (sigs : List (ℕ × Promise)) (J : History) (a : Milestone) (k : kinds.Kind)
-    (v : Verified)
-    → IsLegal sigs J → program_in J a k ≡ Some v → v.sigs ≡ sigs
-checked_in sigs [] a k v legal h = absurd (cc)
-checked_in sigs (e ∷ J) a k v legal h =
-    either (is_accepted e.verdict) (changed_or (slot_change a k e.command) (program_in J a k))
-    (program_in J a k) v (v.sigs ≡ sigs)
-    (λ p. changed_in sigs a k v e.command legal.3 (program_in J a k)
-    (λ q. checked_in sigs J a k v legal.0 q) p)
-    (λ p. checked_in sigs J a k v legal.0 p) h
+-- what is so of each program that is loaded is so of those in the slots
+module _ (P : Verified → Type 0) where
+  abbrev Loads : Command → Type 0
+  Loads (Load l) = P l.program
+  Loads _ = ⊤
 
--- those that a command runs
-pub tobt_checked : (sigs : List (ℕ × Promise)) (J : History) (c : Command) → IsLegal sigs J
-    → (v : Verified) → (programs_of J c).tobt ≡ Some v → v.sigs ≡ sigs
-tobt_checked sigs J (commands.Flight (Report r)) legal v h =
-    checked_in sigs J r.milestone Tobt v legal h
-tobt_checked sigs J _ legal v h = absurd (cc)
+  put_in : (b : Bool) (put before : Option Verified) (v : Verified)
+      → (put ≡ Some v → P v) → (before ≡ Some v → P v)
+      → changed_or (cond b (Some put) None) before ≡ Some v → P v
+  put_in true put before v now then h = now h
+  put_in false put before v now then h = then h
 
-pub alert_checked : (sigs : List (ℕ × Promise)) (J : History) (c : Command) → IsLegal sigs J
-    → (v : Verified) → (programs_of J c).alert ≡ Some v → v.sigs ≡ sigs
-alert_checked sigs J (commands.Flight (Report r)) legal v h =
-    checked_in sigs J r.milestone Alert v legal h
-alert_checked sigs J _ legal v h = absurd (cc)
+  changed_in : (a : Milestone) (k : kinds.Kind) (v : Verified) (c : Command)
+      → Loads c → (before : Option Verified) → (before ≡ Some v → P v)
+      → changed_or (slot_change a k c) before ≡ Some v → P v
+  changed_in a k v (Load l) loads before then h =
+      put_in (place l.milestone l.kind == place a k) (Some l.program) before v
+      (λ e. subst P (same_Some l.program v e) loads) then h
+  changed_in a k v (Unload u) loads before then h =
+      put_in (place u.milestone u.kind == place a k) None before v (λ e. absurd (cc e)) then h
+  changed_in a k v (commands.Flight (Schedule s)) loads before then h = then h
+  changed_in a k v (commands.Flight (Report r)) loads before then h = then h
+  changed_in a k v Tick loads before then h = then h
+  changed_in a k v (Show f) loads before then h = then h
+  changed_in a k v Alerts loads before then h = then h
+
+  loaded_in : (J : History) (a : Milestone) (k : kinds.Kind) (v : Verified)
+      → AllByRecursion (λ e. Loads e.command) J → program_in J a k ≡ Some v → P v
+  loaded_in [] a k v all h = absurd (cc)
+  loaded_in (e ∷ J) a k v all h =
+      either (is_accepted e.verdict) (changed_or (slot_change a k e.command) (program_in J a k))
+      (program_in J a k) v (P v)
+      (λ p. changed_in a k v e.command all.0 (program_in J a k)
+      (λ q. loaded_in J a k v all.1 q) p)
+      (λ p. loaded_in J a k v all.1 p) h
+
+  tobt_loaded : (J : History) (c : Command) → AllByRecursion (λ e. Loads e.command) J
+      → (v : Verified) → (programs_of J c).tobt ≡ Some v → P v
+  tobt_loaded J (commands.Flight (Report r)) all v h = loaded_in J r.milestone Tobt v all h
+  tobt_loaded J _ all v h = absurd (cc)
+
+  alert_loaded : (J : History) (c : Command) → AllByRecursion (λ e. Loads e.command) J
+      → (v : Verified) → (programs_of J c).alert ≡ Some v → P v
+  alert_loaded J (commands.Flight (Report r)) all v h = loaded_in J r.milestone Alert v all h
+  alert_loaded J _ all v h = absurd (cc)
+
+-- ---- in a legal history they were checked against the signatures of the board
+
+module _ (sigs : List (ℕ × Promise)) where
+  abbrev HasSigs : Verified → Type 0
+  HasSigs v = v.sigs ≡ sigs
+
+  checks_load : (c : Command) → IsChecked sigs c → Loads HasSigs c
+  checks_load (Load l) checked = checked.0
+  checks_load (Unload u) checked = tt
+  checks_load (commands.Flight k) checked = tt
+  checks_load Tick checked = tt
+  checks_load (Show f) checked = tt
+  checks_load Alerts checked = tt
+
+  all_checked : (J : History) → IsLegal sigs J → AllByRecursion (λ e. Loads HasSigs e.command) J
+  all_checked [] legal = tt
+  all_checked (e ∷ J) legal = (checks_load e.command legal.3, all_checked J legal.0)
+
+  pub tobt_checked : (J : History) (c : Command) → IsLegal sigs J
+      → (v : Verified) → (programs_of J c).tobt ≡ Some v → v.sigs ≡ sigs
+  tobt_checked J c legal = tobt_loaded HasSigs J c (all_checked J legal)
+
+  pub alert_checked : (J : History) (c : Command) → IsLegal sigs J
+      → (v : Verified) → (programs_of J c).alert ≡ Some v → v.sigs ≡ sigs
+  alert_checked J c legal = alert_loaded HasSigs J c (all_checked J legal)
+
+-- ---- where entries fit their types they are programs
+
+abbrev IsOne : Verified → Type 0
+IsOne v = IsProgram v.ops
+
+loads_one : (c : Command) → LoadsProgram c → Loads IsOne c
+loads_one (Load l) is = is
+loads_one (Unload u) is = tt
+loads_one (commands.Flight k) is = tt
+loads_one Tick is = tt
+loads_one (Show f) is = tt
+loads_one Alerts is = tt
+
+all_programs : (J : History) → AllByRecursion FitsTypes J
+    → AllByRecursion (λ e. Loads IsOne e.command) J
+all_programs [] fit = tt
+all_programs (e ∷ J) fit = (loads_one e.command fit.0.program, all_programs J fit.1)
+
+pub tobt_is_program : (J : History) (c : Command) → AllByRecursion FitsTypes J
+    → (v : Verified) → (programs_of J c).tobt ≡ Some v → IsProgram v.ops
+tobt_is_program J c fit = tobt_loaded IsOne J c (all_programs J fit)
+
+pub alert_is_program : (J : History) (c : Command) → AllByRecursion FitsTypes J
+    → (v : Verified) → (programs_of J c).alert ≡ Some v → IsProgram v.ops
+alert_is_program J c fit = alert_loaded IsOne J c (all_programs J fit)

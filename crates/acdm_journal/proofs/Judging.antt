@@ -33,7 +33,7 @@ use Rattle.acdm_step.specs.declared.outcome.Outcome.{Outcome}
 use Rattle.acdm_step.specs.Laws.{verdict_in-outcome_of}
 use Rattle.acdm_step.specs.Ran.{Ran}
 use Rattle.acdm_step.specs.Running.{ComesOf, answered_so, unanswered_so}
-use Rattle.acdm_step.specs.Commands.{History, flight_of, bit_of, is_accepted, most_flights}
+use Rattle.acdm_step.specs.Commands.{History, flight_of, bit_of, is_accepted}
 use Rattle.acdm_step.specs.InSlots.{programs_of}
 use Rattle.acdm_step.specs.Summaries.{exists, flights, record_of, run_record_of}
 use Rattle.acdm_step.specs.Verdicts.{verdict_of, verdict_for, verdict_in, verdict_from, outcome_of}
@@ -44,6 +44,7 @@ use Rattle.acdm_journal.specs.Audit.{UsesAnswers, lacks_answer}
 use Rattle.acdm_journal.proofs.Checked.{tobt_checked, alert_checked}
 use Rattle.acdm_journal.proofs.Splitting.{cases_of}
 use Rattle.acdm_journal.proofs.Unanswered.{Reads, not_these}
+use Rattle.acdm_step.specs.declared.verdicts.TheConstants.{MOST_FLIGHTS}
 
 -- ---- no test refuses for want of an answer
 
@@ -96,11 +97,11 @@ verdict_answers : (there : Bool) (count : ℕ) (r : Fields) (ready : Bool) (role
     → lacks_answer (verdict_for there count r ready role c) ≡ false
 verdict_answers there count r ready role (commands.Flight (Schedule s)) =
     schedule_tests (not (owns role actions.Schedule)) (has_reached r 0 && has_reached r 1)
-    (not there && not (nat_lt count most_flights))
+    (not there && not (nat_lt count MOST_FLIGHTS))
 verdict_answers there count r ready role (commands.Flight (Report p)) =
     report_tests (not (owns role (actions.Report p.milestone))) (not there
     && not (number p.milestone == 1))
-    (not there && not (nat_lt count most_flights))
+    (not there && not (nat_lt count MOST_FLIGHTS))
     (verdict_from (admission r role p.milestone p.time))
     (admission_answers r role p.milestone p.time)
 verdict_answers there count r ready role (Load l) =

@@ -12,5 +12,8 @@ pub mod NextEntry
 pub mod OneVerdict
 pub mod Sofar
 pub mod OneText
+pub mod FewAnswers
+pub mod LineLength
+pub mod Readable
 pub mod Taken
 pub mod TextRows

@@ -18,6 +18,7 @@ use Rattle.acdm_journal.specs.Text.{line_of, stated_in, asked_in, outcome_code}
 use Rattle.acdm_journal.specs.Ranges.{IsStated, IsAsked}
 use Rattle.acdm_journal.specs.Audit.{IsCommandOf, States, StatesNext, Continues, Breaks, Judges}
 use Rattle.acdm_journal.specs.Audit.{Commands, Enters, JudgesCommand}
+use Rattle.acdm_journal.specs.declared.reading.TheConstants.{LONGEST_LINE}
 
 plain_is : (c : Command) → is_load c ≡ false → asked_in c ≡ Plain c
 plain_is (commands.Load l) h = absurd (cc)
@@ -41,7 +42,7 @@ checked_is sigs (Plain p) c is e = subst (λ x. IsChecked sigs x) (sym e) (plain
 checked_is sigs (Load l) c is e = subst (λ x. IsChecked sigs x) (sym e.3) (refl, e.2)
 
 module _ (sigs : List (ℕ × Promise)) (J : History) (line : List ℕ) (s : Stated)
-    (legal : IsLegal sigs J) (short : length line ≤ 200000)
+    (legal : IsLegal sigs J) (short : length line ≤ LONGEST_LINE)
     (states : States line s) where
   -- the number is another one
   pub misnumbered : s.number ≢ length J → Breaks sigs J line clauses.Number

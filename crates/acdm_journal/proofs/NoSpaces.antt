@@ -1,6 +1,6 @@
 -- No word of a line has a space or a line feed.
-use Rattle.std.proofs.Common.{◌≡◌, ℕ, ◌/◌, ◌%◌, ◌<◌, ◌≤◌, Bool, true, false, not, List, [], ◌∷◌}
-use Rattle.std.proofs.Common.{◌++◌, length, map, codes, Option, Some, None, refl, sym, ap, ◌∙◌}
+use Rattle.std.proofs.Common.{◌≡◌, ℕ, ◌/◌, ◌%◌, ◌<◌, ◌≤◌, true, List, [], ◌∷◌}
+use Rattle.std.proofs.Common.{◌++◌, length, map, codes, Option, Some, None, refl}
 use Rattle.std.proofs.Common.{arith, leb-true}
 use Rattle.std.specs.Prelude.{slice_index, nat_le}
 use Rattle.std.specs.Fmt.{decimal}
@@ -27,12 +27,13 @@ use Rattle.acdm_journal.specs.declared.stated.Stated.{Stated}
 use Rattle.acdm_journal.specs.declared.stated.Asked.{Asked}
 use Rattle.acdm_journal.specs.declared.stated.Asked.TheVariants.{Plain, Load}
 use Rattle.acdm_journal.specs.Text.{plan_words, plan_words_of, asked_words, answer_words}
-use Rattle.acdm_journal.specs.Text.{head_words, line_words, line_of, role_name, kind_name}
+use Rattle.acdm_journal.specs.Text.{head_words, line_words, line_of}
 use Rattle.acdm_journal.specs.Ranges.{IsText, IsPlan, IsPlanOf, IsWord, IsByte, IsAsked, IsStated}
-use Rattle.acdm_journal.specs.Reading.{Words}
 use Rattle.acdm_journal.proofs.Numbers.{decimal-lacks}
 use Rattle.acdm_journal.proofs.Parts.{is_numbered}
 use Rattle.acdm_journal.proofs.Splitting.{Lacks, AllLack}
+use Rattle.acdm_milestones.specs.Names.{role_name}
+use Rattle.acdm_slots.specs.Names.{kind_name}
 
 -- ---- a word
 
@@ -81,9 +82,10 @@ bytes_lack (b ∷ bs) all =
 
 -- ---- words
 
-both_lack : (us vs : Words) → AllLack us → AllLack vs → AllLack (us ++ vs)
-both_lack [] vs a b = b
-both_lack (u ∷ us) vs a b = (a.0, both_lack us vs a.1 b)
+pub each-append : {X : Type 0} (P : X → Type 0) (us vs : List X) → AllByRecursion P us
+    → AllByRecursion P vs → AllByRecursion P (us ++ vs)
+each-append P [] vs a b = b
+each-append P (u ∷ us) vs a b = (a.0, each-append P us vs a.1 b)
 
 plan_lacks : (p : Plan) → IsPlan p → AllLack (plan_words p)
 plan_lacks p is = (
@@ -104,7 +106,7 @@ asked_lacks (Plain (commands.Flight (Schedule s))) is =
       by_test (codes "schedule") refl,
       (
         decimal-lacks s.flight l.flight,
-        both_lack (plan_words s.plan)
+        each-append Lacks (plan_words s.plan)
             (decimal s.sobt ∷ decimal s.mttt ∷ decimal s.exit ∷ decimal s.exot ∷ decimal s.stand
             ∷ [])
             (plan_lacks s.plan l.plan) (
@@ -169,7 +171,7 @@ line_lacks s is =
             role_lacks s.role,
             (
               decimal-lacks s.outcome is.outcome,
-              both_lack (answer_words s.answers) (asked_words s.asked) (
+              each-append Lacks (answer_words s.answers) (asked_words s.asked) (
                 decimal-lacks (length s.answers) is.few_answers,
                 numbers_lack s.answers is.answers,
               )

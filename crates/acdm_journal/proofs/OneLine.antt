@@ -5,7 +5,7 @@ use Rattle.std.specs.Fmt.{decimal}
 use Rattle.std.specs.List.{join_with_byte}
 use Rattle.std.proofs.lemmas.Option.{same_Some}
 use Rattle.acdm_journal.specs.declared.stated.Stated.{Stated}
-use Rattle.acdm_journal.specs.Text.{answer_words, asked_words, line_words, line_of, role_name}
+use Rattle.acdm_journal.specs.Text.{answer_words, asked_words, line_words, line_of}
 use Rattle.acdm_journal.specs.Ranges.{IsStated}
 use Rattle.acdm_journal.specs.Reading.{Words, ◌>>=◌, stated_at, alone, words_of, stated_of}
 use Rattle.acdm_journal.specs.Reading.{GivesLine}
@@ -16,6 +16,7 @@ use Rattle.acdm_journal.proofs.Parts.{bind_some, bind_is}
 use Rattle.acdm_journal.proofs.NoSpaces.{line_lacks}
 use Rattle.acdm_journal.proofs.ReadBack.{ReadsLine, stated_at-is, stated_at-back}
 use Rattle.acdm_journal.proofs.Splitting.{words_of-joined, joined-words_of}
+use Rattle.acdm_milestones.specs.Names.{role_name}
 
 -- what is written is read back
 pub stated_of-line : (s : Stated) → IsStated s → stated_of (line_of s) ≡ Some s

@@ -1,11 +1,10 @@
 -- What is said of a text is decided: a line breaks one clause first, and a text has one verdict.
-use Rattle.std.proofs.Common.{◌≡◌, ◌≢◌, ℕ, suc, ◌+◌, ◌<◌, ◌≤◌, true, false, nat_lt, List, [], ◌∷◌}
+use Rattle.std.proofs.Common.{◌≡◌, ◌≢◌, ℕ, ◌<◌, ◌≤◌, true, false, nat_lt, List, [], ◌∷◌}
 use Rattle.std.proofs.Common.{◌++◌, length, refl, sym, ap, subst, ◌∙◌, arith, append_assoc}
 use Rattle.std.proofs.Common.{append-nil}
 use borrow.Author.Tests.{ltb-true, ltb-false}
 use Rattle.bpf_helpers.specs.Promise.{Promise}
 use Rattle.acdm_lines.specs.Lines.{is_line_feed, IsLine}
-use Rattle.acdm_milestones.specs.declared.role.Role.{Role}
 use Rattle.acdm_step.specs.declared.command.Command.{Command}
 use Rattle.acdm_step.specs.declared.entry.Entry.{Entry}
 use Rattle.acdm_step.specs.declared.entry.Verdict.{Verdict}
@@ -15,15 +14,16 @@ use Rattle.acdm_step.specs.History.{IsLegal, replay}
 use Rattle.acdm_journal.specs.declared.stated.Stated.{Stated}
 use Rattle.acdm_journal.specs.declared.judge.Clause.{Clause}
 use Rattle.acdm_journal.specs.declared.judge.Clause.TheVariants as clauses
-use Rattle.acdm_journal.specs.Text.{line_of, stated_in, asked_in, outcome_code, entry_text}
+use Rattle.acdm_journal.specs.Text.{line_of, stated_in, asked_in, entry_text}
 use Rattle.acdm_journal.specs.Text.{history_text}
-use Rattle.acdm_journal.specs.Audit.{IsCommandOf, UsesAnswers, States, StatesNext, Continues}
+use Rattle.acdm_journal.specs.Audit.{IsCommandOf, UsesAnswers, States, StatesNext}
 use Rattle.acdm_journal.specs.Audit.{Breaks}
 use Rattle.acdm_journal.specs.Whole.{IsReadable, AreReadable, IsTextOf, BreaksNext, at_line, at_end}
 use Rattle.acdm_journal.specs.Whole.{FirstFault}
 use Rattle.acdm_journal.proofs.NoSpaces.{line_is_line}
 use Rattle.acdm_journal.proofs.OneLine.{one_line}
 use Rattle.acdm_journal.proofs.OneVerdict.{one_command, breaks_none}
+use Rattle.acdm_journal.specs.declared.reading.TheConstants.{LONGEST_LINE}
 
 -- ---- one clause
 
@@ -295,7 +295,7 @@ module _ (sigs : List (ℕ × Promise)) (J : History) (rest : List ℕ) where
         entry = g.entry;
         line_is = cut.0;
         is = g.readable.stated;
-        short = subst (λ l. length l ≤ 200000) (sym cut.0) g.readable.short;
+        short = subst (λ l. length l ≤ LONGEST_LINE) (sym cut.0) g.readable.short;
         legal = g.legal;
         command = g.readable.command;
         replays = refl;

@@ -23,12 +23,13 @@ use Rattle.acdm_milestones.specs.declared.milestone.Milestone.TheVariants as m
 use Rattle.acdm_milestones.specs.Tables.{number, milestone_numbered, milestones}
 use Rattle.acdm_slots.specs.declared.kind.Kind as kinds
 use Rattle.acdm_slots.specs.declared.kind.Kind.TheVariants.{Tobt, Alert}
-use Rattle.acdm_journal.specs.Text.{role_name, kind_name}
 use Rattle.acdm_journal.specs.Ranges.{IsText, IsByte}
 use Rattle.acdm_journal.specs.Reading.{Words, ◌>>=◌, word_at, within, natural_of, number_at}
-use Rattle.acdm_journal.specs.Reading.{text_at, role_named, role_at, kind_named, kind_at}
+use Rattle.acdm_journal.specs.Reading.{text_at, role_at, kind_at}
 use Rattle.acdm_journal.specs.Reading.{milestone_at, bytes_read, bytes_of, bytes_at}
 use Rattle.acdm_journal.proofs.Numbers.{natural_of-decimal, decimal-natural_of}
+use Rattle.acdm_milestones.specs.Names.{role_name, role_named}
+use Rattle.acdm_slots.specs.Names.{kind_name, kind_named}
 
 -- ---- steps that may fail
 

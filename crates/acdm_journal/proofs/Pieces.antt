@@ -10,11 +10,11 @@ use Rattle.acdm_journal.specs.Text.{command_words, asked_words, asked_in, answer
 use Rattle.acdm_journal.specs.Text.{line_of, stated_in, entry_text}
 use Rattle.acdm_journal.specs.Spaced.{spaced}
 
-joined-spaced : (w : List ℕ) (ws : List (List ℕ)) → join_with_byte 32 (w ∷ ws) ≡ w ++ spaced ws
+pub joined-spaced : (w : List ℕ) (ws : List (List ℕ)) → join_with_byte 32 (w ∷ ws) ≡ w ++ spaced ws
 joined-spaced w [] = sym (append-nil w)
 joined-spaced w (v ∷ vs) = ap (λ l. w ++ 32 ∷ l) (joined-spaced v vs)
 
-spaced-append : (us vs : List (List ℕ)) → spaced (us ++ vs) ≡ spaced us ++ spaced vs
+pub spaced-append : (us vs : List (List ℕ)) → spaced (us ++ vs) ≡ spaced us ++ spaced vs
 spaced-append [] vs = refl
 spaced-append (u ∷ us) vs =
     ap (λ l. (32 ∷ u) ++ l) (spaced-append us vs)

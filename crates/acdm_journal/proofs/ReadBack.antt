@@ -23,7 +23,7 @@ use Rattle.acdm_journal.specs.declared.stated.Asked.{Asked}
 use Rattle.acdm_journal.specs.declared.stated.Asked.TheVariants.{Plain, Load}
 use Rattle.acdm_journal.specs.Text.{plan_words, plan_words_of, schedule_words, report_words}
 use Rattle.acdm_journal.specs.Text.{load_words, command_words, asked_words, answer_words}
-use Rattle.acdm_journal.specs.Text.{line_words, role_name, kind_name}
+use Rattle.acdm_journal.specs.Text.{line_words}
 use Rattle.acdm_journal.specs.Ranges.{IsPlan, IsPlanOf, IsWord, IsByte, IsScheduleLine}
 use Rattle.acdm_journal.specs.Ranges.{IsReportLine, IsCommandLine, IsAsked, IsStated}
 use Rattle.acdm_journal.specs.Reading.{Words, most_word, most_minute, word_at, number_at, text_at}
@@ -35,6 +35,8 @@ use Rattle.acdm_journal.proofs.Parts.{bind_some, bind_is, given, word_at-back, n
 use Rattle.acdm_journal.proofs.Parts.{number_at-back, text_at-is, text_at-back, role_at-is}
 use Rattle.acdm_journal.proofs.Parts.{role_at-back, kind_at-is, kind_at-back, milestone_at-is}
 use Rattle.acdm_journal.proofs.Parts.{milestone_at-back, bytes_at-is, bytes_at-back, if_some}
+use Rattle.acdm_milestones.specs.Names.{role_name}
+use Rattle.acdm_slots.specs.Names.{kind_name}
 
 -- ---- plans
 

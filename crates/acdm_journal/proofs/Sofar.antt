@@ -1,7 +1,7 @@
 -- What an audit knows at any time of the text that it reads.
-use Rattle.std.proofs.Common.{◌≡◌, ◌≢◌, ℕ, suc, ◌+◌, ◌-◌, ◌^◌, ◌<◌, ◌≤◌, ◌⊎◌, true, false, nat_le}
+use Rattle.std.proofs.Common.{◌≡◌, ◌≢◌, ℕ, ◌+◌, ◌-◌, ◌^◌, ◌<◌, ◌≤◌, ◌⊎◌, true, false, nat_le}
 use Rattle.std.proofs.Common.{List, [], ◌∷◌, ◌++◌}
-use Rattle.std.proofs.Common.{length, Option, Ok, Err, refl, sym, ap, subst, ◌∙◌, arith}
+use Rattle.std.proofs.Common.{length, Option, Err, refl, sym, ap, subst, ◌∙◌, arith}
 use Rattle.std.proofs.Common.{append_assoc}
 use Rattle.std.proofs.Common.{append-nil, inl, inr, leb-true, leb-false}
 use Rattle.std.proofs.lemmas.List.{take_all, length-take-le}
@@ -10,7 +10,7 @@ use Rattle.bpf_helpers.specs.Promise.{Promise}
 use Rattle.acdm_lines.specs.declared.lines.Lines.{Lines}
 use Rattle.acdm_lines.specs.declared.run_error.RunError.{RunError}
 use Rattle.acdm_lines.specs.Counted.{Watched, faults_after}
-use Rattle.acdm_lines.specs.Lines.{IsLine, kept}
+use Rattle.acdm_lines.specs.Lines.{kept}
 use Rattle.acdm_lines.specs.NextLine.{TakesLine, TakesRest, TakesPart, FailsOrEndless}
 use Rattle.acdm_lines.proofs.Taking.{Consumes-none}
 use Rattle.acdm_lines.proofs.Reading.{kept-empty, kept-some, faults-more, consumed-more, gave-more}
@@ -22,55 +22,58 @@ use Rattle.acdm_journal.specs.declared.judge.Clause.TheVariants as clauses
 use Rattle.acdm_journal.specs.Text.{line_of, stated_in, history_text}
 use Rattle.acdm_journal.specs.Ranges.{IsStated}
 use Rattle.acdm_journal.specs.Audit.{States, StatesNext, Continues, Breaks}
-use Rattle.acdm_journal.specs.Whole.{IsReadable, AreReadable, BreaksNext, at_line, at_end}
+use Rattle.acdm_journal.specs.Whole.{AreReadable, BreaksNext, at_line, at_end}
 use Rattle.acdm_journal.specs.Whole.{FirstFault}
 use Rattle.acdm_journal.specs.Whole.{GaveLegal, GaveFaulty, GaveUnended, Audits, JudgesEntry}
 use Rattle.acdm_journal.specs.declared.auditing.Fault.{Fault}
 use Rattle.acdm_journal.specs.declared.auditing.Fault.TheVariants as faults
+use Rattle.acdm_journal.specs.declared.reading.TheConstants.{LONGEST_LINE}
+use Rattle.acdm_journal.specs.declared.auditing.TheConstants.{MOST_KEPT}
 
 -- ---- a line, and what is kept of it
 
-kept-short : (line : List ℕ) → length line ≤ 200000 → kept 200001 line ≡ line
-kept-short line short = take_all 200001 line (omega arith)
+kept-short : (line : List ℕ) → length line ≤ LONGEST_LINE → kept MOST_KEPT line ≡ line
+kept-short line short = take_all MOST_KEPT line (omega arith)
 
-short-kept : (line : List ℕ) → length (kept 200001 line) ≤ 200000 → length line ≤ 200000
+short-kept : (line : List ℕ) → length (kept MOST_KEPT line) ≤ LONGEST_LINE
+    → length line ≤ LONGEST_LINE
 short-kept line short =
-    elim (nat_le (length line) 200000) as
-    (λ v. nat_le (length line) 200000 ≡ v → length line ≤ 200000) [
-      | true ↦ λ e. leb-true (length line) 200000 e
+    elim (nat_le (length line) LONGEST_LINE) as
+    (λ v. nat_le (length line) LONGEST_LINE ≡ v → length line ≤ LONGEST_LINE) [
+      | true ↦ λ e. leb-true (length line) LONGEST_LINE e
       | false ↦ λ e.
-          let long : 200000 < length line = leb-false (length line) 200000 e in
-          let cut : length (kept 200001 line) ≡ 200001 =
-          length-take-le 200001 line (omega arith) in
+          let long : LONGEST_LINE < length line = leb-false (length line) LONGEST_LINE e in
+          let cut : length (kept MOST_KEPT line) ≡ MOST_KEPT =
+          length-take-le MOST_KEPT line (omega arith) in
           absurd (omega arith)
     ] refl
 
-kept-is : (line : List ℕ) → length (kept 200001 line) ≤ 200000 → kept 200001 line ≡ line
+kept-is : (line : List ℕ) → length (kept MOST_KEPT line) ≤ LONGEST_LINE → kept MOST_KEPT line ≡ line
 kept-is line short = kept-short line (short-kept line short)
 
 module _ (sigs : List (ℕ × Promise)) (J : History) (line : List ℕ) where
-  states-line : (s : Stated) → States (kept 200001 line) s → States line s
+  states-line : (s : Stated) → States (kept MOST_KEPT line) s → States line s
   states-line s t = record {
     line_is = sym (kept-is line t.short) ∙ t.line_is;
     is = t.is;
     short = short-kept line t.short;
   }
 
-  next-line : (s : Stated) → StatesNext J (kept 200001 line) s → StatesNext J line s
+  next-line : (s : Stated) → StatesNext J (kept MOST_KEPT line) s → StatesNext J line s
   next-line s t = record { states = states-line s t.states; number = t.number }
 
   -- what is kept of a line breaks the clauses that the line breaks
-  breaks-line : (clause : Clause) → Breaks sigs J (kept 200001 line) clause
+  breaks-line : (clause : Clause) → Breaks sigs J (kept MOST_KEPT line) clause
       → Breaks sigs J line clause
   breaks-line clauses.Unreadable h =
-      λ short. subst (λ l. length l ≤ 200000 → (s : Stated) → IsStated s → l ≢ line_of s)
+      λ short. subst (λ l. length l ≤ LONGEST_LINE → (s : Stated) → IsStated s → l ≢ line_of s)
       (kept-short line short) h short
   breaks-line clauses.Number h = (h.0, states-line h.0 h.1, h.2)
   breaks-line clauses.Program h = (h.0, next-line h.0 h.1, h.2)
   breaks-line clauses.Answers h = (h.0, h.1, next-line h.0 h.2, h.3, h.4)
   breaks-line clauses.Outcome h = (h.0, h.1, next-line h.0 h.2, h.3, h.4, h.5)
 
-  continues-line : (board : Board) → Continues sigs J (kept 200001 line) board
+  continues-line : (board : Board) → Continues sigs J (kept MOST_KEPT line) board
       → Continues sigs J line board
   continues-line board t = record {
     entry = t.entry;
@@ -113,7 +116,7 @@ sofar-begins sigs known board same = record {
 }
 
 module _ {R : Type 0} (sigs : List (ℕ × Promise)) (remaining : R → Option (List ℕ))
-    (r0 r1 r2 : Watched R) (l1 l2 : Lines 200001) (entry : ℕ) (board : Board)
+    (r0 r1 r2 : Watched R) (l1 l2 : Lines MOST_KEPT) (entry : ℕ) (board : Board)
     (so_far : Sofar sigs (remaining r0.inner) (remaining r1.inner) l1.window l1.reads_left entry
     board)
   where
@@ -136,7 +139,7 @@ module _ {R : Type 0} (sigs : List (ℕ × Promise)) (remaining : R → Option (
         left so_far.gave so_far.split g
 
     -- an entry more
-    pub sofar-line : (after : Board) (line : List ℕ) → TakesLine 200001 remaining r1 r2 l1 l2
+    pub sofar-line : (after : Board) (line : List ℕ) → TakesLine MOST_KEPT remaining r1 r2 l1 l2
         → line ≡ l2.line → Continues sigs so_far.front line after
         → Sofar sigs (remaining r0.inner) (remaining r2.inner) l2.window l2.reads_left
         (entry + 1) after
@@ -161,7 +164,7 @@ module _ {R : Type 0} (sigs : List (ℕ × Promise)) (remaining : R → Option (
             record {
               stated = n.is;
               command = n.command;
-              short = subst (λ l. length l ≤ 200000) n.line_is n.short;
+              short = subst (λ l. length l ≤ LONGEST_LINE) n.line_is n.short;
             },
           );
           count = omega arith;
@@ -182,7 +185,7 @@ module _ {R : Type 0} (sigs : List (ℕ × Promise)) (remaining : R → Option (
     }
 
     -- the line breaks a clause
-    faulty-line : (clause : Clause) → TakesLine 200001 remaining r1 r2 l1 l2
+    faulty-line : (clause : Clause) → TakesLine MOST_KEPT remaining r1 r2 l1 l2
         → Breaks sigs so_far.front l2.line clause
         → GaveFaulty sigs (remaining r0.inner) (remaining r2.inner) entry clause
     faulty-line clause t h =
@@ -205,7 +208,7 @@ module _ {R : Type 0} (sigs : List (ℕ × Promise)) (remaining : R → Option (
 
     -- the line is not taken
     pub faulty : (after : Board) (e : Fault) (line : List ℕ)
-        → TakesLine 200001 remaining r1 r2 l1 l2 → r2.faults ≡ r0.faults → line ≡ l2.line
+        → TakesLine MOST_KEPT remaining r1 r2 l1 l2 → r2.faults ≡ r0.faults → line ≡ l2.line
         → JudgesEntry {T = Unit {0}} sigs so_far.front entry line after (Err e)
         → Audits sigs remaining r0 r2 (Err e)
     faulty after (faults.Faulty number clause) line t well is h =
@@ -219,12 +222,12 @@ module _ {R : Type 0} (sigs : List (ℕ × Promise)) (remaining : R → Option (
     faulty after faults.Memory line t well is h = well
 
     -- the text has ended
-    pub ends : TakesRest 200001 remaining r1 r2 l1 l2 → length l2.line ≡ 0
+    pub ends : TakesRest MOST_KEPT remaining r1 r2 l1 l2 → length l2.line ≡ 0
         → GaveLegal sigs (remaining r0.inner) (remaining r2.inner) entry
     unfolding judged
     ends t empty =
         let none : l1.window ++ t.text ≡ [] =
-        kept-empty 200000 (l1.window ++ t.text) (ap length (sym t.bytes_are) ∙ empty) in
+        kept-empty LONGEST_LINE (l1.window ++ t.text) (ap length (sym t.bytes_are) ∙ empty) in
         record {
           text = history_text so_far.front;
           history = so_far.front;
@@ -238,12 +241,12 @@ module _ {R : Type 0} (sigs : List (ℕ × Promise)) (remaining : R → Option (
         }
 
     -- the text has ended with the rest of a line
-    pub faulty-rest : TakesRest 200001 remaining r1 r2 l1 l2 → 0 < length l2.line
+    pub faulty-rest : TakesRest MOST_KEPT remaining r1 r2 l1 l2 → 0 < length l2.line
         → GaveFaulty sigs (remaining r0.inner) (remaining r2.inner) entry clauses.Unreadable
     faulty-rest t some =
         let rest : List ℕ = l1.window ++ t.text in
         let there : 0 < length rest =
-        kept-some 200000 rest (subst (λ l. 0 < length l) t.bytes_are some) in
+        kept-some LONGEST_LINE rest (subst (λ l. 0 < length l) t.bytes_are some) in
         record {
           text = judged ++ rest;
           consumed = consumed_with t.text t.consumed;
@@ -253,7 +256,7 @@ module _ {R : Type 0} (sigs : List (ℕ × Promise)) (remaining : R → Option (
         }
 
     -- no line more could be read
-    pub unended : (error : RunError) → TakesPart 200001 remaining r1 r2 l1 l2 error
+    pub unended : (error : RunError) → TakesPart MOST_KEPT remaining r1 r2 l1 l2 error
         → r1.faults ≡ r0.faults → r0.faults < 2 ^ 64 - 1
         → GaveUnended sigs (remaining r0.inner) (remaining r2.inner) r0.faults r2.faults
     unfolding judged

@@ -14,7 +14,8 @@ use Rattle.acdm_step.specs.declared.command.Command.{Command}
 use Rattle.acdm_step.specs.declared.command.Command.TheVariants as commands
 use Rattle.acdm_step.specs.declared.entry.Entry.{Entry}
 use Rattle.acdm_step.specs.Commands.{History, is_accepted}
-use Rattle.acdm_step.specs.Verdicts.{verdict_of}
+use Rattle.acdm_step.specs.declared.outcome.Outcome.{Outcome}
+use Rattle.acdm_step.specs.Verdicts.{verdict_of, verdict_in}
 use Rattle.acdm_step.specs.History.{Board, IsLegal, replay, after, left_by}
 use Rattle.acdm_journal.specs.declared.stated.Stated.{Stated}
 use Rattle.acdm_journal.specs.declared.stated.Asked.{Asked}
@@ -25,6 +26,7 @@ use Rattle.acdm_journal.specs.declared.judge.AuditError.{AuditError}
 use Rattle.acdm_journal.specs.declared.judge.AuditError.TheVariants.{Memory, Faulty}
 use Rattle.acdm_journal.specs.Text.{line_of, stated_in, asked_in, outcome_code}
 use Rattle.acdm_journal.specs.Ranges.{IsStated}
+use Rattle.acdm_journal.specs.declared.reading.TheConstants.{LONGEST_LINE}
 
 -- the numbers of the clauses, in the order of their tests
 abbrev pub clause_code : Clause → ℕ
@@ -54,11 +56,19 @@ pub record UsesAnswers (sigs : List (ℕ × Promise)) (J : History) (role : Role
   pub used : is_accepted (verdict_of sigs J role c) ≡ true → left_by J c moment answers ≡ Some []
   pub unused : is_accepted (verdict_of sigs J role c) ≡ false → answers ≡ []
 
+-- a plan of a command with these answers: what comes of it, and the board after it
+pub record PlansWith (sigs : List (ℕ × Promise)) (J : History) (role : Role) (moment : ℕ)
+    (c : Command) (answers : List ℕ) (outcome : Outcome) (board : Board) : Type 0 where
+  pub uses : UsesAnswers sigs J role moment c answers
+  pub verdict_is : verdict_in outcome ≡ verdict_of sigs J role c
+  pub replays : (session : ℕ)
+      → board ≡ replay sigs (after J session role moment c (verdict_of sigs J role c) answers)
+
 -- a line states this, and is not too long
 pub record States (line : List ℕ) (s : Stated) : Type 0 where
   pub line_is : line ≡ line_of s
   pub is : IsStated s
-  pub short : length line ≤ 200000
+  pub short : length line ≤ LONGEST_LINE
 
 -- what a line states, numbered as the next entry
 pub record StatesNext (J : History) (line : List ℕ) (s : Stated) : Type 0 where
@@ -68,7 +78,7 @@ pub record StatesNext (J : History) (line : List ℕ) (s : Stated) : Type 0 wher
 -- The clause that a line breaks first, after a legal history. Whether its answers are right is
 -- judged by the outcome that the history gives.
 abbrev pub Breaks : List (ℕ × Promise) → History → List ℕ → Clause → Type 0
-Breaks sigs J line clauses.Unreadable = length line ≤ 200000 → (s : Stated) → IsStated s
+Breaks sigs J line clauses.Unreadable = length line ≤ LONGEST_LINE → (s : Stated) → IsStated s
     → line ≢ line_of s
 Breaks sigs J line clauses.Number = (s : Stated) × States line s × (s.number ≢ length J)
 Breaks sigs J line clauses.Program =
@@ -87,7 +97,7 @@ pub record Continues (sigs : List (ℕ × Promise)) (J : History) (line : List �
   pub entry : Entry
   pub line_is : line ≡ line_of (stated_in entry)
   pub is : IsStated (stated_in entry)
-  pub short : length line ≤ 200000
+  pub short : length line ≤ LONGEST_LINE
   pub legal : IsLegal sigs (entry ∷ J)
   pub command : IsCommandOf sigs (asked_in entry.command) entry.command
   pub replays : board ≡ replay sigs (entry ∷ J)

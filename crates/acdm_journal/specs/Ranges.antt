@@ -1,19 +1,21 @@
 -- Which values the parts of a line may have (this project's profile).
-use Rattle.std.specs.Prelude.{ℕ, ◌≡◌, ◌≤◌, ◌<◌, ◌^◌, false, List, [], ◌∷◌, length, Option, Some}
+use Rattle.std.specs.Prelude.{ℕ, ◌≡◌, ◌≤◌, ◌<◌, ◌^◌, false, List, length, Option, Some}
 use Rattle.std.specs.Prelude.{None}
 use Rattle.std.specs.List.{AllByRecursion}
 use Rattle.acdm_record.specs.Texts.{text_from}
+use Rattle.bpf_decode.specs.Encoding.{IsProgram}
 use Rattle.acdm_step.specs.Facts.{IsSchedule, IsReport, ScheduleFacts, ReportFacts}
 use Rattle.acdm_step.specs.declared.command.Plan.{Plan}
 use Rattle.acdm_step.specs.declared.command.Command.{Command}
 use Rattle.acdm_step.specs.declared.command.Command.TheVariants as commands
 use Rattle.acdm_step.specs.declared.command.FlightCommand.TheVariants.{Schedule, Report}
-use Rattle.acdm_step.specs.Commands.{History, is_load}
+use Rattle.acdm_step.specs.declared.entry.Entry.{Entry}
+use Rattle.acdm_step.specs.Commands.{is_load}
 use Rattle.acdm_step.specs.History.{IsInRange}
 use Rattle.acdm_journal.specs.declared.stated.Stated.{Stated}
 use Rattle.acdm_journal.specs.declared.stated.Asked.{Asked}
 use Rattle.acdm_journal.specs.declared.stated.Asked.TheVariants.{Plain, Load}
-use Rattle.acdm_journal.specs.Text.{stated_in}
+use Rattle.acdm_journal.specs.Text.{asked_in}
 
 -- a text of 1 to so many printable bytes
 abbrev pub IsText : ℕ → List ℕ → Type 0
@@ -34,6 +36,14 @@ IsWord n = n < 2 ^ 64
 
 abbrev pub IsByte : ℕ → Type 0
 IsByte b = b < 256
+
+pub record AreTimes (s : ScheduleFacts) : Type 0 where
+  pub sobt_given : 1 ≤ s.sobt
+  pub sobt : s.sobt < 2 ^ 32
+  pub mttt : s.mttt ≤ 1440
+  pub exit : s.exit < 2 ^ 8
+  pub exot : s.exot ≤ 1440
+  pub stand : s.stand < 2 ^ 16
 
 -- what a command keeps, and the widths of its numbers
 pub record IsScheduleLine (s : ScheduleFacts) : Type 0 where
@@ -69,7 +79,15 @@ pub record IsStated (s : Stated) : Type 0 where
   pub answers : AllByRecursion IsWord s.answers
   pub asked : IsAsked s.asked
 
--- the line of each entry may state what it does
-abbrev pub AreStated : History → Type 0
-AreStated [] = Unit {0}
-AreStated (e ∷ J) = AreStated J × IsStated (stated_in e)
+-- a program that a command loads is one
+abbrev pub LoadsProgram : Command → Type 0
+LoadsProgram (commands.Load l) = IsProgram l.program.ops
+LoadsProgram _ = Unit {0}
+
+-- The parts of an entry are in the ranges of their types, and a program that it loads is one. Of
+-- sessions and moments, and of the verdict, a legal history says more.
+pub record FitsTypes (e : Entry) : Type 0 where
+  pub number : IsWord e.number
+  pub answers : AllByRecursion IsWord e.answers
+  pub asked : IsAsked (asked_in e.command)
+  pub program : LoadsProgram e.command

@@ -9,16 +9,14 @@ use Rattle.std.specs.Char.{is_ascii_digit}
 use Rattle.hex.specs.Hex.{decode_of, encode_lower}
 use Rattle.acdm_record.specs.Texts.{text_from}
 use Rattle.acdm_milestones.specs.declared.role.Role.{Role}
-use Rattle.acdm_milestones.specs.declared.role.Role.TheVariants.{NetworkManager, AirTrafficControl}
-use Rattle.acdm_milestones.specs.declared.role.Role.TheVariants.{AirportOperator, AircraftOperator}
-use Rattle.acdm_milestones.specs.declared.role.Role.TheVariants.{GroundHandler}
 use Rattle.acdm_milestones.specs.declared.milestone.Milestone.{Milestone}
 use Rattle.acdm_milestones.specs.declared.milestone.Milestone.TheVariants.{FlightPlanActivated}
 use Rattle.acdm_milestones.specs.declared.milestone.Milestone.TheVariants.{TwoHoursBeforeEobt}
 use Rattle.acdm_milestones.specs.declared.milestone.Milestone.TheVariants.{TobtUpdate}
 use Rattle.acdm_milestones.specs.Tables.{milestone_numbered}
+use Rattle.acdm_milestones.specs.Names.{role_named}
 use Rattle.acdm_slots.specs.declared.kind.Kind as kinds
-use Rattle.acdm_slots.specs.declared.kind.Kind.TheVariants.{Tobt, Alert}
+use Rattle.acdm_slots.specs.Names.{kind_named}
 use Rattle.acdm_step.specs.declared.command.Plan.{Plan}
 use Rattle.acdm_step.specs.declared.command.Command.TheVariants as commands
 use Rattle.acdm_step.specs.declared.command.FlightCommand.TheVariants.{Schedule, Report}
@@ -27,6 +25,7 @@ use Rattle.acdm_journal.specs.declared.stated.Asked.{Asked}
 use Rattle.acdm_journal.specs.declared.stated.Asked.TheVariants.{Plain, Load}
 use Rattle.acdm_journal.specs.declared.stated.LineError.{LineError}
 use Rattle.acdm_journal.specs.declared.stated.LineError.TheVariants.{Memory, Unreadable}
+use Rattle.acdm_step.specs.declared.command.TheConstants.{MINUTES_OF_DAY}
 
 -- one reading after another, where there is one
 infixl 10 ◌>>=◌
@@ -94,24 +93,11 @@ text_at most ws = do
   t ← text_from most w.0
   Some (t, w.1)
 
-abbrev pub role_named : List ℕ → Option Role
-role_named w =
-    if bytes_eq w (codes "NM") then Some NetworkManager
-    else (if bytes_eq w (codes "ATC") then Some AirTrafficControl
-    else (if bytes_eq w (codes "APT") then Some AirportOperator
-    else (if bytes_eq w (codes "AO") then Some AircraftOperator
-    else (if bytes_eq w (codes "GH") then Some GroundHandler else None))))
-
 unfoldable pub role_at : Words → Option (Role × Words)
 role_at ws = do
   w ← word_at ws
   r ← role_named w.0
   Some (r, w.1)
-
-abbrev pub kind_named : List ℕ → Option kinds.Kind
-kind_named w =
-    if bytes_eq w (codes "tobt") then Some Tobt
-    else (if bytes_eq w (codes "alert") then Some Alert else None)
 
 unfoldable pub kind_at : Words → Option (kinds.Kind × Words)
 kind_at ws = do
@@ -174,9 +160,9 @@ schedule_at ws = do
   flight ← number_at 1 most_word ws
   plan ← plan_at flight.1
   sobt ← number_at 1 most_minute plan.1
-  mttt ← number_at 0 1440 sobt.1
+  mttt ← number_at 0 MINUTES_OF_DAY sobt.1
   exit ← number_at 0 255 mttt.1
-  exot ← number_at 0 1440 exit.1
+  exot ← number_at 0 MINUTES_OF_DAY exit.1
   stand ← number_at 0 65535 exot.1
   Some (
     Plain (commands.Flight (Schedule record {

@@ -3,16 +3,13 @@ use Rattle.std.specs.Prelude.{ℕ, List, [], ◌∷◌, ◌++◌, length, map, c
 use Rattle.std.specs.List.{join_with_byte}
 use Rattle.std.specs.Fmt.{decimal}
 use Rattle.hex.specs.Hex.{encode_lower}
-use Rattle.acdm_milestones.specs.declared.role.Role.{Role}
-use Rattle.acdm_milestones.specs.declared.role.Role.TheVariants.{NetworkManager, AirTrafficControl}
-use Rattle.acdm_milestones.specs.declared.role.Role.TheVariants.{AirportOperator, AircraftOperator}
-use Rattle.acdm_milestones.specs.declared.role.Role.TheVariants.{GroundHandler}
 use Rattle.acdm_milestones.specs.declared.milestone.Milestone.{Milestone}
 use Rattle.acdm_milestones.specs.Tables.{number}
 use Rattle.acdm_milestones.specs.Codes.{refusal_code}
+use Rattle.acdm_milestones.specs.Names.{role_name}
 use Rattle.bpf_decode.specs.Encoding.{encoding}
 use Rattle.acdm_slots.specs.declared.kind.Kind as kinds
-use Rattle.acdm_slots.specs.declared.kind.Kind.TheVariants.{Tobt, Alert}
+use Rattle.acdm_slots.specs.Names.{kind_name}
 use Rattle.acdm_step.specs.Facts.{ScheduleFacts, ReportFacts}
 use Rattle.acdm_step.specs.declared.command.Plan.{Plan}
 use Rattle.acdm_step.specs.declared.command.Command.{Command}
@@ -26,18 +23,7 @@ use Rattle.acdm_journal.specs.declared.stated.Stated.{Stated}
 use Rattle.acdm_journal.specs.declared.stated.Asked.{Asked}
 use Rattle.acdm_journal.specs.declared.stated.Asked.TheVariants.{Plain, Load}
 
--- ---- names and numbers
-
-abbrev pub role_name : Role → List ℕ
-role_name NetworkManager = codes "NM"
-role_name AirTrafficControl = codes "ATC"
-role_name AirportOperator = codes "APT"
-role_name AircraftOperator = codes "AO"
-role_name GroundHandler = codes "GH"
-
-abbrev pub kind_name : kinds.Kind → List ℕ
-kind_name Tobt = codes "tobt"
-kind_name Alert = codes "alert"
+-- ---- numbers
 
 -- 0, or the number of the refusal
 abbrev pub outcome_code : Verdict → ℕ

@@ -1,7 +1,8 @@
 -- What an audit says of a whole text (this project's profile).
-use Rattle.std.specs.Prelude.{ℕ, ◌+◌, ◌<◌, ◌≤◌, ◌≡◌, ◌⊎◌, List, [], ◌∷◌, ◌++◌, length, Option}
+use Rattle.std.specs.Prelude.{ℕ, ◌<◌, ◌≤◌, ◌≡◌, ◌⊎◌, List, [], ◌∷◌, ◌++◌, length, Option}
 use Rattle.std.specs.Prelude.{Result, Ok, Err}
 use Rattle.std.specs.Io.KnownBytes.{Appends, Consumes, IsAtEnd}
+use Rattle.std.specs.List.{AllByRecursion}
 use Rattle.bpf_helpers.specs.Promise.{Promise}
 use Rattle.acdm_lines.specs.Counted.{Watched}
 use Rattle.acdm_lines.specs.Lines.{IsLine}
@@ -17,16 +18,18 @@ use Rattle.acdm_journal.specs.declared.judge.Clause.{Clause}
 use Rattle.acdm_journal.specs.declared.judge.Clause.TheVariants as clauses
 use Rattle.acdm_journal.specs.declared.auditing.Fault.{Fault}
 use Rattle.acdm_journal.specs.declared.auditing.Fault.TheVariants as faults
-use Rattle.acdm_journal.specs.Text.{line_of, stated_in, asked_in, entry_text, history_text}
-use Rattle.acdm_journal.specs.Ranges.{IsStated}
+use Rattle.acdm_journal.specs.Text.{line_of, stated_in, asked_in, history_text}
+use Rattle.acdm_journal.specs.Ranges.{IsStated, FitsTypes}
 use Rattle.acdm_journal.specs.Audit.{IsCommandOf, Breaks, Continues}
+use Rattle.acdm_journal.specs.declared.reading.TheConstants.{LONGEST_LINE}
+use Rattle.acdm_journal.specs.declared.auditing.TheConstants.{MOST_KEPT}
 
 -- The line of an entry is one that may be read: its parts are in their ranges, a program that it
 -- loads is one, accepted under these signatures, and the line has at most 200,000 bytes.
 pub record IsReadable (sigs : List (ℕ × Promise)) (e : Entry) : Type 0 where
   pub stated : IsStated (stated_in e)
   pub command : IsCommandOf sigs (asked_in e.command) e.command
-  pub short : length (line_of (stated_in e)) ≤ 200000
+  pub short : length (line_of (stated_in e)) ≤ LONGEST_LINE
 
 abbrev pub AreReadable : List (ℕ × Promise) → History → Type 0
 AreReadable sigs [] = Unit {0}
@@ -108,23 +111,24 @@ Audits sigs remaining old new (Err faults.Memory) = new.faults ≡ old.faults
 
 -- ---- what was written
 
--- the entries of a history were written one after the other, the oldest first
-abbrev pub WritesEach : History → Option (List ℕ) → Option (List ℕ) → Type 0
-WritesEach [] old new = old ≡ new
-WritesEach (e ∷ J) old new =
-    (between : Option (List ℕ)) × WritesEach J old between × Appends between new (entry_text e)
+-- The text of a history was written behind what stood there, and the parts of its entries are in
+-- the ranges of their types.
+pub record Saves (J : History) (old new : Option (List ℕ)) : Type 0 where
+  pub text : Appends old new (history_text J)
+  pub types : AllByRecursion FitsTypes J
 
 -- ---- parts
 
 -- what comes of looking for the next line
-abbrev pub TakesNext : {R : Type 0} → (R → Option (List ℕ)) → Watched R → Watched R → Lines 200001
-    → Lines 200001 → Result Ending Fault → Type 0
+abbrev pub TakesNext : {R : Type 0} → (R → Option (List ℕ)) → Watched R → Watched R
+    → Lines MOST_KEPT
+    → Lines MOST_KEPT → Result Ending Fault → Type 0
 TakesNext remaining old new before after (Ok LineFeed) =
-    TakesLine 200001 remaining old new before after
+    TakesLine MOST_KEPT remaining old new before after
 TakesNext remaining old new before after (Ok Input) =
-    TakesRest 200001 remaining old new before after
+    TakesRest MOST_KEPT remaining old new before after
 TakesNext remaining old new before after (Err e) =
-    TakesPart 200001 remaining old new before after Read × (e ≡ faults.Read)
+    TakesPart MOST_KEPT remaining old new before after Read × (e ≡ faults.Read)
 
 -- what comes of judging the line of an entry after a legal history, and the board then
 abbrev pub JudgesEntry : {T : Type 0} → List (ℕ × Promise) → History → ℕ → List ℕ → Board

@@ -6,6 +6,7 @@ ghost use Rattle.acdm_step.specs.History.{IsLegal, replay};
 ghost use Rattle.acdm_journal.specs.Whole.{Audits, JudgesEntry, TakesNext};
 
 use crate::judge::{AuditError, Clause, judge_line};
+use crate::reading::LONGEST_LINE;
 use acdm_lines::{Counted, Ending, Lines};
 use acdm_step::Core;
 use bpf_helpers::Sigs;
@@ -13,7 +14,7 @@ use std::alloc::Global;
 use std::io::Read;
 
 // One byte more than the longest line has, so that a longer one is told by what is kept of it.
-const MOST_KEPT: usize = 200_001;
+const MOST_KEPT: usize = LONGEST_LINE + 1;
 
 /// Why a journal was not found to be legal.
 #[derive(Clone, Copy, Debug, PartialEq, Eq)]

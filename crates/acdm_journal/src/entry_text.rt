@@ -1,17 +1,20 @@
 //! The text of an entry, and its writing.
 ghost use Rattle.std.specs.Prelude.{◌≡◌, ◌∷◌, ◌++◌, [], map, Err, OnOk, IfOk};
 ghost use Rattle.std.specs.Fmt.{decimal};
+ghost use Rattle.std.specs.List.{AllByRecursion};
 ghost use Rattle.std.specs.Io.KnownBytes.{Appends};
-ghost use Rattle.bpf_decode.specs.Encoding.{encoding};
+ghost use Rattle.hex.specs.Hex.{encode_lower};
+ghost use Rattle.bpf_decode.specs.Encoding.{IsProgram, encoding};
 ghost use Rattle.acdm_milestones.specs.Tables.{number as number_in};
-ghost use Rattle.acdm_journal.specs.Text.{role_name, kind_name, outcome_code, plan_words};
+ghost use Rattle.acdm_journal.specs.Text.{outcome_code, plan_words};
 ghost use Rattle.acdm_journal.specs.Text.{plan_words_of, schedule_words, report_words, load_words};
 ghost use Rattle.acdm_journal.specs.Text.{command_words, answer_words, head_words, time_words};
-ghost use Rattle.acdm_journal.specs.Text.{stated_in, entry_text};
+ghost use Rattle.acdm_journal.specs.Text.{asked_in, stated_in, entry_text};
+ghost use Rattle.acdm_journal.specs.Ranges.{IsWord, IsByte, IsPlan, AreTimes, IsScheduleLine};
+ghost use Rattle.acdm_journal.specs.Ranges.{IsReportLine, IsAsked, LoadsProgram, FitsTypes};
 ghost use Rattle.acdm_journal.specs.Spaced.{spaced};
 
-use acdm_milestones::{Milestone, Role};
-use acdm_slots::Kind;
+use acdm_milestones::Milestone;
 use acdm_step::{Command, Entry, FlightCommand, Load, Plan, Report, Schedule, Verdict};
 use bpf_decode::encode;
 use itoa::Buffer;
@@ -25,27 +28,6 @@ pub enum WriteError {
     Memory,
     /// The writer failed.
     Write,
-}
-
-fn name_of_role(role: Role) -> &'static str
-    ensures { result.now ≡ role_name role }
-{
-    match role {
-        Role::NetworkManager => "NM",
-        Role::AirTrafficControl => "ATC",
-        Role::AirportOperator => "APT",
-        Role::AircraftOperator => "AO",
-        Role::GroundHandler => "GH",
-    }
-}
-
-fn name_of_kind(kind: Kind) -> &'static str
-    ensures { result.now ≡ kind_name kind }
-{
-    match kind {
-        Kind::Tobt => "tobt",
-        Kind::Alert => "alert",
-    }
 }
 
 pub(crate) fn code_of(verdict: Verdict) -> u64
@@ -80,7 +62,8 @@ fn push_milestone(text: &mut Vec<u8>, milestone: Milestone) -> Result<(), AllocE
 }
 
 fn push_plan(text: &mut Vec<u8>, plan: &Plan) -> Result<(), AllocError>
-    ensures { OnOk result (text.new.items ≡ text.old.items ++ spaced (plan_words plan.now)) }
+    ensures adds { OnOk result (text.new.items ≡ text.old.items ++ spaced (plan_words plan.now)) }
+    ensures ranges { OnOk result (IsPlan plan.now) }
 {
     push_word(text, plan.callsign.as_bytes())?;
     push_word(text, plan.aircraft.as_bytes())?;
@@ -90,8 +73,9 @@ fn push_plan(text: &mut Vec<u8>, plan: &Plan) -> Result<(), AllocError>
 }
 
 fn push_schedule(text: &mut Vec<u8>, schedule: &Schedule) -> Result<(), AllocError>
-    ensures { OnOk result (text.new.items
+    ensures adds { OnOk result (text.new.items
         ≡ text.old.items ++ spaced (schedule_words schedule.now)) }
+    ensures ranges { OnOk result (IsScheduleLine schedule.now) }
 {
     push_word(text, b"schedule")?;
     push_number(text, schedule.flight())?;
@@ -102,7 +86,9 @@ fn push_schedule(text: &mut Vec<u8>, schedule: &Schedule) -> Result<(), AllocErr
 
 // SOBT, MTTT, EXIT, EXOT and the stand.
 fn push_times(text: &mut Vec<u8>, schedule: &Schedule) -> Result<(), AllocError>
-    ensures { OnOk result (text.new.items ≡ text.old.items ++ spaced (time_words schedule.now)) }
+    ensures adds { OnOk result (text.new.items
+        ≡ text.old.items ++ spaced (time_words schedule.now)) }
+    ensures ranges { OnOk result (AreTimes schedule.now) }
 {
     push_number(text, u64::from(schedule.sobt()))?;
     push_number(text, u64::from(schedule.mttt()))?;
@@ -113,34 +99,49 @@ fn push_times(text: &mut Vec<u8>, schedule: &Schedule) -> Result<(), AllocError>
 }
 
 fn push_report(text: &mut Vec<u8>, report: &Report) -> Result<(), AllocError>
-    ensures { OnOk result (text.new.items ≡ text.old.items ++ spaced (report_words report.now)) }
+    ensures adds { OnOk result (text.new.items
+        ≡ text.old.items ++ spaced (report_words report.now)) }
+    ensures ranges { OnOk result (IsReportLine report.now) }
 {
     push_word(text, b"report")?;
     push_number(text, report.flight())?;
     push_milestone(text, report.milestone())?;
     push_number(text, u64::from(report.time()))?;
-    if let Some(plan) = report.plan() {
-        push_plan(text, plan)?;
-    }
-    Ok(())
+    let Some(plan) = report.plan() else {
+        return Ok(());
+    };
+    push_plan(text, plan)
+}
+
+// Adds a space and bytes in hexadecimal.
+fn push_bytes(text: &mut Vec<u8>, bytes: &[u8]) -> Result<(), AllocError>
+    ensures adds { OnOk result (text.new.items ≡ text.old.items ++ 32 ∷ encode_lower bytes.now) }
+    ensures ranges { AllByRecursion IsByte bytes.now }
+{
+    let alloc = *text.allocator();
+    let digits = hex::encode(alloc, bytes)?;
+    push_word(text, digits.as_bytes())
 }
 
 fn push_load(text: &mut Vec<u8>, load: &Load) -> Result<(), AllocError>
-    ensures { OnOk result (text.new.items ≡ text.old.items ++ spaced (
+    ensures adds { OnOk result (text.new.items ≡ text.old.items ++ spaced (
         load_words load.now.milestone load.now.kind (encoding load.now.program.ops))) }
+    ensures bytes { OnOk result (AllByRecursion IsByte (encoding load.now.program.ops)) }
+    ensures program { OnOk result (IsProgram load.now.program.ops) }
 {
     let alloc = *text.allocator();
     let bytes = encode(alloc, load.program.program())?;
-    let digits = hex::encode(alloc, bytes.as_slice())?;
     push_word(text, b"load")?;
     push_milestone(text, load.milestone)?;
-    push_word(text, name_of_kind(load.kind).as_bytes())?;
-    push_word(text, digits.as_bytes())?;
-    Ok(())
+    push_word(text, load.kind.name().as_bytes())?;
+    push_bytes(text, bytes.as_slice())
 }
 
 fn push_command(text: &mut Vec<u8>, command: &Command) -> Result<(), AllocError>
-    ensures { OnOk result (text.new.items ≡ text.old.items ++ spaced (command_words command.now)) }
+    ensures adds { OnOk result (text.new.items
+        ≡ text.old.items ++ spaced (command_words command.now)) }
+    ensures ranges { OnOk result (IsAsked (asked_in command.now)) }
+    ensures program { OnOk result (LoadsProgram command.now) }
 {
     match command {
         Command::Flight(FlightCommand::Schedule(schedule)) => push_schedule(text, schedule),
@@ -149,7 +150,7 @@ fn push_command(text: &mut Vec<u8>, command: &Command) -> Result<(), AllocError>
         Command::Unload(unload) => {
             push_word(text, b"unload")?;
             push_milestone(text, unload.milestone)?;
-            push_word(text, name_of_kind(unload.kind).as_bytes())
+            push_word(text, unload.kind.name().as_bytes())
         }
         Command::Tick => push_word(text, b"tick"),
         Command::Show(flight) => {
@@ -162,7 +163,9 @@ fn push_command(text: &mut Vec<u8>, command: &Command) -> Result<(), AllocError>
 
 // How many answers there are, and then each.
 fn push_answers(text: &mut Vec<u8>, answers: &[u64]) -> Result<(), AllocError>
-    ensures { OnOk result (text.new.items ≡ text.old.items ++ spaced (answer_words answers.now)) }
+    ensures adds { OnOk result (text.new.items
+        ≡ text.old.items ++ spaced (answer_words answers.now)) }
+    ensures ranges { OnOk result (AllByRecursion IsWord answers.now) }
 {
     push_number(text, answers.len() as u64)?;
     let mut rest = answers;
@@ -180,13 +183,14 @@ fn push_head(text: &mut Vec<u8>, entry: &Entry) -> Result<(), AllocError>
 {
     push_number(text, u64::from(entry.session))?;
     push_number(text, u64::from(entry.moment))?;
-    push_word(text, name_of_role(entry.role).as_bytes())?;
+    push_word(text, entry.role.name().as_bytes())?;
     push_number(text, code_of(entry.verdict))?;
     Ok(())
 }
 
 fn text_of(alloc: Global, entry: &Entry) -> Result<Vec<u8>, AllocError>
-    ensures { IfOk result (λ text. text.items ≡ entry_text entry.now) }
+    ensures text { IfOk result (λ text. text.items ≡ entry_text entry.now) }
+    ensures types { OnOk result (FitsTypes entry.now) }
 {
     let mut digits = Buffer::new();
     let mut text = Vec::from_slice(alloc, digits.format(entry.number).as_bytes())?;
@@ -206,6 +210,8 @@ fn text_of(alloc: Global, entry: &Entry) -> Result<Vec<u8>, AllocError>
 pub fn write_entry<W: Write>(alloc: Global, entry: &Entry, writer: &mut W) -> Result<(), WriteError>
     ensures written { OnOk result
         (Appends (W.contents writer.old) (W.contents writer.new) (entry_text entry.now)) }
+    // What was written has the parts that an entry can have.
+    ensures types { OnOk result (FitsTypes entry.now) }
     ensures memory { result ≡ Err WriteError.Memory → writer.new ≡ writer.old }
 {
     let Ok(text) = text_of(alloc, entry) else {

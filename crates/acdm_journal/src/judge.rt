@@ -1,19 +1,21 @@
 //! The judging of one line of a journal, after those before it.
-ghost use Rattle.std.specs.Prelude.{◌≡◌, ℕ, List, length, IfOk, OnOk};
+ghost use Rattle.std.specs.Prelude.{◌≡◌, ℕ, List, length, IfOk, IfSome, OnOk};
+ghost use Rattle.bpf_helpers.specs.Promise.{Promise};
 ghost use Rattle.acdm_step.specs.Commands.{History};
 ghost use Rattle.acdm_step.specs.History.{IsLegal, replay};
+ghost use Rattle.acdm_step.specs.Prepared.{Fits, after_change};
 ghost use Rattle.acdm_journal.specs.Audit.{Commands, GivesProgram, lacks_answer, JudgesCommand};
-ghost use Rattle.acdm_journal.specs.Audit.{Judges, clause_code};
+ghost use Rattle.acdm_journal.specs.Audit.{Judges, PlansWith, UsesAnswers, clause_code};
 
 use crate::entry_text::code_of;
 use crate::reading::read_line;
 use crate::stated::{Asked, LineError, LoadLine};
 use acdm_milestones::{Refusal, Role};
-use acdm_step::{Command, Core, Load, Verdict};
+use acdm_step::{Command, Core, Load, Prepared, Verdict};
 use bpf_decode::{DecodeError, decode};
 use bpf_helpers::{Logged, Sigs};
 use bpf_verifier::{Checked, VerifyError, verify};
-use std::alloc::Global;
+use std::alloc::{AllocError, Global};
 
 /// What an entry of a journal must fulfil, in the order of the tests (this project's profile).
 #[derive(Clone, Copy, Debug, PartialEq, Eq)]
@@ -97,36 +99,62 @@ fn is_unanswered(verdict: Verdict) -> bool
     matches!(verdict, Verdict::Refused(Refusal::Unanswered))
 }
 
-// Applies a command with the answers of a list, and judges what comes of it.
+/// What would come of a command with these answers of helpers, as `Core::plan` answers it, and
+/// `None` where its programs use others. The answers of a helper that it may not give, answers left
+/// over and a missing one are others; a refused command uses none. The moment is in minutes since
+/// 1970-01-01T00:00Z. `Err` only where memory was refused.
+pub fn plan_with(
+    core: &Core,
+    role: Role,
+    moment: u32,
+    command: &Command,
+    answers: &[u64],
+) -> Result<Option<Prepared>, AllocError>
+    ensures plans { IfOk result (λ o. IfSome o (λ p. (sigs : List (ℕ × Promise)) (J : History) →
+        IsLegal sigs J → core.now ≡ replay sigs J →
+        PlansWith sigs J role moment command.now answers.now p.outcome
+        (after_change core.now p.change))) }
+    ensures fits { IfOk result (λ o. IfSome o (λ p. Fits core.now p.change)) }
+    ensures misses { result ≡ Ok None → (sigs : List (ℕ × Promise)) (J : History) →
+        IsLegal sigs J → core.now ≡ replay sigs J →
+        UsesAnswers sigs J role moment command.now answers.now → ⊥ }
+{
+    let mut logged = Logged::new(core.sigs(), answers);
+    let plan = core.plan(&mut logged, role, moment, command)?;
+    let left = logged.left();
+    if is_unanswered(plan.outcome.verdict()) {
+        return Ok(None);
+    }
+    if !left.is_empty() {
+        return Ok(None);
+    }
+    Ok(Some(plan))
+}
+
+// Does a command with the answers of a list, and judges what comes of it.
 fn judge_command(
     core: &mut Core,
-    sigs: &Sigs,
     role: Role,
     moment: u32,
     command: &Command,
     answers: &[u64],
     outcome: u64,
 ) -> Result<(), AuditError>
-    requires { core.old.slots.sigs ≡ sigs.now }
-    ensures judges { (J : History) → IsLegal sigs.now J → core.old ≡ replay sigs.now J →
-        JudgesCommand sigs.now J role moment command.now answers.now outcome core.new result }
+    ensures judges { (sigs : List (ℕ × Promise)) (J : History) → IsLegal sigs J →
+        core.old ≡ replay sigs J →
+        JudgesCommand sigs J role moment command.now answers.now outcome core.new result }
     ensures sigs { core.new.slots.sigs ≡ core.old.slots.sigs }
 {
-    let mut logged = Logged::new(sigs, answers);
-    let Ok(came) = core.apply(&mut logged, role, moment, command) else {
+    let Ok(plan) = plan_with(core, role, moment, command, answers) else {
         return Err(AuditError::Memory);
     };
-    let verdict = came.verdict();
-    let left = logged.left();
-    if is_unanswered(verdict) {
+    let Some(plan) = plan else {
         return Err(AuditError::Faulty(Clause::Answers));
-    }
-    if !left.is_empty() {
-        return Err(AuditError::Faulty(Clause::Answers));
-    }
-    if code_of(verdict) != outcome {
+    };
+    if code_of(plan.outcome.verdict()) != outcome {
         return Err(AuditError::Faulty(Clause::Outcome));
     }
+    core.commit(plan);
     Ok(())
 }
 
@@ -163,7 +191,6 @@ pub fn judge_line(
     };
     judge_command(
         core,
-        sigs,
         stated.role,
         stated.moment,
         &command,

@@ -11,7 +11,7 @@ ghost use Rattle.acdm_journal.specs.declared.stated.Stated.{Stated};
 ghost use Rattle.acdm_journal.specs.Text.{line_of, stated_in};
 ghost use Rattle.acdm_journal.specs.Ranges.{IsStated};
 ghost use Rattle.acdm_journal.specs.Reading.{stated_of};
-ghost use Rattle.acdm_journal.specs.Whole.{AreReadable, IsTextOf, FirstFault, WritesEach};
+ghost use Rattle.acdm_journal.specs.Whole.{AreReadable, IsTextOf, FirstFault, Saves};
 ghost use Rattle.acdm_journal.specs.Whole.{GaveLegal, GaveFaulty};
 
 /// A line states what it was written for, and nothing else.
@@ -41,13 +41,17 @@ pub fn a_text_has_one_verdict()
         FirstFault sigs text m c → FirstFault sigs text n d → (m ≡ n) × (c ≡ d) }
 {}
 
-/// What is written of each entry of a legal history, the oldest first, an audit takes: it can
-/// answer the number of the entries, and no fault.
+/// What is saved of a legal history, by a writer that had nothing written before, an audit takes:
+/// it can answer the number of the entries, and no fault. A history is saved (`Saves`) where
+/// `write_entry` answered `Ok` for each of its entries, the oldest first.
 pub fn what_is_written_is_taken()
     ensures count { (sigs : List (ℕ × Promise)) (J : History) (saved left : Option (List ℕ))
-        (n : ℕ) → IsLegal sigs J → AreReadable sigs J → WritesEach J (Some []) saved →
-        GaveLegal sigs saved left n → n ≡ length J }
+        (n : ℕ) → IsLegal sigs J → Saves J (Some []) saved → GaveLegal sigs saved left n →
+        n ≡ length J }
     ensures no_fault { (sigs : List (ℕ × Promise)) (J : History) (saved left : Option (List ℕ))
-        (entry : ℕ) (clause : Clause) → IsLegal sigs J → AreReadable sigs J →
-        WritesEach J (Some []) saved → GaveFaulty sigs saved left entry clause → ⊥ }
+        (entry : ℕ) (clause : Clause) → IsLegal sigs J → Saves J (Some []) saved →
+        GaveFaulty sigs saved left entry clause → ⊥ }
+    // Each of its lines may be read.
+    ensures readable { (sigs : List (ℕ × Promise)) (J : History) (old new : Option (List ℕ)) →
+        IsLegal sigs J → Saves J old new → AreReadable sigs J }
 {}

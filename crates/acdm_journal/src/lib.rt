@@ -12,7 +12,7 @@ mod words;
 
 pub use auditing::{Fault, audit};
 pub use entry_text::{WriteError, write_entry};
-pub use judge::{AuditError, Clause, judge_line};
+pub use judge::{AuditError, Clause, judge_line, plan_with};
 pub use reading::read_line;
 pub use stated::{Asked, LineError, LoadLine, ProgramBytes, Stated};
 

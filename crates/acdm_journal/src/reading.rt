@@ -2,7 +2,7 @@
 ghost use Rattle.std.specs.Prelude.{◌≡◌, ◌≢◌, ◌≤◌, length, IfOk, OnOk, IsTrue, Err};
 ghost use Rattle.acdm_step.specs.Facts.{has_its_plan, has_its_time};
 ghost use Rattle.acdm_journal.specs.Reading.{Gives, GivesLine, natural_of, number_at, text_at};
-ghost use Rattle.acdm_journal.specs.Reading.{role_named, role_at, kind_named, kind_at};
+ghost use Rattle.acdm_journal.specs.Reading.{role_at, kind_at};
 ghost use Rattle.acdm_journal.specs.Reading.{milestone_at, bytes_at, plan_at, plan_for, least_time};
 ghost use Rattle.acdm_journal.specs.Reading.{schedule_at, report_at, load_at, unload_at, show_at};
 ghost use Rattle.acdm_journal.specs.Reading.{command_named, asked_at, answers_at, stated_at};
@@ -16,9 +16,14 @@ use crate::words::Words;
 use acdm_milestones::{Milestone, Role};
 use acdm_record::Text;
 use acdm_slots::Kind;
-use acdm_step::{Answers, Command, FlightCommand, FlightNumber, Plan, Report, Schedule, Unload};
+use acdm_step::{
+    Answers, Command, FlightCommand, FlightNumber, MINUTES_OF_DAY, Plan, Report, Schedule, Unload,
+};
 use hex::FromHexError;
 use std::alloc::Global;
+
+/// How many bytes a line of the journal has at most (this project's profile).
+pub const LONGEST_LINE: usize = 200_000;
 
 // A number without leading zeros.
 #[tactic(auto, unfolding(crate::specs::Reading::natural_of))]
@@ -70,45 +75,15 @@ fn text_in<const N: usize>(words: &mut Words<'_>) -> Result<Text<N>, LineError>
     Ok(text)
 }
 
-fn role_of(word: &[u8]) -> Option<Role>
-    ensures { result ≡ role_named word.now }
-{
-    if word == b"NM".as_slice() {
-        Some(Role::NetworkManager)
-    } else if word == b"ATC".as_slice() {
-        Some(Role::AirTrafficControl)
-    } else if word == b"APT".as_slice() {
-        Some(Role::AirportOperator)
-    } else if word == b"AO".as_slice() {
-        Some(Role::AircraftOperator)
-    } else if word == b"GH".as_slice() {
-        Some(Role::GroundHandler)
-    } else {
-        None
-    }
-}
-
 #[tactic(auto, unfolding(crate::specs::Reading::role_at))]
 fn role_in(words: &mut Words<'_>) -> Result<Role, LineError>
     ensures { Gives result words.new (role_at words.old) }
 {
     let word = words.next()?;
-    let Some(role) = role_of(word) else {
+    let Some(role) = Role::from_name(word) else {
         return Err(LineError::Unreadable);
     };
     Ok(role)
-}
-
-fn kind_of(word: &[u8]) -> Option<Kind>
-    ensures { result ≡ kind_named word.now }
-{
-    if word == b"tobt".as_slice() {
-        Some(Kind::Tobt)
-    } else if word == b"alert".as_slice() {
-        Some(Kind::Alert)
-    } else {
-        None
-    }
 }
 
 #[tactic(auto, unfolding(crate::specs::Reading::kind_at))]
@@ -116,7 +91,7 @@ fn kind_in(words: &mut Words<'_>) -> Result<Kind, LineError>
     ensures { Gives result words.new (kind_at words.old) }
 {
     let word = words.next()?;
-    let Some(kind) = kind_of(word) else {
+    let Some(kind) = Kind::from_name(word) else {
         return Err(LineError::Unreadable);
     };
     Ok(kind)
@@ -197,9 +172,9 @@ fn schedule_in(words: &mut Words<'_>) -> Result<Asked, LineError>
     let flight = number_in(words, 1, u64::MAX)?;
     let plan = plan_in(words)?;
     let sobt = number_in(words, 1, 4_294_967_295)?;
-    let mttt = number_in(words, 0, 1440)?;
+    let mttt = number_in(words, 0, MINUTES_OF_DAY)?;
     let exit = number_in(words, 0, 255)?;
-    let exot = number_in(words, 0, 1440)?;
+    let exot = number_in(words, 0, MINUTES_OF_DAY)?;
     let stand = number_in(words, 0, 65_535)?;
     Ok(Asked::Plain(Command::Flight(FlightCommand::Schedule(Schedule::new(
         flight,
@@ -358,11 +333,11 @@ fn stated_alone(alloc: Global, line: &[u8]) -> Result<Stated, LineError>
 /// it.
 pub fn read_line(alloc: Global, line: &[u8]) -> Result<Stated, LineError>
     ensures states { IfOk result (λ s. (line.now ≡ line_of s) × IsStated s) }
-    ensures short { OnOk result (length line.now ≤ 200000) }
-    ensures nothing { result ≡ Err LineError.Unreadable → length line.now ≤ 200000 →
+    ensures short { OnOk result (length line.now ≤ LONGEST_LINE) }
+    ensures nothing { result ≡ Err LineError.Unreadable → length line.now ≤ LONGEST_LINE →
         (s : Stated) → IsStated s → line.now ≢ line_of s }
 {
-    if line.len() > 200_000 {
+    if line.len() > LONGEST_LINE {
         return Err(LineError::Unreadable);
     }
     stated_alone(alloc, line)

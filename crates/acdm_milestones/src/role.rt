@@ -1,6 +1,7 @@
 //! The partners, and what each may do.
 ghost use Rattle.std.specs.Prelude.{◌≡◌};
 ghost use Rattle.acdm_milestones.specs.Tables.{owns as is_owner, reports};
+ghost use Rattle.acdm_milestones.specs.Names.{role_name, role_named};
 
 use crate::milestone::Milestone;
 
@@ -17,6 +18,40 @@ pub enum Role {
     AircraftOperator,
     /// A ground handler, `GH`.
     GroundHandler,
+}
+
+impl Role {
+    /// Its name: `NM`, `ATC`, `APT`, `AO` or `GH` (this project's profile).
+    pub fn name(self) -> &'static str
+        ensures { result.now ≡ role_name self }
+    {
+        match self {
+            Role::NetworkManager => "NM",
+            Role::AirTrafficControl => "ATC",
+            Role::AirportOperator => "APT",
+            Role::AircraftOperator => "AO",
+            Role::GroundHandler => "GH",
+        }
+    }
+
+    /// The role of a name, if there is one.
+    pub fn from_name(name: &[u8]) -> Option<Role>
+        ensures { result ≡ role_named name.now }
+    {
+        if name == b"NM".as_slice() {
+            Some(Role::NetworkManager)
+        } else if name == b"ATC".as_slice() {
+            Some(Role::AirTrafficControl)
+        } else if name == b"APT".as_slice() {
+            Some(Role::AirportOperator)
+        } else if name == b"AO".as_slice() {
+            Some(Role::AircraftOperator)
+        } else if name == b"GH".as_slice() {
+            Some(Role::GroundHandler)
+        } else {
+            None
+        }
+    }
 }
 
 /// What a partner asks for, without its details.

@@ -1,3 +1,4 @@
+pub mod Crossing
 pub mod OneReading
 pub mod Completing
 pub mod Writing

@@ -87,7 +87,7 @@ loading reading = record no_supply { reading = reading }
 abbrev answering : List ℕ → Supply
 answering answers = record no_supply { answers = answers }
 
-refused_load : output (record { history = []; capacity = 1; sigs = [] }) (loading (Err (308, 0)) ∷ []) (codes "1 29000580 APT {\"cmd\":\"load\",\"milestone\":7,\"kind\":\"tobt\",\"program\":\"9500000000000000\"}\n2 29000580 NM {\"cmd\":\"tick\"}\n") ≡ codes "bad 308 0\nno 0 201\n"
+refused_load : output (record { history = []; capacity = 1; sigs = []; cells = [] }) (loading (Err (308, 0)) ∷ []) (codes "1 29000580 APT {\"cmd\":\"load\",\"milestone\":7,\"kind\":\"tobt\",\"program\":\"9500000000000000\"}\n2 29000580 NM {\"cmd\":\"tick\"}\n") ≡ codes "bad 308 0\nno 0 201\n"
 unfolding digits meant head_of natural_of number_field text_field time_field plan_field
     schedule_field time_or_null milestone_field report_field show_field kind_field program_field
     load_field unload_field plain_named command_named command_of json_of is_utf8 chars
@@ -95,14 +95,14 @@ unfolding digits meant head_of natural_of number_field text_field time_field pla
 refused_load = refl
 
 -- a refused program is told where the journal is full too
-refused_before_full : output (record { history = []; capacity = 0; sigs = [] }) (loading (Err (308, 0)) ∷ []) (codes "1 29000580 APT {\"cmd\":\"load\",\"milestone\":7,\"kind\":\"tobt\",\"program\":\"9500000000000000\"}\n2 29000580 NM {\"cmd\":\"tick\"}\n") ≡ codes "bad 308 0\nbad 502\n"
+refused_before_full : output (record { history = []; capacity = 0; sigs = []; cells = [] }) (loading (Err (308, 0)) ∷ []) (codes "1 29000580 APT {\"cmd\":\"load\",\"milestone\":7,\"kind\":\"tobt\",\"program\":\"9500000000000000\"}\n2 29000580 NM {\"cmd\":\"tick\"}\n") ≡ codes "bad 308 0\nbad 502\n"
 unfolding digits meant head_of natural_of number_field text_field time_field plan_field
     schedule_field time_or_null milestone_field report_field show_field kind_field program_field
     load_field unload_field plain_named command_named command_of json_of is_utf8 chars
     serde_json_on_literals jiff_on_literals hex_on_literals
 refused_before_full = refl
 
-nothing_to_unload : output (record { history = []; capacity = 5; sigs = [] }) []
+nothing_to_unload : output (record { history = []; capacity = 5; sigs = []; cells = [] }) []
     (codes "1 29000580 APT {\"cmd\":\"unload\",\"milestone\":9,\"kind\":\"alert\"}\n")
     ≡ codes "no 0 321\n"
 unfolding digits meant head_of natural_of number_field text_field time_field plan_field
@@ -112,7 +112,7 @@ unfolding digits meant head_of natural_of number_field text_field time_field pla
 nothing_to_unload = refl
 
 -- a TOBT that cannot be, and then one that can
-suggested_target : output (record { history = []; capacity = 100; sigs = [] }) (loading (Ok record { ops = a_minute_before; sigs = [] }) ∷ no_supply ∷ no_supply ∷ no_supply ∷ no_supply ∷ no_supply ∷ loading (Ok record { ops = the_moment; sigs = [] }) ∷ []) (codes "1 29000700 APT {\"cmd\":\"load\",\"milestone\":7,\"kind\":\"tobt\",\"program\":\"bf3000000000000007000000ffffffff9500000000000000\"}\n1 29000700 APT {\"cmd\":\"schedule\",\"flight\":7,\"callsign\":\"DLH7\",\"type\":\"A320\",\"reg\":\"DAIBC\",\"dest\":\"EDDM\",\"sobt\":\"2025-02-20T10:00:00Z\",\"mttt\":40,\"exit\":5,\"exot\":10,\"stand\":12}\n2 29000700 NM {\"cmd\":\"report\",\"flight\":7,\"milestone\":1,\"time\":\"2025-02-20T10:00:00Z\",\"callsign\":\"DLH7\",\"type\":\"A320\",\"reg\":\"DAIBC\",\"dest\":\"EDDM\"}\n3 29000700 ATC {\"cmd\":\"report\",\"flight\":7,\"milestone\":6,\"time\":\"2025-02-20T09:00:00Z\"}\n1 29000700 APT {\"cmd\":\"report\",\"flight\":7,\"milestone\":7,\"time\":\"2025-02-20T09:00:00Z\"}\n1 29000700 APT {\"cmd\":\"alerts\"}\n1 29000700 APT {\"cmd\":\"load\",\"milestone\":7,\"kind\":\"tobt\",\"program\":\"bf300000000000009500000000000000\"}\n1 29000700 APT {\"cmd\":\"report\",\"flight\":7,\"milestone\":7,\"time\":\"2025-02-20T09:00:00Z\"}\n1 29000700 APT {\"cmd\":\"alerts\"}\n") ≡ codes "ok 0\nok 1\nok 2\nok 3\nok 4\nalerts 5 7:CDM14\nok 6\nok 7\nalerts 8 7:CDM08,CDM09,CDM07a\n"
+suggested_target : output (record { history = []; capacity = 100; sigs = []; cells = [] }) (loading (Ok record { ops = a_minute_before; sigs = [] }) ∷ no_supply ∷ no_supply ∷ no_supply ∷ no_supply ∷ no_supply ∷ loading (Ok record { ops = the_moment; sigs = [] }) ∷ []) (codes "1 29000700 APT {\"cmd\":\"load\",\"milestone\":7,\"kind\":\"tobt\",\"program\":\"bf3000000000000007000000ffffffff9500000000000000\"}\n1 29000700 APT {\"cmd\":\"schedule\",\"flight\":7,\"callsign\":\"DLH7\",\"type\":\"A320\",\"reg\":\"DAIBC\",\"dest\":\"EDDM\",\"sobt\":\"2025-02-20T10:00:00Z\",\"mttt\":40,\"exit\":5,\"exot\":10,\"stand\":12}\n2 29000700 NM {\"cmd\":\"report\",\"flight\":7,\"milestone\":1,\"time\":\"2025-02-20T10:00:00Z\",\"callsign\":\"DLH7\",\"type\":\"A320\",\"reg\":\"DAIBC\",\"dest\":\"EDDM\"}\n3 29000700 ATC {\"cmd\":\"report\",\"flight\":7,\"milestone\":6,\"time\":\"2025-02-20T09:00:00Z\"}\n1 29000700 APT {\"cmd\":\"report\",\"flight\":7,\"milestone\":7,\"time\":\"2025-02-20T09:00:00Z\"}\n1 29000700 APT {\"cmd\":\"alerts\"}\n1 29000700 APT {\"cmd\":\"load\",\"milestone\":7,\"kind\":\"tobt\",\"program\":\"bf300000000000009500000000000000\"}\n1 29000700 APT {\"cmd\":\"report\",\"flight\":7,\"milestone\":7,\"time\":\"2025-02-20T09:00:00Z\"}\n1 29000700 APT {\"cmd\":\"alerts\"}\n") ≡ codes "ok 0\nok 1\nok 2\nok 3\nok 4\nalerts 5 7:CDM14\nok 6\nok 7\nalerts 8 7:CDM08,CDM09,CDM07a\n"
 unfolding digits bytes_of names_text start meant head_of natural_of number_field text_field
     time_field plan_field schedule_field time_or_null milestone_field report_field show_field
     kind_field program_field load_field unload_field plain_named command_named command_of json_of
@@ -120,7 +120,7 @@ unfolding digits bytes_of names_text start meant head_of natural_of number_field
 suggested_target = refl
 
 -- local alerts stay when their program is gone
-local_alerts_stay : output (record { history = []; capacity = 100; sigs = (2, taxi) ∷ [] }) (loading (Ok record { ops = taxi_time; sigs = (2, taxi) ∷ [] }) ∷ no_supply ∷ no_supply ∷ answering (10 ∷ []) ∷ []) (codes "1 29000580 APT {\"cmd\":\"load\",\"milestone\":9,\"kind\":\"alert\",\"program\":\"69113c000000000057010000ff01000085000000020000009500000000000000\"}\n1 29000580 APT {\"cmd\":\"schedule\",\"flight\":7,\"callsign\":\"DLH7\",\"type\":\"A320\",\"reg\":\"DAIBC\",\"dest\":\"EDDM\",\"sobt\":\"2025-02-20T10:00:00Z\",\"mttt\":40,\"exit\":5,\"exot\":10,\"stand\":12}\n2 29000580 NM {\"cmd\":\"report\",\"flight\":7,\"milestone\":1,\"time\":\"2025-02-20T10:00:00Z\",\"callsign\":\"DLH7\",\"type\":\"A320\",\"reg\":\"DAIBC\",\"dest\":\"EDDM\"}\n5 29000580 GH {\"cmd\":\"report\",\"flight\":7,\"milestone\":9,\"time\":\"2025-02-20T10:00:00Z\"}\n1 29000580 APT {\"cmd\":\"alerts\"}\n1 29000580 APT {\"cmd\":\"unload\",\"milestone\":9,\"kind\":\"alert\"}\n5 29000580 GH {\"cmd\":\"report\",\"flight\":7,\"milestone\":9,\"time\":\"2025-02-20T10:00:00Z\"}\n1 29000580 APT {\"cmd\":\"alerts\"}\n") ≡ codes "ok 0\nok 1\nok 2\nok 3\nalerts 4 7:LOC01,LOC03\nok 5\nok 6\nalerts 7 7:LOC01,LOC03\n"
+local_alerts_stay : output (record { history = []; capacity = 100; sigs = (2, taxi) ∷ []; cells = [] }) (loading (Ok record { ops = taxi_time; sigs = (2, taxi) ∷ [] }) ∷ no_supply ∷ no_supply ∷ answering (10 ∷ []) ∷ []) (codes "1 29000580 APT {\"cmd\":\"load\",\"milestone\":9,\"kind\":\"alert\",\"program\":\"69113c000000000057010000ff01000085000000020000009500000000000000\"}\n1 29000580 APT {\"cmd\":\"schedule\",\"flight\":7,\"callsign\":\"DLH7\",\"type\":\"A320\",\"reg\":\"DAIBC\",\"dest\":\"EDDM\",\"sobt\":\"2025-02-20T10:00:00Z\",\"mttt\":40,\"exit\":5,\"exot\":10,\"stand\":12}\n2 29000580 NM {\"cmd\":\"report\",\"flight\":7,\"milestone\":1,\"time\":\"2025-02-20T10:00:00Z\",\"callsign\":\"DLH7\",\"type\":\"A320\",\"reg\":\"DAIBC\",\"dest\":\"EDDM\"}\n5 29000580 GH {\"cmd\":\"report\",\"flight\":7,\"milestone\":9,\"time\":\"2025-02-20T10:00:00Z\"}\n1 29000580 APT {\"cmd\":\"alerts\"}\n1 29000580 APT {\"cmd\":\"unload\",\"milestone\":9,\"kind\":\"alert\"}\n5 29000580 GH {\"cmd\":\"report\",\"flight\":7,\"milestone\":9,\"time\":\"2025-02-20T10:00:00Z\"}\n1 29000580 APT {\"cmd\":\"alerts\"}\n") ≡ codes "ok 0\nok 1\nok 2\nok 3\nalerts 4 7:LOC01,LOC03\nok 5\nok 6\nalerts 7 7:LOC01,LOC03\n"
 unfolding digits bytes_of names_text start meant head_of natural_of number_field text_field
     time_field plan_field schedule_field time_or_null milestone_field report_field show_field
     kind_field program_field load_field unload_field plain_named command_named command_of json_of

@@ -16,7 +16,7 @@ use Rattle.acdm_sessions.specs.declared.answer.Answer.{Answer}
 use Rattle.acdm_sessions.specs.declared.answer.Answer.TheVariants.{Rejected}
 use Rattle.acdm_sessions.specs.declared.request.Request.{Request}
 use Rattle.acdm_lines.specs.Lines.{lines_of}
-use Rattle.acdm_sessions.specs.Meant.{meant, most_line}
+use Rattle.acdm_sessions.specs.Meant.{meant}
 use Rattle.acdm_sessions.specs.Output.{Supply, IsReadingOf, IsRight, AreRight, command_with}
 use Rattle.acdm_sessions.specs.Output.{is_full}
 use Rattle.acdm_sessions.specs.Output.{answer_meant, desk_command, desk_meant, answer_to}
@@ -26,6 +26,7 @@ use Rattle.acdm_sessions.specs.Reply.{AppendsPart}
 use Rattle.acdm_sessions.specs.Run.{ServesAll, ServesWhole, ServesPart}
 use Rattle.acdm_sessions.specs.Stream.{AnswersEach, AnswersText, AnswersAll, AnswersWhole}
 use Rattle.acdm_sessions.specs.Stream.{AnswersPart, replies_text, kept}
+use Rattle.acdm_sessions.specs.declared.stream.TheConstants.{LONGEST_LINE, MOST_KEPT}
 
 -- ---- the signatures stay as they are
 
@@ -50,21 +51,21 @@ desk_keeps d s l =
 
 -- ---- what is kept of a line means what the line means
 
-too_long : (line : List ℕ) → nat_le (length line) most_line ≡ false → meant line ≡ Err TooLong
+too_long : (line : List ℕ) → nat_le (length line) LONGEST_LINE ≡ false → meant line ≡ Err TooLong
 unfolding meant
 too_long line h = rw h refl
 
 pub meant-kept : (line : List ℕ) → meant (kept line) ≡ meant line
 meant-kept line =
     let fits_as : Bool → Type 0 =
-    λ v. nat_le (length line) 70001 ≡ v → meant (kept line) ≡ meant line in
-    elim (nat_le (length line) 70001) as fits_as [
-      | true ↦ λ fits. ap meant (take_all 70001 line (leb-true (length line) 70001 fits))
+    λ v. nat_le (length line) MOST_KEPT ≡ v → meant (kept line) ≡ meant line in
+    elim (nat_le (length line) MOST_KEPT) as fits_as [
+      | true ↦ λ fits. ap meant (take_all MOST_KEPT line (leb-true (length line) MOST_KEPT fits))
       | false ↦ λ over.
-          let long : 70001 < length line = leb-false (length line) 70001 over in
-          let cut : length (kept line) ≡ 70001 = length-take-le 70001 line (omega arith) in
-          too_long (kept line) (lt-leb (length (kept line)) 70000 (omega arith))
-          ∙ sym (too_long line (lt-leb (length line) 70000 (omega arith)))
+          let long : MOST_KEPT < length line = leb-false (length line) MOST_KEPT over in
+          let cut : length (kept line) ≡ MOST_KEPT = length-take-le MOST_KEPT line (omega arith) in
+          too_long (kept line) (lt-leb (length (kept line)) LONGEST_LINE (omega arith))
+          ∙ sym (too_long line (lt-leb (length line) LONGEST_LINE (omega arith)))
     ] refl
 
 pub desk-kept : (d : DeskView) (s : Supply) (line : List ℕ)

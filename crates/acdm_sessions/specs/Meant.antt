@@ -13,16 +13,14 @@ use Rattle.jiff_fmt.specs.Temporal.{parse_timestamp}
 use Rattle.hex.specs.Hex.{decode_of}
 use Rattle.acdm_record.specs.Texts.{text_from}
 use Rattle.acdm_milestones.specs.declared.role.Role.{Role}
-use Rattle.acdm_milestones.specs.declared.role.Role.TheVariants.{NetworkManager, AirTrafficControl}
-use Rattle.acdm_milestones.specs.declared.role.Role.TheVariants.{AirportOperator, AircraftOperator}
-use Rattle.acdm_milestones.specs.declared.role.Role.TheVariants.{GroundHandler}
 use Rattle.acdm_milestones.specs.declared.milestone.Milestone.{Milestone}
 use Rattle.acdm_milestones.specs.declared.milestone.Milestone.TheVariants.{FlightPlanActivated}
 use Rattle.acdm_milestones.specs.declared.milestone.Milestone.TheVariants.{TwoHoursBeforeEobt}
 use Rattle.acdm_milestones.specs.declared.milestone.Milestone.TheVariants.{TobtUpdate}
 use Rattle.acdm_milestones.specs.Tables.{milestone_numbered}
+use Rattle.acdm_milestones.specs.Names.{role_named}
 use Rattle.acdm_slots.specs.declared.kind.Kind as kinds
-use Rattle.acdm_slots.specs.declared.kind.Kind.TheVariants.{Tobt, Alert}
+use Rattle.acdm_slots.specs.Names.{kind_named}
 use Rattle.acdm_step.specs.declared.command.Plan.{Plan}
 use Rattle.acdm_step.specs.declared.command.Command.{Command}
 use Rattle.acdm_step.specs.declared.command.Command.TheVariants.{Unload, Tick, Show, Alerts}
@@ -37,6 +35,8 @@ use Rattle.acdm_sessions.specs.declared.request.LineError.TheVariants as errors
 use Rattle.acdm_sessions.specs.declared.request.Request.{Request}
 use Rattle.acdm_sessions.specs.declared.request.Asked.{Asked}
 use Rattle.acdm_sessions.specs.declared.request.Asked.TheVariants.{Plain, Load}
+use Rattle.acdm_step.specs.declared.command.TheConstants.{MINUTES_OF_DAY}
+use Rattle.acdm_sessions.specs.declared.stream.TheConstants.{LONGEST_LINE}
 
 -- one reading after another, the first fault ending it
 infixl 10 ◌>>=◌
@@ -95,15 +95,6 @@ within e low high n = if nat_le low n && nat_le n high then Ok n else Err e
 -- a number from 1 to high
 abbrev pub number_word : ℕ → List ℕ → Result ℕ Fault
 number_word high w = or_fault Prefix (natural_of w) >>= within Prefix 1 high
-
--- the roles by their names
-abbrev pub role_named : List ℕ → Option Role
-role_named w =
-    if bytes_eq w (codes "NM") then Some NetworkManager
-    else (if bytes_eq w (codes "ATC") then Some AirTrafficControl
-    else (if bytes_eq w (codes "APT") then Some AirportOperator
-    else (if bytes_eq w (codes "AO") then Some AircraftOperator
-    else (if bytes_eq w (codes "GH") then Some GroundHandler else None))))
 
 -- what stands before the JSON, and the JSON
 pub record Head : Type 0 where
@@ -193,9 +184,9 @@ schedule_field d = do
   flight ← number_field (codes "flight") 1 most_flight d
   plan ← plan_field d
   sobt ← time_field (codes "sobt") d
-  mttt ← number_field (codes "mttt") 0 1440 d
+  mttt ← number_field (codes "mttt") 0 MINUTES_OF_DAY d
   exit ← number_field (codes "exit") 0 255 d
-  exot ← number_field (codes "exot") 0 1440 d
+  exot ← number_field (codes "exot") 0 MINUTES_OF_DAY d
   stand ← number_field (codes "stand") 0 65535 d
   Ok (commands.Flight (Schedule record {
     flight = flight;
@@ -229,11 +220,6 @@ report_field d = do
 -- the flight of which the record is asked
 unfoldable pub show_field : Data → Result Command Fault
 show_field d = number_field (codes "flight") 1 most_flight d >>= λ flight. Ok (Show flight)
-
--- the kind of a program by its name
-abbrev pub kind_named : List ℕ → Option kinds.Kind
-kind_named w = if bytes_eq w (codes "tobt") then Some Tobt else
-    (if bytes_eq w (codes "alert") then Some Alert else None)
 
 unfoldable pub kind_field : Data → Result kinds.Kind Fault
 kind_field d = or_fault Kind (option_and_then as_str (get (codes "kind") d)) >>= λ t. or_fault Range
@@ -298,14 +284,11 @@ unfoldable pub json_of : List ℕ → Result Data Fault
 json_of bytes = if is_utf8 bytes then or_fault NoJson (read bytes) else Err NoJson
 
 -- the longest line, in bytes without its line feed
-abbrev pub most_line : ℕ
-most_line = 70000
-
 -- what a line asks for, or the first fault in it: the order of tests is 105, 100, 101, 102, and
 -- then the fields
 unfoldable pub meant : List ℕ → Result Request Fault
 meant line = do
-  _ ← demand TooLong (nat_le (length line) most_line)
+  _ ← demand TooLong (nat_le (length line) LONGEST_LINE)
   head ← head_of line
   d ← json_of head.rest
   asked ← command_of d

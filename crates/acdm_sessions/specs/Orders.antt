@@ -8,15 +8,16 @@ use Rattle.acdm_sessions.specs.declared.fault.Fault.TheVariants.{TooLong}
 use Rattle.acdm_sessions.specs.declared.fault.Bad.{Bad}
 use Rattle.acdm_sessions.specs.declared.fault.Bad.TheVariants.{Faulty, NoMinute, NoMemory}
 use Rattle.acdm_sessions.specs.declared.request.Asked.{Asked}
-use Rattle.acdm_sessions.specs.Meant.{◌>>=◌, demand, most_line, json_of, command_of}
+use Rattle.acdm_sessions.specs.Meant.{◌>>=◌, demand, json_of, command_of}
 use Rattle.acdm_sessions.specs.Reading.{Reading}
 use Rattle.acdm_sessions.specs.Output.{IsReadingFor, command_with}
 use Rattle.acdm_sessions.specs.declared.order.Order.{Order}
+use Rattle.acdm_sessions.specs.declared.stream.TheConstants.{LONGEST_LINE}
 
 -- what a line asks for, or its first fault
 unfoldable pub asked_of : List ℕ → Result Asked Fault
 asked_of line = do
-  _ ← demand TooLong (nat_le (length line) most_line)
+  _ ← demand TooLong (nat_le (length line) LONGEST_LINE)
   d ← json_of line
   command_of d
 

@@ -10,6 +10,7 @@ use Rattle.acdm_lines.specs.Lines.{IsLine, IsWhole, lines_of}
 use Rattle.acdm_lines.specs.NextLine.{FailsOrEndless}
 use Rattle.acdm_sessions.specs.Output.{reply_text}
 use Rattle.acdm_sessions.specs.Reply.{AppendsPart}
+use Rattle.acdm_sessions.specs.declared.stream.TheConstants.{MOST_KEPT}
 
 -- A line may be answered so by one who answers: the one before, the one after, the line and the
 -- answer.
@@ -48,7 +49,7 @@ AnswersLine may contents old new before after line (Err e) =
 
 -- what is kept of a line: one byte more than the longest line has
 abbrev pub kept : List ℕ → List ℕ
-kept line = take 70001 line
+kept line = take MOST_KEPT line
 
 -- Lines were answered one after the other, with these answers. Of a line as much is looked at as
 -- is kept of it.

@@ -6,7 +6,7 @@ ghost use Rattle.serde_json.specs.View.{view};
 ghost use Rattle.acdm_sessions.specs.Meant.{Gives, GivesView, number_field, text_field, minute_of};
 ghost use Rattle.acdm_sessions.specs.Meant.{time_field, time_or_null, time_for, plan_field};
 ghost use Rattle.acdm_sessions.specs.Meant.{plan_for, milestone_of, milestone_field};
-ghost use Rattle.acdm_sessions.specs.Meant.{schedule_field, report_field, show_field, kind_named};
+ghost use Rattle.acdm_sessions.specs.Meant.{schedule_field, report_field, show_field};
 ghost use Rattle.acdm_sessions.specs.Meant.{kind_field, slot_field, program_field, load_field};
 ghost use Rattle.acdm_sessions.specs.Meant.{unload_field, plain_named, command_of, is_plain};
 ghost use Rattle.acdm_sessions.specs.Meant.{json_of};
@@ -17,7 +17,9 @@ use crate::request::{Asked, LineError, LoadRequest};
 use acdm_milestones::Milestone;
 use acdm_record::Text;
 use acdm_slots::Kind;
-use acdm_step::{Command, FlightCommand, FlightNumber, Plan, Report, Schedule, Unload};
+use acdm_step::{
+    Command, FlightCommand, FlightNumber, MINUTES_OF_DAY, Plan, Report, Schedule, Unload,
+};
 use hex::FromHexError;
 use jiff::Timestamp;
 use serde_json::Value;
@@ -141,9 +143,9 @@ fn schedule_in(value: &Value) -> Result<Command, Fault>
     let flight = number_in(value, "flight", 1, u64::MAX)?;
     let plan = plan_in(value)?;
     let sobt = time_in(value, "sobt")?;
-    let mttt = number_in(value, "mttt", 0, 1440)?;
+    let mttt = number_in(value, "mttt", 0, MINUTES_OF_DAY)?;
     let exit = number_in(value, "exit", 0, 255)?;
-    let exot = number_in(value, "exot", 0, 1440)?;
+    let exot = number_in(value, "exot", 0, MINUTES_OF_DAY)?;
     let stand = number_in(value, "stand", 0, 65535)?;
     Ok(Command::Flight(FlightCommand::Schedule(Schedule::new(
         flight,
@@ -187,18 +189,6 @@ fn show_in(value: &Value) -> Result<Command, Fault>
     Ok(Command::Show(FlightNumber::new(flight)))
 }
 
-fn kind_named_by(name: &str) -> Option<Kind>
-    ensures { result ≡ kind_named name.now }
-{
-    if name == "tobt" {
-        Some(Kind::Tobt)
-    } else if name == "alert" {
-        Some(Kind::Alert)
-    } else {
-        None
-    }
-}
-
 #[tactic(auto, unfolding(crate::specs::Meant::kind_field))]
 fn kind_in(value: &Value) -> Result<Kind, Fault>
     ensures { result ≡ kind_field (view value.now) }
@@ -206,7 +196,7 @@ fn kind_in(value: &Value) -> Result<Kind, Fault>
     let Some(name) = value.get("kind").and_then(Value::as_str) else {
         return Err(Fault::Kind);
     };
-    let Some(kind) = kind_named_by(name) else {
+    let Some(kind) = Kind::from_name(name.as_bytes()) else {
         return Err(Fault::Range);
     };
     Ok(kind)

@@ -6,7 +6,7 @@ ghost use Rattle.acdm_sessions.specs.Meant.{number_word, head_of, meant, is_plai
 use crate::fault::Fault;
 use crate::field::{command_in, json_in};
 use crate::request::{LineError, Request};
-use crate::roles::role_of;
+use crate::stream::LONGEST_LINE;
 use acdm_milestones::Role;
 use std::alloc::Global;
 
@@ -81,7 +81,7 @@ fn head_in(line: &[u8]) -> Result<Head<'_>, Fault>
     let (second, line) = word_in(line)?;
     let moment = number_in(second, 4_294_967_295)?;
     let (third, rest) = word_in(line)?;
-    let Some(role) = role_of(third) else {
+    let Some(role) = Role::from_name(third) else {
         return Err(Fault::Prefix);
     };
     Ok(Head {
@@ -100,7 +100,7 @@ pub fn request_of(alloc: Global, line: &[u8]) -> Result<Request, LineError>
     ensures moment { IfOk result (λ r. 1 ≤ r.moment) }
     ensures plain { IfOk result (λ r. is_plain r.asked ≡ true) }
 {
-    if line.len() > 70_000 {
+    if line.len() > LONGEST_LINE {
         return Err(LineError::Fault(Fault::TooLong));
     }
     let head = match head_in(line) {

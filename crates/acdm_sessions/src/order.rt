@@ -9,6 +9,7 @@ use crate::fault::{Bad, Fault};
 use crate::field::{command_in, json_in};
 use crate::loading::command_for;
 use crate::request::{Asked, LineError};
+use crate::stream::LONGEST_LINE;
 use acdm_step::Command;
 use bpf_helpers::Sigs;
 use std::alloc::Global;
@@ -26,7 +27,7 @@ fn asked_in(alloc: Global, line: &[u8]) -> Result<Asked, LineError>
     ensures reads { Gives result (asked_of line.now) }
     ensures plain { IfOk result (λ asked. is_plain asked ≡ true) }
 {
-    if line.len() > 70_000 {
+    if line.len() > LONGEST_LINE {
         return Err(LineError::Fault(Fault::TooLong));
     }
     let value = json_in(alloc, line)?;

@@ -10,6 +10,7 @@ use acdm_record::Field;
 use bpf_helpers::{Bank, Code, Helper, Helpers, Range, Signature};
 use std::alloc::Global;
 use std::process::Abort;
+use std::sync::Arc;
 use std::test::Fail;
 
 // Suggests the minute before the moment.
@@ -63,8 +64,11 @@ fn tobt_on<H: Helpers + Drop>(desk: &Desk<H>) -> Option<u64> {
     Some(record.get(Field::Tobt))
 }
 
-fn has_answers<H: Helpers + Drop>(desk: &Desk<H>, number: u64, answers: &[u64]) -> bool {
-    match desk.entry(number) {
+fn has_answers<H: Helpers + Drop>(desk: &mut Desk<H>, number: u64, answers: &[u64]) -> bool {
+    let Ok(row) = Arc::try_clone(desk.row()) else {
+        return false;
+    };
+    match desk.entry(&row, number) {
         Some(entry) => entry.answers.as_slice() == answers,
         None => false,
     }
@@ -81,7 +85,7 @@ fn leads_to<H: Helpers + Drop>(
     let replies = replies_of(alloc, parts, &mut desk)?;
     assert_eq!(rt; replies.as_str(), expected.replies);
     assert_eq!(rt; tobt_on(&desk), Some(expected.tobt));
-    assert!(rt; has_answers(&desk, expected.entry, expected.answers));
+    assert!(rt; has_answers(&mut desk, expected.entry, expected.answers));
     Ok(())
 }
 

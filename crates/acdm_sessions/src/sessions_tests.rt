@@ -8,8 +8,8 @@ use bpf_helpers::{Bank, Helpers};
 use std::alloc::Global;
 use std::io::{self, Cursor, Read, Write};
 use std::process::Abort;
-use std::sync::Wait;
 use std::sync::atomic::{AtomicU64, Ordering};
+use std::sync::{Arc, Wait};
 use std::test::Fail;
 use std::thread::{Threads, yield_now};
 
@@ -160,8 +160,9 @@ where
 }
 
 // The session and the minute of an entry.
-fn stamp_of<H: Helpers + Drop>(desk: &Desk<H>, number: u64) -> Result<(u8, u32), Fail> {
-    let entry = desk.entry(number).ok_or("an entry is lost")?;
+fn stamp_of<H: Helpers + Drop>(desk: &mut Desk<H>, number: u64) -> Result<(u8, u32), Fail> {
+    let row = Arc::try_clone(desk.row())?;
+    let entry = desk.entry(&row, number).ok_or("an entry is lost")?;
     Ok((entry.session, entry.moment))
 }
 
@@ -218,7 +219,7 @@ fn both_meet<H: Helpers + Drop + Send, Rt: Threads + Wait + Sync>(
 }
 
 // Session 2 was answered first, and session 1 after it.
-fn in_their_order<H: Helpers + Drop>(desk: &Desk<H>) -> Result<bool, Fail> {
+fn in_their_order<H: Helpers + Drop>(desk: &mut Desk<H>) -> Result<bool, Fail> {
     let third = stamp_of(desk, 2)?;
     let fourth = stamp_of(desk, 3)?;
     Ok(third == (2, 29_000_585) && fourth == (1, 29_000_590))
@@ -229,10 +230,10 @@ fn meet<H: Helpers + Drop + Send, Rt: Threads + Wait + Abort + Sync>(
     alloc: Global,
     helpers: H,
 ) -> Result<(), Fail> {
-    let (second, first, desk) = both_meet(rt, alloc, helpers)?;
+    let (second, first, mut desk) = both_meet(rt, alloc, helpers)?;
     assert_eq!(rt; second.as_str(), "2 1 End: ok 2\n");
     assert_eq!(rt; first.as_str(), "1 1 End: ok 3\n");
-    assert!(rt; desk.len() == 4 && in_their_order(&desk)?);
+    assert!(rt; desk.len() == 4 && in_their_order(&mut desk)?);
     assert_eq!(rt; target_of(&desk)?, 29_000_765);
     Ok(())
 }
@@ -378,13 +379,17 @@ fn full_house(alloc: Global, lines: usize) -> Result<Vec<Opened>, Fail> {
 }
 
 // How many entries a session made.
-fn entries_of<H: Helpers + Drop>(desk: &Desk<H>, session: u8) -> usize {
-    (0..desk.len())
-        .filter(|number| {
-            desk.entry(*number)
-                .is_some_and(|entry| entry.session == session)
-        })
-        .count()
+fn entries_of<H: Helpers + Drop>(desk: &mut Desk<H>, session: u8) -> Result<usize, Fail> {
+    let row = Arc::try_clone(desk.row())?;
+    let mut count = 0;
+    for number in 0..desk.len() {
+        if let Some(entry) = desk.entry(&row, number) {
+            if entry.session == session {
+                count += 1;
+            }
+        }
+    }
+    Ok(count)
 }
 
 fn serves_all<H: Helpers + Drop + Send, Rt: Threads + Wait + Abort + Sync>(
@@ -393,13 +398,13 @@ fn serves_all<H: Helpers + Drop + Send, Rt: Threads + Wait + Abort + Sync>(
     helpers: H,
 ) -> Result<(), Fail> {
     let desk = Desk::new(alloc, helpers, 20_000)?;
-    let closed = closed_by(rt, alloc, desk, full_house(alloc, 200)?, &Open)?;
-    assert_eq!(rt; closed.desk.len(), 12_800);
-    assert_eq!(rt; closed.sessions.len(), 64);
-    for left in &closed.sessions {
+    let Closed { mut desk, sessions } = closed_by(rt, alloc, desk, full_house(alloc, 200)?, &Open)?;
+    assert_eq!(rt; desk.len(), 12_800);
+    assert_eq!(rt; sessions.len(), 64);
+    for left in &sessions {
         assert!(rt; left.end == End::End);
         assert_eq!(rt; left.calls, 200);
-        assert_eq!(rt; entries_of(&closed.desk, left.number), 200);
+        assert_eq!(rt; entries_of(&mut desk, left.number)?, 200);
     }
     Ok(())
 }

@@ -11,8 +11,11 @@ use bpf_helpers::Helpers;
 use std::alloc::Global;
 use std::io::{Read, Write};
 
+/// How many bytes a line has at most (this project's profile).
+pub const LONGEST_LINE: usize = 70_000;
+
 // One byte more than the longest line has, so that a longer one is told by what is kept of it.
-const MOST_KEPT: usize = 70_001;
+const MOST_KEPT: usize = LONGEST_LINE + 1;
 
 // Answers one line, and lets its reply go.
 fn serve_line<W: Write, A: Answerer>(

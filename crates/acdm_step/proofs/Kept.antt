@@ -20,6 +20,7 @@ use Rattle.acdm_step.specs.Board.{place_of, touched}
 use Rattle.acdm_step.specs.Verdicts.{alerted, alert_list}
 use Rattle.acdm_step.specs.Marked.{is_marked, is_alerted, AreFlights, Keeps}
 use Rattle.acdm_step.proofs.Marking.{before_or_in}
+use Rattle.acdm_step.specs.declared.verdicts.TheConstants.{MOST_FLIGHTS}
 
 abbrev number : Fields → ℕ
 number r = number_of r Flight
@@ -236,10 +237,10 @@ listed_more items all rs from p r x is one at on after none so_far =
 number-touched : (moment : ℕ) (r : Fields) → number (touched moment r) ≡ number r
 number-touched moment r = get_or-set_other r.numbers 2 0 (alert_word r moment) 0 (omega arith)
 
-pub keeps_touched : (rs : List Fields) (i moment : ℕ) (r s w : Fields) → slice_get rs i ≡ Some r
-    → s ≡ r → w ≡ touched moment s → Keeps rs i w
-keeps_touched rs i moment r s w at copied is = ap number is ∙ number-touched moment s
-    ∙ ap number (copied ∙ sym (get_or_from_slice_get rs i r w at))
+pub keeps_touched : (rs : List Fields) (i moment : ℕ) (r w : Fields) → slice_get rs i ≡ Some r
+    → w ≡ touched moment r → Keeps rs i w
+keeps_touched rs i moment r w at is = ap number is ∙ number-touched moment r
+    ∙ ap number (sym (get_or_from_slice_get rs i r w at))
 
 -- ---- what a struct of flights keeps
 
@@ -260,7 +261,7 @@ pub absent : (es : List (ℕ × Fields)) (f : ℕ) → keys_of es ≡ map number
 absent es f keyed h = no_flight es f (ap (position_or_len (nat_eq f)) keyed
     ∙ by_key f (values_of es) ∙ h ∙ length-values es)
 
-pub none_yet : (es : List (ℕ × Fields)) (room : ℕ) (words : List ℕ) → es ≡ [] → 4096 ≤ room
+pub none_yet : (es : List (ℕ × Fields)) (room : ℕ) (words : List ℕ) → es ≡ [] → MOST_FLIGHTS ≤ room
     → ((p : ℕ) → is_marked words p ≡ false) → AreFlights es room words
 none_yet es room words e many unmarked =
     subst (λ l. AreFlights l room words) (sym e) (record {
@@ -292,7 +293,7 @@ kept es room words new i w m a inside same is put = record {
 }
 
 pub added : (es all : List (ℕ × Fields)) (room left : ℕ) (words new : List ℕ) (i : ℕ) (w : Fields)
-    (m : Bool) → AreFlights es room words → length (values_of es) < 4096 → i ≡ length es
+    (m : Bool) → AreFlights es room words → length (values_of es) < MOST_FLIGHTS → i ≡ length es
     → all ≡ es ++ (number w, w) ∷ [] → room ≤ left + 1 → m ≡ has_alert w
     → ((p : ℕ) → is_marked new p ≡ cond (p == i) m (is_marked words p))
     → AreFlights all left new

@@ -30,6 +30,7 @@ use Rattle.acdm_step.specs.Board.{assigned_to, touched, has_number, place_of, re
 use Rattle.acdm_step.specs.Running.{ChangesTo}
 use Rattle.acdm_step.specs.Marked.{Keeps}
 use Rattle.acdm_step.proofs.Records.{is_plain, are_plain, plain_command}
+use Rattle.acdm_step.specs.declared.verdicts.TheConstants.{MOST_FLIGHTS}
 
 abbrev number : Fields → ℕ
 number r = number_of r Flight
@@ -114,13 +115,13 @@ room_of_report true true false rest h = absurd (cc)
 room_of_report true false false rest h = absurd (cc)
 room_of_report false b false rest h = absurd (cc)
 
-below : (count : ℕ) → nat_lt count 4096 ≡ true → count < 4096
+below : (count : ℕ) → nat_lt count MOST_FLIGHTS ≡ true → count < MOST_FLIGHTS
 below count h = grind (arith, nat_tests)
 
 pub room_left : (c : Command) (count : ℕ) (r : Fields) (role : Role) → changes_flight c ≡ true
-    → is_accepted (verdict_for false count r true role c) ≡ true → count < 4096
+    → is_accepted (verdict_for false count r true role c) ≡ true → count < MOST_FLIGHTS
 room_left (commands.Flight (Schedule s)) count r role k h =
-    below count (room_of_schedule _ _ (nat_lt count 4096) h)
+    below count (room_of_schedule _ _ (nat_lt count MOST_FLIGHTS) h)
 room_left (commands.Flight (Report p)) count r role k h =
-    below count (room_of_report _ _ (nat_lt count 4096) _ h)
+    below count (room_of_report _ _ (nat_lt count MOST_FLIGHTS) _ h)
 room_left _ count r role k h = absurd (cc)

@@ -22,7 +22,7 @@ use Rattle.acdm_step.specs.declared.outcome.Outcome.{Outcome}
 use Rattle.acdm_step.specs.declared.outcome.Outcome.TheVariants as outcomes
 use Rattle.acdm_step.specs.declared.prepare.Change.{Change}
 use Rattle.acdm_step.specs.declared.prepare.Change.TheVariants as changes
-use Rattle.acdm_step.specs.Commands.{is_accepted, changes_flight}
+use Rattle.acdm_step.specs.Commands.{is_accepted}
 use Rattle.acdm_step.specs.InSlots.{with_slots}
 use Rattle.acdm_step.specs.Verdicts.{load_verdict, unload_verdict, tick_verdict, outcome_with}
 use Rattle.acdm_step.specs.History.{Board}

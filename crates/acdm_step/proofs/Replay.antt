@@ -38,7 +38,7 @@ use Rattle.acdm_step.specs.Verdicts.{is_ready, verdict_for, verdict_of, answer, 
 use Rattle.acdm_step.specs.Verdicts.{outcome_of}
 use Rattle.acdm_step.specs.History.{IsAnswered, IsLegal, replay, after, needs_memory}
 use Rattle.acdm_step.specs.Board.{record_after, touched, place_of, is_there, record_on, put}
-use Rattle.acdm_step.specs.Board.{assigned_to, programs_on, ready_on, board_verdict, board_creates}
+use Rattle.acdm_step.specs.Board.{assigned_to, programs_on, ready_on, board_verdict}
 use Rattle.acdm_step.specs.Board.{board_loads, board_answer, board_outcome, board_changed}
 use Rattle.acdm_step.specs.Board.{board_after}
 use Rattle.acdm_step.specs.Ran.{Ran}
@@ -538,15 +538,9 @@ outcome-replay sigs J role c l =
 -- what needs memory on the board needs it after the history
 pub memory-replay : (sigs : List (ℕ × Promise)) (J : History) (role : Role) (c : Command)
     → IsLegal sigs J
-    → (is_alerts c || (board_loads (replay sigs J) role c || board_creates (replay sigs J) role c))
-    ≡ needs_memory sigs J role c
+    → (is_alerts c || board_loads (replay sigs J) role c) ≡ needs_memory sigs J role c
 memory-replay sigs J role c l =
-    ap (λ v. is_alerts c || (is_load c && is_accepted v
-    || (is_accepted v && (changes_flight c && not (is_there (records_of J) (flight_of c))))))
-    (verdict-replay sigs J role c l)
-    ∙ ap (λ t. is_alerts c || (is_load c && is_accepted (verdict_of sigs J role c)
-    || (is_accepted (verdict_of sigs J role c) && (changes_flight c && not t))))
-    (there-replay J (flight_of c))
+    ap (λ v. is_alerts c || (is_load c && is_accepted v)) (verdict-replay sigs J role c l)
 
 -- the record at a flight's place
 module _ (J : History) (f place : ℕ) (rs : List Fields) (is : rs ≡ records_of J)

@@ -1,7 +1,8 @@
 -- Runs of the programs of a report, one after the other, and what they leave of the answers.
-use Rattle.std.proofs.Common.{◌≡◌, ℕ, Bool, true, false, ◌||◌, ◌+◌, ◌<◌, ◌≤◌, List, [], ◌++◌}
+use Rattle.std.proofs.Common.{◌≡◌, ℕ, true, ◌||◌, ◌+◌, ◌<◌, ◌≤◌, List, [], ◌++◌}
 use Rattle.std.proofs.Common.{length, Option, Some, refl, sym, ap, subst, ◌∙◌, append_assoc}
 use Rattle.std.proofs.Common.{append-nil, length-append, arith}
+use Rattle.std.proofs.Math.Bool.{or-true}
 use Rattle.acdm_record.specs.Fields.{Fields, bytes_of}
 use Rattle.bpf_decode.specs.declared.op.Op.{Op}
 use Rattle.bpf_helpers.specs.Promise.{Promise}
@@ -89,11 +90,7 @@ asked_calls ps r moment m from to (first h) =
 asked_calls ps r moment m from to (second between r0 same ends h) =
     ap (λ b. may_ask ps.tobt || b)
     (ap may_ask h.1 ∙ run_asks_calls _ _ _ _ _ h.2.0 h.2.1 h.2.2 h.2.4)
-    ∙ or_true (may_ask ps.tobt)
-  where
-    or_true : (b : Bool) → (b || true) ≡ true
-    or_true true = refl
-    or_true false = refl
+    ∙ or-true (may_ask ps.tobt)
 
 -- and one question more was declined
 pub asked_once : (ps : Programs) (r : Fields) (moment m : ℕ) (from to : OracleView)

@@ -1,5 +1,5 @@
 -- What a step on the board is, by what came of the command.
-use Rattle.std.proofs.Common.{◌≡◌, ℕ, ◌<◌, ◌≤◌, Bool, true, false, cond, ◌&&◌, ◌||◌, nat_lt, List}
+use Rattle.std.proofs.Common.{◌≡◌, ℕ, ◌<◌, ◌≤◌, Bool, true, false, cond, ◌||◌, nat_lt, List}
 use Rattle.std.proofs.Common.{[], ◌∷◌, ◌++◌, map, length, get_or, set, Some, is_some, refl, Result}
 use Rattle.std.proofs.Common.{Ok, Err, is_ok, OnOk, OnErr, sym, ap, subst, ◌∙◌, arith, append-nil}
 use Rattle.std.proofs.lemmas.List.{get_or_past, get_or_default}
@@ -27,7 +27,7 @@ use Rattle.acdm_step.specs.Verdicts.{show_verdict, alert_list, outcome_with}
 use Rattle.acdm_step.specs.History.{Board}
 use Rattle.acdm_step.specs.Board.{board_of, assigned_to, touched, place_of, is_there, record_on}
 use Rattle.acdm_step.specs.Board.{put, record_after, programs_on, ready_on, board_verdict}
-use Rattle.acdm_step.specs.Board.{board_creates, board_loads, board_outcome, board_changed}
+use Rattle.acdm_step.specs.Board.{board_loads, board_outcome, board_changed}
 use Rattle.acdm_step.specs.Board.{board_after}
 use Rattle.acdm_step.specs.Programs.{no_effect, effect_with, effect_or_none, with_effect}
 use Rattle.acdm_step.specs.Ran.{Ran}
@@ -309,9 +309,9 @@ comes_left b other role moment c same from to outcome e f h =
 -- a load that is taken needs memory
 pub loading : (b : Board) (role : Role) (l : command_load.Load)
     → is_accepted (load_verdict (same_sigs l.program.sigs b.slots.sigs) role) ≡ true
-    → (is_alerts (Load l) || (board_loads b role (Load l) || board_creates b role (Load l))) ≡ true
+    → (is_alerts (Load l) || board_loads b role (Load l)) ≡ true
 unfolding board_verdict
-loading b role l h = ap (λ t. t || (t && false)) h
+loading b role l h = h
 
 -- the record at a flight's place is what is shown of it
 pub shown : (b : List Fields) (f place : ℕ) → place ≡ place_of b f → (r s : Fields)

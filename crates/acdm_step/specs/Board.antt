@@ -1,5 +1,5 @@
 -- One step on the records themselves, in order of creation, and on the slots.
-use Rattle.std.specs.Prelude.{ℕ, Bool, true, not, ◌&&◌, map, ◌==◌, nat_lt, if◌then◌else◌, List, []}
+use Rattle.std.specs.Prelude.{ℕ, Bool, true, ◌&&◌, map, ◌==◌, nat_lt, if◌then◌else◌, List, []}
 use Rattle.std.specs.Prelude.{◌∷◌, ◌++◌, length, slice_index_or, slice_set, is_some}
 use Rattle.std.specs.List.{position_or_len}
 use Rattle.acdm_record.specs.declared.field.Field.TheVariants.{Flight, Alerts}
@@ -80,11 +80,6 @@ ready_on l _ = true
 unfoldable pub board_verdict : Board → Role → Command → Verdict
 board_verdict b role c = verdict_for (is_there b.records (flight_of c)) (length b.records)
     (record_on b.records (flight_of c)) (ready_on b.slots c) role c
-
--- whether a command creates a flight
-abbrev pub board_creates : Board → Role → Command → Bool
-board_creates b role c = is_accepted (board_verdict b role c)
-    && (changes_flight c && not (is_there b.records (flight_of c)))
 
 -- whether it is a load that is taken
 abbrev pub board_loads : Board → Role → Command → Bool

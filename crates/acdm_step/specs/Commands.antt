@@ -2,7 +2,7 @@
 -- is the list of its entries, the newest first.
 use Rattle.std.specs.Prelude.{ℕ, Bool, true, false, ◌&&◌, ◌==◌, if◌then◌else◌, List, [], ◌∷◌, ◌++◌}
 use Rattle.std.specs.Prelude.{Option, Some, None}
-use Rattle.acdm_record.specs.declared.field.Field.TheVariants.{Alerts, Mttt, Exot, Stand, Exit}
+use Rattle.acdm_record.specs.declared.field.Field.TheVariants.{Mttt, Exot, Stand, Exit}
 use Rattle.acdm_record.specs.declared.field.Field.TheVariants.{Sobt}
 use Rattle.acdm_record.specs.declared.field.TextField.TheVariants.{Callsign, ScheduledType}
 use Rattle.acdm_record.specs.declared.field.TextField.TheVariants.{PlanType, ScheduledRegistration}
@@ -22,9 +22,6 @@ use Rattle.acdm_step.specs.declared.entry.Entry.{Entry}
 
 abbrev pub History : Type 0
 History = List Entry
-
-abbrev pub most_flights : ℕ
-most_flights = 4096
 
 -- ---- what one command says
 

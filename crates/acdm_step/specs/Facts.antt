@@ -4,6 +4,7 @@ use Rattle.acdm_milestones.specs.declared.milestone.Milestone.{Milestone}
 use Rattle.acdm_milestones.specs.declared.milestone.Milestone.TheVariants.{FlightPlanActivated}
 use Rattle.acdm_milestones.specs.declared.milestone.Milestone.TheVariants.{TwoHoursBeforeEobt}
 use Rattle.acdm_milestones.specs.declared.milestone.Milestone.TheVariants.{TobtUpdate}
+use Rattle.acdm_step.specs.declared.command.TheConstants.{MINUTES_OF_DAY}
 use Rattle.acdm_step.specs.declared.command.Plan.{Plan}
 
 pub record ScheduleFacts : Type 0 where
@@ -18,8 +19,8 @@ pub record ScheduleFacts : Type 0 where
 pub record IsSchedule (flight sobt mttt exot : ℕ) : Type 0 where
   pub flight_given : 1 ≤ flight
   pub sobt_given : 1 ≤ sobt
-  pub mttt_in_range : mttt ≤ 1440
-  pub exot_in_range : exot ≤ 1440
+  pub mttt_in_range : mttt ≤ MINUTES_OF_DAY
+  pub exot_in_range : exot ≤ MINUTES_OF_DAY
 
 pub record ReportFacts : Type 0 where
   pub flight : ℕ

@@ -1,10 +1,9 @@
 -- Histories that the platform may have, and the board after one: each question is asked of the
 -- whole history (this project's profile).
-use Rattle.std.specs.Prelude.{ℕ, ◌^◌, ◌≡◌, ◌≤◌, ◌<◌, Bool, true, false, ◌&&◌, ◌||◌, not, List, []}
+use Rattle.std.specs.Prelude.{ℕ, ◌^◌, ◌≡◌, ◌≤◌, ◌<◌, Bool, true, false, ◌&&◌, ◌||◌, List, []}
 use Rattle.std.specs.Prelude.{◌∷◌, map, length, Option, Some, option_map}
 use Rattle.acdm_record.specs.Fields.{Fields}
 use Rattle.acdm_milestones.specs.declared.role.Role.{Role}
-use Rattle.acdm_milestones.specs.Tables.{number}
 use Rattle.bpf_helpers.specs.Promise.{Promise}
 use Rattle.bpf_regstate.specs.States.{Accepts}
 use Rattle.acdm_slots.specs.Loaded.{Loaded}
@@ -12,10 +11,10 @@ use Rattle.acdm_step.specs.Programs.{Effect, effect_with}
 use Rattle.acdm_step.specs.declared.command.Command.{Command}
 use Rattle.acdm_step.specs.declared.command.Command.TheVariants.{Load}
 use Rattle.acdm_step.specs.declared.entry.Verdict.{Verdict}
-use Rattle.acdm_step.specs.Commands.{History, flight_of, changes_flight, is_load, bit_of}
+use Rattle.acdm_step.specs.Commands.{History, is_load, bit_of}
 use Rattle.acdm_step.specs.Commands.{is_accepted, is_alerts}
 use Rattle.acdm_step.specs.InSlots.{programs_of, slots_of}
-use Rattle.acdm_step.specs.Summaries.{record_of, flights, exists, run_record_of}
+use Rattle.acdm_step.specs.Summaries.{record_of, flights, run_record_of}
 use Rattle.acdm_step.specs.Verdicts.{verdict_of}
 
 -- ---- histories that the platform may have
@@ -78,13 +77,6 @@ after J session role moment command verdict answers =
       answers = answers;
     } ∷ J
 
--- whether a command would create a flight
-abbrev pub would_create : List (ℕ × Promise) → History → Role → Command → Bool
-would_create sigs J role c = is_accepted (verdict_of sigs J role c)
-    && (changes_flight c && not (exists J (flight_of c)))
-
--- whether a command needs memory: for the record of a new flight, for a copy of a program, or for a
--- list of alerts
+-- whether a command needs memory: for a list of alerts, or for a copy of a program
 abbrev pub needs_memory : List (ℕ × Promise) → History → Role → Command → Bool
-needs_memory sigs J role c = is_alerts c
-    || (is_load c && is_accepted (verdict_of sigs J role c) || would_create sigs J role c)
+needs_memory sigs J role c = is_alerts c || (is_load c && is_accepted (verdict_of sigs J role c))

@@ -1,7 +1,6 @@
 -- Which programs stand in the slots after a history (this project's profile).
 use Rattle.std.specs.Prelude.{ℕ, ◌+◌, ◌==◌, if◌then◌else◌, List, [], ◌∷◌, Option, Some, None, Bool}
 use Rattle.std.specs.Prelude.{false, ◌||◌}
-use Rattle.acdm_record.specs.declared.field.Field.TheVariants.{Tobt}
 use Rattle.acdm_milestones.specs.declared.milestone.Milestone.{Milestone}
 use Rattle.bpf_helpers.specs.Promise.{Promise}
 use Rattle.bpf_semantics.specs.Calls.{has_call}

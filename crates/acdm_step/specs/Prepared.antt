@@ -8,6 +8,7 @@ use Rattle.acdm_milestones.specs.Tables.{owns}
 use Rattle.acdm_slots.specs.Loaded.{with_program, program_in}
 use Rattle.acdm_step.specs.declared.command.FlightCommand.{FlightCommand}
 use Rattle.acdm_step.specs.declared.command.FlightCommand.TheVariants.{Schedule, Report}
+use Rattle.acdm_step.specs.declared.verdicts.TheConstants.{MOST_FLIGHTS}
 use Rattle.acdm_step.specs.declared.prepare.Change.{Change}
 use Rattle.acdm_step.specs.declared.prepare.Change.TheVariants as changes
 use Rattle.acdm_step.specs.History.{Board}
@@ -31,7 +32,7 @@ after_change b (changes.Unload m k) = board_of b.records (with_program b.slots m
 -- what a change asks of the board that it is made to, which a plan made on that board ensures
 abbrev pub Fits : Board → Change → Type 0
 Fits b (changes.Put i r) = (i < length b.records) × Keeps b.records i r
-Fits b (changes.Add r) = (length b.records < 4096)
+Fits b (changes.Add r) = (length b.records < MOST_FLIGHTS)
     × (place_of b.records (number_of r Flight) ≡ length b.records)
 Fits b (changes.Load m k p) = p.sigs ≡ b.slots.sigs
 Fits b (changes.Unload m k) = program_in b.slots m k ≡ None → ⊥

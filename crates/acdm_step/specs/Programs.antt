@@ -4,10 +4,12 @@ use Rattle.std.specs.Prelude.{ℕ, ◌+◌, ◌%◌, ◌^◌, Bool, true, false,
 use Rattle.std.specs.Prelude.{if◌then◌else◌, List, Option, Some, None, option_map, option_and_then}
 use Rattle.acdm_record.specs.declared.field.Field.TheVariants.{Alerts, Tobt, Asat}
 use Rattle.acdm_record.specs.Fields.{Fields, number_of, set_number, bytes_of}
-use Rattle.acdm_milestones.specs.Tables.{marked, is_set}
+use Rattle.acdm_milestones.specs.declared.milestone.Milestone.TheVariants.{TobtUpdate}
+use Rattle.acdm_milestones.specs.Tables.{number, marked, is_set}
 use Rattle.acdm_alerts.specs.Decided.{with_rejection, with_locals}
 use Rattle.bpf_verifier.specs.Verdict.{Verified}
 use Rattle.bpf_semantics.specs.Runs.{result_of}
+use Rattle.acdm_step.specs.declared.command.TheConstants.{MINUTES_OF_DAY}
 
 -- the program that suggests a TOBT, and the one that decides the local alerts
 pub record Programs : Type 0 where
@@ -24,10 +26,10 @@ pub data Suggestion : Type 0 where
   Usable : (tobt : ℕ) → Suggestion
   Unusable : Suggestion
 
--- a time from now to 1440 minutes later, for a flight whose start-up is not approved
+-- a time from now to a day later, for a flight whose start-up is not approved
 abbrev pub is_usable : Fields → ℕ → ℕ → Bool
 is_usable r moment time = nat_le moment time
-    && (nat_le time (moment + 1440) && (nat_lt time (2 ^ 32) && not (is_set r Asat)))
+    && (nat_le time (moment + MINUTES_OF_DAY) && (nat_lt time (2 ^ 32) && not (is_set r Asat)))
 
 -- what r0 of a TOBT program means, where there is one; 0 suggests nothing
 abbrev pub suggestion : Fields → ℕ → Option ℕ → Suggestion
@@ -43,7 +45,8 @@ rejecting rejected r = set_number r Alerts (with_rejection rejected (number_of r
 -- flight's TOBT
 abbrev pub with_suggestion : Suggestion → Fields → Fields
 with_suggestion Nothing r = r
-with_suggestion (Usable tobt) r = rejecting false (marked (set_number r Tobt tobt) 9)
+with_suggestion (Usable tobt) r = rejecting false (marked (set_number r Tobt tobt) (number
+    TobtUpdate))
 with_suggestion Unusable r = rejecting true r
 
 -- ---- the local alerts

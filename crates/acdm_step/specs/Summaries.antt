@@ -10,6 +10,8 @@ use Rattle.acdm_record.specs.declared.field.TextField.{TextField}
 use Rattle.acdm_record.specs.Place.{index_of, text_index_of}
 use Rattle.acdm_record.specs.Fields.{Fields, fields_of}
 use Rattle.acdm_record.specs.Assign.{Assignment, number_is, text_is}
+use Rattle.acdm_milestones.specs.declared.milestone.Milestone.TheVariants.{TobtUpdate}
+use Rattle.acdm_milestones.specs.Tables.{number}
 use Rattle.acdm_alerts.specs.Conditions.{conditions}
 use Rattle.acdm_alerts.specs.Decided.{decided_word}
 use Rattle.acdm_step.specs.Programs.{Programs, Suggestion, Nothing, Usable, Unusable, Effect}
@@ -86,7 +88,7 @@ with_tobt (Usable tobt) assigned = number_is Tobt tobt ∷ assigned
 with_tobt _ assigned = assigned
 
 abbrev pub with_ninth : Suggestion → ℕ → ℕ
-with_ninth (Usable tobt) reached = bit_or reached (2 ^ 9)
+with_ninth (Usable tobt) reached = bit_or reached (2 ^ number TobtUpdate)
 with_ninth _ reached = reached
 
 abbrev pub rejects : Suggestion → Bool → Bool
@@ -141,7 +143,8 @@ gives_tobt _ = false
 -- the bits that an accepted entry of the flight reached: its own, and 9 where a program gave a TOBT
 abbrev pub reaches : History → Entry → ℕ → ℕ → Bool
 reaches J e f m = bit_of e.command == m
-    || (gives_tobt (effect_on (programs_of J e.command) e f (summary J f)).tobt && 9 == m)
+    || (gives_tobt (effect_on (programs_of J e.command) e f (summary J f)).tobt && number TobtUpdate
+    == m)
 
 -- whether an accepted entry of the flight reached this bit: what a bit of the reached word means
 abbrev pub has_come_to : History → ℕ → ℕ → Bool

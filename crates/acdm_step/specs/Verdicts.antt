@@ -24,7 +24,8 @@ use Rattle.acdm_step.specs.declared.entry.Verdict.TheVariants.{Accepted, Refused
 use Rattle.acdm_step.specs.declared.outcome.Alerted.{Alerted}
 use Rattle.acdm_step.specs.declared.outcome.Outcome.{Outcome}
 use Rattle.acdm_step.specs.declared.outcome.Outcome.TheVariants as outcomes
-use Rattle.acdm_step.specs.Commands.{History, most_flights, flight_of}
+use Rattle.acdm_step.specs.Commands.{History, flight_of}
+use Rattle.acdm_step.specs.declared.verdicts.TheConstants.{MOST_FLIGHTS}
 use Rattle.acdm_step.specs.InSlots.{program_in}
 use Rattle.acdm_step.specs.Summaries.{record_of, flights, exists}
 
@@ -35,7 +36,7 @@ abbrev pub schedule_verdict : Bool → ℕ → Fields → Role → Verdict
 schedule_verdict there count r role =
     if not (owns role actions.Schedule) then Refused NotOwner
     else (if has_reached r 0 && has_reached r 1 then Refused AlreadyPlanned
-    else (if not there && not (nat_lt count most_flights) then Refused FullBoard
+    else (if not there && not (nat_lt count MOST_FLIGHTS) then Refused FullBoard
     else Accepted))
 
 abbrev pub verdict_from : Result (Unit {0}) Refusal → Verdict
@@ -46,7 +47,7 @@ abbrev pub report_verdict : Bool → ℕ → Fields → Role → Milestone → �
 report_verdict there count r role m time =
     if not (owns role (actions.Report m)) then Refused NotOwner
     else (if not there && not (number m == 1) then Refused UnknownFlight
-    else (if not there && not (nat_lt count most_flights) then Refused FullBoard
+    else (if not there && not (nat_lt count MOST_FLIGHTS) then Refused FullBoard
     else verdict_from (admission r role m time)))
 
 abbrev pub tick_verdict : Role → Verdict

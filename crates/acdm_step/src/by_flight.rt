@@ -2,7 +2,7 @@
 ghost use Rattle.std.specs.Prelude.{◌≡◌, ◌<◌, ◌++◌, [], ◌∷◌, map, length, slice_get, slice_set};
 ghost use Rattle.std.specs.Prelude.{Some, IfOk};
 ghost use Rattle.acdm_record.specs.declared.field.Field.TheVariants.{Flight};
-ghost use Rattle.acdm_record.specs.Fields.{number_of};
+ghost use Rattle.acdm_record.specs.Fields.{Fields, number_of};
 ghost use Rattle.acdm_step.specs.Board.{place_of, touched};
 ghost use Rattle.acdm_step.specs.Verdicts.{alert_list};
 ghost use Rattle.acdm_step.specs.Marked.{Keeps};
@@ -86,7 +86,7 @@ impl Flights {
 
     /// Puts the record of a new flight last, which takes no memory.
     pub(crate) fn add(&mut self, record: Record)
-        requires room { length self.old < 4096 }
+        requires room { length self.old < MOST_FLIGHTS }
         requires absent { place_of self.old (number_of «record» Flight) ≡ length self.old }
         ensures { self.new ≡ self.old ++ «record» ∷ [] }
     {
@@ -101,14 +101,24 @@ impl Flights {
         }
     }
 
+    // Touches the record at a place, where it stands.
+    fn touch_at(&mut self, place: usize, moment: u32)
+        requires { place < length self.old }
+        ensures { (r : Fields) → slice_get self.old place ≡ Some r →
+            self.new ≡ slice_set self.old place (touched moment r) }
+    {
+        let record = &mut self.records[place];
+        touch(record, moment);
+        let alerted = !AlertSet::of(record).is_empty();
+        self.marks.put(place, alerted);
+    }
+
     /// Touches each record.
     pub(crate) fn touch_all(&mut self, moment: u32)
         ensures { self.new ≡ map (touched moment) self.old }
     {
         for place in 0..self.len() {
-            let mut record = self.at(place).copy();
-            touch(&mut record, moment);
-            self.put(place, record);
+            self.touch_at(place, moment);
         }
     }
 

@@ -6,8 +6,13 @@ ghost use Rattle.acdm_step.specs.Facts.{has_its_plan, has_its_time};
 use acdm_milestones::Milestone;
 use acdm_record::Text;
 use acdm_slots::Kind;
+use bpf_helpers::Sigs;
 use bpf_verifier::Checked;
 use std::marker::Model;
+
+/// The minutes of a day: the most that MTTT and EXOT may be, and how far ahead of the moment a
+/// program may set TOBT (this project's profile).
+pub const MINUTES_OF_DAY: u64 = 1_440;
 
 /// What is planned for a flight.
 #[derive(Drop)]
@@ -21,7 +26,7 @@ pub struct Plan {
 /// Creates a flight, or sets what is scheduled of one.
 ///
 /// The flight is at least 1, SOBT is a minute since 1970-01-01T00:00Z and at least 1, MTTT and EXOT
-/// are at most 1440 minutes, EXIT is in minutes.
+/// are at most `MINUTES_OF_DAY`, EXIT is in minutes.
 #[derive(Drop)]
 pub struct Schedule {
     pub(crate) flight: u64,
@@ -64,8 +69,8 @@ impl Schedule {
     ) -> Schedule
         requires flight_given { 1 ≤ flight }
         requires sobt_given { 1 ≤ sobt }
-        requires mttt_in_range { mttt ≤ 1440 }
-        requires exot_in_range { exot ≤ 1440 }
+        requires mttt_in_range { mttt ≤ MINUTES_OF_DAY }
+        requires exot_in_range { exot ≤ MINUTES_OF_DAY }
         ensures { result ≡ record {
           flight = flight;
           plan = plan;
@@ -87,9 +92,10 @@ impl Schedule {
         }
     }
 
-    /// The flight.
+    /// The flight, which is at least 1.
     pub fn flight(&self) -> u64
-        ensures { result ≡ self.now.flight }
+        ensures value { result ≡ self.now.flight }
+        ensures given { 1 ≤ result }
     {
         let Schedule { flight, .. } = self;
         *flight
@@ -102,16 +108,18 @@ impl Schedule {
         &self.plan
     }
 
-    /// SOBT, in minutes since 1970-01-01T00:00Z.
+    /// SOBT, in minutes since 1970-01-01T00:00Z, at least 1.
     pub fn sobt(&self) -> u32
-        ensures { result ≡ self.now.sobt }
+        ensures value { result ≡ self.now.sobt }
+        ensures given { 1 ≤ result }
     {
         self.sobt
     }
 
-    /// MTTT in minutes.
+    /// MTTT in minutes, at most 1440.
     pub fn mttt(&self) -> u16
-        ensures { result ≡ self.now.mttt }
+        ensures value { result ≡ self.now.mttt }
+        ensures in_range { result ≤ 1440 }
     {
         self.mttt
     }
@@ -123,9 +131,10 @@ impl Schedule {
         self.exit
     }
 
-    /// EXOT in minutes.
+    /// EXOT in minutes, at most 1440.
     pub fn exot(&self) -> u16
-        ensures { result ≡ self.now.exot }
+        ensures value { result ≡ self.now.exot }
+        ensures in_range { result ≤ 1440 }
     {
         self.exot
     }
@@ -186,9 +195,10 @@ impl Report {
         }
     }
 
-    /// The flight.
+    /// The flight, which is at least 1.
     pub fn flight(&self) -> u64
-        ensures { result ≡ self.now.flight }
+        ensures value { result ≡ self.now.flight }
+        ensures given { 1 ≤ result }
     {
         self.flight
     }
@@ -200,16 +210,18 @@ impl Report {
         self.milestone
     }
 
-    /// The time in minutes since 1970-01-01T00:00Z, 0 for no time.
+    /// The time in minutes since 1970-01-01T00:00Z, 0 for no time, with milestones 2 and 9 alone.
     pub fn time(&self) -> u32
-        ensures { result ≡ self.now.time }
+        ensures value { result ≡ self.now.time }
+        ensures timed { IsTrue (has_its_time self.now.milestone result) }
     {
         self.time
     }
 
-    /// What is planned, with milestone 1.
+    /// What is planned, with milestone 1 and with it alone.
     pub fn plan(&self) -> Option<&Plan>
-        ensures { option_copied result ≡ self.now.plan }
+        ensures value { option_copied result ≡ self.now.plan }
+        ensures with_first { IsTrue (has_its_plan self.now.milestone self.now.plan) }
     {
         self.plan.as_ref()
     }
@@ -244,7 +256,8 @@ impl FlightNumber {
 
     /// The number.
     pub fn get(self) -> u64
-        ensures { result ≡ self }
+        ensures value { result ≡ self }
+        ensures given { 1 ≤ result }
     {
         self.number
     }
@@ -256,6 +269,21 @@ pub struct Load {
     pub milestone: Milestone,
     pub kind: Kind,
     pub program: Checked,
+}
+
+impl Load {
+    ghost use Rattle.std.specs.Prelude.{◌↔◌};
+    ghost use Rattle.bpf_helpers.specs.Same.{same_sigs};
+    ghost use Rattle.bpf_regstate.specs.States.{Accepts};
+
+    /// Whether its program was checked against these signatures, under which it is then accepted.
+    pub fn was_checked(&self, sigs: &Sigs) -> bool
+        ensures value { result ≡ same_sigs self.now.program.sigs sigs.now }
+        ensures same { IsTrue result ↔ (self.now.program.sigs ≡ sigs.now) }
+        ensures accepts { IsTrue result → Accepts 128 self.now.program.ops sigs.now }
+    {
+        self.program.sigs().is_same(sigs)
+    }
 }
 
 /// Takes the program out of a slot.
@@ -289,4 +317,19 @@ pub enum Command {
     Show(FlightNumber),
     /// To see the alerts of all flights that have any.
     Alerts,
+}
+
+impl Command {
+    ghost use Rattle.std.specs.Prelude.{◌↔◌};
+    ghost use Rattle.acdm_step.specs.History.{IsChecked};
+
+    /// Whether it loads no program that was checked against other signatures than these.
+    pub fn was_checked(&self, sigs: &Sigs) -> bool
+        ensures { IsTrue result ↔ IsChecked sigs.now self.now }
+    {
+        match self {
+            Command::Load(load) => load.was_checked(sigs),
+            _ => true,
+        }
+    }
 }

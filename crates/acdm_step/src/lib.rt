@@ -13,9 +13,12 @@ mod programs;
 mod state;
 mod verdicts;
 
-pub use command::{Command, FlightCommand, FlightNumber, Load, Plan, Report, Schedule, Unload};
+pub use command::{
+    Command, FlightCommand, FlightNumber, Load, MINUTES_OF_DAY, Plan, Report, Schedule, Unload,
+};
 pub use entry::{Answers, Entry, Verdict};
 pub use outcome::{AlertList, Alerted, Outcome};
+pub use prepare::{Change, Prepared};
 pub use state::Core;
 
 #[cfg(test)]

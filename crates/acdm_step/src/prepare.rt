@@ -26,9 +26,10 @@ use bpf_helpers::Oracle;
 use bpf_verifier::Checked;
 use std::alloc::AllocError;
 
-/// What a command does to the board.
+/// What a command does to the board. `Core::commit` asks that it fits the board that it is done to,
+/// as what `Core::plan` answers fits the board that it was planned on.
 #[derive(Drop)]
-pub(crate) enum Change {
+pub enum Change {
     /// The board stays.
     Nothing,
     /// The record at a place becomes this one, of the same flight.
@@ -45,9 +46,9 @@ pub(crate) enum Change {
 
 /// What comes of a command, and what it does to the board.
 #[derive(Drop)]
-pub(crate) struct Prepared {
-    pub(crate) outcome: Outcome,
-    pub(crate) change: Change,
+pub struct Prepared {
+    pub outcome: Outcome,
+    pub change: Change,
 }
 
 // What comes of a refused command.

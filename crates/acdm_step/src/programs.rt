@@ -1,6 +1,7 @@
 //! The local programs of a report (this project's profile).
 ghost use Rattle.std.specs.Prelude.{◌≡◌, ◌||◌, ◌+◌, ◌<◌, ◌≤◌, ◌^◌, OnOk, OnErr, IfOk};
 ghost use Rattle.std.specs.Prelude.{if◌then◌else◌, option_map};
+ghost use Rattle.bpf_decode.specs.declared.program.TheConstants.{MOST_SLOTS};
 ghost use Rattle.acdm_milestones.specs.Tables.{number};
 ghost use Rattle.acdm_slots.specs.Loaded.{program_in};
 ghost use Rattle.bpf_helpers.specs.Oracles.{MayBeAsked, SameRule};
@@ -10,18 +11,13 @@ ghost use Rattle.acdm_step.specs.Programs.{with_local_alerts};
 ghost use Rattle.acdm_step.specs.InSlots.{may_ask as asks_helpers, size_of};
 ghost use Rattle.acdm_step.specs.Running.{EndsAt, AsksAt, EndsIn, AsksIn};
 
+use crate::command::MINUTES_OF_DAY;
 use acdm_alerts::AlertSet;
 use acdm_milestones::{Milestone, mark_reached};
 use acdm_record::{Field, Record};
 use acdm_slots::{Kind, Slots};
 use bpf_helpers::Oracle;
 use bpf_machine::{BadAnswer, run};
-
-/// The bit of milestone 9 in the reached word.
-const TOBT_UPDATE: u32 = 9;
-
-/// How far ahead of the moment a program may set TOBT, in minutes.
-const FARTHEST: u64 = 1440;
 
 // Runs the program in a slot, if there is one.
 fn run_slot<O: Oracle>(
@@ -61,7 +57,7 @@ fn is_usable(record: &Record, moment: u32, time: u64) -> bool
 {
     let moment = u64::from(moment);
     moment <= time
-        && time <= moment + FARTHEST
+        && time <= moment + MINUTES_OF_DAY
         && time <= u64::from(u32::MAX)
         && record.get(Field::Asat) == 0
 }
@@ -81,7 +77,7 @@ fn suggest(record: &mut Record, moment: u32, r0: Option<u64>)
         return;
     }
     record.set(Field::Tobt, time);
-    mark_reached(record, TOBT_UPDATE);
+    mark_reached(record, Milestone::TobtUpdate.number());
     set_rejected(record, false);
 }
 
@@ -150,7 +146,7 @@ pub(crate) fn either_asks(slots: &Slots, milestone: Milestone) -> bool
 /// How many instructions the program in a slot has, 0 where there is none.
 pub(crate) fn size_in(slots: &Slots, milestone: Milestone, kind: Kind) -> u64
     ensures value { result ≡ size_of (program_in slots.now milestone kind) }
-    ensures few { result ≤ 4096 }
+    ensures few { result ≤ MOST_SLOTS }
 {
     match slots.get(milestone, kind) {
         Some(checked) => checked.instructions(),

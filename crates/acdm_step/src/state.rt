@@ -10,7 +10,7 @@ ghost use Rattle.acdm_step.specs.InSlots.{answers_room as room_for_answers, asks
 ghost use Rattle.acdm_step.specs.Summaries.{exists, record_of as record_in, has_come_to};
 ghost use Rattle.acdm_step.specs.Verdicts.{verdict_in};
 ghost use Rattle.acdm_step.specs.History.{IsLegal, replay, after, needs_memory};
-ghost use Rattle.acdm_step.specs.Board.{board_creates, board_loads};
+ghost use Rattle.acdm_step.specs.Board.{board_loads};
 ghost use Rattle.acdm_step.specs.Running.{Comes, ComesOf};
 ghost use Rattle.acdm_step.specs.Prepared.{Fits, after_change};
 
@@ -123,10 +123,9 @@ impl Core {
         }
     }
 
-    /// What would come of a command at a moment (minutes since 1970-01-01T00:00Z), and what it
-    /// would do to the board, which stays as it is. All memory is taken here. `Err` only where
-    /// memory was refused, for a load and for a list of alerts; no program has run then.
-    pub(crate) fn plan<O: Oracle>(
+    /// What would come of a command at a moment, and what it would do to the board, as it is said
+    /// of a board alone.
+    fn prepare<O: Oracle>(
         &self,
         oracle: &mut O,
         role: Role,
@@ -141,8 +140,7 @@ impl Core {
         ensures unasked { OnErr result (Unasked (O.view oracle.old) (O.view oracle.new)) }
         ensures same_rule { SameRule (O.view oracle.old) (O.view oracle.new) }
         ensures memory { OnErr result (IsTrue (is_alerts command.now
-            || (board_loads self.now role command.now
-            || board_creates self.now role command.now))) }
+            || board_loads self.now role command.now)) }
     {
         match command {
             Command::Flight(command) => Ok(prepare_flight(
@@ -173,8 +171,52 @@ impl Core {
         }
     }
 
+    /// What would come of a command at a moment (minutes since 1970-01-01T00:00Z), and what it
+    /// would do to the board, which stays as it is. All memory is taken here, and the programs of a
+    /// report run here: helpers that they call are answered by the oracle.
+    ///
+    /// Where the oracle leaves a program without an answer, the report is refused as `Unanswered`,
+    /// which changes nothing. `Err` only where memory was refused, which is asked for for a load
+    /// and for a list of alerts; no program has run then.
+    pub fn plan<O: Oracle>(
+        &self,
+        oracle: &mut O,
+        role: Role,
+        moment: u32,
+        command: &Command,
+    ) -> Result<Prepared, AllocError>
+        // The oracle answers by the signatures of the board, and may still count one more call
+        // without an answer.
+        requires oracle { MayBeAsked self.now.slots.sigs (O.view oracle.old) }
+
+        // The answers meant are those that the oracle gave in the call, by which its log has grown.
+        ensures outcome { IfOk result (λ p. (sigs : List (ℕ × Promise)) (J : History)
+            → IsLegal sigs J → self.now ≡ replay sigs J →
+            ComesOf sigs J role moment command.now (O.view oracle.old) (O.view oracle.new)
+            p.outcome) }
+        ensures board { IfOk result (λ p. (sigs : List (ℕ × Promise)) (J : History)
+            (session : ℕ) (answers : List ℕ) →
+            IsLegal sigs J → self.now ≡ replay sigs J →
+            (is_accepted (verdict_in p.outcome) ≡ true
+            → Gained (O.view oracle.old) (O.view oracle.new) answers) →
+            after_change self.now p.change ≡ replay sigs
+            (after J session role moment command.now (verdict_in p.outcome) answers)) }
+        ensures sigs { IfOk result (λ p.
+            (after_change self.now p.change).slots.sigs ≡ self.now.slots.sigs) }
+        ensures fits { IfOk result (λ p. Fits self.now p.change) }
+        ensures unasked { OnErr result (Unasked (O.view oracle.old) (O.view oracle.new)) }
+        // What the oracle answers from stays the same.
+        ensures same_rule { SameRule (O.view oracle.old) (O.view oracle.new) }
+        ensures memory { OnErr result ((sigs : List (ℕ × Promise)) (J : History) → IsLegal sigs J
+            → self.now ≡ replay sigs J →
+            IsTrue (needs_memory sigs J role command.now)) }
+    {
+        let prepared = self.prepare(oracle, role, moment, command)?;
+        Ok(prepared)
+    }
+
     /// Does what was planned on this board. It takes no memory and is never refused.
-    pub(crate) fn commit(&mut self, plan: Prepared) -> Outcome
+    pub fn commit(&mut self, plan: Prepared) -> Outcome
         requires { Fits self.old plan.change }
         ensures board { self.new ≡ after_change self.old plan.change }
         ensures outcome { result ≡ plan.outcome }
@@ -199,8 +241,9 @@ impl Core {
         outcome
     }
 
-    /// What comes of a command at a moment (minutes since 1970-01-01T00:00Z), and the board after
-    /// it. Helpers that its programs call are answered by the oracle.
+    /// Plans a command and commits the plan: what comes of it at a moment (minutes since
+    /// 1970-01-01T00:00Z), and the board after it. Helpers that its programs call are answered by
+    /// the oracle.
     ///
     /// Where the oracle leaves a program without an answer, the report is refused as `Unanswered`
     /// and nothing has changed. `Err` only where memory was refused, which is asked for for a load

@@ -67,14 +67,6 @@ pub(crate) fn verdict_on_tick(role: Role) -> Verdict
     }
 }
 
-// Whether a program was checked against the signatures of the board.
-fn is_checked_here(slots: &Slots, load: &Load) -> bool
-    ensures test { result ≡ same_sigs load.now.program.sigs slots.now.sigs }
-    ensures same { IsTrue result ↔ (load.now.program.sigs ≡ slots.now.sigs) }
-{
-    load.program.sigs().is_same(slots.sigs())
-}
-
 /// The verdict on a load. The signatures are those of the board where it is accepted.
 pub(crate) fn verdict_on_load(slots: &Slots, role: Role, load: &Load) -> Verdict
     ensures value { result ≡ load_verdict (same_sigs load.now.program.sigs slots.now.sigs) role }
@@ -83,7 +75,7 @@ pub(crate) fn verdict_on_load(slots: &Slots, role: Role, load: &Load) -> Verdict
     if !owns(role, Action::Load) {
         return Verdict::Refused(Refusal::NotOwner);
     }
-    if !is_checked_here(slots, load) {
+    if !load.was_checked(slots.sigs()) {
         return Verdict::Refused(Refusal::OtherSignatures);
     }
     Verdict::Accepted

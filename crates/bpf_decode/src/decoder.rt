@@ -12,14 +12,14 @@ ghost use Rattle.bpf_decode.specs.declared.op.Op.{Op};
 use crate::fault::{DecodeError, Fault};
 use crate::insn::Insn;
 use crate::op::{Op, Register};
-use crate::program::Program;
+use crate::program::{MOST_SLOTS, Program};
 use crate::row::op_of;
 use std::alloc::{AllocError, Global};
 
-/// The number of bytes in 4,096 slots.
-const MOST_BYTES: usize = 32_768;
+/// How many bytes a program has at most.
+const MOST_BYTES: usize = 8 * MOST_SLOTS;
 
-/// The program that the bytes encode, of 1 to 4,096 slots. A refusal holds the first fault and its
+/// The program that the bytes encode, of 1 to `MOST_SLOTS` slots. A refusal holds the first fault and its
 /// slot: more bytes than that, no whole slots, or else the least slot that no row of RFC 9669's
 /// instructions fits, with the least number of its faults.
 pub fn decode(alloc: Global, bytes: &[u8]) -> Result<Program, DecodeError>
@@ -58,7 +58,7 @@ fn program_of(alloc: Global, bytes: &[u8]) -> Result<Program, DecodeError>
 
 /// The instructions of some slots, with the tails of wide loads.
 fn instructions(alloc: Global, bytes: &[u8]) -> Result<Vec<Op>, DecodeError>
-    requires few { length bytes.now ≤ 32768 }
+    requires few { length bytes.now ≤ MOST_BYTES }
     requires slots { AreSlots bytes.now }
     ensures program { IfOk result (λ ops. Encodes bytes.now ops.items) }
     ensures refused { IfErr result (λ e. Refuses bytes.now e) }
@@ -76,7 +76,7 @@ fn instructions(alloc: Global, bytes: &[u8]) -> Result<Vec<Op>, DecodeError>
 fn push_first(ops: &mut Vec<Op>, rest: &[u8]) -> Result<usize, DecodeError>
     requires long { 8 ≤ length rest.now }
     requires slots { length rest.now % 8 ≡ 0 }
-    requires few { length ops.old.items < 4096 }
+    requires few { length ops.old.items < MOST_SLOTS }
     ensures { MatchResult result (λ len. Grows ops.old.items ops.new.items rest.now len)
         (λ e. IsStop rest.now (length ops.old.items) e) }
 {
@@ -110,7 +110,7 @@ fn push_parts(ops: &mut Vec<Op>, op: Op) -> Result<usize, AllocError>
 fn first_op(rest: &[u8], slot: usize) -> Result<Op, DecodeError>
     requires long { 8 ≤ length rest.now }
     requires slots { length rest.now % 8 ≡ 0 }
-    requires few { slot < 4096 }
+    requires few { slot < MOST_SLOTS }
     ensures { MatchResult result (λ op. Begins rest.now op) (λ e. Stops rest.now slot e) }
 {
     let insn = Insn::from_bytes(rest);
@@ -128,7 +128,7 @@ fn first_op(rest: &[u8], slot: usize) -> Result<Op, DecodeError>
 fn whole_wide(rest: &[u8], slot: usize, first: Insn, dst: Register) -> Result<Op, DecodeError>
     requires long { 8 ≤ length rest.now }
     requires slots { length rest.now % 8 ≡ 0 }
-    requires few { slot < 4096 }
+    requires few { slot < MOST_SLOTS }
     requires first { first ≡ fields rest.now }
     requires wide { (dst < 11) × (slot_of (Op.Wide dst (cast_unsigned w32 first.imm)) ≡ first) }
     ensures { MatchResult result (λ op. Begins rest.now op) (λ e. Stops rest.now slot e) }

@@ -18,7 +18,7 @@ pub use fault::{DecodeError, Fault, NoMemory};
 pub use insn::Insn;
 pub use listing::line;
 pub use op::{Bytes, Code, Condition, Op, Operand, Order, Part, Register, Size, Width};
-pub use program::Program;
+pub use program::{MOST_SLOTS, Program};
 
 #[cfg(test)]
 mod tests;

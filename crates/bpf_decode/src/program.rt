@@ -4,7 +4,10 @@ use crate::fault::NoMemory;
 use crate::op::Op;
 use std::marker::Model;
 
-/// A program of 1 to 4,096 slots, each of them an instruction but the second slot of a wide load.
+/// How many slots a program has at most (this project's profile).
+pub const MOST_SLOTS: usize = 4_096;
+
+/// A program of 1 to `MOST_SLOTS` slots, each of them an instruction but the second slot of a wide load.
 #[derive(Drop)]
 pub struct Program {
     ops: Vec<Op>,

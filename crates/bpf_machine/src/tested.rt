@@ -1,6 +1,7 @@
 //! Running a program with every test.
 
 ghost use Rattle.std.specs.Prelude.{◌≡◌, ◌<◌, ◌≤◌, ◌^◌, length, IfOk, IfErr};
+ghost use Rattle.bpf_decode.specs.declared.program.TheConstants.{MOST_SLOTS};
 ghost use Rattle.bpf_machine.specs.Outcome.{EndsOver, TrapsOver, is_refused};
 ghost use Rattle.bpf_helpers.specs.Oracles.{Counts, MayBeAsked, SameRule};
 ghost use Rattle.acdm_milestones.specs.Tables.{number as number_of};
@@ -21,7 +22,7 @@ fn run_slots<O: Oracle>(
     oracle: &mut O,
 ) -> Result<Ended, Trap>
     requires some { 0 < length ops.now }
-    requires few { length ops.now ≤ 4096 }
+    requires few { length ops.now ≤ MOST_SLOTS }
     requires short { length record_bytes.now < 2 ^ 16 }
     requires oracle { MayBeAsked sigs.now (O.view oracle.old) }
     ensures ended { IfOk result (EndsOver ops.now sigs.now record_bytes.now moment milestone

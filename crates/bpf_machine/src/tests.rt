@@ -135,6 +135,23 @@ fn programs_end(rt: HostRuntime) -> Result<(), Fail> {
         ("2d22010000000000b7000000070000009500000000000000", 7, 3),
         ("61107c00000000009500000000000000", 0, 2),
         ("7a0af8ff0100000079a0f8ff000000009500000000000000", 1, 3),
+        // The record's address comes back from the stack, in the last also with a byte stored below
+        // it.
+        (
+            "7b1af8ff00000000b70100000000000079a1f8ff0000000071103f00000000009500000000000000",
+            5,
+            5,
+        ),
+        (
+            "7b1af8ff0000000015040100010000007b1af8ff0000000079a1f8ff0000000071103f00000000009500000000000000",
+            5,
+            6,
+        ),
+        (
+            "7b1af8ff00000000720af7ff00000000b70100000000000079a1f8ff0000000071103f00000000009500000000000000",
+            5,
+            6,
+        ),
     ];
     for (text, r0, steps) in rows {
         ends(&rt, rt.alloc(), text, Milestone::InBlock, r0, steps)?;
@@ -147,6 +164,14 @@ fn programs_end(rt: HostRuntime) -> Result<(), Fail> {
         first,
         9,
         3,
+    )?;
+    ends(
+        &rt,
+        rt.alloc(),
+        "7b1af8ff0000000015040100010000007b1af8ff0000000079a1f8ff0000000071103f00000000009500000000000000",
+        first,
+        5,
+        5,
     )?;
     // From the record, where milestone 1 jumps over the change of r1.
     ends(

@@ -81,61 +81,80 @@ fn minutes_later(moment: u64, minutes: u64, _c: u64, _d: u64, _e: u64) -> u64
     moment + minutes
 }
 
+/// Registers a helper. Where it is refused: the fault's number, and that of the helper that came
+/// back.
+fn refused(vm: &mut EbpfVmRaw, helper: Helper) -> Option<(u16, u32)> {
+    vm.register_helper(helper)
+        .err()
+        .map(|refused| (refused.fault.code(), refused.helper.number()))
+}
+
+/// Registers helper 1.
+fn with_turn_round(alloc: Global, vm: &mut EbpfVmRaw) -> Result<Option<(u16, u32)>, Fail> {
+    let kinds: Code = Box::new(alloc, turn_round_minutes)?;
+    let helper = Helper::new(1, turn_round_signature(alloc)?, kinds);
+    Ok(refused(vm, helper))
+}
+
+/// Registers helper 2.
+fn with_taxi(alloc: Global, vm: &mut EbpfVmRaw) -> Result<Option<(u16, u32)>, Fail> {
+    let stands: Code = Box::new(alloc, taxi_minutes)?;
+    let helper = Helper::new(2, taxi_signature(alloc)?, stands);
+    Ok(refused(vm, helper))
+}
+
+/// Registers helper 3.
+fn with_sum(alloc: Global, vm: &mut EbpfVmRaw) -> Result<Option<(u16, u32)>, Fail> {
+    let minutes: Code = Box::new(alloc, minutes_later)?;
+    let helper = Helper::new(3, sum_signature(alloc)?, minutes);
+    Ok(refused(vm, helper))
+}
+
+/// Sets a program of these digits. Where it is refused: the fault's number and slot.
+fn fault(alloc: Global, vm: &mut EbpfVmRaw, text: &str) -> Result<Option<(u16, usize)>, Fail> {
+    let bytes = hex::decode(alloc, text)?;
+    match vm.set_program(&bytes) {
+        Ok(()) => Ok(None),
+        Err(e) => Ok(Some((e.code(), e.slot()))),
+    }
+}
+
+/// What the machine's program comes to on the record of the worked runs, or the error's number.
+fn outcome(vm: &mut EbpfVmRaw, moment: u32) -> Result<Result<Ended, u16>, Fail> {
+    let record_bytes = planned()?;
+    match vm.execute_program(&record_bytes, moment, Milestone::InBlock) {
+        Ok(ended) => Ok(Ok(ended)),
+        Err(e) => Ok(Err(e.code())),
+    }
+}
+
 #[test]
 fn a_program_stays_until_another_is_accepted(rt: HostRuntime) -> Result<(), Fail> {
     let alloc = rt.alloc();
-    let kinds: Code = Box::new(alloc, turn_round_minutes)?;
-    let stands: Code = Box::new(alloc, taxi_minutes)?;
-    let minutes: Code = Box::new(alloc, minutes_later)?;
-    let again: Code = Box::new(alloc, taxi_minutes)?;
-    let spare = Helper::new(2, taxi_signature(alloc)?, again);
     let mut vm = EbpfVmRaw::new(alloc)?;
-    vm.register_helper(Helper::new(1, turn_round_signature(alloc)?, kinds))
-        .map_err(|refused| refused.fault)?;
-    vm.register_helper(Helper::new(2, taxi_signature(alloc)?, stands))
-        .map_err(|refused| refused.fault)?;
-    vm.register_helper(Helper::new(3, sum_signature(alloc)?, minutes))
-        .map_err(|refused| refused.fault)?;
-    let record_bytes = planned()?;
-    let none = vm.execute_program(&record_bytes, 29_000_580, Milestone::InBlock);
-    assert_eq!(rt; none.err().map(|e| e.code()), Some(334));
-    vm.set_program(&hex::decode(alloc, CATEGORY)?)?;
+    assert_eq!(rt; with_turn_round(alloc, &mut vm)?, None);
+    assert_eq!(rt; with_taxi(alloc, &mut vm)?, None);
+    assert_eq!(rt; with_sum(alloc, &mut vm)?, None);
+    assert_eq!(rt; outcome(&mut vm, 29_000_580)?, Err(334));
+    assert_eq!(rt; fault(alloc, &mut vm, CATEGORY)?, None);
     let wanted = Ok(Ended { r0: 0, steps: 5 });
-    assert_eq!(rt;
-        vm.execute_program(&record_bytes, 29_000_580, Milestone::InBlock),
-        wanted
-    );
-    let exit = vm.set_program(&[0x95, 0, 0, 0, 0, 0, 0, 0]);
-    assert_eq!(rt; exit.err().map(|e| (e.code(), e.slot())), Some((308, 0)));
-    let cut = vm.set_program(&[0x18, 0, 0, 0, 1, 0, 0, 0]);
-    assert_eq!(rt; cut.err().map(|e| (e.code(), e.slot())), Some((315, 0)));
-    assert_eq!(rt;
-        vm.execute_program(&record_bytes, 29_000_580, Milestone::InBlock),
-        wanted
-    );
-    let late = vm.register_helper(spare);
-    assert_eq!(rt;
-        late.err()
-            .map(|refused| (refused.fault.code(), refused.helper.number())),
-        Some((333, 2))
-    );
+    assert_eq!(rt; outcome(&mut vm, 29_000_580)?, wanted);
+    assert_eq!(rt; fault(alloc, &mut vm, "9500000000000000")?, Some((308, 0)));
+    assert_eq!(rt; fault(alloc, &mut vm, "1800000001000000")?, Some((315, 0)));
+    assert_eq!(rt; outcome(&mut vm, 29_000_580)?, wanted);
+    assert_eq!(rt; with_taxi(alloc, &mut vm)?, Some((333, 2)));
     Ok(())
 }
 
 #[test]
 fn helpers_are_called(rt: HostRuntime) -> Result<(), Fail> {
     let alloc = rt.alloc();
-    let minutes: Code = Box::new(alloc, minutes_later)?;
     let mut vm = EbpfVmRaw::new(alloc)?;
-    let unknown = vm.set_program(&hex::decode(alloc, FIVE_LATER)?);
-    assert_eq!(rt; unknown.err().map(|e| (e.code(), e.slot())), Some((312, 2)));
-    vm.register_helper(Helper::new(3, sum_signature(alloc)?, minutes))
-        .map_err(|refused| refused.fault)?;
-    let again: Code = Box::new(alloc, minutes_later)?;
-    let twice = vm.register_helper(Helper::new(3, sum_signature(alloc)?, again));
-    assert_eq!(rt; twice.err().map(|refused| refused.fault.code()), Some(331));
-    vm.set_program(&hex::decode(alloc, FIVE_LATER)?)?;
-    let ended = vm.execute_program(&planned()?, 7, Milestone::InBlock);
-    assert_eq!(rt; ended, Ok(Ended { r0: 12, steps: 4 }));
+    assert_eq!(rt; fault(alloc, &mut vm, FIVE_LATER)?, Some((312, 2)));
+    assert_eq!(rt; with_sum(alloc, &mut vm)?, None);
+    assert_eq!(rt; with_sum(alloc, &mut vm)?, Some((331, 3)));
+    assert_eq!(rt; fault(alloc, &mut vm, FIVE_LATER)?, None);
+    let wanted = Ok(Ended { r0: 12, steps: 4 });
+    assert_eq!(rt; outcome(&mut vm, 7)?, wanted);
     Ok(())
 }

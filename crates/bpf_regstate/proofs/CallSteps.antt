@@ -153,6 +153,7 @@ module _ (ops : List Op) (sigs : List (ℕ × Promise)) (record_bytes : List ℕ
             (sym known_answer) (answer_held s m sig answer r h
             (promised_in sig passed answer e));
         marks = h.marks;
+        words = h.words;
       } in
       record {
         later = omega arith;

@@ -12,7 +12,7 @@ use Rattle.bpf_semantics.specs.Machine.{Machine}
 use Rattle.bpf_regstate.specs.declared.reg.Reg.{Reg}
 use Rattle.bpf_regstate.specs.declared.reg.Reg.TheVariants.{Uninit, Known}
 use Rattle.bpf_regstate.specs.Shape.{Shape}
-use Rattle.bpf_regstate.specs.Holds.{HoldsWord, Holds, HoldsAt, SomeHolds, EdgeHolds}
+use Rattle.bpf_regstate.specs.Holds.{HoldsWord, Holds, HoldsAt, SomeHolds, EdgeHolds, stack_word}
 use Rattle.bpf_regstate.specs.Joins.{join_reg, join_registers, join_marks, joined}
 use Rattle.bpf_regstate.specs.States.{join_with, join_all, into, sends, arriving, entering}
 use Rattle.bpf_regstate.specs.States.{state_from, states, state_at}
@@ -72,6 +72,7 @@ joined_left s t m h = record {
   registers = λ r. registers_left s.registers t.registers r (get_or m.registers r None)
       (h.registers r);
   marks = λ k e. h.marks k (marks_left s.marks t.marks k e);
+  words = λ w. registers_left s.words t.words w (stack_word m.stack w) (h.words w);
 }
 
 pub joined_right : (s t : Shape) (m : Machine) → Holds t m → Holds (joined s t) m
@@ -79,6 +80,7 @@ joined_right s t m h = record {
   registers = λ r. registers_right s.registers t.registers r (get_or m.registers r None)
       (h.registers r);
   marks = λ k e. h.marks k (marks_right s.marks t.marks k e);
+  words = λ w. registers_right s.words t.words w (stack_word m.stack w) (h.words w);
 }
 
 -- ---- some state of a list, some edge of a list

@@ -13,6 +13,8 @@ pub mod VerdictRows
 pub mod AccessHolds
 pub mod NoFault
 pub mod Steps
+pub mod Parts
+pub mod WordsHold
 pub mod MemorySteps
 pub mod CallSteps
 pub mod StatesAreShapes
@@ -20,3 +22,4 @@ pub mod Counting
 pub mod Safe
 pub mod RangeRows
 pub mod Marking
+pub mod KeptWords

@@ -1,15 +1,14 @@
 -- Loads and stores without a fault lead along their edges.
-use Rattle.std.proofs.Common.{◌≡◌, ℕ, zero, suc, ◌+◌, ◌-◌, ◌*◌, ◌<◌, ◌≤◌, ◌^◌, Bool, true, false}
+use Rattle.std.proofs.Common.{◌≡◌, ℕ, zero, suc, ◌+◌, ◌-◌, ◌<◌, ◌≤◌, ◌^◌, Bool, true, false}
 use Rattle.std.proofs.Common.{cond, List, [], ◌∷◌, ◌++◌, length, take, drop, replicate, map, Option}
-use Rattle.std.proofs.Common.{Some, None, IsSome, IfSome, refl, sym, ap, ◌∙◌, arith, ◌⊎◌, inl, inr}
+use Rattle.std.proofs.Common.{Some, None, IsSome, IfSome, refl, sym, ap, ◌∙◌, arith, ◌⊎◌, inl}
 use Rattle.std.proofs.Common.{get_or, ⊎_elim}
 use Rattle.std.specs.Prelude.{slice_get, ℤ, pos, ◌+ℤ◌}
 use Rattle.std.specs.Int as int
 use Rattle.std.specs.Int.{byte_len, from_le_bytes, to_le_bytes, w64}
-use Rattle.std.proofs.lemmas.Bool.{cases_lt, eqb-true}
-use Rattle.std.proofs.lemmas.List.{get_or-drop, get_or-take, get_or-append_right}
-use Rattle.std.proofs.lemmas.List.{get_or_append_left, length-append, length-drop, length-map}
-use Rattle.std.proofs.lemmas.List.{length-take-le, length-replicate}
+use Rattle.std.proofs.lemmas.Bool.{eqb-true}
+use Rattle.std.proofs.lemmas.List.{length-map}
+use Rattle.std.proofs.lemmas.List.{length-replicate}
 use Rattle.bpf_decode.specs.declared.op.Op.{Op}
 use Rattle.bpf_decode.specs.declared.op.Op.TheVariants.{Load, LoadSigned, Store}
 use Rattle.bpf_decode.specs.declared.op.Operand.{Operand}
@@ -24,9 +23,10 @@ use Rattle.bpf_semantics.specs.Machine.{Machine, Place, InRecord, InStack, Nowhe
 use Rattle.bpf_semantics.specs.Machine.{act_on, is_entry, bytes_at, loaded, place_of, size_type}
 use Rattle.bpf_semantics.specs.Machine.{stored}
 use Rattle.bpf_regstate.specs.Shape.{Shape, IsShape, known}
-use Rattle.bpf_regstate.specs.Ranges.{span, full, is_single}
+use Rattle.bpf_regstate.specs.Ranges.{full, is_single}
 use Rattle.bpf_regstate.specs.Holds.{In, Holds, IsMachine, IsOperand, AreBytes}
-use Rattle.bpf_regstate.specs.Effect.{range_of, access, marked, store_marks}
+use Rattle.bpf_regstate.specs.Effect.{range_of, access, load_range, marked, operand_reg}
+use Rattle.bpf_regstate.specs.Effect.{store_marks}
 use Rattle.bpf_regstate.specs.Edges.{edges}
 use Rattle.bpf_regstate.specs.Faults.{is_in_record, is_nowhere, is_uninit, is_unmarked, all_marked}
 use Rattle.bpf_regstate.specs.Faults.{operand_uninit}
@@ -35,8 +35,10 @@ use Rattle.bpf_regstate.proofs.ResultsOfOne.{extended_below}
 use Rattle.bpf_regstate.proofs.RefinedHolds.{reg_held}
 use Rattle.bpf_regstate.proofs.AccessHolds.{IsSomewhere, further_on, access_moves, access_marked}
 use Rattle.bpf_regstate.proofs.AccessHolds.{inside_stack, marked_present, bytes_dropped}
-use Rattle.bpf_regstate.proofs.AccessHolds.{bytes_taken, size_below}
+use Rattle.bpf_regstate.proofs.AccessHolds.{bytes_taken}
 use Rattle.bpf_regstate.proofs.NoFault.{IsClear, not_false, or_false}
+use Rattle.bpf_regstate.proofs.Parts.{outside, inside, length-replaced, where_is}
+use Rattle.bpf_regstate.proofs.WordsHold.{load_in, store_holds}
 use Rattle.bpf_regstate.proofs.Steps.{LeadsTo, LeadsWell, operand_held, sets_well}
 
 -- ---- places
@@ -98,10 +100,12 @@ module _ (record_bytes : List ℕ) (short : length record_bytes < 2 ^ 32)
         in
         let v = load_there (size_type size) (range_of (known s base)) a.0 offset a.2 c.place
         c.marked in
-        let below = size_below size v.0 v.2 in
         rw (a.1, v.1) (sets_well ops sigs m s i k h (m.slot + 1) dst
-        (from_le_bytes (size_type size) v.0) (span 0 (2 ^ (8 * byte_len (size_type size)) - 1))
-        (record { low = omega arith; high = omega (arith, below) }) c.end
+        (from_le_bytes (size_type size) v.0)
+        (load_range (length record_bytes) s.words (range_of (known s base)) offset
+        (byte_len (size_type size)))
+        (load_in m s i k h record_bytes short (range_of (known s base)) a.0 offset a.2 v.0 v.2 size
+        v.1) c.end
         (not_false (is_entry (slice_get ops (m.slot + 1))) c.next) (omega arith))
 
     pub load_signed_steps : (part : Part) (dst base : ℕ) (offset : ℤ)
@@ -119,49 +123,6 @@ module _ (record_bytes : List ℕ) (short : length record_bytes < 2 ^ 32)
         (full_in W64 (extended W64 part (from_le_bytes (part_type part) v.0))
         (extended_below W64 part (from_le_bytes (part_type part) v.0)))
         c.end (not_false (is_entry (slice_get ops (m.slot + 1))) c.next) (omega arith))
-
--- ---- a part of a list is replaced
-
-pub outside : {X : Type 0} (xs ys : List X) (at n j : ℕ) (d : X) → length ys ≡ n
-    → at + n ≤ length xs → (j < at) ⊎ (at + n ≤ j)
-    → get_or (take at xs ++ (ys ++ drop (at + n) xs)) j d ≡ get_or xs j d
-outside xs ys at n j d len fits (inl less) =
-    let front : length (take at xs) ≡ at = length-take-le at xs (omega arith) in
-    get_or_append_left (take at xs) (ys ++ drop (at + n) xs) d j (omega arith)
-    ∙ get_or-take at xs j d less
-outside xs ys at n j d len fits (inr more) =
-    let front : length (take at xs) ≡ at = length-take-le at xs (omega arith) in
-    let there : (at + n) + ((j - at) - n) ≡ j = omega arith in
-    get_or-append_right (take at xs) (ys ++ drop (at + n) xs) at j d front (omega arith)
-    ∙ get_or-append_right ys (drop (at + n) xs) n (j - at) d len (omega arith)
-    ∙ get_or-drop (at + n) xs ((j - at) - n) d
-    ∙ ap (λ (x : ℕ). get_or xs x d) there
-
-pub inside : {X : Type 0} (xs ys : List X) (at n j : ℕ) (d : X) → length ys ≡ n → at + n ≤ length xs
-    → at ≤ j → j < at + n
-    → get_or (take at xs ++ (ys ++ drop (at + n) xs)) j d ≡ get_or ys (j - at) d
-inside xs ys at n j d len fits low high =
-    let front : length (take at xs) ≡ at = length-take-le at xs (omega arith) in
-    get_or-append_right (take at xs) (ys ++ drop (at + n) xs) at j d front low
-    ∙ get_or_append_left ys (drop (at + n) xs) d (j - at) (omega arith)
-
-pub length-replaced : {X : Type 0} (xs ys : List X) (at n : ℕ) → length ys ≡ n → at + n ≤ length xs
-    → length (take at xs ++ (ys ++ drop (at + n) xs)) ≡ length xs
-length-replaced xs ys at n len fits =
-    omega (
-      arith,
-      length-append (take at xs) (ys ++ drop (at + n) xs),
-      length-append ys (drop (at + n) xs),
-      length-take-le at xs (omega arith),
-      length-drop (at + n) xs,
-      len,
-    )
-
--- before, in or behind a part
-where_is : (at n j : ℕ) → ((j < at) ⊎ (at + n ≤ j)) ⊎ ((at ≤ j) × (j < at + n))
-where_is at n j = ⊎_elim (λ (less : j < at). inl (inl less))
-    (λ (low : at ≤ j). ⊎_elim (λ (high : j < at + n). inr (low, high))
-    (λ (past : at + n ≤ j). inl (inr past)) (cases_lt j (at + n))) (cases_lt j at)
 
 -- ---- stores
 
@@ -313,6 +274,8 @@ module _ (m : Machine) (s : Shape) (i : IsShape s) (k : IsMachine m) (h : Holds 
               registers = h.registers;
               marks = store_marks_there (length record_bytes) r a.0 offset n at.0 bs len a.2 fits
                   at.1;
+              words = store_holds m s i k h (length record_bytes) size r offset a.0 at.0 v.0
+                  (range_of (operand_reg s from)) a.2 at.1 (omega (arith, v.2.high, v.3.words)) v.2;
             },
           );
         } in

@@ -53,12 +53,19 @@ joined_assoc s t u =
     ap (λ (rs : List Reg). record {
       registers = rs;
       marks = join_marks s.marks (join_marks t.marks u.marks);
+      words = join_registers s.words (join_registers t.words u.words);
     })
     (registers_assoc s.registers t.registers u.registers)
     ∙ ap (λ (bs : List Bool). record {
       registers = join_registers (join_registers s.registers t.registers) u.registers;
       marks = bs;
+      words = join_registers s.words (join_registers t.words u.words);
     }) (marks_assoc s.marks t.marks u.marks)
+    ∙ ap (λ (ws : List Reg). record {
+      registers = join_registers (join_registers s.registers t.registers) u.registers;
+      marks = join_marks (join_marks s.marks t.marks) u.marks;
+      words = ws;
+    }) (registers_assoc s.words t.words u.words)
 
 push_with : (x : Shape) (o : Option Shape) (s : Shape)
     → join_with x (with_edge o s) ≡ with_edge (join_with x o) s

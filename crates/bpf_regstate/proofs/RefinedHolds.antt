@@ -62,6 +62,7 @@ put_held s m d v r h is i = record {
   registers = λ k. put_at s.registers d k (Known r) (register m k) (λ e. rw (e, is) i)
       (h.registers k);
   marks = h.marks;
+  words = h.words;
 }
 
 -- ---- the two words

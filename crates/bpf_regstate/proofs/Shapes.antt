@@ -1,6 +1,6 @@
 -- What changes a state leaves it well formed.
-use Rattle.std.proofs.Common.{◌≡◌, ℕ, zero, suc, ◌&&◌, List, [], ◌∷◌, length, drop, refl, arith}
-use Rattle.std.proofs.Common.{get_or, length-drop}
+use Rattle.std.proofs.Common.{◌≡◌, ℕ, zero, suc, ◌≤◌, ◌&&◌, List, [], ◌∷◌, length, drop, refl}
+use Rattle.std.proofs.Common.{arith, get_or, length-drop}
 use Rattle.bpf_regstate.specs.declared.reg.Reg.{Reg}
 use Rattle.bpf_regstate.specs.declared.reg.Reg.TheVariants.{Uninit, Known}
 use Rattle.bpf_regstate.specs.Shape.{Shape, IsReg, IsShape}
@@ -22,6 +22,11 @@ join_reg_is (Known a) (Known b) i j =
       ordered = omega (arith, i.ordered, j.ordered);
       words = omega (arith, i.words, j.words);
     }
+
+length-join : (xs ys : List Reg) → length (join_registers xs ys) ≤ length xs
+length-join [] ys = omega arith
+length-join (x ∷ xs) [] = omega arith
+length-join (x ∷ xs) (y ∷ ys) = omega (arith, length-join xs ys)
 
 join_at : (xs ys : List Reg) (r : ℕ) → IsReg (get_or xs r Uninit) → IsReg (get_or ys r Uninit)
     → IsReg (get_or (join_registers xs ys) r Uninit)
@@ -45,7 +50,9 @@ join_is_shape s t i j = record {
         (omega (arith, i.marks, j.marks)),
     i.marks,
   );
+  words = omega (arith, length-join s.words t.words, i.words);
   ranges = λ r. join_at s.registers t.registers r (i.ranges r) (j.ranges r);
+  word_ranges = λ w. join_at s.words t.words w (i.word_ranges w) (j.word_ranges w);
 }
 
 -- ---- calls
@@ -71,9 +78,12 @@ pub call_is_shape : (s : Shape) (x : Reg) → IsReg x → IsShape s
       registers = x ∷ Uninit ∷ Uninit ∷ Uninit ∷ Uninit ∷ Uninit
           ∷ drop 6 s.registers;
       marks = s.marks;
+      words = s.words;
     })
 call_is_shape s x known i = record {
   registers = omega (arith, length-drop 6 s.registers, i.registers);
   marks = i.marks;
+  words = i.words;
   ranges = λ r. call_at x s.registers r known i.ranges;
+  word_ranges = i.word_ranges;
 }

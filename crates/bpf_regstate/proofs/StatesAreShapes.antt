@@ -1,7 +1,8 @@
 -- Each state at a slot of a program is well formed: its ranges have words, and words alone.
-use Rattle.std.proofs.Common.{◌≡◌, ℕ, zero, suc, ◌+◌, ◌-◌, ◌*◌, ◌<◌, ◌≤◌, ◌^◌, Bool, true, false}
+use Rattle.std.proofs.Common.{◌≡◌, ℕ, zero, suc, ◌+◌, ◌-◌, ◌*◌, ◌/◌, ◌%◌, ◌<◌, ◌≤◌, ◌^◌, max, Bool}
+use Rattle.std.proofs.Common.{true, false}
 use Rattle.std.proofs.Common.{not, ◌&&◌, cond, eqb, ltb, leb, List, [], ◌∷◌, ◌++◌, length}
-use Rattle.std.proofs.Common.{replicate, Option, Some, None, IsTrue, IfSome, refl, ◌∙◌, arith}
+use Rattle.std.proofs.Common.{replicate, Option, Some, None, IsTrue, IfSome, refl, ap, ◌∙◌, arith}
 use Rattle.std.proofs.Common.{get_or, set, lit<, lit≤}
 use Rattle.std.specs.Prelude.{slice_get, ℤ, pos, ◌+ℤ◌}
 use Rattle.std.specs.Int.{byte_len, cast_unsigned, w32, w64}
@@ -36,12 +37,15 @@ use Rattle.bpf_helpers.specs.Promise.{signature_of}
 use Rattle.bpf_semantics.specs.Machine.{Place, InRecord, InStack, Nowhere, size_type, target}
 use Rattle.bpf_regstate.specs.declared.reg.Reg.{Reg}
 use Rattle.bpf_regstate.specs.declared.reg.Reg.TheVariants.{Uninit, Known}
-use Rattle.bpf_regstate.specs.Shape.{Shape, IsRange, IsReg, IsShape, known}
+use Rattle.bpf_regstate.specs.Shape.{Shape, IsRange, IsReg, IsShape, known, known_word}
 use Rattle.bpf_regstate.specs.Ranges.{span, full, is_single, modulus, reduced}
 use Rattle.bpf_regstate.specs.Holds.{IsOperand}
 use Rattle.bpf_regstate.specs.Effect.{access, after_op, answer_reg, arith_result, extend_range}
-use Rattle.bpf_regstate.specs.Effect.{marked, negate_range, operand_reg, order_range, order_result}
-use Rattle.bpf_regstate.specs.Effect.{range_of, store_marks, with_register}
+use Rattle.bpf_regstate.specs.Effect.{is_word, load_range, loaded_range, marked, negate_range}
+use Rattle.bpf_regstate.specs.Effect.{operand_reg, order_range, order_result, range_of, store_marks}
+use Rattle.bpf_regstate.specs.Effect.{store_words, stored_words, untouched, with_register}
+use Rattle.bpf_regstate.specs.Effect.{with_word}
+use Rattle.bpf_regstate.specs.Effect.{without_words, word_at}
 use Rattle.bpf_regstate.specs.Narrowing.{compared, immediate_word, is_low, narrowed, narrows}
 use Rattle.bpf_regstate.specs.Narrowing.{put_both, refined, same_register}
 use Rattle.bpf_regstate.specs.Edges.{edge, edges}
@@ -55,7 +59,7 @@ use Rattle.bpf_regstate.proofs.Ordered.{AreRanges, full_words, narrowed_ordered,
 use Rattle.bpf_regstate.proofs.Shapes.{call_is_shape, join_is_shape}
 use Rattle.bpf_regstate.proofs.AccessHolds.{inside_stack}
 use Rattle.bpf_regstate.proofs.Steps.{range_is}
-use Rattle.bpf_regstate.proofs.MemorySteps.{length-replaced}
+use Rattle.bpf_regstate.proofs.Parts.{length-replaced}
 
 -- ---- ranges
 
@@ -146,7 +150,9 @@ pub set_is_shape : (s : Shape) (d : ℕ) (r : Range) → IsShape s → IsRange r
 set_is_shape s d r i range = record {
   registers = omega (arith, length-set s.registers d (Known r), i.registers);
   marks = i.marks;
+  words = i.words;
   ranges = λ n. set_at s.registers d n (Known r) range (i.ranges n);
+  word_ranges = i.word_ranges;
 }
 
 operand_is : (s : Shape) (from : Operand) → IsShape s → IsOperand from
@@ -171,6 +177,120 @@ store_length record_length marks r offset n len = by_test (is_single r) refl
         → length (cond t (marked marks (access record_length r offset n) n) marks) ≡ 512
     by_test true e = by_place (access record_length r offset n) refl (eqb-true _ _ e)
     by_test false e = len
+
+-- the words of the stack after a store, and what a load gives of them
+with_length : (xs : List Reg) (w : ℕ) (r : Range) → w < 64 → length xs ≤ 64
+    → length (with_word xs w r) ≤ 64
+with_length xs w r few len = omega (arith, grown xs w, few, len)
+  where
+    grown : (ys : List Reg) (v : ℕ) → length (with_word ys v r) ≤ max (length ys) (suc v)
+    grown [] zero = omega arith
+    grown [] (suc v) = omega (arith, grown [] v)
+    grown (y ∷ ys) zero = omega arith
+    grown (y ∷ ys) (suc v) = omega (arith, grown ys v)
+
+without_length : (xs : List Reg) (w count : ℕ) → length (without_words xs w count) ≡ length xs
+without_length [] w count = refl
+without_length (x ∷ xs) zero zero = refl
+without_length (x ∷ xs) zero (suc count) = ap suc (without_length xs zero count)
+without_length (x ∷ xs) (suc w) count = ap suc (without_length xs w count)
+
+with_is : (xs : List Reg) (w v : ℕ) (r : Range) → IsRange r → ((k : ℕ) → IsReg (get_or xs k Uninit))
+    → IsReg (get_or (with_word xs w r) v Uninit)
+with_is [] zero zero r range each = range
+with_is [] zero (suc v) r range each = tt
+with_is [] (suc w) zero r range each = tt
+with_is [] (suc w) (suc v) r range each = with_is [] w v r range (λ k. tt)
+with_is (x ∷ xs) zero zero r range each = range
+with_is (x ∷ xs) zero (suc v) r range each = each (suc v)
+with_is (x ∷ xs) (suc w) zero r range each = each 0
+with_is (x ∷ xs) (suc w) (suc v) r range each = with_is xs w v r range (λ k. each (suc k))
+
+without_is : (xs : List Reg) (w count v : ℕ) → ((k : ℕ) → IsReg (get_or xs k Uninit))
+    → IsReg (get_or (without_words xs w count) v Uninit)
+without_is [] w count v each = tt
+without_is (x ∷ xs) zero zero v each = each v
+without_is (x ∷ xs) zero (suc count) zero each = tt
+without_is (x ∷ xs) zero (suc count) (suc v) each = without_is xs zero count v (λ k. each (suc k))
+without_is (x ∷ xs) (suc w) count zero each = each 0
+without_is (x ∷ xs) (suc w) count (suc v) each = without_is xs w count v (λ k. each (suc k))
+
+-- the same state with other words
+abbrev with_words : Shape → List Reg → Shape
+with_words s words = record { registers = s.registers; marks = s.marks; words = words }
+
+pub kept_is_shape : (s : Shape) (w : ℕ) (r : Range) → IsShape s → IsRange r → w < 64
+    → IsShape (with_words s (with_word s.words w r))
+kept_is_shape s w r i range few = record {
+  registers = i.registers;
+  marks = i.marks;
+  words = with_length s.words w r few i.words;
+  ranges = i.ranges;
+  word_ranges = λ v. with_is s.words w v r range i.word_ranges;
+}
+
+pub untouched_is_shape : (s : Shape) (w count : ℕ) → IsShape s
+    → IsShape (with_words s (without_words s.words w count))
+untouched_is_shape s w count i = record {
+  registers = i.registers;
+  marks = i.marks;
+  words = omega (arith, without_length s.words w count, i.words);
+  ranges = i.ranges;
+  word_ranges = λ v. without_is s.words w count v i.word_ranges;
+}
+
+module _ (record_length : ℕ) (s : Shape) (r : Range) (offset : ℤ) where
+  store_words_length : (n : ℕ) (value : Range) → IsShape s
+      → length (store_words record_length s.words r offset n value) ≤ 64
+  store_words_length n value i = by_place (access record_length r offset n)
+    where
+      by_test : (t : Bool) (at : ℕ)
+          → length (cond t (with_word s.words (word_at at) value)
+          (untouched s.words at (r.hi - r.lo + n))) ≤ 64
+      by_test true at = with_length s.words (word_at at) value (omega arith) i.words
+      by_test false at =
+          omega (
+            arith,
+            without_length s.words (word_at (at + (r.hi - r.lo + n) - 1))
+                ((at % 8 + (r.hi - r.lo + n) + 7) / 8),
+            i.words,
+          )
+
+      by_place : (p : Place) → length (stored_words s.words r p n value) ≤ 64
+      by_place (InRecord at) = i.words
+      by_place (InStack at) = by_test (is_word r at n) at
+      by_place Nowhere = i.words
+
+  store_words_are : (n : ℕ) (value : Range) → IsShape s → IsRange value → (w : ℕ)
+      → IsReg (get_or (store_words record_length s.words r offset n value) w Uninit)
+  store_words_are n value i range w = by_place (access record_length r offset n)
+    where
+      by_test : (t : Bool) (at : ℕ)
+          → IsReg (get_or (cond t (with_word s.words (word_at at) value)
+          (untouched s.words at (r.hi - r.lo + n))) w Uninit)
+      by_test true at = with_is s.words (word_at at) w value range i.word_ranges
+      by_test false at =
+          without_is s.words (word_at (at + (r.hi - r.lo + n) - 1))
+          ((at % 8 + (r.hi - r.lo + n) + 7) / 8) w i.word_ranges
+
+      by_place : (p : Place) → IsReg (get_or (stored_words s.words r p n value) w Uninit)
+      by_place (InRecord at) = i.word_ranges w
+      by_place (InStack at) = by_test (is_word r at n) at
+      by_place Nowhere = i.word_ranges w
+
+  load_is : (size : Size) → IsShape s
+      → IsRange (load_range record_length s.words r offset (byte_len (size_type size)))
+  load_is size i = by_place (access record_length r offset (byte_len (size_type size)))
+    where
+      by_place : (p : Place) → IsRange (loaded_range s.words r p (byte_len (size_type size)))
+      by_place (InRecord at) = size_is size
+      by_place (InStack at) =
+          choice_is (is_word r at (byte_len (size_type size)))
+          (range_of (known_word s (word_at at)))
+          (span 0 (2 ^ (8 * byte_len (size_type size)) - 1))
+          (λ e. range_is (known_word s (word_at at)) (i.word_ranges (word_at at)))
+          (λ e. size_is size)
+      by_place Nowhere = size_is size
 
 ordered_is : (r : Range) → is_ordered r ≡ true → IsRange r
 ordered_is r e =
@@ -237,14 +357,22 @@ module _ (record_length : ℕ) (sigs : List (ℕ × Promise)) (well : IsTrue (ar
         call_is_shape s (answer_reg (signature_of sigs helper)) (answer_is sigs helper well) i
     after_is_shape Exit s f i = i
     after_is_shape (Load size dst base offset) s f i =
-        set_is_shape s dst (span 0 (2 ^ (8 * byte_len (size_type size)) - 1)) i (size_is size)
+        set_is_shape s dst
+        (load_range record_length s.words (range_of (known s base)) offset
+        (byte_len (size_type size))) i
+        (load_is record_length s (range_of (known s base)) offset size i)
     after_is_shape (LoadSigned part dst base offset) s f i =
         set_is_shape s dst (full W64) i (full_is W64)
     after_is_shape (Store size base offset from) s f i = record {
       registers = i.registers;
       marks = store_length record_length s.marks (range_of (known s base)) offset
           (byte_len (size_type size)) i.marks;
+      words = store_words_length record_length s (range_of (known s base)) offset
+          (byte_len (size_type size)) (range_of (operand_reg s from)) i;
       ranges = i.ranges;
+      word_ranges = store_words_are record_length s (range_of (known s base)) offset
+          (byte_len (size_type size)) (range_of (operand_reg s from)) i
+          (operand_is s from i (store_operand size base offset from f));
     }
     after_is_shape (Wide dst value) s f i =
         set_is_shape s dst (span value value) i (one_word value f.2)
@@ -353,7 +481,9 @@ start_is_shape record_length h =
     record {
       registers = refl;
       marks = length-replicate 512 false;
+      words = omega arith;
       ranges = start_reg record_length h;
+      word_ranges = λ w. tt;
     }
 
 -- ---- all slots

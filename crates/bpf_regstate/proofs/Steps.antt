@@ -83,7 +83,7 @@ abbrev pub moved : Machine → ℕ → Machine
 moved m to = record { slot = to; registers = m.registers; stack = m.stack }
 
 moved_held : (s : Shape) (m : Machine) (to : ℕ) → Holds s m → Holds s (moved m to)
-moved_held s m to h = record { registers = h.registers; marks = h.marks }
+moved_held s m to h = record { registers = h.registers; marks = h.marks; words = h.words }
 
 moved_held_at : (o : Option Shape) (m : Machine) (to : ℕ) → HoldsAt o m → HoldsAt o (moved m to)
 moved_held_at None m to h = h
@@ -125,6 +125,7 @@ module _ (ops : List Op) (sigs : List (ℕ × Promise)) (m : Machine) (s : Shape
         registers = λ n. set_held s.registers m.registers dst n (Known r) (Some v)
             (omega (arith, i.registers, k.registers)) there (h.registers n);
         marks = h.marks;
+        words = h.words;
       } in
       let goes : LeadsTo ops m.slot ((next, with_register s dst (Known r)) ∷ []) after = record {
         later = later;

@@ -1,6 +1,6 @@
 -- Worked programs: which are accepted, and the first fault of the others.
 use Rattle.std.proofs.Common.{◌≡◌, ℕ, zero, suc, ◌<◌, ◌≤◌, Bool, true, false, ◌&&◌, List, [], ◌∷◌}
-use Rattle.std.proofs.Common.{length, Option, Some, None, refl, arith, subst, ⊎_elim}
+use Rattle.std.proofs.Common.{◌++◌, length, Option, Some, None, refl, arith, subst, ⊎_elim}
 use Rattle.std.specs.Prelude.{pos, negsuc}
 use Rattle.std.proofs.lemmas.Bool.{cases_lt}
 use Rattle.bpf_decode.specs.declared.op.Op.{Op}
@@ -206,6 +206,48 @@ hull : IsFirstFault 128 (Jump W64 Equal 4 (Immediate (pos 1)) (pos 2) ∷ Arith 
     ∷ Arith W64 Add 1 (Immediate (negsuc 7)) ∷ Load Byte 0 1 (pos 0) ∷ Exit ∷ []) [] 3 309
 unfolding states start_shape
 hull = refused _ _ 3 309 (omega arith) refl refl
+
+-- ---- words of the stack
+
+-- the record's address is stored, and loaded again after something else, for a read of the record
+spilled : ℕ → List Op → List Op
+spilled below between =
+    Store Double 10 (negsuc below) (From 1)
+    ∷ (between
+    ++ Arith W64 Mov 1 (Immediate (pos 0)) ∷ Load Double 1 10 (negsuc below)
+    ∷ Load Byte 0 1 (pos 63) ∷ Exit ∷ [])
+
+spilled_pointer : IsAccepted (spilled 7 []) []
+unfolding states start_shape spilled
+spilled_pointer = accepted _ _ refl
+
+stored_into : IsFirstFault 128 (spilled 7 (Store Byte 10 (negsuc 0) (Immediate (pos 0)) ∷ [])) [] 4
+    309
+unfolding states start_shape spilled
+stored_into = refused _ _ 4 309 (omega arith) refl refl
+
+stored_below : IsAccepted (spilled 7 (Store Byte 10 (negsuc 8) (Immediate (pos 0)) ∷ [])) []
+unfolding states start_shape spilled
+stored_below = accepted _ _ refl
+
+-- four bytes off an aligned word
+off_a_word : IsFirstFault 128 (spilled 11 []) [] 3 309
+unfolding states start_shape spilled
+off_a_word = refused _ _ 3 309 (omega arith) refl refl
+
+-- one way stores this register again
+spilled_again : ℕ → List Op
+spilled_again r = Store Double 10 (negsuc 7) (From 1) ∷ Jump W64 Equal 4 (Immediate (pos 1)) (pos 1)
+    ∷ Store Double 10 (negsuc 7) (From r) ∷ Load Double 1 10 (negsuc 7) ∷ Load Byte 0 1 (pos 63)
+    ∷ Exit ∷ []
+
+another_value : IsFirstFault 128 (spilled_again 2) [] 4 309
+unfolding states start_shape spilled_again
+another_value = refused _ _ 4 309 (omega arith) refl refl
+
+same_value : IsAccepted (spilled_again 1) []
+unfolding states start_shape spilled_again
+same_value = accepted _ _ refl
 
 -- ---- calls
 

@@ -1,8 +1,8 @@
 -- What is known after an instruction that is no conditional jump. Sections are those of RFC 9669;
 -- "profile" is this project's profile.
-use Rattle.std.specs.Prelude.{ℕ, ◌+◌, ◌-◌, ◌*◌, ◌^◌, List, ◌∷◌, ◌++◌, take, drop, replicate, Bool}
-use Rattle.std.specs.Prelude.{true, nat_lt, if◌then◌else◌, Option, Some, None, slice_set, ℤ, pos}
-use Rattle.std.specs.Prelude.{◌+ℤ◌}
+use Rattle.std.specs.Prelude.{ℕ, zero, suc, ◌+◌, ◌-◌, ◌*◌, ◌/◌, ◌%◌, ◌^◌, List, [], ◌∷◌, ◌++◌, take}
+use Rattle.std.specs.Prelude.{drop, replicate, Bool, true, ◌&&◌, ◌==◌, nat_lt, if◌then◌else◌}
+use Rattle.std.specs.Prelude.{Option, Some, None, slice_index_or, slice_set, ℤ, pos, ◌+ℤ◌}
 use Rattle.std.specs.Int as int
 use Rattle.std.specs.Int.{cast_unsigned, w64}
 use Rattle.bpf_decode.specs.declared.op.Op.{Op}
@@ -39,7 +39,11 @@ operand_reg s (From r) = known s r
 operand_reg s (Immediate v) = Known (span (cast_unsigned w64 v) (cast_unsigned w64 v))
 
 abbrev pub with_register : Shape → ℕ → Reg → Shape
-with_register s r v = record { registers = slice_set s.registers r v; marks = s.marks }
+with_register s r v = record {
+  registers = slice_set s.registers r v;
+  marks = s.marks;
+  words = s.words;
+}
 
 -- ---- results of one operand
 
@@ -77,6 +81,51 @@ marked marks (InStack at) n = take at marks ++ (replicate n true ++ drop (at + n
 marked marks (InRecord at) n = marks
 marked marks Nowhere n = marks
 
+-- profile: an access of n bytes from a place of the stack on, at the addresses of a range, that is
+-- of one aligned word
+abbrev pub is_word : Range → ℕ → ℕ → Bool
+is_word r at n = n == 8 && is_single r && at % 8 == 0
+
+-- the range is kept of a word of the stack
+abbrev pub with_word : List Reg → ℕ → Range → List Reg
+with_word [] zero r = Known r ∷ []
+with_word [] (suc w) r = Uninit ∷ with_word [] w r
+with_word (x ∷ xs) zero r = Known r ∷ xs
+with_word (x ∷ xs) (suc w) r = x ∷ with_word xs w r
+
+-- nothing is kept of so many words from one on
+abbrev pub without_words : List Reg → ℕ → ℕ → List Reg
+without_words [] w count = []
+without_words (x ∷ xs) zero zero = x ∷ xs
+without_words (x ∷ xs) zero (suc count) = Uninit ∷ without_words xs zero count
+without_words (x ∷ xs) (suc w) count = x ∷ without_words xs w count
+
+-- the word of a byte of the stack
+abbrev pub word_at : ℕ → ℕ
+word_at at = 63 - at / 8
+
+-- what n bytes from a place on touch is no longer kept
+abbrev pub untouched : List Reg → ℕ → ℕ → List Reg
+untouched words at n = without_words words (word_at (at + n - 1)) ((at % 8 + n + 7) / 8)
+
+-- profile: a store of one aligned word keeps the range of its value, and any other keeps nothing of
+-- the words of which it may touch a byte
+abbrev pub stored_words : List Reg → Range → Place → ℕ → Range → List Reg
+stored_words words r (InStack at) n value =
+    if is_word r at n then with_word words (word_at at) value
+    else untouched words at (r.hi - r.lo + n)
+stored_words words r (InRecord at) n value = words
+stored_words words r Nowhere n value = words
+
+-- profile: a load of one aligned word gives what is kept of it, and any other every number of so
+-- many bytes
+abbrev pub loaded_range : List Reg → Range → Place → ℕ → Range
+loaded_range words r (InStack at) n =
+    if is_word r at n then range_of (slice_index_or words (word_at at) Uninit)
+    else span 0 (2 ^ (8 * n) - 1)
+loaded_range words r (InRecord at) n = span 0 (2 ^ (8 * n) - 1)
+loaded_range words r Nowhere n = span 0 (2 ^ (8 * n) - 1)
+
 -- profile: the answer lies in the range that the signature promises; an unknown helper is a fault
 abbrev pub answer_reg : Option Promise → Reg
 answer_reg None = Uninit
@@ -94,6 +143,12 @@ module _ (record_length : ℕ) where
   abbrev pub store_marks : List Bool → Range → ℤ → ℕ → List Bool
   store_marks marks r offset n = if is_single r then marked marks (access r offset n) n else marks
 
+  abbrev pub store_words : List Reg → Range → ℤ → ℕ → Range → List Reg
+  store_words words r offset n value = stored_words words r (access r offset n) n value
+
+  abbrev pub load_range : List Reg → Range → ℤ → ℕ → Range
+  load_range words r offset n = loaded_range words r (access r offset n) n
+
   -- what is known after an instruction that is no conditional jump
   abbrev pub after_op : List (ℕ × Promise) → Op → Shape → Shape
   after_op sigs (Arith w code dst from) s =
@@ -106,11 +161,14 @@ module _ (record_length : ℕ) where
   after_op sigs (End order n dst) s =
       with_register s dst (Known (order_result order n (range_of (known s dst))))
   after_op sigs (Load size dst base offset) s =
-      with_register s dst (Known (span 0 (2 ^ (8 * int.byte_len (size_type size)) - 1)))
+      with_register s dst
+      (Known (load_range s.words (range_of (known s base)) offset (int.byte_len (size_type size))))
   after_op sigs (LoadSigned part dst base offset) s = with_register s dst (Known (full W64))
   after_op sigs (Store size base offset from) s = record {
     registers = s.registers;
     marks = store_marks s.marks (range_of (known s base)) offset (int.byte_len (size_type size));
+    words = store_words s.words (range_of (known s base)) offset (int.byte_len (size_type size))
+        (range_of (operand_reg s from));
   }
   after_op sigs (Wide dst value) s = with_register s dst (Known (span value value))
   after_op sigs (Call helper) s = record {
@@ -118,5 +176,6 @@ module _ (record_length : ℕ) where
         answer_reg (signature_of sigs helper)
         ∷ Uninit ∷ Uninit ∷ Uninit ∷ Uninit ∷ Uninit ∷ drop 6 s.registers;
     marks = s.marks;
+    words = s.words;
   }
   after_op sigs op s = s

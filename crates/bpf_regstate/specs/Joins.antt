@@ -17,6 +17,7 @@ zip_with f [] ys = []
 zip_with f (x ∷ xs) [] = []
 zip_with f (x ∷ xs) (y ∷ ys) = f x y ∷ zip_with f xs ys
 
+-- of registers, or of words of the stack: of a word behind one of the lists nothing is known
 abbrev pub join_registers : List Reg → List Reg → List Reg
 join_registers xs ys = zip_with join_reg xs ys
 
@@ -29,4 +30,5 @@ abbrev pub joined : Shape → Shape → Shape
 joined s t = record {
   registers = join_registers s.registers t.registers;
   marks = join_marks s.marks t.marks;
+  words = join_registers s.words t.words;
 }

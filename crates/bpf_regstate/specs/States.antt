@@ -35,6 +35,7 @@ start_shape record_length = record {
       ∷ Uninit ∷ Uninit ∷ Uninit ∷ Uninit ∷ Uninit
       ∷ Known (span (stack_base + 512) (stack_base + 512)) ∷ [];
   marks = replicate 512 false;
+  words = [];
 }
 
 -- the states that edges bring to a slot

@@ -10,6 +10,7 @@ mod places;
 mod reg;
 mod single;
 mod state;
+mod words;
 
 pub use bpf_helpers::Range;
 pub use places::{RECORD_LENGTH, place_of_access};

@@ -7,26 +7,28 @@ ghost use Rattle.bpf_semantics.specs.Machine.{size_type};
 ghost use Rattle.bpf_regstate.specs.Shape.{IsRange, IsReg};
 ghost use Rattle.bpf_regstate.specs.Effect.{answer_reg, range_of};
 ghost use Rattle.bpf_regstate.specs.Narrowing.{immediate_word, is_low, narrows};
-ghost use Rattle.bpf_regstate.specs.Joins.{join_reg, join_registers};
 ghost use Rattle.bpf_regstate.specs.declared.reg.Reg.TheVariants.{Uninit};
 
 use crate::arith::{all_of, operate_on_ranges};
 use crate::marks::{are_marked, join_words, mark_from};
 use crate::narrowing::{narrow, narrows};
 use crate::places::{RECORD_LENGTH, place_of_access};
-use crate::reg::Reg;
+use crate::reg::{Reg, join_each};
 use crate::single::{extend_words, negate_words, order_words, single};
+use crate::words::{forget, is_word, join_kept, keep, word_at};
 use bpf_decode::{Condition, Op, Operand, Register, Size, Width};
 use bpf_helpers::{Range, Sigs};
 use bpf_places::{Place, RECORD_BASE, STACK_BASE, STACK_LENGTH, byte_count};
+use std::alloc::{AllocError, Global};
 use std::marker::Model;
 
-/// What is known before an instruction: of each register, and which bytes of the stack were written
-/// on every way there. Contracts see it as a `Shape`.
+/// What is known before an instruction: of each register, which bytes of the stack were written on
+/// every way there, and of aligned words of the stack. Contracts see it as a `Shape`.
 #[derive(Drop)]
 pub struct State {
     registers: [Reg; 11],
     marks: [u64; 8],
+    words: Vec<Reg>,
 }
 
 impl Model for State {
@@ -35,10 +37,18 @@ impl Model for State {
 
     ghost Value = { Shape };
 
-    ghost view = { λ s. record { registers = s.registers; marks = marks_of s.marks } };
+    ghost view = { λ s. record {
+      registers = s.registers;
+      marks = marks_of s.marks;
+      words = s.words.items;
+    } };
 
     ghost invariant = { λ s.
-        IsShape (record { registers = s.registers; marks = marks_of s.marks }) };
+        IsShape (record {
+          registers = s.registers;
+          marks = marks_of s.marks;
+          words = s.words.items;
+        }) };
 }
 
 /// The greatest number of this size.
@@ -65,29 +75,6 @@ fn range_of(reg: Reg) -> Range
     }
 }
 
-/// What two edges have in common of a register.
-fn join_one(x: Reg, y: Reg) -> Reg
-    ensures { result ≡ join_reg x y }
-{
-    match (x, y) {
-        (Reg::Known(a), Reg::Known(b)) => Reg::Known(Range {
-            lo: a.lo.min(b.lo),
-            hi: a.hi.max(b.hi),
-        }),
-        _ => Reg::Uninit,
-    }
-}
-
-/// Joins each register with the one at its place.
-fn join_each(xs: &mut [Reg], ys: &[Reg])
-    requires { length xs.old ≡ length ys.now }
-    ensures { xs.new ≡ join_registers xs.old ys.now }
-{
-    for i in 0..xs.len() {
-        xs[i] = join_one(xs[i], ys[i]);
-    }
-}
-
 /// Changes the registers as a call does: the answer in r0, nothing known of r1 to r5, and the
 /// others as they were.
 fn after_call(registers: &mut [Reg], answer: Reg)
@@ -111,12 +98,16 @@ fn answer_of(sigs: &Sigs, helper: u32) -> Reg
 }
 
 impl State {
-    ghost use Rattle.std.specs.Prelude.{◌≡◌, ◌≤◌, Some, None, if◌then◌else◌};
+    ghost use Rattle.std.specs.Prelude.{◌≡◌, ◌<◌, ◌≤◌, ◌+◌, ◌-◌, Some, None, if◌then◌else◌};
+    ghost use Rattle.std.specs.Prelude.{is_ok, IfOk, OnOk};
+    ghost use Rattle.bpf_semantics.specs.Machine.{InStack};
     ghost use Rattle.bpf_decode.specs.declared.op.Op.TheVariants.{Call};
     ghost use Rattle.bpf_decode.specs.declared.op.Operand.TheVariants.{From, Immediate};
-    ghost use Rattle.bpf_regstate.specs.Shape.{IsRange, IsReg, IsShape, known};
-    ghost use Rattle.bpf_regstate.specs.Effect.{after_op, operand_reg, range_of, store_marks};
+    ghost use Rattle.bpf_regstate.specs.Shape.{IsRange, IsReg, IsShape, known, known_word};
+    ghost use Rattle.bpf_regstate.specs.Effect.{after_op, load_range, operand_reg, range_of};
+    ghost use Rattle.bpf_regstate.specs.Effect.{marked, store_marks, store_words, stored_words};
     ghost use Rattle.bpf_regstate.specs.Effect.{with_register};
+    ghost use Rattle.bpf_regstate.specs.Ranges.{is_single};
     ghost use Rattle.bpf_regstate.specs.Faults.{all_marked};
     ghost use Rattle.bpf_regstate.specs.Joins.{joined};
     ghost use Rattle.bpf_regstate.specs.Narrowing.{refined};
@@ -125,9 +116,9 @@ impl State {
 
     /// What is known before the first instruction (this project's profile): r1 is the first address
     /// of a record of 128 bytes, r2 is 128, r3 a moment of 32 bits, r4 a milestone from 1 to 16,
-    /// and r10 the end of the stack, of which no byte is written.
+    /// and r10 the end of the stack, of which no byte is written. It takes no memory.
     #[tactic(auto, unfolding(crate::specs::States::start_shape))]
-    pub fn start() -> State
+    pub fn start(alloc: Global) -> State
         ensures { result ≡ start_shape 128 }
     {
         let none = Reg::Uninit;
@@ -144,6 +135,7 @@ impl State {
                 none, record, length, moment, milestone, none, none, none, none, none, end,
             ],
             marks: [0; 8],
+            words: Vec::new(alloc),
         }
     }
 
@@ -192,54 +184,145 @@ impl State {
     }
 
     /// Keeps what both have in common: a register is uninitialised if either says so, else it has
-    /// the least range that has both, and a byte of the stack is marked if both mark it.
+    /// the least range that has both, a byte of the stack is marked if both mark it, and a word of
+    /// the stack is kept if both keep it, with the least range that has both.
     pub fn join(&mut self, other: &State)
         ensures { self.new ≡ joined self.old other.now }
     {
         join_each(&mut self.registers, &other.registers);
         join_words(&mut self.marks, &other.marks);
+        join_kept(&mut self.words, other.words.as_slice());
     }
 
-    /// Marks what a store writes, if there is one place where it goes.
-    fn mark(&mut self, address: Range, offset: i32, count: usize)
-        requires range { IsRange address }
-        requires few { count ≤ 8 }
+    /// Marks what a store writes from this place of the stack on, if there is one address where it
+    /// goes.
+    fn mark(&mut self, address: Range, at: usize, count: usize)
+        requires { at + count ≤ 512 }
         ensures { self.new ≡ record {
           registers = self.old.registers;
-          marks = store_marks 128 self.old.marks address offset count;
+          marks = if is_single address then marked self.old.marks (InStack at) count
+              else self.old.marks;
+          words = self.old.words;
         } }
     {
-        if address.lo != address.hi {
-            return;
-        }
-        if let Place::Stack(at) = place_of_access(RECORD_LENGTH, address, offset, count) {
+        if address.lo == address.hi {
             mark_from(&mut self.marks, at, count);
         }
     }
 
-    /// The same again.
-    pub fn copy(&self) -> State
-        ensures { result ≡ self.now }
+    /// Keeps the value of a store of one aligned word, and nothing of the words of which any other
+    /// store may touch a byte, from this place of the stack on. `Err` only where there is no
+    /// memory, and then nothing has changed.
+    fn put_word(
+        &mut self,
+        address: Range,
+        at: usize,
+        count: usize,
+        value: Range,
+    ) -> Result<(), AllocError>
+        requires range { IsRange address }
+        requires value { IsRange value }
+        requires some { 0 < count }
+        requires inside { at + (address.hi - address.lo + count) ≤ 512 }
+        ensures { self.new ≡ record {
+          registers = self.old.registers;
+          marks = self.old.marks;
+          words = if is_ok result
+              then stored_words self.old.words address (InStack at) count value
+              else self.old.words;
+        } }
     {
-        State {
-            registers: self.registers,
-            marks: self.marks,
+        if is_word(address, at, count) {
+            keep(&mut self.words, word_at(at), value)?;
+        } else {
+            let touched = (address.hi - address.lo) as usize + count;
+            let words = (at % 8 + touched + 7) / 8;
+            forget(&mut self.words, word_at(at + touched - 1), words);
+        }
+        Ok(())
+    }
+
+    /// A store: of the words and of the marks of the stack.
+    fn store(
+        &mut self,
+        address: Range,
+        offset: i32,
+        count: usize,
+        value: Range,
+    ) -> Result<(), AllocError>
+        requires range { IsRange address }
+        requires value { IsRange value }
+        requires some { 0 < count }
+        requires few { count ≤ 8 }
+        ensures { OnOk result (self.new ≡ record {
+          registers = self.old.registers;
+          marks = store_marks 128 self.old.marks address offset count;
+          words = store_words 128 self.old.words address offset count value;
+        }) }
+    {
+        if let Place::Stack(at) = place_of_access(RECORD_LENGTH, address, offset, count) {
+            self.put_word(address, at, count, value)?;
+            self.mark(address, at, count);
+        }
+        Ok(())
+    }
+
+    /// The range of what a load gives.
+    fn load(&self, address: Range, offset: i32, size: Size) -> Range
+        requires { IsRange address }
+        ensures value { result
+            ≡ load_range 128 self.now.words address offset (byte_len (size_type size)) }
+        ensures range { IsRange result }
+    {
+        let count = byte_count(size);
+        if let Place::Stack(at) = place_of_access(RECORD_LENGTH, address, offset, count) {
+            if is_word(address, at, count) {
+                return range_of(self.word(word_at(at)));
+            }
+        }
+        Range {
+            lo: 0,
+            hi: greatest(size),
         }
     }
 
-    /// What is known after an instruction, of those that are no conditional jumps (this project's
-    /// profile). Jumps and the exit change nothing.
-    pub fn transfer(&self, op: Op, sigs: &Sigs) -> State
-        ensures { result ≡ after_op 128 sigs.now op self.now }
+    /// What is known of a word of the stack.
+    fn word(&self, word: usize) -> Reg
+        ensures value { result ≡ known_word self.now word }
+        ensures range { IsReg result }
     {
-        let mut after = self.copy();
-        after.advance(op, sigs);
-        after
+        match self.words.get(word) {
+            Some(known) => *known,
+            None => Reg::Uninit,
+        }
     }
 
-    /// Goes on to what is known after an instruction, as `transfer` has it, in place.
-    pub fn advance(&mut self, op: Op, sigs: &Sigs)
-        ensures { self.new ≡ after_op 128 sigs.now op self.old }
+    /// The same again. `Err` only where there is no memory.
+    pub fn copy(&self) -> Result<State, AllocError>
+        ensures { IfOk result (λ state. state ≡ self.now) }
+    {
+        let words = self.words.clone()?;
+        Ok(State {
+            registers: self.registers,
+            marks: self.marks,
+            words,
+        })
+    }
+
+    /// What is known after an instruction, of those that are no conditional jumps (this project's
+    /// profile). Jumps and the exit change nothing. `Err` only where there is no memory.
+    pub fn transfer(&self, op: Op, sigs: &Sigs) -> Result<State, AllocError>
+        ensures { IfOk result (λ after. after ≡ after_op 128 sigs.now op self.now) }
+    {
+        let mut after = self.copy()?;
+        after.advance(op, sigs)?;
+        Ok(after)
+    }
+
+    /// Goes on to what is known after an instruction, as `transfer` has it, in place. `Err` only
+    /// where there is no memory.
+    pub fn advance(&mut self, op: Op, sigs: &Sigs) -> Result<(), AllocError>
+        ensures { OnOk result (self.new ≡ after_op 128 sigs.now op self.old) }
     {
         match op {
             Op::Arith {
@@ -261,20 +344,23 @@ impl State {
             Op::End { order, bytes, dst } => {
                 self.set(dst, order_words(order, bytes, self.range_of(dst)))
             }
-            Op::Load { size, dst, .. } => self.set(
+            Op::Load {
+                size,
                 dst,
-                Range {
-                    lo: 0,
-                    hi: greatest(size),
-                },
-            ),
+                base,
+                offset,
+            } => self.set(dst, self.load(self.range_of(base), offset as i32, size)),
             Op::LoadSigned { dst, .. } => self.set(dst, all_of(Width::W64)),
             Op::Store {
                 size,
                 base,
                 offset,
-                ..
-            } => self.mark(self.range_of(base), offset as i32, byte_count(size)),
+                value,
+            } => {
+                let address = self.range_of(base);
+                let value = self.operand(value);
+                self.store(address, offset as i32, byte_count(size), value)?
+            }
             Op::Wide { dst, value } => self.set(dst, single(value)),
             Op::Call { helper } => self.call(sigs, helper),
             Op::Jump { .. } => {}
@@ -283,6 +369,7 @@ impl State {
             Op::Exit => {}
             Op::Tail => {}
         }
+        Ok(())
     }
 
     /// A call: nothing is known of r1 to r5 after it, and r0 has an answer that is promised.
@@ -296,7 +383,7 @@ impl State {
     /// else where it doesn't. `None` where no words of the two ranges lead there. Unsigned
     /// comparisons of two different registers, or of a register and an immediate, narrow both
     /// ranges; comparisons of low halves only where both ranges lie below 2^32 (this project's
-    /// profile).
+    /// profile). `Err` only where there is no memory.
     pub fn refine(
         &self,
         width: Width,
@@ -304,14 +391,15 @@ impl State {
         dst: Register,
         operand: Operand,
         taken: bool,
-    ) -> Option<State>
-        ensures { result ≡ refined width condition dst operand taken self.now }
+    ) -> Result<Option<State>, AllocError>
+        ensures { IfOk result (λ after.
+            after ≡ refined width condition dst operand taken self.now) }
     {
-        let mut after = self.copy();
+        let mut after = self.copy()?;
         if after.follow(width, condition, dst, operand, taken) {
-            Some(after)
+            Ok(Some(after))
         } else {
-            None
+            Ok(None)
         }
     }
 

@@ -63,21 +63,43 @@ fn lacks(rt: &impl Abort, state: &State, register: Register) {
 }
 
 /// After an instruction at the start a register has this range.
-fn gives(rt: &impl Abort, sigs: &Sigs, op: Op, register: Register, lo: u64, hi: u64) {
-    has(rt, &State::start().transfer(op, sigs), register, lo, hi);
+fn gives(
+    rt: &impl Abort,
+    alloc: Global,
+    sigs: &Sigs,
+    op: Op,
+    register: Register,
+    lo: u64,
+    hi: u64,
+) -> Result<(), Fail> {
+    has(
+        rt,
+        &State::start(alloc).transfer(op, sigs)?,
+        register,
+        lo,
+        hi,
+    );
+    Ok(())
 }
 
 /// At the start `dst` has this range after an operation.
-fn computes(rt: &impl Abort, sigs: &Sigs, rows: &[(Width, Code, Register, Operand, u64, u64)]) {
+fn computes(
+    rt: &impl Abort,
+    alloc: Global,
+    rows: &[(Width, Code, Register, Operand, u64, u64)],
+) -> Result<(), Fail> {
+    let sigs = no_sigs(alloc)?;
     for row in rows {
         let (width, code, dst, operand, lo, hi) = *row;
-        gives(rt, sigs, arith(width, code, dst, operand), dst, lo, hi);
+        let op = arith(width, code, dst, operand);
+        gives(rt, alloc, &sigs, op, dst, lo, hi)?;
     }
+    Ok(())
 }
 
 #[test]
 fn the_start_is_known(rt: HostRuntime) -> Result<(), Fail> {
-    let start = State::start();
+    let start = State::start(rt.alloc());
     lacks(&rt, &start, reg(0));
     has(&rt, &start, reg(1), 0x1_0000_0000, 0x1_0000_0000);
     has(&rt, &start, reg(2), 128, 128);
@@ -94,7 +116,6 @@ fn the_start_is_known(rt: HostRuntime) -> Result<(), Fail> {
 
 #[test]
 fn sums_and_differences(rt: HostRuntime) -> Result<(), Fail> {
-    let sigs = no_sigs(rt.alloc())?;
     let rows = [
         (W64, Code::Add, reg(4), imm(5), 6, 21),
         (W64, Code::Add, reg(3), from(4), 1, LOW + 16),
@@ -107,13 +128,11 @@ fn sums_and_differences(rt: HostRuntime) -> Result<(), Fail> {
         (W64, Code::Sub, reg(4), from(2), ALL - 126, ALL - 111),
         (W64, Code::Sub, reg(2), imm(129), ALL, ALL),
     ];
-    computes(&rt, &sigs, &rows);
-    Ok(())
+    computes(&rt, rt.alloc(), &rows)
 }
 
 #[test]
 fn products_and_quotients(rt: HostRuntime) -> Result<(), Fail> {
-    let sigs = no_sigs(rt.alloc())?;
     let rows = [
         (W64, Code::Mul, reg(4), imm(3), 3, 48),
         (
@@ -135,13 +154,11 @@ fn products_and_quotients(rt: HostRuntime) -> Result<(), Fail> {
         (W64, Code::SignedMod, reg(4), imm(2), 0, ALL),
         (W64, Code::SignedDiv, reg(2), imm(-2), ALL - 63, ALL - 63),
     ];
-    computes(&rt, &sigs, &rows);
-    Ok(())
+    computes(&rt, rt.alloc(), &rows)
 }
 
 #[test]
 fn bits_and_shifts(rt: HostRuntime) -> Result<(), Fail> {
-    let sigs = no_sigs(rt.alloc())?;
     let rows = [
         (W64, Code::And, reg(3), imm(511), 0, 511),
         (W64, Code::Or, reg(4), from(2), 128, 255),
@@ -158,8 +175,7 @@ fn bits_and_shifts(rt: HostRuntime) -> Result<(), Fail> {
         (W64, Code::Mov, reg(0), from(4), 1, 16),
         (W32, Code::Mov, reg(0), from(1), 0, 0),
     ];
-    computes(&rt, &sigs, &rows);
-    Ok(())
+    computes(&rt, rt.alloc(), &rows)
 }
 
 #[test]
@@ -172,7 +188,15 @@ fn negation_and_sign_extension(rt: HostRuntime) -> Result<(), Fail> {
     ];
     for row in &negations {
         let (width, dst, lo, hi) = *row;
-        gives(&rt, &sigs, Op::Negate { width, dst }, dst, lo, hi);
+        gives(
+            &rt,
+            rt.alloc(),
+            &sigs,
+            Op::Negate { width, dst },
+            dst,
+            lo,
+            hi,
+        )?;
     }
     let extensions = [
         (W64, Part::Low8, reg(4), 1, 16),
@@ -187,7 +211,7 @@ fn negation_and_sign_extension(rt: HostRuntime) -> Result<(), Fail> {
             dst: reg(0),
             src,
         };
-        gives(&rt, &sigs, op, reg(0), lo, hi);
+        gives(&rt, rt.alloc(), &sigs, op, reg(0), lo, hi)?;
     }
     Ok(())
 }
@@ -205,7 +229,15 @@ fn byte_order(rt: HostRuntime) -> Result<(), Fail> {
     ];
     for row in &rows {
         let (order, bytes, dst, lo, hi) = *row;
-        gives(&rt, &sigs, Op::End { order, bytes, dst }, dst, lo, hi);
+        gives(
+            &rt,
+            rt.alloc(),
+            &sigs,
+            Op::End { order, bytes, dst },
+            dst,
+            lo,
+            hi,
+        )?;
     }
     Ok(())
 }
@@ -219,19 +251,19 @@ fn loads(rt: HostRuntime) -> Result<(), Fail> {
         base: reg(1),
         offset: 60,
     };
-    gives(&rt, &sigs, load, reg(0), 0, 65535);
+    gives(&rt, rt.alloc(), &sigs, load, reg(0), 0, 65535)?;
     let load = Op::LoadSigned {
         part: Part::Low8,
         dst: reg(0),
         base: reg(1),
         offset: 60,
     };
-    gives(&rt, &sigs, load, reg(0), 0, ALL);
+    gives(&rt, rt.alloc(), &sigs, load, reg(0), 0, ALL)?;
     let wide = Op::Wide {
         dst: reg(6),
         value: ALL,
     };
-    gives(&rt, &sigs, wide, reg(6), ALL, ALL);
+    gives(&rt, rt.alloc(), &sigs, wide, reg(6), ALL, ALL)?;
     Ok(())
 }
 
@@ -247,7 +279,7 @@ fn store(size: Size, base: Register, offset: i16) -> Op {
 #[test]
 fn a_store_marks_its_bytes(rt: HostRuntime) -> Result<(), Fail> {
     let sigs = no_sigs(rt.alloc())?;
-    let stored = State::start().transfer(store(Size::Word, reg(10), -8), &sigs);
+    let stored = State::start(rt.alloc()).transfer(store(Size::Word, reg(10), -8), &sigs)?;
     for at in 0..512 {
         assert_eq!(rt; stored.all_marked(at, 1), 504 <= at && at < 508);
     }
@@ -258,9 +290,12 @@ fn a_store_marks_its_bytes(rt: HostRuntime) -> Result<(), Fail> {
 #[test]
 fn a_store_to_one_of_several_places_marks_none(rt: HostRuntime) -> Result<(), Fail> {
     let sigs = no_sigs(rt.alloc())?;
-    let somewhere = State::start().transfer(arith(W64, Code::Add, reg(4), from(10)), &sigs);
+    let somewhere = State::start(rt.alloc()).transfer(
+        arith(W64, Code::Add, reg(4), from(10)),
+        &sigs,
+    )?;
     has(&rt, &somewhere, reg(4), 0x2_0000_0201, 0x2_0000_0210);
-    let stored = somewhere.transfer(store(Size::Byte, reg(4), -17), &sigs);
+    let stored = somewhere.transfer(store(Size::Byte, reg(4), -17), &sigs)?;
     for at in 0..512 {
         assert!(rt; !stored.all_marked(at, 1));
     }
@@ -299,13 +334,13 @@ fn taxi_sigs(alloc: Global) -> Result<Sigs, Fail> {
 #[test]
 fn a_call_leaves_its_answer_alone(rt: HostRuntime) -> Result<(), Fail> {
     let sigs = taxi_sigs(rt.alloc())?;
-    let called = State::start().transfer(Op::Call { helper: 2 }, &sigs);
+    let called = State::start(rt.alloc()).transfer(Op::Call { helper: 2 }, &sigs)?;
     has(&rt, &called, reg(0), 1, 60);
     for number in 1..6 {
         lacks(&rt, &called, reg(number));
     }
     has(&rt, &called, reg(10), 0x2_0000_0200, 0x2_0000_0200);
-    let unknown = State::start().transfer(Op::Call { helper: 3 }, &sigs);
+    let unknown = State::start(rt.alloc()).transfer(Op::Call { helper: 3 }, &sigs)?;
     lacks(&rt, &unknown, reg(0));
     Ok(())
 }
@@ -313,6 +348,7 @@ fn a_call_leaves_its_answer_alone(rt: HostRuntime) -> Result<(), Fail> {
 /// Along this edge from the start a register has this range.
 fn narrows(
     rt: &impl Abort,
+    alloc: Global,
     rows: &[(
         Width,
         Condition,
@@ -324,11 +360,11 @@ fn narrows(
         u64,
     )],
 ) -> Result<(), Fail> {
-    let start = State::start();
+    let start = State::start(alloc);
     for row in rows {
         let (width, condition, dst, operand, taken, register, lo, hi) = *row;
         let refined = start
-            .refine(width, condition, dst, operand, taken)
+            .refine(width, condition, dst, operand, taken)?
             .ok_or("no edge")?;
         has(rt, &refined, register, lo, hi);
     }
@@ -377,7 +413,7 @@ fn jumps_narrow_both_sides(rt: HostRuntime) -> Result<(), Fail> {
             LOW,
         ),
     ];
-    narrows(&rt, &rows)
+    narrows(&rt, rt.alloc(), &rows)
 }
 
 #[test]
@@ -407,7 +443,7 @@ fn some_comparisons_tell_nothing(rt: HostRuntime) -> Result<(), Fail> {
             0x1_0000_0000,
         ),
     ];
-    narrows(&rt, &rows)
+    narrows(&rt, rt.alloc(), &rows)
 }
 
 #[test]
@@ -422,7 +458,7 @@ fn edges_without_words_are_none(rt: HostRuntime) -> Result<(), Fail> {
     ];
     for row in &rows {
         let (width, condition, dst, operand, taken) = *row;
-        let refined = State::start().refine(width, condition, dst, operand, taken);
+        let refined = State::start(rt.alloc()).refine(width, condition, dst, operand, taken)?;
         assert!(rt; refined.is_none());
     }
     Ok(())
@@ -431,13 +467,13 @@ fn edges_without_words_are_none(rt: HostRuntime) -> Result<(), Fail> {
 #[test]
 fn joins_keep_what_is_common(rt: HostRuntime) -> Result<(), Fail> {
     let sigs = no_sigs(rt.alloc())?;
-    let start = State::start();
+    let start = State::start(rt.alloc());
     let one = start
-        .transfer(arith(W64, Code::Mov, reg(0), imm(5)), &sigs)
-        .transfer(arith(W64, Code::Mov, reg(6), imm(1)), &sigs)
-        .transfer(store(Size::Half, reg(10), -2), &sigs);
-    let two = start.transfer(arith(W64, Code::Mov, reg(0), imm(9)), &sigs);
-    let mut joined = one.copy();
+        .transfer(arith(W64, Code::Mov, reg(0), imm(5)), &sigs)?
+        .transfer(arith(W64, Code::Mov, reg(6), imm(1)), &sigs)?
+        .transfer(store(Size::Half, reg(10), -2), &sigs)?;
+    let two = start.transfer(arith(W64, Code::Mov, reg(0), imm(9)), &sigs)?;
+    let mut joined = one.copy()?;
     joined.join(&two);
     has(&rt, &joined, reg(0), 5, 9);
     lacks(&rt, &joined, reg(6));
@@ -446,7 +482,7 @@ fn joins_keep_what_is_common(rt: HostRuntime) -> Result<(), Fail> {
     let mut turned = two;
     turned.join(&one);
     has(&rt, &turned, reg(0), 5, 9);
-    let mut same = one.copy();
+    let mut same = one.copy()?;
     same.join(&one);
     assert!(rt; same.all_marked(510, 2));
     Ok(())
@@ -456,7 +492,7 @@ fn joins_keep_what_is_common(rt: HostRuntime) -> Result<(), Fail> {
 fn marks_cross_from_word_to_word(rt: HostRuntime) -> Result<(), Fail> {
     let sigs = no_sigs(rt.alloc())?;
     // The bytes 60 to 67 of the stack, of which 64 is the first of another word.
-    let stored = State::start().transfer(store(Size::Double, reg(10), -452), &sigs);
+    let stored = State::start(rt.alloc()).transfer(store(Size::Double, reg(10), -452), &sigs)?;
     for at in 0..512 {
         assert_eq!(rt; stored.all_marked(at, 1), 60 <= at && at < 68);
     }
@@ -464,6 +500,195 @@ fn marks_cross_from_word_to_word(rt: HostRuntime) -> Result<(), Fail> {
         assert_eq!(rt; stored.all_marked(at, count), marked);
     }
     Ok(())
+}
+
+/// A store of a register.
+fn spill(size: Size, base: Register, offset: i16, register: u8) -> Op
+    requires { register < 11 }
+{
+    Op::Store {
+        size,
+        base,
+        offset,
+        value: from(register),
+    }
+}
+
+/// A load from the stack to r0.
+fn reload(size: Size, offset: i16) -> Op {
+    Op::Load {
+        size,
+        dst: reg(0),
+        base: reg(10),
+        offset,
+    }
+}
+
+/// The state has this range of what such a load gives.
+fn reads(
+    rt: &impl Abort,
+    sigs: &Sigs,
+    state: &State,
+    size: Size,
+    offset: i16,
+    lo: u64,
+    hi: u64,
+) -> Result<(), Fail> {
+    has(
+        rt,
+        &state.transfer(reload(size, offset), sigs)?,
+        reg(0),
+        lo,
+        hi,
+    );
+    Ok(())
+}
+
+/// What is known after these instructions from the start.
+fn after(alloc: Global, sigs: &Sigs, ops: &[Op]) -> Result<State, Fail> {
+    let mut state = State::start(alloc);
+    for op in ops {
+        state.advance(*op, sigs)?;
+    }
+    Ok(state)
+}
+
+#[test]
+fn a_word_keeps_its_range(rt: HostRuntime) -> Result<(), Fail> {
+    let sigs = no_sigs(rt.alloc())?;
+    // r4 at the last word, r1 at the first, and r2 four bytes off a word.
+    let ops = [
+        spill(Size::Double, reg(10), -8, 4),
+        spill(Size::Double, reg(10), -512, 1),
+        spill(Size::Double, reg(10), -28, 2),
+    ];
+    let kept = after(rt.alloc(), &sigs, &ops)?;
+    for (size, offset, lo, hi) in [
+        (Size::Double, -8, 1, 16),
+        (Size::Double, -512, 0x1_0000_0000, 0x1_0000_0000),
+        (Size::Double, -16, 0, ALL),
+        (Size::Double, -504, 0, ALL),
+        (Size::Double, -28, 0, ALL),
+        (Size::Word, -8, 0, LOW),
+        (Size::Byte, -8, 0, 255),
+    ] {
+        reads(&rt, &sigs, &kept, size, offset, lo, hi)?;
+    }
+    Ok(())
+}
+
+#[test]
+fn a_stored_immediate_is_sign_extended(rt: HostRuntime) -> Result<(), Fail> {
+    let sigs = no_sigs(rt.alloc())?;
+    for (value, word) in [(5, 5), (-1, ALL), (-8, ALL - 7)] {
+        let store = Op::Store {
+            size: Size::Double,
+            base: reg(10),
+            offset: -8,
+            value: imm(value),
+        };
+        let ops = [spill(Size::Double, reg(10), -8, 4), store];
+        let kept = after(rt.alloc(), &sigs, &ops)?;
+        reads(&rt, &sigs, &kept, Size::Double, -8, word, word)?;
+    }
+    Ok(())
+}
+
+#[test]
+fn a_store_forgets_what_it_touches(rt: HostRuntime) -> Result<(), Fail> {
+    let sigs = no_sigs(rt.alloc())?;
+    // The word at -16 has the bytes from -16 to -9.
+    for (size, offset, is_kept) in [
+        (Size::Byte, -17, true),
+        (Size::Byte, -16, false),
+        (Size::Byte, -9, false),
+        (Size::Byte, -8, true),
+        (Size::Half, -18, true),
+        (Size::Half, -17, false),
+        (Size::Word, -20, true),
+        (Size::Word, -12, false),
+        (Size::Double, -24, true),
+        (Size::Double, -20, false),
+        (Size::Double, -12, false),
+        (Size::Double, -8, true),
+    ] {
+        let ops = [
+            spill(Size::Double, reg(10), -16, 4),
+            store(size, reg(10), offset),
+        ];
+        let kept = after(rt.alloc(), &sigs, &ops)?;
+        let (lo, hi) = if is_kept { (1, 16) } else { (0, ALL) };
+        reads(&rt, &sigs, &kept, Size::Double, -16, lo, hi)?;
+    }
+    Ok(())
+}
+
+#[test]
+fn a_store_to_a_range_forgets_all_that_it_may_touch(rt: HostRuntime) -> Result<(), Fail> {
+    let sigs = no_sigs(rt.alloc())?;
+    // The word at -48 has the bytes from -48 to -41. r4 - 1 is added, so a store goes to one of the
+    // sixteen addresses from the offset on.
+    for (size, offset, is_kept) in [
+        (Size::Byte, -64, true),
+        (Size::Byte, -63, false),
+        (Size::Byte, -41, false),
+        (Size::Byte, -40, true),
+        (Size::Double, -71, true),
+        (Size::Double, -70, false),
+    ] {
+        let ops = [
+            spill(Size::Double, reg(10), -48, 2),
+            arith(W64, Code::Add, reg(4), from(10)),
+            arith(W64, Code::Sub, reg(4), imm(1)),
+            store(size, reg(4), offset),
+        ];
+        let kept = after(rt.alloc(), &sigs, &ops)?;
+        let (lo, hi) = if is_kept { (128, 128) } else { (0, ALL) };
+        reads(&rt, &sigs, &kept, Size::Double, -48, lo, hi)?;
+    }
+    Ok(())
+}
+
+#[test]
+fn joins_keep_words_that_both_keep(rt: HostRuntime) -> Result<(), Fail> {
+    let sigs = no_sigs(rt.alloc())?;
+    let one = after(
+        rt.alloc(),
+        &sigs,
+        &[
+            spill(Size::Double, reg(10), -8, 4),
+            spill(Size::Double, reg(10), -24, 4),
+        ],
+    )?;
+    let two = after(
+        rt.alloc(),
+        &sigs,
+        &[
+            spill(Size::Double, reg(10), -16, 4),
+            spill(Size::Double, reg(10), -24, 2),
+            spill(Size::Double, reg(10), -32, 2),
+        ],
+    )?;
+    let mut joined = one.copy()?;
+    joined.join(&two);
+    let mut turned = two.copy()?;
+    turned.join(&one);
+    for state in [&joined, &turned] {
+        reads(&rt, &sigs, state, Size::Double, -8, 0, ALL)?;
+        reads(&rt, &sigs, state, Size::Double, -16, 0, ALL)?;
+        reads(&rt, &sigs, state, Size::Double, -24, 1, 128)?;
+        reads(&rt, &sigs, state, Size::Double, -32, 0, ALL)?;
+    }
+    Ok(())
+}
+
+#[test]
+fn calls_and_jumps_keep_words(rt: HostRuntime) -> Result<(), Fail> {
+    let sigs = taxi_sigs(rt.alloc())?;
+    let mut kept = after(rt.alloc(), &sigs, &[spill(Size::Double, reg(10), -8, 4)])?;
+    assert!(rt; kept.follow(W64, Condition::Above, reg(4), imm(7), true));
+    kept.advance(Op::Call { helper: 2 }, &sigs)?;
+    reads(&rt, &sigs, &kept, Size::Double, -8, 1, 16)
 }
 
 fn range(lo: u64, hi: u64) -> Range

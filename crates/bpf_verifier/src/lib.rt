@@ -21,4 +21,6 @@ mod form_verdicts;
 #[cfg(test)]
 mod forms;
 #[cfg(test)]
+mod reference;
+#[cfg(test)]
 mod tests;

@@ -2,6 +2,7 @@
 
 ghost use Rattle.std.specs.Prelude.{◌≡◌, ◌≢◌, ◌<◌, ◌≤◌, ◌^◌, false, length, option_map, IfOk, OnOk};
 ghost use Rattle.std.specs.Option.{ForSome};
+ghost use Rattle.bpf_decode.specs.declared.program.TheConstants.{MOST_SLOTS};
 ghost use Rattle.bpf_regstate.specs.Edges.{edge, edges};
 ghost use Rattle.bpf_regstate.specs.Faults.{falls_off, jumps_badly};
 ghost use Rattle.bpf_regstate.specs.Narrowing.{refined};
@@ -77,7 +78,7 @@ fn send(
             operand,
             offset,
         } => {
-            let copy = Box::new(alloc, state.copy())?;
+            let copy = Box::new(alloc, state.copy()?)?;
             let taken = along(copy, *width, *condition, *dst, *operand, true);
             let other = along(state, *width, *condition, *dst, *operand, false);
             put_edge(waiting, target(slot, *offset as i32), taken);
@@ -87,7 +88,7 @@ fn send(
         Op::Tail => {}
         _ => {
             let mut after = state;
-            after.advance(*op, sigs);
+            after.advance(*op, sigs)?;
             waiting.put(next_slot(slot, *op), after);
         }
     }
@@ -106,7 +107,7 @@ pub fn pass_slot(
 ) -> Result<Option<Fault>, AllocError>
     requires same { length waiting.old ≡ length ops.now }
     requires inside { slot < length ops.now }
-    requires few { length ops.now ≤ 4096 }
+    requires few { length ops.now ≤ MOST_SLOTS }
     ensures { IfOk result (λ fault.
         Passes ops.now sigs.now slot waiting.old waiting.new (option_map code_of fault)) }
 {

@@ -129,6 +129,93 @@ fn programs_are_refused(rt: HostRuntime) -> Result<(), Fail> {
     Ok(())
 }
 
+/// Programs that are accepted, each beside one that is refused.
+fn are_beside(
+    rt: &impl Abort,
+    alloc: Global,
+    sigs: &Sigs,
+    rows: &[(&str, &str, u16, usize)],
+) -> Result<(), Fail> {
+    for row in rows {
+        let (accepted, refused, code, slot) = *row;
+        accepts(rt, alloc, sigs, accepted)?;
+        refuses(rt, alloc, sigs, refused, code, slot)?;
+    }
+    Ok(())
+}
+
+#[test]
+fn a_word_of_the_stack_is_known_again(rt: HostRuntime) -> Result<(), Fail> {
+    let sigs = Bank::new(rt.alloc())?.sigs()?;
+    let rows = [
+        // The record's address, stored and loaded as a word, and four bytes off a word.
+        (
+            "7b1af8ff00000000b70100000000000079a1f8ff0000000071103f00000000009500000000000000",
+            "7b1af4ff00000000b70100000000000079a1f4ff0000000071103f00000000009500000000000000",
+            309,
+            3,
+        ),
+        // A byte is stored just below it, and into it.
+        (
+            "7b1af8ff00000000720af7ff00000000b70100000000000079a1f8ff0000000071103f00000000009500000000000000",
+            "7b1af8ff00000000720affff00000000b70100000000000079a1f8ff0000000071103f00000000009500000000000000",
+            309,
+            4,
+        ),
+        // One of two ways stores it again, and something else.
+        (
+            "7b1af8ff0000000015040100010000007b1af8ff0000000079a1f8ff0000000071103f00000000009500000000000000",
+            "7b1af8ff0000000015040100010000007b2af8ff0000000079a1f8ff0000000071103f00000000009500000000000000",
+            309,
+            4,
+        ),
+        // A store to one of sixteen addresses, of which none is in the word, and the least its last
+        // byte.
+        (
+            "7b1ae0ff000000000fa40000000000007204e7ff0000000079a1e0ff0000000071103f00000000009500000000000000",
+            "7b1ae0ff000000000fa40000000000007204e6ff0000000079a1e0ff0000000071103f00000000009500000000000000",
+            309,
+            4,
+        ),
+        // An immediate is stored to another word, and to this one.
+        (
+            "7b1af8ff000000007a0af0ff0500000079a1f8ff0000000071103f00000000009500000000000000",
+            "7b1af8ff000000007a0af8ff0500000079a1f8ff0000000071103f00000000009500000000000000",
+            309,
+            3,
+        ),
+        // An index of 5 in a word, and one of which four bytes were stored again.
+        (
+            "7a0af8ff0500000079a5f8ff000000000f1500000000000071500000000000009500000000000000",
+            "7a0af8ff05000000620af8ff0500000079a5f8ff000000000f1500000000000071500000000000009500000000000000",
+            309,
+            4,
+        ),
+        // -1, with which no jump is taken, and its 32 bits, with which one is.
+        (
+            "7a0af8ffffffffff79a5f8ff0000000055050100ffffffff71103f00000000009500000000000000",
+            "7a0af8ffffffffff61a5f8ff0000000055050100ffffffff71103f00000000009500000000000000",
+            308,
+            4,
+        ),
+        // A milestone is loaded whole, and four bytes of it.
+        (
+            "7b4af8ff0000000079a5f8ff000000000f1500000000000071500000000000009500000000000000",
+            "7b4af8ff0000000061a5f8ff000000000f1500000000000071500000000000009500000000000000",
+            309,
+            3,
+        ),
+        // Both ways keep the word, and one of them.
+        (
+            "620af8ff00000000620afcff000000007b1af8ff0000000015040100010000007b1af8ff0000000079a1f8ff0000000071103f00000000009500000000000000",
+            "620af8ff00000000620afcff0000000015040100010000007b1af8ff0000000079a1f8ff0000000071103f00000000009500000000000000",
+            309,
+            5,
+        ),
+    ];
+    are_beside(&rt, rt.alloc(), &sigs, &rows)
+}
+
 #[test]
 fn each_fault_has_a_neighbour(rt: HostRuntime) -> Result<(), Fail> {
     let alloc = rt.alloc();
@@ -222,6 +309,13 @@ fn each_fault_has_a_neighbour(rt: HostRuntime) -> Result<(), Fail> {
             "69113c000000000057010000ff03000085000000020000009500000000000000",
             313,
             2,
+        ),
+        // That number comes back from the stack, and four bytes of it.
+        (
+            "69113c000000000057010000ff0100007b1af8ff0000000079a1f8ff0000000085000000020000009500000000000000",
+            "69113c000000000057010000ff0100007b1af8ff0000000061a1f8ff0000000085000000020000009500000000000000",
+            313,
+            4,
         ),
         // A rule in C, as clang 14 made it: with a test of the stand, and without.
         (

@@ -2,6 +2,7 @@
 
 ghost use Rattle.std.specs.Prelude.{◌≡◌, ◌∷◌, ◌<◌, ◌≤◌, ◌-◌, ℕ, Some, None, length, replicate};
 ghost use Rattle.std.specs.Prelude.{IfOk, IfErr, IsOkUnless, MatchOption};
+ghost use Rattle.bpf_decode.specs.declared.program.TheConstants.{MOST_SLOTS};
 ghost use Rattle.bpf_regstate.specs.States.{Accepts, IsFirstFault, start_shape};
 ghost use Rattle.bpf_verifier.specs.Runs.{MayRun};
 ghost use Rattle.bpf_verifier.specs.Verdict.{AnswersFault, Refuses, code_of};
@@ -24,7 +25,7 @@ fn first_fault(
     waiting: &mut Waiting,
 ) -> Result<Option<(Fault, usize)>, AllocError>
     requires some { 0 < length ops.now }
-    requires few { length ops.now ≤ 4096 }
+    requires few { length ops.now ≤ MOST_SLOTS }
     requires table { waiting.old ≡ Some (start_shape 128) ∷ replicate (length ops.now - 1) None }
     ensures { IfOk result (λ first. MatchOption first (Accepts 128 ops.now sigs.now)
         (λ found. IsFirstFault 128 ops.now sigs.now found.1 (code_of found.0))) }

@@ -52,7 +52,7 @@ impl Waiting {
             (λ waiting. waiting ≡ Some (start_shape 128) ∷ replicate (slots - 1) None) }
     {
         let mut rows = Vec::with_capacity(alloc, slots)?;
-        rows.push(Some(Box::new(alloc, State::start())?))?;
+        rows.push(Some(Box::new(alloc, State::start(alloc))?))?;
         for _ in 0..slots - 1 {
             rows.push(None)?;
         }

@@ -1,12 +1,13 @@
-use Rattle.std.proofs.Common.{◌-◌, ◌≤◌}
-use Rattle.std.specs.Io.KnownBytes.{Appends}
-use Rattle.acdm.proofs.Saved.{text_to}
+use Rattle.std.proofs.Common.{◌≡◌, ◌-◌, ◌≤◌}
+use Rattle.acdm_journal.specs.Whole.{Saves}
+use Rattle.acdm.proofs.Saved.{first_of}
 use Rattle.acdm.proofs.saving.write_journal.Given as goal
 
 abbrev pub invariant-loop-number : goal.invariant-loop-number
 invariant-loop-number g l = record {
-  wrote : Appends (g.W.Write.contents l.initial.writer) (g.W.Write.contents l.writer)
-      (text_to l.number l.desk.history);
+  same : l.desk ≡ l.initial.desk;
+  wrote : Saves (first_of l.number l.initial.desk.history) (g.W.Write.contents l.initial.writer)
+      (g.W.Write.contents l.writer);
   below : l.number ≤ l.count;
 }
 

@@ -13,4 +13,4 @@ returns-clause-judges c =
     })
     (c.if-stated-number.false ∙ sym number) c.in-Ok-command_of.command c.in-Ok-command_of.ensures
     c.judge_command.new.core c.judge_command.result
-    (rw c.as_slice.ensures at c.judge_command.ensures.judges J legal same)
+    (rw c.as_slice.ensures at c.judge_command.ensures.judges c.args.sigs.now J legal same)

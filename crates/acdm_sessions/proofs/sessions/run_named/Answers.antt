@@ -1,6 +1,19 @@
 use Rattle.acdm_sessions.specs.Sessions.{session_end}
 use Rattle.acdm_sessions.proofs.Seats.{sessions_ended}
+use denote.Exit.{no}
+use denote.Param.Send.{param_send, arg_send}
+use Rattle.acdm_sessions.proofs.Crossing.{work_send}
 use Rattle.acdm_sessions.proofs.sessions.run_named.Goals as goal
+
+pub new-requires-send-B : goal.new-requires-send-B
+new-requires-send-B g c κs within = let k = c.type_bounds in
+    param_send 0 _ (arg_send _ no _ (work_send _ _ _ _ _ _ _ _ _ _ _ k.send-R k.send-W k.send-C
+    k.send-H k.sync-G k.sync-Rt))
+
+pub run-served-requires-send-B : goal.run-served-requires-send-B
+run-served-requires-send-B g c κs within = let k = c.type_bounds in
+    param_send 0 _ (arg_send _ no _ (work_send _ _ _ _ _ _ _ _ _ _ _ k.send-R k.send-W k.send-C
+    k.send-H k.sync-G k.sync-Rt))
 
 pub returns-clause-sessions : goal.returns-clause-sessions
 returns-clause-sessions g c =

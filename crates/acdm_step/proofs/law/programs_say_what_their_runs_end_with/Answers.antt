@@ -1,4 +1,4 @@
-use Rattle.acdm_step.specs.Commands.{flight_of, bit_of}
+use Rattle.acdm_step.specs.Commands.{bit_of}
 use Rattle.acdm_step.specs.InSlots.{programs_of}
 use Rattle.acdm_step.specs.Summaries.{run_record_of}
 use Rattle.acdm_step.proofs.Saying.{left_ran, said_say, say_said}

@@ -1,7 +1,6 @@
 use Rattle.std.proofs.Common.{◌<◌, ◌++◌, ◌∷◌, [], true, not, nat_lt, set, refl, ap, sym, ◌∙◌, subst}
 use Rattle.std.proofs.Common.{arith}
 use Rattle.bpf_helpers.proofs.OracleLemmas.{unasked}
-use Rattle.acdm_milestones.specs.declared.refusal.Refusal.TheVariants.{NotOwner, Unanswered}
 use Rattle.acdm_step.specs.declared.command.Command.TheVariants as commands
 use Rattle.acdm_step.specs.declared.outcome.Outcome.TheVariants as outcomes
 use Rattle.acdm_step.specs.Commands.{is_accepted}
@@ -12,6 +11,7 @@ use Rattle.acdm_step.proofs.Steps.{put_absent, when_ok, when_err, no_lt}
 use Rattle.acdm_step.proofs.Planned.{left_so, plans_nothing}
 use Rattle.acdm_step.proofs.Numbers.{change_keeps, change_is_new, room_left}
 use Rattle.acdm_step.proofs.prepare.prepare_flight.Goals as goal
+use Rattle.acdm_step.specs.declared.verdicts.TheConstants.{MOST_FLIGHTS}
 
 pub returns-then-not-is_owner-clause-comes : goal.returns-then-not-is_owner-clause-comes
 returns-then-not-is_owner-clause-comes g c =
@@ -107,7 +107,7 @@ returns-else-place-count-clause-comes g c =
 
 pub returns-else-place-count-clause-fits : goal.returns-else-place-count-clause-fits
 returns-else-place-count-clause-fits g c = (
-  subst (λ n. n < 4096) c.len-count.ensures
+  subst (λ n. n < MOST_FLIGHTS) c.len-count.ensures
       (room_left (commands.Flight c.args.command.now) c.len-count.result c.record_at-record.result
       c.args.role refl
       (ap (λ t. is_accepted (verdict_for t c.len-count.result c.record_at-record.result true

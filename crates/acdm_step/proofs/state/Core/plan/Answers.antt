@@ -1,93 +1,36 @@
-use Rattle.std.proofs.Common.{◌≡◌, true, ◌||◌, refl, ap, sym, subst, ◌∙◌}
-use Rattle.bpf_helpers.proofs.OracleLemmas.{unasked}
-use Rattle.bpf_helpers.specs.Oracles.{OracleView}
-use Rattle.bpf_helpers.specs.Same.{same_sigs}
-use Rattle.acdm_step.specs.declared.command.Command.{Command}
-use Rattle.acdm_step.specs.declared.outcome.Outcome.TheVariants as outcomes
-use Rattle.acdm_step.specs.Commands.{is_accepted, is_alerts}
-use Rattle.acdm_step.specs.Verdicts.{load_verdict, show_verdict, outcome_with}
+use Rattle.std.proofs.Common.{◌≡◌, true, ◌||◌, sym, subst, ◌∙◌}
+use Rattle.acdm_step.specs.Commands.{is_alerts}
 use Rattle.acdm_step.specs.History.{Board}
-use Rattle.acdm_step.specs.Board.{is_there, record_on, board_loads, board_creates}
-use Rattle.acdm_step.specs.Prepared.{Fits}
-use Rattle.acdm_step.proofs.Steps.{comes_left, comes_show, comes_alerts, loading, on_err}
-use Rattle.acdm_step.proofs.Planned.{planned_as, plans_load, plans_unload, plans_tick, fits_load}
-use Rattle.acdm_step.proofs.Planned.{fits_unload}
+use Rattle.acdm_step.specs.Board.{board_loads}
+use Rattle.acdm_step.specs.Prepared.{after_change}
+use Rattle.acdm_step.proofs.Steps.{on_err}
+use Rattle.acdm_step.proofs.Lifting.{told_of, board_told, comes_sigs}
+use Rattle.acdm_step.proofs.Replay.{memory-replay}
 use Rattle.acdm_step.proofs.state.Core.plan.Goals as goal
 
-pub returns-in_err-prepared-in-Load-clause-memory : goal.returns-in_err-prepared-in-Load-clause-memory
-returns-in_err-prepared-in-Load-clause-memory g c =
-    let b : Board = record { records = c.self.inside.flights; slots = c.self.inside.slots } in
+pub returns-clause-outcome : goal.returns-clause-outcome
+returns-clause-outcome g c sigs J l eq =
+    let p = c.in_ok-prepared.prepared in
+    told_of sigs J c.args.role c.args.moment c.args.command.now _ _ p.outcome c.args.self.now
+    (after_change c.args.self.now p.change) l eq c.in_ok-prepared.ensures.comes
+
+pub returns-clause-board : goal.returns-clause-board
+returns-clause-board g c sigs J session answers l eq given =
+    let p = c.in_ok-prepared.prepared in
+    board_told sigs J c.args.role c.args.moment c.args.command.now _ _ p.outcome c.args.self.now
+    (after_change c.args.self.now p.change) l eq c.in_ok-prepared.ensures.comes session answers
+    given
+
+pub returns-clause-sigs : goal.returns-clause-sigs
+returns-clause-sigs g c =
+    let p = c.in_ok-prepared.prepared in
+    comes_sigs c.args.self.now (after_change c.args.self.now p.change) c.args.role c.args.moment
+    c.args.command.now _ _ p.outcome c.in_ok-prepared.ensures.comes
+
+pub returns-in_err-prepared-clause-memory : goal.returns-in_err-prepared-clause-memory
+returns-in_err-prepared-clause-memory g c =
     on_err c.from_residual.result
-    (subst (λ (x : Board). (is_alerts c.args.command.now
-    || (board_loads x c.args.role c.args.command.now
-    || board_creates x c.args.role c.args.command.now)) ≡ true) c.self.view_is
-    (subst (λ (x : Command). (is_alerts x
-    || (board_loads b c.args.role x || board_creates b c.args.role x)) ≡ true)
-    (sym c.in-Load.is) (loading b c.args.role c.in-Load.load
-    c.in_err-prepared-in-Load.ensures.loading)))
-
-pub returns-in_ok-prepared-in-Load-clause-comes : goal.returns-in_ok-prepared-in-Load-clause-comes
-returns-in_ok-prepared-in-Load-clause-comes g c =
-    let b : Board = record { records = c.self.inside.flights; slots = c.self.inside.slots } in
-    let at : OracleView = g.O.Oracle.view c.args.oracle.now in
-    let p = c.in_ok-prepared-in-Load.prepared in
-    planned_as b c.args.self.now c.args.role c.args.moment _ c.args.command.now at at p.outcome
-    p.change c.self.view_is c.in-Load.is
-    (plans_load b c.args.role c.args.moment at at p.outcome (unasked at) c.in-Load.load p.change
-    c.in_ok-prepared-in-Load.ensures.outcome c.in_ok-prepared-in-Load.ensures.change)
-
-pub returns-in_ok-prepared-in-Load-clause-fits : goal.returns-in_ok-prepared-in-Load-clause-fits
-returns-in_ok-prepared-in-Load-clause-fits g c =
-    let b : Board = record { records = c.self.inside.flights; slots = c.self.inside.slots } in
-    let p = c.in_ok-prepared-in-Load.prepared in
-    subst (λ (x : Board). Fits x p.change) c.self.view_is
-    (fits_load b c.in-Load.load (is_accepted
-    (load_verdict (same_sigs c.in-Load.load.program.sigs b.slots.sigs) c.args.role)) p.change
-    c.in_ok-prepared-in-Load.ensures.change c.in_ok-prepared-in-Load.ensures.same)
-
-pub returns-in-Unload-clause-comes : goal.returns-in-Unload-clause-comes
-returns-in-Unload-clause-comes g c =
-    let b : Board = record { records = c.self.inside.flights; slots = c.self.inside.slots } in
-    let at : OracleView = g.O.Oracle.view c.args.oracle.now in
-    let p = c.prepare_unload.result in
-    planned_as b c.args.self.now c.args.role c.args.moment _ c.args.command.now at at p.outcome
-    p.change c.self.view_is c.in-Unload.is
-    (plans_unload b c.args.role c.args.moment at at p.outcome (unasked at) c.in-Unload.unload
-    p.change c.prepare_unload.ensures.outcome c.prepare_unload.ensures.change)
-
-pub returns-in-Unload-clause-fits : goal.returns-in-Unload-clause-fits
-returns-in-Unload-clause-fits g c =
-    let b : Board = record { records = c.self.inside.flights; slots = c.self.inside.slots } in
-    subst (λ (x : Board). Fits x c.prepare_unload.result.change) c.self.view_is
-    (fits_unload b c.in-Unload.unload c.args.role _ c.prepare_unload.result.change refl
-    c.prepare_unload.ensures.change)
-
-pub returns-in-Tick-clause-comes : goal.returns-in-Tick-clause-comes
-returns-in-Tick-clause-comes g c =
-    let b : Board = record { records = c.self.inside.flights; slots = c.self.inside.slots } in
-    let at : OracleView = g.O.Oracle.view c.args.oracle.now in
-    let p = c.prepare_tick.result in
-    planned_as b c.args.self.now c.args.role c.args.moment _ c.args.command.now at at p.outcome
-    p.change c.self.view_is c.in-Tick.is
-    (plans_tick b c.args.role c.args.moment at at p.outcome (unasked at) p.change
-    c.prepare_tick.ensures.outcome c.prepare_tick.ensures.change)
-
-pub returns-in-Show-clause-comes : goal.returns-in-Show-clause-comes
-returns-in-Show-clause-comes g c =
-    let b : Board = record { records = c.self.inside.flights; slots = c.self.inside.slots } in
-    let at : OracleView = g.O.Oracle.view c.args.oracle.now in
-    comes_left b c.args.self.now c.args.role c.args.moment _ c.args.command.now at at c.show.result
-    c.self.view_is c.in-Show.is
-    (comes_show b c.args.role c.args.moment at at c.show.result (unasked at) c.in-Show.flight
-    (c.show.ensures
-    ∙ ap (λ f. outcome_with (outcomes.Shown (record_on b.records f))
-    (show_verdict (is_there b.records f))) c.get.ensures))
-
-pub returns-in_ok-list-in-Alerts-clause-comes : goal.returns-in_ok-list-in-Alerts-clause-comes
-returns-in_ok-list-in-Alerts-clause-comes g c =
-    let b : Board = record { records = c.self.inside.flights; slots = c.self.inside.slots } in
-    let at : OracleView = g.O.Oracle.view c.args.oracle.now in
-    comes_left b c.args.self.now c.args.role c.args.moment _ c.args.command.now at at
-    (outcomes.Listed c.in_ok-list-in-Alerts.list) c.self.view_is c.in-Alerts.is
-    (comes_alerts b c.args.role c.args.moment at at (outcomes.Listed c.in_ok-list-in-Alerts.list)
-    (unasked at) (ap outcomes.Listed c.in_ok-list-in-Alerts.ensures))
+    (λ sigs J l eq.
+    sym (memory-replay sigs J c.args.role c.args.command.now l)
+    ∙ subst (λ (b : Board). (is_alerts c.args.command.now
+    || board_loads b c.args.role c.args.command.now) ≡ true) eq c.in_err-prepared.ensures.memory)

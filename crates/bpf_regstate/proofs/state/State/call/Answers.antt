@@ -8,5 +8,6 @@ invariant_of-self c =
     (call_is_shape (record {
       registers = c.self.inside.registers;
       marks = marks_of c.self.inside.marks;
+      words = c.self.inside.words.items;
     }) c.answer_of.result c.answer_of.ensures.range
     c.self.invariant)

@@ -7,10 +7,21 @@ use Rattle.bpf_regstate.proofs.state.State.start.Goals as goal
 pub invariant_of-result : goal.invariant_of-result
 unfolding start_shape
 invariant_of-result c =
-    rw (c.single.ensures.value, c.single-2.ensures.value, c.single-3.ensures.value, none_marked)
+    rw (
+      c.single.ensures.value,
+      c.single-2.ensures.value,
+      c.single-3.ensures.value,
+      none_marked,
+      c.new.ensures.items,
+    )
     (start_is_shape 128 (omega arith))
 
 pub returns : goal.returns
 unfolding start_shape
-returns c = rw
-    (c.single.ensures.value, c.single-2.ensures.value, c.single-3.ensures.value, none_marked) refl
+returns c = rw (
+  c.single.ensures.value,
+  c.single-2.ensures.value,
+  c.single-3.ensures.value,
+  none_marked,
+  c.new.ensures.items,
+) refl

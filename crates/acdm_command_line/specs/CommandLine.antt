@@ -1,0 +1,118 @@
+-- What the words of a command line ask for, as `clap` reads them.
+use Rattle.std.specs.Prelude.{ℕ, ◌≡◌, ◌≤◌, ◌⊎◌, true, List, [], ◌∷◌, codes, Option, Some, None}
+use Rattle.std.specs.Prelude.{option_and_then, option_map, if◌then◌else◌}
+use Rattle.std.specs.Str.{bytes_eq}
+use Rattle.std.specs.Str.Parse.{IsNumeral, digits_value, without_leading_plus}
+use Rattle.clap.specs.Words.{App, Row, Rule, Text, first_of, new_app, new_rule, subcommand_of}
+use Rattle.clap.specs.Words.{with_rule, with_subcommand}
+use Rattle.clap.specs.Takes.{takes}
+use Rattle.clap.specs.declared.builder.action.ArgAction.TheVariants.{Append}
+use Rattle.clap.specs.declared.error.kind.ErrorKind.{ErrorKind}
+use Rattle.clap.specs.declared.error.kind.ErrorKind.TheVariants.{OutOfMemory}
+use Rattle.acdm_command_line.specs.declared.command_line.Line.{Line}
+use Rattle.acdm_command_line.specs.declared.command_line.Line.TheVariants.{Run, Serve, Verify, Audit}
+
+-- `--journal N`, 100000 where it is not given
+abbrev pub journal_rule : Rule
+journal_rule = record (new_rule (codes "journal")) {
+  long = Some (codes "journal");
+  value_names = 1;
+  defaults = codes "100000" ∷ [];
+}
+
+-- `--save FILE`
+abbrev pub save_rule : Rule
+save_rule = record (new_rule (codes "save")) { long = Some (codes "save"); value_names = 1 }
+
+abbrev pub run_app : App
+run_app = with_rule (with_rule (new_app (codes "run")) journal_rule) save_rule
+
+-- `serve [--journal N] [--save FILE] ROLE=ADDR...`, of at least one address
+abbrev pub partners_rule : Rule
+partners_rule = record (new_rule (codes "partners")) {
+  value_names = 1;
+  action = Some Append;
+  required = true;
+}
+
+abbrev pub serve_options_app : App
+serve_options_app = with_rule (with_rule (new_app (codes "serve")) journal_rule) save_rule
+
+abbrev pub serve_app : App
+serve_app = with_rule serve_options_app partners_rule
+
+-- `verify FILE`, `audit FILE`
+abbrev pub file_rule : Rule
+file_rule = record (new_rule (codes "file")) { value_names = 1; required = true }
+
+abbrev pub verify_app : App
+verify_app = with_rule (new_app (codes "verify")) file_rule
+
+abbrev pub audit_app : App
+audit_app = with_rule (new_app (codes "audit")) file_rule
+
+abbrev required : App → App
+required a = record a { top = record a.top { subcommand_required = true } }
+
+-- the program, of which one subcommand is wanted
+abbrev pub serving_app : App
+serving_app =
+    with_subcommand (with_subcommand (required (new_app (codes "acdm"))) run_app.top) serve_app.top
+
+abbrev pub program : App
+program = with_subcommand (with_subcommand serving_app verify_app.top) audit_app.top
+
+-- the first value of an argument of the subcommand of a name
+abbrev pub value_in : List ℕ → List ℕ → Option (Text × List Row) → Option Text
+value_in name id found = option_and_then (λ p. if bytes_eq p.0 name then first_of id p.1 else None)
+    found
+
+abbrev pub value_of : List ℕ → List ℕ → List Text → Option Text
+value_of name id words = value_in name id (subcommand_of program words)
+
+-- the number that a text names, as Rust reads one
+abbrev pub number_of : Text → ℕ
+number_of text = digits_value 10 (without_leading_plus text)
+
+-- a text names a number from 1 to 1,000,000
+abbrev pub IsJournal : Text → Type 0
+IsJournal text =
+    IsNumeral 10 (without_leading_plus text) × (1 ≤ number_of text) × (number_of text ≤ 1000000)
+
+-- the words ask for `run` or `serve` with this text for its journal, or for `verify` or `audit` of
+-- this file
+abbrev pub RunsWith : List Text → Text → Type 0
+RunsWith words text = value_of (codes "run") (codes "journal") words ≡ Some text
+
+abbrev pub ServesWith : List Text → Text → Type 0
+ServesWith words text = value_of (codes "serve") (codes "journal") words ≡ Some text
+
+abbrev pub Verifies : List Text → Text → Type 0
+Verifies words file = value_of (codes "verify") (codes "file") words ≡ Some file
+
+abbrev pub AuditsFile : List Text → Text → Type 0
+AuditsFile words file = value_of (codes "audit") (codes "file") words ≡ Some file
+
+-- the words ask for `run` or `serve` with the journal and the file that they name, or for `verify`
+-- or `audit` of their file
+abbrev pub AsksFor : List Text → Line → Type 0
+AsksFor words (Run journal save) =
+    (text : Text) × RunsWith words text × IsJournal text × (journal ≡ number_of text)
+    × (option_map (λ s. s.now) save ≡ value_of (codes "run") (codes "save") words)
+AsksFor words (Serve journal save partners) =
+    (text : Text) × ServesWith words text × IsJournal text × (journal ≡ number_of text)
+    × (option_map (λ s. s.now) save ≡ value_of (codes "serve") (codes "save") words)
+AsksFor words (Verify file) = Verifies words file.now
+AsksFor words (Audit file) = AuditsFile words file.now
+
+-- `clap` takes the words, and they ask for one of the four
+pub record IsRight (words : List Text) : Type 0 where
+  pub taken : takes program words ≡ true
+  pub asks : ((text : Text) × RunsWith words text × IsJournal text)
+      ⊎ ((text : Text) × ServesWith words text × IsJournal text)
+      ⊎ ((file : Text) × Verifies words file)
+      ⊎ ((file : Text) × AuditsFile words file)
+
+-- right words are refused only where there is no memory
+abbrev pub Refuses : List Text → ErrorKind → Type 0
+Refuses words kind = IsRight words → kind ≡ OutOfMemory

@@ -1,0 +1,240 @@
+//! The command line.
+ghost use Rattle.std.specs.Prelude.{◌≡◌, false, IfOk, IfErr, map, codes};
+ghost use Rattle.std.specs.Prelude.{option_map};
+ghost use Rattle.std.specs.Option.{SomeIff};
+ghost use Rattle.clap.specs.Values.{kind_of};
+ghost use Rattle.clap.specs.Words.{app_of, rule_of, subcommand_rows_of};
+ghost use Rattle.clap.specs.declared.builder.Command.TheViews.{out-Command as fields_of};
+ghost use Rattle.acdm_command_line.specs.CommandLine.{program as the_program, audit_app, run_app, serve_app};
+ghost use Rattle.acdm_command_line.specs.CommandLine.{serve_options_app, serving_app, verify_app};
+ghost use Rattle.acdm_command_line.specs.CommandLine.{journal_rule, save_rule, value_in};
+ghost use Rattle.acdm_command_line.specs.CommandLine.{number_of, IsJournal, AsksFor, Refuses};
+
+use clap::error::ErrorKind;
+use clap::{Arg, ArgAction, ArgMatches, Command, Error};
+use std::alloc::{AllocError, Global};
+use std::io::Write;
+
+const MOST_ENTRIES: usize = 1_000_000;
+
+/// What the words of a command line ask for.
+#[derive(Debug, Drop, PartialEq, Eq)]
+pub enum Line<'a> {
+    /// `run`, with room for so many entries in the journal, from 1 to 1,000,000, which is to be
+    /// saved in this file.
+    Run {
+        journal: usize,
+        save: Option<&'a str>,
+    },
+    /// `serve`, with room for so many entries in the journal, from 1 to 1,000,000, which is to be
+    /// saved in this file, for the partners of these words, as they stand.
+    Serve {
+        journal: usize,
+        save: Option<&'a str>,
+        partners: Vec<&'a str>,
+    },
+    /// `audit`, of the journal in this file.
+    Audit {
+        file: &'a str,
+    },
+    /// `verify`, of the program in this file.
+    Verify {
+        file: &'a str,
+    },
+}
+
+// `--journal N`.
+fn journal<'a>(alloc: Global) -> Arg<'a>
+    ensures rule { rule_of result ≡ journal_rule }
+    ensures optional { (result.required ≡ false) × (result.global ≡ false) }
+{
+    Arg::new(alloc, "journal")
+        .long("journal")
+        .value_name("N")
+        .default_value("100000")
+        .help("How many entries the journal takes, 1 to 1000000")
+}
+
+// `--save FILE`.
+fn save<'a>(alloc: Global) -> Arg<'a>
+    ensures rule { rule_of result ≡ save_rule }
+    ensures optional { (result.required ≡ false) × (result.global ≡ false) }
+{
+    Arg::new(alloc, "save")
+        .long("save")
+        .value_name("FILE")
+        .help("Where the journal is written as text at the end")
+}
+
+fn run_command<'a>(alloc: Global) -> Result<Command<'a>, AllocError>
+    ensures shape { IfOk result (λ c. app_of c ≡ run_app) }
+    ensures local { IfOk result (λ c. (fields_of c).has_globals ≡ false) }
+{
+    Command::new(alloc, "run")
+        .about("Answers the lines of standard input on standard output")
+        .arg(journal(alloc))?
+        .arg(save(alloc))
+}
+
+// `serve` without its partners.
+fn serve_options<'a>(alloc: Global) -> Result<Command<'a>, AllocError>
+    ensures shape { IfOk result (λ c. app_of c ≡ serve_options_app) }
+    ensures local { IfOk result (λ c. (fields_of c).has_globals ≡ false) }
+{
+    Command::new(alloc, "serve")
+        .about("Accepts a partner at each address, and serves all at once")
+        .arg(journal(alloc))?
+        .arg(save(alloc))
+}
+
+fn serve_command<'a>(alloc: Global) -> Result<Command<'a>, AllocError>
+    ensures shape { IfOk result (λ c. app_of c ≡ serve_app) }
+    ensures local { IfOk result (λ c. (fields_of c).has_globals ≡ false) }
+{
+    let partners = Arg::new(alloc, "partners")
+        .value_name("ROLE=ADDR")
+        .action(ArgAction::Append)
+        .required(true)
+        .help("A role, NM, ATC, APT, AO or GH, and the IP address and port where it connects");
+    serve_options(alloc)?.arg(partners)
+}
+
+fn verify_command<'a>(alloc: Global) -> Result<Command<'a>, AllocError>
+    ensures shape { IfOk result (λ c. app_of c ≡ verify_app) }
+    ensures local { IfOk result (λ c. (fields_of c).has_globals ≡ false) }
+{
+    let file = Arg::new(alloc, "file")
+        .value_name("FILE")
+        .required(true)
+        .help("The raw bytes of a BPF program");
+    Command::new(alloc, "verify")
+        .about("Lists a BPF program that may run, or tells its first fault")
+        .arg(file)
+}
+
+fn audit_command<'a>(alloc: Global) -> Result<Command<'a>, AllocError>
+    ensures shape { IfOk result (λ c. app_of c ≡ audit_app) }
+    ensures local { IfOk result (λ c. (fields_of c).has_globals ≡ false) }
+{
+    let file = Arg::new(alloc, "file")
+        .value_name("FILE")
+        .required(true)
+        .help("A journal that was saved as text");
+    Command::new(alloc, "audit")
+        .about("Judges a saved journal by itself, or tells its first fault")
+        .arg(file)
+}
+
+// The program with the two subcommands that serve.
+fn serving_program<'a>(alloc: Global) -> Result<Command<'a>, AllocError>
+    ensures shape { IfOk result (λ c. app_of c ≡ serving_app) }
+    ensures local { IfOk result (λ c. (fields_of c).has_globals ≡ false) }
+{
+    let run = run_command(alloc)?;
+    let serve = serve_command(alloc)?;
+    Command::new(alloc, "acdm")
+        .about("The shared board of an A-CDM airport")
+        .subcommand_required(true)
+        .subcommand(run)?
+        .subcommand(serve)
+}
+
+fn program<'a>(alloc: Global) -> Result<Command<'a>, AllocError>
+    ensures { IfOk result (λ c. app_of c ≡ the_program) }
+{
+    let verify = verify_command(alloc)?;
+    let audit = audit_command(alloc)?;
+    serving_program(alloc)?
+        .subcommand(verify)?
+        .subcommand(audit)
+}
+
+// The number of entries that a text names, from 1 to 1,000,000.
+fn entries_in(text: &str) -> Option<usize>
+    ensures { SomeIff result (IsJournal text.now) (number_of text.now) }
+{
+    match text.parse::<usize>() {
+        Ok(entries) if 1 <= entries && entries <= MOST_ENTRIES => Some(entries),
+        _ => None,
+    }
+}
+
+// The value of an argument of the subcommand of this name.
+fn value<'a>(matches: &ArgMatches<'a>, name: &str, id: &str) -> Option<&'a str>
+    ensures { option_map (λ s. s.now) result
+        ≡ value_in name.now id.now (subcommand_rows_of matches.now) }
+{
+    let (found, inner) = matches.subcommand()?;
+    if found != name {
+        return None;
+    }
+    inner.get_str(id)
+}
+
+// The words that name partners.
+fn partners_in<'a>(alloc: Global, matches: &ArgMatches<'a>) -> Result<Vec<&'a str>, AllocError> {
+    let mut partners = Vec::new(alloc);
+    if let Some((_, inner)) = matches.subcommand() {
+        if let Some(words) = inner.get_strs("partners") {
+            partners.extend_from_slice(words)?;
+        }
+    }
+    Ok(partners)
+}
+
+/// What these words ask for; the first is the program's name.
+///
+/// The journal is what `--journal` says, else 100,000, and the other words are taken as they stand.
+/// Words that name no such command are refused by `clap`, and so is a journal outside 1 to
+/// 1,000,000. A request for help counts as a refusal.
+pub fn parse<'a>(alloc: Global, words: &'a [&'a str]) -> Result<Line<'a>, Error>
+    ensures asks { IfOk result (AsksFor (map (λ w. w.now) words.entry.now)) }
+    ensures refuses { IfErr result (λ error.
+        Refuses (map (λ w. w.now) words.entry.now) (kind_of error)) }
+{
+    let mut command = program(alloc)?;
+    let matches = command.try_get_matches_from_mut(words)?;
+    if let Some(file) = value(&matches, "verify", "file") {
+        return Ok(Line::Verify { file });
+    }
+    if let Some(file) = value(&matches, "audit", "file") {
+        return Ok(Line::Audit { file });
+    }
+    if let Some(text) = value(&matches, "run", "journal") {
+        if let Some(journal) = entries_in(text) {
+            let save = value(&matches, "run", "save");
+            return Ok(Line::Run { journal, save });
+        }
+    }
+    if let Some(text) = value(&matches, "serve", "journal") {
+        if let Some(journal) = entries_in(text) {
+            let save = value(&matches, "serve", "save");
+            let partners = partners_in(alloc, &matches)?;
+            return Ok(Line::Serve {
+                journal,
+                save,
+                partners,
+            });
+        }
+    }
+    Err(command.error(
+        ErrorKind::ValueValidation,
+        "invalid value for '--journal <N>': it is not a number from 1 to 1000000",
+    )?)
+}
+
+/// What these words ask for. Where they ask for nothing, `clap`'s text on them is written for whoever
+/// gave them; whether it could be written is not told.
+pub fn asked<'a, E: Write + Drop>(
+    alloc: Global,
+    words: &'a [&'a str],
+    mut errors: E,
+) -> Option<Line<'a>> {
+    match parse(alloc, words) {
+        Ok(line) => Some(line),
+        Err(error) => {
+            let _ = write!(errors, "{error}");
+            None
+        }
+    }
+}

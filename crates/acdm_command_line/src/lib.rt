@@ -1,0 +1,9 @@
+//! The command line of `acdm`. It is a crate of its own since what `clap` makes of words is dear to
+//! prove, and stands on nothing else of this repository.
+#![tactic(auto)]
+
+mod command_line;
+#[cfg(test)]
+mod tests;
+
+pub use command_line::{Line, asked, parse};

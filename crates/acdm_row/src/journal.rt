@@ -1,0 +1,181 @@
+//! The journal in a row of cells.
+ghost use Rattle.std.specs.Prelude.{◌≡◌, ◌<◌, ◌≤◌, ◌++◌, ◌∷◌, [], true, false, length, take};
+ghost use Rattle.std.specs.Prelude.{reverse, IfOk, IfErr, OnOk, OnErr, vec_len, vec_capacity};
+ghost use Rattle.std.specs.Prelude.{slice_get};
+ghost use Rattle.std.specs.Option.{option_copied};
+ghost use Rattle.std.specs.Arc.{arc_value};
+ghost use Rattle.acdm_step.specs.History.{IsLegal};
+ghost use Rattle.acdm_row.specs.Views.{JournalView, PassView};
+
+use crate::front::Front;
+use crate::pass::Pass;
+use crate::published::{Past, Published};
+use crate::row::Row;
+use acdm_step::Entry;
+use bpf_helpers::Sigs;
+use std::alloc::{AllocError, Global};
+use std::marker::Model;
+use std::snapshot::Snapshot;
+use std::sync::Arc;
+
+/// The entries that were published, in a row of cells.
+#[derive(Drop)]
+pub struct Journal {
+    row: Arc<Row>,
+    front: Front,
+    past: Past,
+    alloc: Global,
+}
+
+impl Model for Journal {
+    ghost use Rattle.std.specs.Prelude.{◌≡◌, map, reverse};
+    ghost use Rattle.std.specs.Arc.{arc_value};
+    ghost use Rattle.acdm_step.specs.History.{IsLegal};
+    ghost use Rattle.acdm_row.specs.Views.{JournalView};
+
+    ghost Value = { JournalView };
+
+    ghost view = { λ j. record { row = j.front.row; entries = j.front.entries } };
+
+    ghost invariant = { λ j. (arc_value j.row ≡ j.front.row)
+        × (map (λ s. s.value) j.past.items ≡ j.front.entries)
+        × IsLegal j.front.row.sigs (reverse j.front.entries) };
+}
+
+impl Journal {
+    /// No entry, with a cell for each of so many. `Err` only where memory was refused.
+    pub fn new(alloc: Global, sigs: Sigs, capacity: usize) -> Result<Journal, AllocError>
+        ensures empty { IfOk result (λ j. j.entries ≡ []) }
+        ensures cells { IfOk result (λ j. length j.row.cells ≡ capacity) }
+        ensures sigs { IfOk result (λ j. j.row.sigs ≡ sigs) }
+    {
+        let row = Arc::new(alloc, Row::new(alloc, sigs, capacity)?)?;
+        let front = Front::new(alloc, Arc::try_clone(&row)?);
+        Ok(Journal {
+            row,
+            front,
+            past: Vec::new(alloc),
+            alloc,
+        })
+    }
+
+    /// How many entries there are. They are a legal journal.
+    pub fn len(&self) -> usize
+        ensures value { result ≡ length self.now.entries }
+        ensures legal { IsLegal self.now.row.sigs (reverse self.now.entries) }
+    {
+        self.front.len()
+    }
+
+    /// The row, for those that look.
+    pub fn row(&self) -> &Arc<Row>
+        ensures { arc_value result.now ≡ self.now.row }
+    {
+        &self.row
+    }
+
+    /// Where its memory comes from.
+    pub fn alloc(&self) -> Global {
+        self.alloc
+    }
+
+    /// The entry of this number, the first being 0, as it stands in the row.
+    pub fn entry<'a>(&mut self, row: &'a Row, number: u64) -> Option<&'a Entry>
+        requires { row.now ≡ self.old.row }
+        ensures same { self.new ≡ self.old }
+        ensures value { option_copied result ≡ slice_get self.old.entries number }
+    {
+        let at = number as usize;
+        if at >= self.front.len() {
+            return None;
+        }
+        let mut note = self.front.recall(at);
+        let Some(found) = row.look(at, &mut note) else {
+            unreachable!();
+        };
+        Some(&found.entry)
+    }
+
+    /// Publishes the next entry. `Err` where memory was refused, where there is no cell for it, or
+    /// where its cell was set. Nothing has changed then.
+    pub fn publish(&mut self, entry: Entry) -> Result<(), AllocError>
+        requires legal { IsLegal self.old.row.sigs (reverse (self.old.entries ++ entry ∷ [])) }
+        ensures row { self.new.row ≡ self.old.row }
+        ensures entry { OnOk result (self.new.entries ≡ self.old.entries ++ entry ∷ []) }
+        ensures err { OnErr result (self.new ≡ self.old) }
+    {
+        if self.front.len() >= self.row.len() {
+            return Err(AllocError);
+        }
+        self.front.reserve(1)?;
+        self.past.reserve(1)?;
+        let kept = Snapshot::of(&entry);
+        let before = Snapshot::of(&self.past);
+        let value = Box::new(self.alloc, Published { entry, before })?;
+        if !self.front.publish(&*self.row, value) {
+            return Err(AllocError);
+        }
+        self.past.push_reserved(kept);
+        Ok(())
+    }
+
+    /// Publishes the next entry in the name of a pass, which then has seen the journal up to it.
+    /// `Err` where `publish` answers it, and where the journal is shorter than what the pass has
+    /// seen. Nothing has changed then.
+    pub fn enter(&mut self, mut pass: Pass, entry: Entry) -> Result<Pass, Pass>
+        requires same_row { pass.row ≡ self.old.row }
+        requires legal { IsLegal self.old.row.sigs (reverse (self.old.entries ++ entry ∷ [])) }
+        ensures row { self.new.row ≡ self.old.row }
+        ensures begins { IfOk result (λ p.
+            pass.seen ≡ take (length pass.seen) self.old.entries) }
+        ensures entry { IfOk result (λ p. self.new.entries ≡ self.old.entries ++ entry ∷ []) }
+        ensures seen { IfOk result (λ p. p.seen ≡ self.new.entries) }
+        ensures own { IfOk result (λ p. p.own ≡ pass.own ++ entry ∷ []) }
+        ensures same { IfOk result (λ p. (p.row ≡ pass.row) × (p.session ≡ pass.session)
+            × (p.role ≡ pass.role)) }
+        ensures err { IfErr result (λ p. (self.new ≡ self.old) × (p ≡ pass)) }
+    {
+        let number = self.front.len();
+        if pass.front.len() > number {
+            return Err(pass);
+        }
+        let Ok(()) = make_room(&mut pass.front, &mut pass.own, number) else {
+            return Err(pass);
+        };
+        let Ok(()) = self.publish(entry) else {
+            return Err(pass);
+        };
+        pass.front.learn(&mut self.front);
+        pass.own.push_reserved(number as u64);
+        Ok(pass)
+    }
+
+    /// Whether a pass has seen no more than the journal. What it has seen is then its beginning.
+    pub fn holds(&mut self, pass: &mut Pass) -> bool
+        requires { pass.old.row ≡ self.old.row }
+        ensures same { (self.new ≡ self.old) × (pass.new ≡ pass.old) }
+        ensures begins { result ≡ true → pass.old.seen ≡ take (length pass.old.seen)
+            self.old.entries }
+        ensures longer { result ≡ false → length self.old.entries < length pass.old.seen }
+    {
+        if pass.front.len() > self.front.len() {
+            return false;
+        }
+        self.front.meet(&mut pass.front);
+        true
+    }
+}
+
+// Makes room in what a pass knows for a journal of so many entries and one more.
+fn make_room(seen: &mut Front, own: &mut Vec<u64>, number: usize) -> Result<(), AllocError>
+    requires { length seen.old.entries ≤ number }
+    ensures seen { (seen.new.row ≡ seen.old.row) × (seen.new.entries ≡ seen.old.entries) }
+    ensures own { own.new.items ≡ own.old.items }
+    ensures room { OnOk result ((number < seen.new.room)
+        × (vec_len own.old < vec_capacity own.new)) }
+{
+    let more = (number - seen.len()).checked_add(1).ok_or(AllocError)?;
+    seen.reserve(more)?;
+    own.reserve(1)?;
+    Ok(())
+}
