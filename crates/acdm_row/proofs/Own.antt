@@ -5,7 +5,8 @@ use Rattle.std.specs.Prelude.{slice_get, option_to_list, reverse}
 use Rattle.std.proofs.lemmas.List.{take-append-le, take-append-drop}
 use Rattle.acdm_step.specs.declared.entry.Entry.{Entry}
 use Rattle.acdm_step.specs.History.{IsLegal}
-use Rattle.acdm_row.specs.Views.{RowView, entries_at, AreBelow}
+use Rattle.acdm_milestones.specs.declared.role.Role.{Role}
+use Rattle.acdm_row.specs.Views.{RowView, entries_at, AreBelow, AreAbove, AreOf, AreRising}
 
 get_more : (xs more : List Entry) (k : ℕ) → k < length xs → slice_get (xs ++ more) k
     ≡ slice_get xs k
@@ -34,6 +35,24 @@ pub below_push : (n m : ℕ) (ks : List ℕ) (k : ℕ) → AreBelow n ks → n �
     ++ k ∷ [])
 below_push n m [] k h le lt = (lt, tt)
 below_push n m (j ∷ ks) k h le lt = (omega arith, below_push n m ks k h.1 le lt)
+
+above_push : (n k : ℕ) (ks : List ℕ) → AreAbove n ks → n < k → AreAbove n (ks ++ k ∷ [])
+above_push n k [] h lt = (lt, tt)
+above_push n k (j ∷ ks) h lt = (h.0, above_push n k ks h.1 lt)
+
+-- a number that all others are below goes behind them
+pub rising_push : (n : ℕ) (ks : List ℕ) (k : ℕ) → AreBelow n ks → AreRising ks → n ≤ k
+    → AreRising (ks ++ k ∷ [])
+rising_push n [] k below h le = (tt, tt)
+rising_push n (j ∷ ks) k below h le =
+    (above_push j k ks h.0 (omega (arith, below.0, le)), rising_push n ks k below.1 h.1 le)
+
+pub of_caller_push : (session : ℕ) (role : Role) (es : List Entry) (e : Entry)
+    → AreOf session role es → e.session ≡ session → e.role ≡ role
+    → AreOf session role (es ++ e ∷ [])
+of_caller_push session role [] e h s r = (s, r, tt)
+of_caller_push session role (x ∷ es) e h s r =
+    (h.0, h.1, of_caller_push session role es e h.2 s r)
 
 -- a pass that saw xs, when the journal xs ++ between gets y
 pub entries_push : (xs between : List Entry) (y : Entry) (ks : List ℕ) → AreBelow (length xs) ks

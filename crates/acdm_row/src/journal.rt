@@ -1,11 +1,11 @@
 //! The journal in a row of cells.
 ghost use Rattle.std.specs.Prelude.{◌≡◌, ◌<◌, ◌≤◌, ◌++◌, ◌∷◌, [], true, false, length, take};
-ghost use Rattle.std.specs.Prelude.{reverse, IfOk, IfErr, OnOk, OnErr, vec_len, vec_capacity};
+ghost use Rattle.std.specs.Prelude.{reverse, IfOk, OnOk, OnErr, vec_len, vec_capacity};
 ghost use Rattle.std.specs.Prelude.{slice_get};
 ghost use Rattle.std.specs.Option.{option_copied};
 ghost use Rattle.std.specs.Arc.{arc_value};
 ghost use Rattle.acdm_step.specs.History.{IsLegal};
-ghost use Rattle.acdm_row.specs.Views.{JournalView, PassView};
+ghost use Rattle.acdm_row.specs.Views.{IsSameCaller};
 
 use crate::front::Front;
 use crate::pass::Pass;
@@ -119,35 +119,34 @@ impl Journal {
         Ok(())
     }
 
-    /// Publishes the next entry in the name of a pass, which then has seen the journal up to it.
-    /// `Err` where `publish` answers it, and where the journal is shorter than what the pass has
-    /// seen. Nothing has changed then.
-    pub fn enter(&mut self, mut pass: Pass, entry: Entry) -> Result<Pass, Pass>
-        requires same_row { pass.row ≡ self.old.row }
+    /// Publishes the next entry, which a call of a pass made. The pass has then seen the journal up
+    /// to it. `Err` where `publish` answers it, and where the journal is shorter than what the pass
+    /// has seen. Nothing has changed then.
+    pub fn enter(&mut self, pass: &mut Pass, entry: Entry) -> Result<(), AllocError>
+        requires same_row { pass.old.row ≡ self.old.row }
+        requires session { entry.session ≡ pass.old.session }
+        requires role { entry.role ≡ pass.old.role }
         requires legal { IsLegal self.old.row.sigs (reverse (self.old.entries ++ entry ∷ [])) }
         ensures row { self.new.row ≡ self.old.row }
-        ensures begins { IfOk result (λ p.
-            pass.seen ≡ take (length pass.seen) self.old.entries) }
-        ensures entry { IfOk result (λ p. self.new.entries ≡ self.old.entries ++ entry ∷ []) }
-        ensures seen { IfOk result (λ p. p.seen ≡ self.new.entries) }
-        ensures own { IfOk result (λ p. p.own ≡ pass.own ++ entry ∷ []) }
-        ensures same { IfOk result (λ p. (p.row ≡ pass.row) × (p.session ≡ pass.session)
-            × (p.role ≡ pass.role)) }
-        ensures err { IfErr result (λ p. (self.new ≡ self.old) × (p ≡ pass)) }
+        ensures entry { OnOk result (self.new.entries ≡ self.old.entries ++ entry ∷ []) }
+        ensures begins { OnOk result
+            (pass.old.seen ≡ take (length pass.old.seen) self.old.entries) }
+        ensures seen { OnOk result (pass.new.seen ≡ self.new.entries) }
+        ensures numbers { OnOk result
+            (pass.new.numbers ≡ pass.old.numbers ++ length self.old.entries ∷ []) }
+        ensures own { OnOk result (pass.new.own ≡ pass.old.own ++ entry ∷ []) }
+        ensures caller { IsSameCaller pass.old pass.new }
+        ensures err { OnErr result ((self.new ≡ self.old) × (pass.new ≡ pass.old)) }
     {
         let number = self.front.len();
         if pass.front.len() > number {
-            return Err(pass);
+            return Err(AllocError);
         }
-        let Ok(()) = make_room(&mut pass.front, &mut pass.own, number) else {
-            return Err(pass);
-        };
-        let Ok(()) = self.publish(entry) else {
-            return Err(pass);
-        };
+        make_room(&mut pass.front, &mut pass.own, number)?;
+        self.publish(entry)?;
         pass.front.learn(&mut self.front);
         pass.own.push_reserved(number as u64);
-        Ok(pass)
+        Ok(())
     }
 
     /// Whether a pass has seen no more than the journal. What it has seen is then its beginning.

@@ -4,7 +4,7 @@ ghost use Rattle.std.specs.Prelude.{slice_index, vec_len, vec_capacity, IfOk, On
 ghost use Rattle.std.specs.Arc.{arc_value};
 ghost use Rattle.acdm_step.specs.History.{IsLegal};
 ghost use Rattle.acdm_row.specs.Notes.{IsKnownAt};
-ghost use Rattle.acdm_row.specs.Views.{PassView};
+ghost use Rattle.acdm_row.specs.Views.{PassView, AreBelow, AreOf, AreRising, entries_at};
 
 use crate::front::Front;
 use crate::published::Published;
@@ -36,10 +36,11 @@ impl Model for Pass {
       session = p.session;
       role = p.role;
       seen = p.front.entries;
+      numbers = p.own.items;
       own = entries_at p.front.entries p.own.items;
     } };
 
-    ghost invariant = { λ p. IsPass p.front p.session p.own.items };
+    ghost invariant = { λ p. IsPass p.front p.session p.role p.own.items };
 }
 
 impl Row {
@@ -50,7 +51,7 @@ impl Row {
         requires few_sessions { session ≤ 64 }
         ensures row { IfOk result (λ p. p.row ≡ arc_value row.now) }
         ensures session { IfOk result (λ p. (p.session ≡ session) × (p.role ≡ role)) }
-        ensures empty { IfOk result (λ p. (p.seen ≡ []) × (p.own ≡ [])) }
+        ensures empty { IfOk result (λ p. (p.seen ≡ []) × (p.numbers ≡ []) × (p.own ≡ [])) }
     {
         let alloc = row.alloc();
         let front = Front::new(alloc, Arc::try_clone(row)?);
@@ -88,9 +89,14 @@ impl Pass {
         self.front.len()
     }
 
-    /// How many of them its own calls made.
+    /// How many of them its own calls made. Each is of its session and role, and stands in what it
+    /// has seen at its number.
     pub fn own_len(&self) -> usize
-        ensures { result ≡ length self.now.own }
+        ensures value { result ≡ length self.now.numbers }
+        ensures rising { AreRising self.now.numbers }
+        ensures below { AreBelow (length self.now.seen) self.now.numbers }
+        ensures own { self.now.own ≡ entries_at self.now.seen self.now.numbers }
+        ensures of_caller { AreOf self.now.session self.now.role self.now.own }
     {
         self.own.len()
     }
