@@ -1,5 +1,6 @@
 -- What callers see of a desk, and what its fields keep.
-use Rattle.std.specs.Prelude.{ℕ, ◌≡◌, ◌≤◌, Bool, false, not, List, length, reverse}
+use Rattle.std.specs.Prelude.{ℕ, ◌≡◌, ◌≤◌, Bool, false, not, List, [], ◌∷◌, ◌++◌, length, reverse}
+use Rattle.std.specs.Prelude.{take}
 use Rattle.acdm_milestones.specs.declared.role.Role.{Role}
 use Rattle.bpf_helpers.specs.Promise.{Promise}
 use Rattle.bpf_helpers.specs.Same.{same_sigs}
@@ -9,7 +10,7 @@ use Rattle.acdm_step.specs.declared.entry.Entry.{Entry}
 use Rattle.acdm_step.specs.declared.outcome.Outcome.{Outcome}
 use Rattle.acdm_step.specs.Verdicts.{outcome_of, verdict_of}
 use Rattle.acdm_step.specs.History.{Board, IsLegal, replay, after}
-use Rattle.acdm_row.specs.Views.{JournalView, RowView}
+use Rattle.acdm_row.specs.Views.{JournalView, PassView, RowView}
 
 -- the entries, the newest first, how many there may be, the signatures of the helpers, and the
 -- names
@@ -48,6 +49,14 @@ entered d session role moment c answers =
 abbrev pub is_foreign : List (ℕ × Promise) → Command → Bool
 is_foreign sigs (Load l) = not (same_sigs l.program.sigs sigs)
 is_foreign sigs _ = false
+
+-- What a pass had seen was the beginning of the journal. Now it has seen all of it, and its own
+-- entries are one more, the newest.
+pub record Extends (before after : DeskView) (old new : PassView) : Type 0 where
+  pub begins : old.seen ≡ take (length old.seen) (reverse before.history)
+  pub seen : new.seen ≡ reverse after.history
+  pub numbers : new.numbers ≡ old.numbers ++ length before.history ∷ []
+  pub own : new.own ≡ old.own ++ take 1 after.history
 
 -- An entry was made for a command, with the answers that helpers gave, and this came of it.
 pub record Enters (old : DeskView) (session : ℕ) (role : Role) (moment : ℕ) (c : Command)

@@ -1,16 +1,17 @@
 //! The core, and the journal of what changed it.
 ghost use Rattle.std.specs.Prelude.{◌≡◌, ◌<◌, ◌≤◌, [], true, false, length, reverse, slice_get};
-ghost use Rattle.std.specs.Prelude.{IfOk, OnErr};
+ghost use Rattle.std.specs.Prelude.{IfOk, OnOk, OnErr};
 ghost use Rattle.std.specs.Option.{option_copied};
 ghost use Rattle.acdm_step.specs.Commands.{is_accepted};
 ghost use Rattle.acdm_step.specs.InSlots.{answers_room};
 ghost use Rattle.acdm_step.specs.Verdicts.{verdict_in};
 ghost use Rattle.acdm_step.specs.History.{IsChecked, IsLegal, replay};
 ghost use Rattle.std.specs.Arc.{arc_value};
-ghost use Rattle.acdm_board.specs.Desk.{DeskView, Enters, row_of, is_foreign as has_other_sigs};
+ghost use Rattle.acdm_row.specs.Views.{IsSameCaller};
+ghost use Rattle.acdm_board.specs.Desk.{DeskView, Enters, Extends, row_of};
+ghost use Rattle.acdm_board.specs.Desk.{is_foreign as has_other_sigs};
 
-use acdm_milestones::Role;
-use acdm_row::{Journal, Row};
+use acdm_row::{Journal, Pass, Row};
 use acdm_step::{Answers, Command, Core, Entry, Outcome};
 use bpf_helpers::{Helpers, Live, Sigs};
 use std::alloc::{AllocError, Global};
@@ -139,30 +140,33 @@ impl Book {
 
     /// Makes the next entry of a command, whose programs ask this oracle, which has room for all of
     /// their answers, and tells what came of it. The command is planned, its entry published, and
-    /// the plan committed. `Err` where memory was refused or the cell of the entry was set; nothing
-    /// has changed then.
+    /// the plan committed. The pass has then seen all of the journal. `Err` where memory was
+    /// refused, where the cell of the entry was set, or where the pass has seen more than the
+    /// journal has; nothing has changed then.
     pub(crate) fn enter<H: Helpers>(
         &mut self,
         live: Live<'_, H>,
-        session: u8,
-        role: Role,
+        pass: &mut Pass,
         moment: u32,
         command: Command,
     ) -> Result<Outcome, AllocError>
+        requires row { pass.old.row ≡ row_of self.old }
         requires place { length self.old.history < self.old.capacity }
-        requires session_given { 1 ≤ session }
-        requires few_sessions { session ≤ 64 }
         requires moment_given { 1 ≤ moment }
         requires room { live.room ≡ answers_room self.old.history command }
         requires checked { IsChecked self.old.sigs command }
         requires sigs { live.sigs ≡ self.old.sigs }
         requires log { live.log ≡ [] }
         requires refusals { live.refusals ≡ 0 }
-        ensures enters { IfOk result (λ outcome. Enters self.old session role moment command
-            self.new outcome) }
-        ensures err { OnErr result (self.new ≡ self.old) }
+        ensures enters { IfOk result (λ outcome. Enters self.old pass.old.session pass.old.role
+            moment command self.new outcome) }
+        ensures pass { OnOk result (Extends self.old self.new pass.old pass.new) }
+        ensures caller { IsSameCaller pass.old pass.new }
+        ensures err { OnErr result ((self.new ≡ self.old) × (pass.new ≡ pass.old)) }
     {
         let mut live = live;
+        let session = pass.session();
+        let role = pass.role();
         let plan = self.core.plan(&mut live, role, moment, &command)?;
         let answers = answers_of(self.journal.alloc(), live, &plan.outcome);
         let entry = Entry {
@@ -174,7 +178,7 @@ impl Book {
             verdict: plan.outcome.verdict(),
             answers,
         };
-        self.journal.publish(entry)?;
+        self.journal.enter(pass, entry)?;
         Ok(self.core.commit(plan))
     }
 }

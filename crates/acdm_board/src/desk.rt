@@ -1,15 +1,16 @@
 //! The desk: helpers, the core and the journal of what changed it.
 ghost use Rattle.std.specs.Prelude.{◌≡◌, ◌≢◌, ◌≤◌, ◌↔◌, [], true, false, length, reverse};
-ghost use Rattle.std.specs.Prelude.{slice_get, IfOk, OnErr, Err};
+ghost use Rattle.std.specs.Prelude.{slice_get, IfOk, OnOk, OnErr, Err};
 ghost use Rattle.std.specs.Option.{option_copied};
 ghost use Rattle.acdm_step.specs.History.{IsLegal, replay};
 ghost use Rattle.std.specs.Arc.{arc_value};
-ghost use Rattle.acdm_board.specs.Desk.{DeskView, Enters, is_foreign, row_of};
+ghost use Rattle.acdm_row.specs.Views.{IsSameCaller};
+ghost use Rattle.acdm_board.specs.Desk.{DeskView, Enters, Extends, is_foreign, row_of};
 
 use crate::book::Book;
 use crate::error::DeskError;
 use acdm_milestones::Role;
-use acdm_row::Row;
+use acdm_row::{Pass, Row};
 use acdm_step::{Command, Core, Entry, Outcome};
 use bpf_helpers::{Helpers, Live, Sigs};
 use std::alloc::{AllocError, Global};
@@ -92,32 +93,46 @@ impl<H: Helpers + Drop> Desk<H> {
         self.book.entry(row, number)
     }
 
-    /// One event: a command of a session, from 1 to 64, at a moment (minutes since
-    /// 1970-01-01T00:00Z, from 1) becomes the next entry, with what came of it and the answers that
-    /// its programs used.
+    /// A pass of a session, from 1 to 64, that calls in a role, and has seen nothing yet. `Err` only
+    /// where the row can't be shared once more.
+    pub fn pass(&self, session: u8, role: Role) -> Result<Pass, AllocError>
+        requires session_given { 1 ≤ session }
+        requires few_sessions { session ≤ 64 }
+        ensures row { IfOk result (λ p. p.row ≡ row_of self.now) }
+        ensures caller { IfOk result (λ p. (p.session ≡ session) × (p.role ≡ role)) }
+        ensures empty { IfOk result (λ p. (p.seen ≡ []) × (p.numbers ≡ []) × (p.own ≡ [])) }
+    {
+        Row::pass(self.book.row(), session, role)
+    }
+
+    /// One event: a command of a pass at a moment (minutes since 1970-01-01T00:00Z, from 1) becomes
+    /// the next entry, with the pass's session and role, what came of the command and the answers
+    /// that its programs used. What the pass had seen was the beginning of the journal; it has seen
+    /// all of it then, and the entry is the last of its own.
     ///
     /// `Full` where the journal is full, which is tested first; `OtherSignatures` where the program
     /// of a load was checked against other signatures than those of the desk; `Memory` where memory
-    /// was refused. Nothing has changed then.
+    /// was refused, where the cell of the entry was set, or where the pass has seen more than the
+    /// journal has. Nothing has changed then, nor has the pass.
     pub fn call(
         &mut self,
-        session: u8,
-        role: Role,
+        pass: &mut Pass,
         moment: u32,
         command: Command,
     ) -> Result<Reply, DeskError>
-        requires session_given { 1 ≤ session }
-        requires few_sessions { session ≤ 64 }
+        requires row { pass.old.row ≡ row_of self.old }
         requires moment_given { 1 ≤ moment }
-        ensures entry { IfOk result (λ reply. Enters self.old session role moment command self.new
-            reply.outcome) }
+        ensures entry { IfOk result (λ reply. Enters self.old pass.old.session pass.old.role moment
+            command self.new reply.outcome) }
+        ensures pass { OnOk result (Extends self.old self.new pass.old pass.new) }
+        ensures caller { IsSameCaller pass.old pass.new }
         ensures number { IfOk result (λ reply. reply.number ≡ length self.old.history) }
         ensures full { (result ≡ Err DeskError.Full) ↔
             (length self.old.history ≡ self.old.capacity) }
         ensures other { (result ≡ Err DeskError.OtherSignatures) ↔
             ((length self.old.history ≢ self.old.capacity)
             × (is_foreign self.old.sigs command ≡ true)) }
-        ensures err { OnErr result (self.new ≡ self.old) }
+        ensures err { OnErr result ((self.new ≡ self.old) × (pass.new ≡ pass.old)) }
     {
         let number = self.book.len();
         if number == self.book.capacity() {
@@ -128,7 +143,7 @@ impl<H: Helpers + Drop> Desk<H> {
         }
         let room = self.book.core().answers_room(&command);
         let live = Live::new(self.book.alloc(), &self.helpers, room)?;
-        let outcome = self.book.enter(live, session, role, moment, command)?;
+        let outcome = self.book.enter(live, pass, moment, command)?;
         Ok(Reply {
             number: number as u64,
             outcome,

@@ -7,17 +7,18 @@ use Rattle.acdm_step.specs.declared.outcome.Outcome.{Outcome}
 use Rattle.acdm_step.specs.InSlots.{answers_room}
 use Rattle.acdm_step.specs.History.{Board, IsChecked, IsLegal}
 use Rattle.acdm_step.specs.Prepared.{after_change}
+use Rattle.acdm_milestones.specs.declared.role.Role.{Role}
 use Rattle.acdm_row.specs.Views.{RowView}
 use Rattle.acdm_board.specs.Desk.{DeskView, Enters, Keeps}
 use Rattle.acdm_board.proofs.Longer.{keeps-pushed, enters}
 use Rattle.acdm_board.proofs.book.Book.enter.Goals as goal
 
-pub publish-requires : goal.publish-requires
-publish-requires g c =
+pub enter-requires-clause-legal : goal.enter-requires-clause-legal
+enter-requires-clause-legal g c =
     let e : Entry = record {
       number = c.len.result;
-      session = c.args.session;
-      role = c.args.role;
+      session = c.session-session.result;
+      role = c.role-role.result;
       moment = c.args.moment;
       command = c.args.command;
       verdict = c.verdict.result;
@@ -27,14 +28,14 @@ publish-requires g c =
     let kept = keeps-pushed
     c.self.inside.core (after_change c.self.inside.core c.in_ok-plan.plan.change)
     c.self.inside.journal.entries ys
-    (length c.self.inside.journal.row.cells) c.len.result c.args.session c.args.moment c.args.role
+    (length c.self.inside.journal.row.cells) c.len.result c.session-session.result c.args.moment c.role-role.result
     c.args.command c.in_ok-plan.plan.outcome c.verdict.result c.answers_of-answers.result
     (view_of_live c.args.live) (view_of_live c.plan.new.oracle) c.self.invariant.keeps
     (subst (λ (d : DeskView). IsChecked d.sigs c.args.command) (sym c.self.view_is)
     c.requires.checked)
     (record {
-      session_given = c.requires.session_given;
-      few_sessions = c.requires.few_sessions;
+      session_given = c.session-session.ensures.some;
+      few_sessions = c.session-session.ensures.few;
       minute_given = c.requires.moment_given;
       few_minutes = c.ranges.moment.fits;
     }) c.requires.log
@@ -48,27 +49,25 @@ publish-requires g c =
     (reverse c.self.inside.journal.entries) c.self.invariant.keeps.legal
     c.self.invariant.keeps.replays)
     (λ us given. c.in_ok-plan.ensures.board c.self.inside.core.slots.sigs
-    (reverse c.self.inside.journal.entries) c.args.session us c.self.invariant.keeps.legal
+    (reverse c.self.inside.journal.entries) c.session-session.result us c.self.invariant.keeps.legal
     c.self.invariant.keeps.replays given)
     (subst (λ (d : DeskView). length d.history < d.capacity) (sym c.self.view_is)
     c.requires.place) in
-    record {
-      legal = subst (λ s. IsLegal s (reverse ys))
-          (c.in_ok-plan.ensures.sigs ∙ sym c.self.invariant.sigs_are) kept.legal;
-    }
+    subst (λ s. IsLegal s (reverse ys))
+    (c.in_ok-plan.ensures.sigs ∙ sym c.self.invariant.sigs_are) kept.legal
 
 pub invariant_of-self-2 : goal.invariant_of-self-2
 invariant_of-self-2 g c =
     let kept = keeps-pushed
-    c.self.inside.core c.commit.new.self c.self.inside.journal.entries c.publish.new.self.entries
-    (length c.self.inside.journal.row.cells) c.len.result c.args.session c.args.moment c.args.role
+    c.self.inside.core c.commit.new.self c.self.inside.journal.entries c.enter.new.self.entries
+    (length c.self.inside.journal.row.cells) c.len.result c.session-session.result c.args.moment c.role-role.result
     c.args.command c.in_ok-plan.plan.outcome c.verdict.result c.answers_of-answers.result
     (view_of_live c.args.live) (view_of_live c.plan.new.oracle) c.self.invariant.keeps
     (subst (λ (d : DeskView). IsChecked d.sigs c.args.command) (sym c.self.view_is)
     c.requires.checked)
     (record {
-      session_given = c.requires.session_given;
-      few_sessions = c.requires.few_sessions;
+      session_given = c.session-session.ensures.some;
+      few_sessions = c.session-session.ensures.few;
       minute_given = c.requires.moment_given;
       few_minutes = c.ranges.moment.fits;
     }) c.requires.log
@@ -77,20 +76,20 @@ invariant_of-self-2 g c =
     (sym c.self.view_is) c.requires.room))
     c.len.ensures.value c.verdict.ensures c.answers_of-answers.ensures.accepted
     c.answers_of-answers.ensures.refused
-    c.in_ok-publish.ensures.entry
+    c.in_ok-enter.ensures.entry
     (c.in_ok-plan.ensures.outcome c.self.inside.core.slots.sigs
     (reverse c.self.inside.journal.entries) c.self.invariant.keeps.legal
     c.self.invariant.keeps.replays)
     (λ us given. c.commit.ensures.board
     ∙ c.in_ok-plan.ensures.board c.self.inside.core.slots.sigs
-    (reverse c.self.inside.journal.entries) c.args.session us c.self.invariant.keeps.legal
+    (reverse c.self.inside.journal.entries) c.session-session.result us c.self.invariant.keeps.legal
     c.self.invariant.keeps.replays given)
     (subst (λ (d : DeskView). length d.history < d.capacity) (sym c.self.view_is)
     c.requires.place) in
     record {
-      keeps = subst (λ (r : RowView). Keeps c.commit.new.self c.publish.new.self.entries
-          (length r.cells)) (sym c.publish.ensures.row) kept;
-      sigs_are = ap (λ (r : RowView). r.sigs) c.publish.ensures.row ∙ c.self.invariant.sigs_are
+      keeps = subst (λ (r : RowView). Keeps c.commit.new.self c.enter.new.self.entries
+          (length r.cells)) (sym c.enter.ensures.row) kept;
+      sigs_are = ap (λ (r : RowView). r.sigs) c.enter.ensures.row ∙ c.self.invariant.sigs_are
           ∙ sym (ap (λ (b : Board). b.slots.sigs) c.commit.ensures.board
           ∙ c.in_ok-plan.ensures.sigs);
     }
@@ -98,15 +97,15 @@ invariant_of-self-2 g c =
 pub returns-clause-enters : goal.returns-clause-enters
 returns-clause-enters g c =
     let here = enters
-    c.self.inside.core c.commit.new.self c.self.inside.journal.entries c.publish.new.self.entries
-    (length c.self.inside.journal.row.cells) c.len.result c.args.session c.args.moment c.args.role
+    c.self.inside.core c.commit.new.self c.self.inside.journal.entries c.enter.new.self.entries
+    (length c.self.inside.journal.row.cells) c.len.result c.session-session.result c.args.moment c.role-role.result
     c.args.command c.in_ok-plan.plan.outcome c.verdict.result c.answers_of-answers.result
     (view_of_live c.args.live) (view_of_live c.plan.new.oracle) c.self.invariant.keeps
     (subst (λ (d : DeskView). IsChecked d.sigs c.args.command) (sym c.self.view_is)
     c.requires.checked)
     (record {
-      session_given = c.requires.session_given;
-      few_sessions = c.requires.few_sessions;
+      session_given = c.session-session.ensures.some;
+      few_sessions = c.session-session.ensures.few;
       minute_given = c.requires.moment_given;
       few_minutes = c.ranges.moment.fits;
     }) c.requires.log
@@ -115,26 +114,33 @@ returns-clause-enters g c =
     (sym c.self.view_is) c.requires.room))
     c.len.ensures.value c.verdict.ensures c.answers_of-answers.ensures.accepted
     c.answers_of-answers.ensures.refused
-    c.in_ok-publish.ensures.entry
+    c.in_ok-enter.ensures.entry
     (c.in_ok-plan.ensures.outcome c.self.inside.core.slots.sigs
     (reverse c.self.inside.journal.entries) c.self.invariant.keeps.legal
     c.self.invariant.keeps.replays)
     (λ us given. c.commit.ensures.board
     ∙ c.in_ok-plan.ensures.board c.self.inside.core.slots.sigs
-    (reverse c.self.inside.journal.entries) c.args.session us c.self.invariant.keeps.legal
+    (reverse c.self.inside.journal.entries) c.session-session.result us c.self.invariant.keeps.legal
     c.self.invariant.keeps.replays given)
     c.self.inside.journal.row.cells c.args.self.now c.self.view_is in
-    subst (λ (o : Outcome). Enters c.args.self.now c.args.session c.args.role c.args.moment
-    c.args.command (record {
-      history = reverse c.publish.new.self.entries;
-      capacity = length c.publish.new.self.row.cells;
+    let after : DeskView = record {
+      history = reverse c.enter.new.self.entries;
+      capacity = length c.enter.new.self.row.cells;
       sigs = c.commit.new.self.slots.sigs;
-      cells = c.publish.new.self.row.cells;
-    }) o) (sym c.commit.ensures.outcome)
-    (subst (λ (r : RowView). Enters c.args.self.now c.args.session c.args.role c.args.moment
-    c.args.command (record {
-      history = reverse c.publish.new.self.entries;
+      cells = c.enter.new.self.row.cells;
+    } in
+    let planned : Enters c.args.self.now c.session-session.result c.role-role.result c.args.moment
+    c.args.command after c.in_ok-plan.plan.outcome =
+    subst (λ (r : RowView). Enters c.args.self.now c.session-session.result c.role-role.result
+    c.args.moment c.args.command (record {
+      history = reverse c.enter.new.self.entries;
       capacity = length r.cells;
       sigs = c.commit.new.self.slots.sigs;
       cells = r.cells;
-    }) c.in_ok-plan.plan.outcome) (sym c.publish.ensures.row) here)
+    }) c.in_ok-plan.plan.outcome) (sym c.enter.ensures.row) here in
+    subst (λ session. Enters c.args.self.now session c.args.pass.now.role c.args.moment
+    c.args.command after c.commit.result) c.session-session.ensures.value
+    (subst (λ (r : Role). Enters c.args.self.now c.session-session.result r c.args.moment
+    c.args.command after c.commit.result) c.role-role.ensures
+    (subst (λ (o : Outcome). Enters c.args.self.now c.session-session.result c.role-role.result
+    c.args.moment c.args.command after o) (sym c.commit.ensures.outcome) planned))
