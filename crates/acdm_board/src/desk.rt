@@ -1,14 +1,15 @@
 //! The desk: helpers, the core and the journal of what changed it.
 ghost use Rattle.std.specs.Prelude.{◌≡◌, ◌≢◌, ◌≤◌, ◌↔◌, [], true, false, length, reverse};
-ghost use Rattle.std.specs.Prelude.{slice_get, IfOk, OnOk, OnErr, Err};
+ghost use Rattle.std.specs.Prelude.{slice_get, IfOk, OnOk, OnErr, Err, Some, None};
 ghost use Rattle.std.specs.Option.{option_copied};
-ghost use Rattle.acdm_step.specs.History.{IsLegal, replay};
+ghost use Rattle.acdm_step.specs.History.{IsChecked, IsLegal, replay};
 ghost use Rattle.std.specs.Arc.{arc_value};
 ghost use Rattle.acdm_row.specs.Views.{IsSameCaller};
 ghost use Rattle.acdm_board.specs.Desk.{DeskView, Enters, Extends, is_foreign, row_of};
 
 use crate::book::Book;
 use crate::error::DeskError;
+use crate::passes::Passes;
 use acdm_milestones::Role;
 use acdm_row::{Pass, Row};
 use acdm_step::{Command, Core, Entry, Outcome};
@@ -29,17 +30,18 @@ pub struct Reply {
 pub struct Desk<H: Helpers + Drop> {
     helpers: H,
     book: Book,
+    passes: Passes,
 }
 
 impl<H: Helpers + Drop> Model for Desk<H> {
     ghost use Rattle.std.specs.Prelude.{◌≡◌};
-    ghost use Rattle.acdm_board.specs.Desk.{DeskView};
+    ghost use Rattle.acdm_board.specs.Desk.{DeskView, row_of};
 
     ghost Value = { DeskView };
 
     ghost view = { λ d. d.book };
 
-    ghost invariant = { λ d. d.book.sigs ≡ H.entries d.helpers };
+    ghost invariant = { λ d. (d.book.sigs ≡ H.entries d.helpers) × (d.passes ≡ row_of d.book) };
 }
 
 impl<H: Helpers + Drop> Desk<H> {
@@ -51,7 +53,12 @@ impl<H: Helpers + Drop> Desk<H> {
     {
         let sigs = helpers.sigs()?;
         let book = Book::new(alloc, sigs, capacity)?;
-        Ok(Desk { helpers, book })
+        let passes = Passes::new(alloc, Arc::try_clone(book.row())?);
+        Ok(Desk {
+            helpers,
+            book,
+            passes,
+        })
     }
 
     /// The core, which is the replay of the journal. The journal is legal.
@@ -105,6 +112,25 @@ impl<H: Helpers + Drop> Desk<H> {
         Row::pass(self.book.row(), session, role)
     }
 
+    // Why a command is refused before it is tried.
+    fn refusal(&self, command: &Command) -> Option<DeskError>
+        ensures full { (result ≡ Some DeskError.Full) ↔
+            (length self.now.history ≡ self.now.capacity) }
+        ensures other { (result ≡ Some DeskError.OtherSignatures) ↔
+            ((length self.now.history ≢ self.now.capacity)
+            × (is_foreign self.now.sigs command.now ≡ true)) }
+        ensures memory { result ≢ Some DeskError.Memory }
+        ensures checked { result ≡ None → IsChecked self.now.sigs command.now }
+    {
+        if self.book.len() == self.book.capacity() {
+            return Some(DeskError::Full);
+        }
+        if self.book.refuses(command) {
+            return Some(DeskError::OtherSignatures);
+        }
+        None
+    }
+
     /// One event: a command of a pass at a moment (minutes since 1970-01-01T00:00Z, from 1) becomes
     /// the next entry, with the pass's session and role, what came of the command and the answers
     /// that its programs used. What the pass had seen was the beginning of the journal; it has seen
@@ -135,11 +161,8 @@ impl<H: Helpers + Drop> Desk<H> {
         ensures err { OnErr result ((self.new ≡ self.old) × (pass.new ≡ pass.old)) }
     {
         let number = self.book.len();
-        if number == self.book.capacity() {
-            return Err(DeskError::Full);
-        }
-        if self.book.refuses(&command) {
-            return Err(DeskError::OtherSignatures);
+        if let Some(error) = self.refusal(&command) {
+            return Err(error);
         }
         let room = self.book.core().answers_room(&command);
         let live = Live::new(self.book.alloc(), &self.helpers, room)?;
@@ -148,5 +171,35 @@ impl<H: Helpers + Drop> Desk<H> {
             number: number as u64,
             outcome,
         })
+    }
+
+    /// The same for a session, from 1 to 64, in a role, by a pass that the desk keeps for the two.
+    pub fn call_for(
+        &mut self,
+        session: u8,
+        role: Role,
+        moment: u32,
+        command: Command,
+    ) -> Result<Reply, DeskError>
+        requires session_given { 1 ≤ session }
+        requires few_sessions { session ≤ 64 }
+        requires moment_given { 1 ≤ moment }
+        ensures entry { IfOk result (λ reply. Enters self.old session role moment command self.new
+            reply.outcome) }
+        ensures number { IfOk result (λ reply. reply.number ≡ length self.old.history) }
+        ensures full { (result ≡ Err DeskError.Full) ↔
+            (length self.old.history ≡ self.old.capacity) }
+        ensures other { (result ≡ Err DeskError.OtherSignatures) ↔
+            ((length self.old.history ≢ self.old.capacity)
+            × (is_foreign self.old.sigs command ≡ true)) }
+        ensures err { OnErr result (self.new ≡ self.old) }
+    {
+        if let Some(error) = self.refusal(&command) {
+            return Err(error);
+        }
+        let mut pass = self.passes.take(session, role)?;
+        let result = self.call(&mut pass, moment, command);
+        self.passes.put(pass);
+        result
     }
 }

@@ -1,0 +1,77 @@
+//! Passes of one row, for those who call through another's hands.
+ghost use Rattle.std.specs.Prelude.{◌≡◌, ◌<◌, ◌≤◌, IfOk, IfSome, length};
+ghost use Rattle.std.specs.Arc.{arc_value};
+
+use acdm_milestones::Role;
+use acdm_row::{Pass, Row};
+use std::alloc::{AllocError, Global};
+use std::marker::Model;
+use std::sync::Arc;
+
+/// Passes of one row, at most one for each session and role.
+#[derive(Drop)]
+pub(crate) struct Passes {
+    row: Arc<Row>,
+    items: Vec<Pass>,
+}
+
+impl Model for Passes {
+    ghost use Rattle.std.specs.Prelude.{◌≡◌};
+    ghost use Rattle.std.specs.List.{All};
+    ghost use Rattle.std.specs.Arc.{arc_value};
+    ghost use Rattle.acdm_row.specs.Views.{RowView};
+
+    ghost Value = { RowView };
+
+    ghost view = { λ p. arc_value p.row };
+
+    ghost invariant = { λ p. All (λ q. q.row ≡ arc_value p.row) p.items.items };
+}
+
+impl Passes {
+    /// None yet.
+    pub(crate) fn new(alloc: Global, row: Arc<Row>) -> Passes
+        ensures { result ≡ arc_value row }
+    {
+        Passes {
+            row,
+            items: Vec::new(alloc),
+        }
+    }
+
+    // Where the pass of a session in a role stands.
+    fn place(&self, session: u8, role: Role) -> Option<usize> {
+        self.items
+            .iter()
+            .position(|pass| pass.session() == session && pass.role() == role)
+    }
+
+    /// The pass of a session in a role, which is kept no longer, or a new one. `Err` only where the
+    /// row can't be shared once more.
+    pub(crate) fn take(&mut self, session: u8, role: Role) -> Result<Pass, AllocError>
+        requires session_given { 1 ≤ session }
+        requires few_sessions { session ≤ 64 }
+        ensures same { self.new ≡ self.old }
+        ensures row { IfOk result (λ p. p.row ≡ self.old) }
+        ensures session { IfOk result (λ p. p.session ≡ session) }
+        ensures role { IfOk result (λ p. p.role ≡ role) }
+    {
+        if let Some(at) = self.place(session, role) {
+            if at < self.items.len() {
+                let pass = self.items.swap_remove(at);
+                if pass.session() == session && pass.role() == role {
+                    return Ok(pass);
+                }
+            }
+        }
+        Row::pass(&self.row, session, role)
+    }
+
+    /// Keeps a pass, where there is room for it.
+    pub(crate) fn put(&mut self, pass: Pass)
+        requires { pass.row ≡ self.old }
+        ensures { self.new ≡ self.old }
+    {
+        let _ = self.items.push(pass);
+    }
+}
