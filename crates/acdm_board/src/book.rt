@@ -1,6 +1,6 @@
 //! The core, and the journal of what changed it.
 ghost use Rattle.std.specs.Prelude.{◌≡◌, ◌<◌, ◌≤◌, [], true, false, length, reverse, slice_get};
-ghost use Rattle.std.specs.Prelude.{IfOk, OnOk, OnErr};
+ghost use Rattle.std.specs.Prelude.{take, IfOk, OnOk, OnErr};
 ghost use Rattle.std.specs.Option.{option_copied};
 ghost use Rattle.acdm_step.specs.Commands.{is_accepted};
 ghost use Rattle.acdm_step.specs.InSlots.{answers_room};
@@ -127,6 +127,30 @@ impl Book {
         ensures value { option_copied result ≡ slice_get (reverse self.old.history) number }
     {
         self.journal.entry(row, number)
+    }
+
+    /// Shows all of the journal to a pass. `Err` where memory was refused, and where the journal is
+    /// shorter than what the pass has seen. Nothing has changed then.
+    pub(crate) fn show(&mut self, pass: &mut Pass) -> Result<(), AllocError>
+        requires { pass.old.row ≡ row_of self.old }
+        ensures same { self.new ≡ self.old }
+        ensures seen { OnOk result (pass.new.seen ≡ reverse self.old.history) }
+        ensures own { (pass.new.numbers ≡ pass.old.numbers) × (pass.new.own ≡ pass.old.own) }
+        ensures caller { IsSameCaller pass.old pass.new }
+        ensures err { OnErr result (pass.new ≡ pass.old) }
+    {
+        self.journal.show(pass)
+    }
+
+    /// Whether a pass has seen no more than the journal. What it has seen is then its beginning.
+    pub(crate) fn holds(&mut self, pass: &mut Pass) -> bool
+        requires { pass.old.row ≡ row_of self.old }
+        ensures same { (self.new ≡ self.old) × (pass.new ≡ pass.old) }
+        ensures begins { result ≡ true → pass.old.seen ≡ take (length pass.old.seen)
+            (reverse self.old.history) }
+        ensures longer { result ≡ false → length self.old.history < length pass.old.seen }
+    {
+        self.journal.holds(pass)
     }
 
     /// Whether a command loads a program that was checked against other signatures than those of

@@ -1,5 +1,6 @@
 //! The desk: helpers, the core and the journal of what changed it.
-ghost use Rattle.std.specs.Prelude.{◌≡◌, ◌≢◌, ◌≤◌, ◌↔◌, [], true, false, length, reverse};
+ghost use Rattle.std.specs.Prelude.{◌≡◌, ◌≢◌, ◌<◌, ◌≤◌, ◌↔◌, [], true, false, length, reverse};
+ghost use Rattle.std.specs.Prelude.{take};
 ghost use Rattle.std.specs.Prelude.{slice_get, IfOk, OnOk, OnErr, Err, Some, None};
 ghost use Rattle.std.specs.Option.{option_copied};
 ghost use Rattle.acdm_step.specs.History.{IsChecked, IsLegal, replay};
@@ -110,6 +111,30 @@ impl<H: Helpers + Drop> Desk<H> {
         ensures empty { IfOk result (λ p. (p.seen ≡ []) × (p.numbers ≡ []) × (p.own ≡ [])) }
     {
         Row::pass(self.book.row(), session, role)
+    }
+
+    /// Shows all of the journal to a pass. `Err` where memory was refused, and where the journal is
+    /// shorter than what the pass has seen. Nothing has changed then.
+    pub fn show(&mut self, pass: &mut Pass) -> Result<(), AllocError>
+        requires { pass.old.row ≡ row_of self.old }
+        ensures same { self.new ≡ self.old }
+        ensures seen { OnOk result (pass.new.seen ≡ reverse self.old.history) }
+        ensures own { (pass.new.numbers ≡ pass.old.numbers) × (pass.new.own ≡ pass.old.own) }
+        ensures caller { IsSameCaller pass.old pass.new }
+        ensures err { OnErr result (pass.new ≡ pass.old) }
+    {
+        self.book.show(pass)
+    }
+
+    /// Whether a pass has seen no more than the journal. What it has seen is then its beginning.
+    pub fn holds(&mut self, pass: &mut Pass) -> bool
+        requires { pass.old.row ≡ row_of self.old }
+        ensures same { (self.new ≡ self.old) × (pass.new ≡ pass.old) }
+        ensures begins { result ≡ true → pass.old.seen ≡ take (length pass.old.seen)
+            (reverse self.old.history) }
+        ensures longer { result ≡ false → length self.old.history < length pass.old.seen }
+    {
+        self.book.holds(pass)
     }
 
     // Why a command is refused before it is tried.

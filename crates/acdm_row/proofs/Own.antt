@@ -79,6 +79,14 @@ entries_grown xs journal y ks h short begins =
     subst (λ (es : List Entry). entries_at (es ++ y ∷ []) (ks ++ length es ∷ []) ≡ entries_at xs ks
     ++ y ∷ []) whole (entries_push xs (drop n journal) y ks h)
 
+-- the same entries, where the pass has seen a beginning of what it is shown
+pub entries_shown : (xs ys : List Entry) (ks : List ℕ) → AreBelow (length xs) ks
+    → xs ≡ take (length xs) ys → entries_at ys ks ≡ entries_at xs ks
+entries_shown xs ys ks h begins =
+    let n = length xs in
+    sym (ap (λ es. entries_at es ks) (take-append-drop n ys))
+    ∙ (λ i. entries_at (sym begins i ++ drop n ys) ks) ∙ entries_more xs (drop n ys) ks h
+
 pub below_more : (n m : ℕ) (ks : List ℕ) → AreBelow n ks → n ≤ m → AreBelow m ks
 below_more n m [] h le = tt
 below_more n m (k ∷ ks) h le = (omega arith, below_more n m ks h.1 le)

@@ -149,6 +149,25 @@ impl Journal {
         Ok(())
     }
 
+    /// Shows all of the journal to a pass. `Err` where memory was refused, and where the journal is
+    /// shorter than what the pass has seen. Nothing has changed then.
+    pub fn show(&mut self, pass: &mut Pass) -> Result<(), AllocError>
+        requires { pass.old.row ≡ self.old.row }
+        ensures same { self.new ≡ self.old }
+        ensures seen { OnOk result (pass.new.seen ≡ self.old.entries) }
+        ensures own { (pass.new.numbers ≡ pass.old.numbers) × (pass.new.own ≡ pass.old.own) }
+        ensures caller { IsSameCaller pass.old pass.new }
+        ensures err { OnErr result (pass.new ≡ pass.old) }
+    {
+        let number = self.front.len();
+        if pass.front.len() > number {
+            return Err(AllocError);
+        }
+        pass.front.reserve(number - pass.front.len())?;
+        pass.front.learn(&mut self.front);
+        Ok(())
+    }
+
     /// Whether a pass has seen no more than the journal. What it has seen is then its beginning.
     pub fn holds(&mut self, pass: &mut Pass) -> bool
         requires { pass.old.row ≡ self.old.row }

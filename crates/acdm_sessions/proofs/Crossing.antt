@@ -13,6 +13,8 @@ use Rattle.bpf_helpers.proofs.sigs.Sigs.TheSendSync as sigs
 use Rattle.bpf_helpers.specs.contracts.sigs.Sigs as of_sigs
 use Rattle.acdm_milestones.proofs.role.Role.TheSendSync as role
 use Rattle.acdm_lines.proofs.counted.Counted.TheSendSync as counted
+use Rattle.acdm_row.proofs.Crossing.{pass_send}
+use Rattle.acdm_row.specs.contracts.pass.Pass as pass
 use Rattle.acdm_board.proofs.Crossing.{desk_send}
 use Rattle.acdm_board.specs.contracts.desk.Desk as desk
 use Rattle.acdm_sessions.specs.declared.locked.Naming as naming
@@ -49,7 +51,10 @@ caller_send C L n l c =
             as_row_send of_sigs.the_field sigs.the_send,
             (
               search sendable depth 8,
-              (search (share.the_send, sendable) depth 8, tt),
+              (
+                search (share.the_send, sendable) depth 8,
+                (as_row_send pass.the_field pass_send, tt),
+              ),
             ),
           ),
         ),

@@ -1,9 +1,10 @@
 pub mod Codes
-pub mod Reading
 pub mod Meant
-pub mod Reply
-pub mod Output
-pub mod Stream
-pub mod Run
 pub mod Orders
+pub mod Output
+pub mod Passes
+pub mod Reading
+pub mod Reply
+pub mod Run
 pub mod Sessions
+pub mod Stream

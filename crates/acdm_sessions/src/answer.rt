@@ -32,7 +32,7 @@ fn answer_line<H: Helpers + Drop>(alloc: Global, line: &[u8], desk: &mut Desk<H>
         Ok(command) => command,
         Err(error) => return Answer::Rejected(Bad::from(error)),
     };
-    match desk.call(request.session, request.role, request.moment, command) {
+    match desk.call_for(request.session, request.role, request.moment, command) {
         Ok(reply) => Answer::Entered(reply),
         Err(DeskError::Memory) => Answer::Rejected(Bad::NoMemory),
         Err(DeskError::Full) => Answer::Rejected(Bad::FullJournal),

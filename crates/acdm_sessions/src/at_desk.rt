@@ -13,7 +13,7 @@ use crate::order::{Order, order_in};
 use crate::session::{Caller, End, Seat, Served};
 use crate::stream::serve_lines;
 use acdm_board::DeskError;
-use acdm_lines::RunError;
+use acdm_lines::{Counted, RunError};
 use bpf_helpers::Helpers;
 use std::alloc::Global;
 use std::io::{Read, Write};
@@ -22,9 +22,9 @@ use std::sync::{Mutex, Wait};
 impl<C: Clock + Drop, J: Naming> Caller<C, J> {
     // What a line asks to be done, at the minute that the session's clock tells.
     fn order(&mut self, alloc: Global, line: &[u8]) -> Result<Order, Bad>
-        ensures orders { Orders (C.gives self.old.clock) J.sigs line.now result }
+        ensures orders { Orders (C.gives self.old.clock) J.desk_row.sigs line.now result }
         ensures from_one { IfOk result (λ order. 1 ≤ order.moment) }
-        ensures checked { IfOk result (λ order. is_foreign J.sigs order.command ≡ false) }
+        ensures checked { IfOk result (λ order. is_foreign J.desk_row.sigs order.command ≡ false) }
         ensures calls { self.new.calls ≡ self.old.calls }
         ensures number { self.new.number ≡ self.old.number }
         ensures role { self.new.role ≡ self.old.role }
@@ -41,20 +41,16 @@ impl<C: Clock + Drop, J: Naming> Caller<C, J> {
         order: Order,
     ) -> Answer
         requires moment_given { 1 ≤ order.moment }
-        requires checked { is_foreign J.sigs order.command ≡ false }
+        requires checked { is_foreign J.desk_row.sigs order.command ≡ false }
         ensures answers { CallAnswers self.old.calls self.new.calls result }
         ensures number { self.new.number ≡ self.old.number }
         ensures role { self.new.role ≡ self.old.role }
         ensures clock { C.gives self.new.clock ≡ C.gives self.old.clock }
     {
         let Caller {
-            number,
-            role,
-            share,
-            calls,
-            ..
+            share, calls, pass, ..
         } = self;
-        match shared.lock(rt).call(*number, *role, order, share) {
+        match shared.lock(rt).call(pass, order, share) {
             Ok(reply) => {
                 *calls += 1;
                 Answer::Entered(reply)
@@ -86,7 +82,7 @@ impl<'s, C: Clock + Drop, H: Helpers + Drop, J: Naming, G: Gate, Rt: Wait> Answe
     ghost may = { λ before after line answer. SessionAnswers
         (C.gives before.caller.clock) (C.gives after.caller.clock)
         before.caller.number after.caller.number before.caller.role after.caller.role
-        J.sigs before.caller.calls after.caller.calls line answer };
+        J.desk_row.sigs before.caller.calls after.caller.calls line answer };
 
     fn answer(&mut self, alloc: Global, line: &[u8]) -> Answer {
         self.called = false;
@@ -106,6 +102,30 @@ impl<'s, C: Clock + Drop, H: Helpers + Drop, J: Naming, G: Gate, Rt: Wait> Answe
             self.gate.answered(self.caller.number, self.turn);
         }
     }
+}
+
+// Answers each line of a session, at once, until its input ends.
+fn answer_all<
+    's,
+    R: Read,
+    W: Write,
+    C: Clock + Drop,
+    H: Helpers + Drop,
+    J: Naming,
+    G: Gate,
+    Rt: Wait,
+>(
+    alloc: Global,
+    reader: &mut Counted<R>,
+    writer: &mut Counted<W>,
+    who: &mut AtDesk<'s, C, H, J, G, Rt>,
+) -> Result<(), RunError>
+    requires reads { reader.old.faults < 2 ^ 64 - 1 }
+    requires writes { writer.old.faults < 2 ^ 64 - 1 }
+    ensures number { who.new.caller.number ≡ who.old.caller.number }
+    ensures role { who.new.caller.role ≡ who.old.caller.role }
+{
+    serve_lines(alloc, reader, writer, who)
 }
 
 // A session from its beginning to its end. With no leave to begin it ends at once.
@@ -153,7 +173,7 @@ pub(crate) fn serve<
         turn: 0,
         called: false,
     };
-    let end = match serve_lines(alloc, &mut reader, &mut writer, &mut at_desk) {
+    let end = match answer_all(alloc, &mut reader, &mut writer, &mut at_desk) {
         Ok(()) => End::End,
         Err(RunError::Read) => End::Read,
         Err(RunError::Write) => End::Write,

@@ -1,23 +1,27 @@
 //! What lies under the lock.
-ghost use Rattle.std.specs.Prelude.{◌≡◌, ◌≢◌, ◌+◌, ◌<◌, ◌≤◌, ◌^◌, ◌↔◌, ℕ, List, [], false, length};
+ghost use Rattle.std.specs.Prelude.{◌≡◌, ◌≢◌, ◌+◌, ◌<◌, ◌≤◌, ◌^◌, ◌↔◌, ℕ, [], true, false, length};
 ghost use Rattle.std.specs.Prelude.{Err, OnOk, OnErr, IfOk};
-ghost use Rattle.bpf_helpers.specs.Promise.{Promise};
-ghost use Rattle.acdm_board.specs.Desk.{Enters, is_foreign};
+ghost use Rattle.acdm_row.specs.Views.{IsSameCaller, RowView};
+ghost use Rattle.acdm_board.specs.Desk.{Enters, Extends, is_foreign, row_of};
+ghost use Rattle.acdm_sessions.specs.Passes.{are_from};
 
 use crate::order::Order;
 use acdm_board::{Desk, DeskError, Reply};
-use acdm_milestones::Role;
+use acdm_row::Pass;
 use bpf_helpers::Helpers;
 use std::marker::Brand;
 use std::sync::ledger::{Book, Ledger, Share};
 
-/// What one run of sessions goes by: a ledger of its own, and the signatures of its desk.
+/// What one run of sessions goes by: a ledger of its own, the row of its desk, and how many entries
+/// the desk had before it.
 pub(crate) trait Naming: Ledger {
-    ghost sigs: { List (ℕ × Promise) };
+    ghost desk_row: { RowView };
+    ghost start: { ℕ };
 }
 
 impl Naming for Brand {
-    ghost sigs = { [] };
+    ghost desk_row = { record { cells = []; sigs = [] } };
+    ghost start = { 0 };
 }
 
 /// The desk, and the ledger's book, which counts its entries.
@@ -26,31 +30,35 @@ pub(crate) struct Locked<H: Helpers + Drop, J: Naming> {
     pub(crate) desk: Desk<H>,
     pub(crate) book: Book<J>,
     ghost counted: { length desk.history ≡ book.total },
-    ghost of_run: { desk.sigs ≡ J.sigs },
+    ghost of_run: { row_of desk ≡ J.desk_row },
+    ghost since: { J.start ≤ length desk.history },
 }
 
 impl<H: Helpers + Drop, J: Naming> Locked<H, J> {
-    /// One call of a session, which its share counts where it makes an entry. The errors are those
-    /// of the desk, of which `OtherSignatures` can't come.
+    /// One call of a session by its pass, which its share counts where it makes an entry. The errors
+    /// are those of the desk, of which `OtherSignatures` can't come.
     pub(crate) fn call(
         &mut self,
-        session: u8,
-        role: Role,
+        pass: &mut Pass,
         order: Order,
         mine: &mut Share<J>,
     ) -> Result<Reply, DeskError>
-        requires session_given { 1 ≤ session }
-        requires few_sessions { session ≤ 64 }
+        requires row { pass.old.row ≡ J.desk_row }
         requires moment_given { 1 ≤ order.moment }
         requires part { 0 < mine.old.parts }
-        requires checked { is_foreign J.sigs order.command ≡ false }
+        requires checked { is_foreign J.desk_row.sigs order.command ≡ false }
         ensures parts { mine.new.parts ≡ mine.old.parts }
         ensures ok { OnOk result (mine.new.amount ≡ mine.old.amount + 1) }
         ensures fits { OnOk result (mine.new.amount < 2 ^ 64) }
         ensures err { OnErr result ((mine.new.amount ≡ mine.old.amount)
-            × (self.new.desk ≡ self.old.desk)) }
-        ensures entry { IfOk result (λ reply. Enters self.old.desk session role order.moment
-            order.command self.new.desk reply.outcome) }
+            × (self.new.desk ≡ self.old.desk) × (pass.new ≡ pass.old)) }
+        ensures entry { IfOk result (λ reply. Enters self.old.desk pass.old.session pass.old.role
+            order.moment order.command self.new.desk reply.outcome) }
+        ensures pass { OnOk result (Extends self.old.desk self.new.desk pass.old pass.new) }
+        ensures caller { IsSameCaller pass.old pass.new }
+        ensures own { OnOk result (length pass.new.own ≡ length pass.old.own + 1) }
+        ensures since { OnOk result (are_from J.start pass.old.numbers ≡ true
+            → are_from J.start pass.new.numbers ≡ true) }
         ensures number { IfOk result (λ reply. reply.number ≡ length self.old.desk.history) }
         ensures full { (result ≡ Err DeskError.Full)
             ↔ (length self.old.desk.history ≡ self.old.desk.capacity) }
@@ -58,7 +66,7 @@ impl<H: Helpers + Drop, J: Naming> Locked<H, J> {
     {
         let Locked { desk, book } = self;
         let Order { moment, command } = order;
-        let reply = desk.call(session, role, moment, command)?;
+        let reply = desk.call(pass, moment, command)?;
         book.add(mine, 1);
         book.audit(mine);
         let _count = desk.len();

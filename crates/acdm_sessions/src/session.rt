@@ -1,10 +1,12 @@
 //! Sessions: before they begin, and when they have ended.
-ghost use Rattle.std.specs.Prelude.{◌≡◌, ◌≤◌, ◌<◌, ◌-◌, ◌^◌};
+ghost use Rattle.std.specs.Prelude.{◌≡◌, ◌<◌, ◌-◌, ◌^◌, true, length};
+ghost use Rattle.acdm_sessions.specs.Passes.{are_from};
 
 use crate::locked::Naming;
 use acdm_board::Desk;
 use acdm_lines::Counted;
 use acdm_milestones::Role;
+use acdm_row::Pass;
 use bpf_helpers::{Helpers, Sigs};
 use std::sync::ledger::Share;
 
@@ -56,6 +58,11 @@ pub struct Ended<R: Drop, W: Drop, C: Drop> {
     pub calls: u64,
     /// How it ended.
     pub end: End,
+    /// What it has seen of the journal, and which entries its calls made.
+    pub pass: Pass,
+    /// Whether its pass has seen more than the journal of the desk has, of which nothing is told
+    /// then. That is only known not to be by this test.
+    pub torn: bool,
 }
 
 /// A desk whose sessions have ended.
@@ -77,11 +84,15 @@ pub(crate) struct Caller<C: Drop, J: Naming> {
     /// Its calls that made an entry.
     pub(crate) calls: u64,
     pub(crate) share: Share<J>,
-    ghost given: { 1 ≤ number },
-    ghost few: { number ≤ 64 },
+    pub(crate) pass: Pass,
     ghost one_part: { share.parts ≡ 1 },
     ghost counted: { share.amount ≡ calls },
-    ghost of_run: { sigs ≡ J.sigs },
+    ghost of_run: { sigs ≡ J.desk_row.sigs },
+    ghost of_row: { pass.row ≡ J.desk_row },
+    ghost of_session: { pass.session ≡ number },
+    ghost of_role: { pass.role ≡ role },
+    ghost own: { length pass.own ≡ calls },
+    ghost since: { are_from J.start pass.numbers ≡ true },
 }
 
 /// A session that has not begun.
@@ -92,6 +103,8 @@ pub(crate) struct Seat<R: Drop, W: Drop, C: Drop, J: Naming> {
     pub(crate) caller: Caller<C, J>,
     pub(crate) reader: Counted<R>,
     pub(crate) writer: Counted<W>,
+    ghost same_number: { caller.number ≡ number },
+    ghost same_role: { caller.role ≡ role },
     ghost none_yet: { caller.calls ≡ 0 },
     ghost reads: { reader.faults < 2 ^ 64 - 1 },
     ghost writes: { writer.faults < 2 ^ 64 - 1 },
@@ -106,4 +119,6 @@ pub(crate) struct Served<R: Drop, W: Drop, C: Drop, J: Naming> {
     pub(crate) reader: Counted<R>,
     pub(crate) writer: Counted<W>,
     pub(crate) end: End,
+    ghost same_number: { caller.number ≡ number },
+    ghost same_role: { caller.role ≡ role },
 }

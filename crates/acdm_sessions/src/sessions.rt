@@ -1,7 +1,10 @@
 //! All sessions at once, each on a thread of its own.
 ghost use Rattle.std.specs.Prelude.{◌≡◌, ◌+◌, ◌<◌, ◌≤◌, [], length, map, IfOk, IfErr, OnOk};
-ghost use Rattle.std.specs.Prelude.{vec_len, vec_capacity, sum_by};
+ghost use Rattle.std.specs.Prelude.{vec_len, vec_capacity, sum_by, take, reverse};
 ghost use Rattle.acdm_jobs.specs.Each.{Each};
+ghost use Rattle.std.specs.List.{All};
+ghost use Rattle.acdm_board.specs.Desk.{row_of};
+ghost use Rattle.acdm_sessions.specs.Passes.{BeginsWith, IsShown};
 ghost use Rattle.acdm_sessions.specs.Sessions.{HaveEnded, numbered, session_end};
 
 use crate::at_desk::serve;
@@ -11,6 +14,7 @@ use crate::session::{Caller, Closed, Ended, Seat, Served, Session};
 use acdm_board::Desk;
 use acdm_jobs::{Crew, Job};
 use acdm_milestones::Role;
+use acdm_row::Pass;
 use bpf_helpers::{Helpers, Sigs};
 use std::alloc::{AllocError, Global};
 use std::io::{Read, Write};
@@ -91,13 +95,13 @@ fn filled<
 }
 
 // A seat for each session, in order, with a part of the ledger each.
-fn seated<R: Drop, W: Drop, C: Drop, J: Naming>(
+fn seated<R: Drop, W: Drop, C: Drop, H: Helpers + Drop, J: Naming>(
     sessions: Vec<Session<R, W, C>>,
-    sigs: &Sigs,
+    desk: &Desk<H>,
     all: &mut Share<J>,
     mut seats: Vec<Seat<R, W, C, J>>,
 ) -> Result<Vec<Seat<R, W, C, J>>, AllocError>
-    requires sigs { sigs.now ≡ J.sigs }
+    requires row { row_of desk.now ≡ J.desk_row }
     requires few { vec_len sessions ≤ 64 }
     requires parts { vec_len sessions < all.old.parts }
     requires room { (vec_len seats ≡ 0) × (vec_len sessions ≤ vec_capacity seats) }
@@ -109,10 +113,11 @@ fn seated<R: Drop, W: Drop, C: Drop, J: Naming>(
 {
     let mut number = 0u8;
     for session in sessions {
-        let sigs = sigs.copy()?;
+        let sigs = desk.sigs().copy()?;
+        let pass = desk.pass(number + 1, session.role)?;
         number += 1;
         let share = all.split_off(1, 0);
-        seats.push_reserved(seat_of(number, session, sigs, share));
+        seats.push_reserved(seat_of(number, session, sigs, share, pass));
     }
     Ok(seats)
 }
@@ -123,11 +128,13 @@ fn seat_of<R: Drop, W: Drop, C: Drop, J: Naming>(
     session: Session<R, W, C>,
     sigs: Sigs,
     share: Share<J>,
+    pass: Pass,
 ) -> Seat<R, W, C, J>
-    requires sigs { sigs ≡ J.sigs }
+    requires sigs { sigs ≡ J.desk_row.sigs }
     requires part { (share.parts ≡ 1) × (share.amount ≡ 0) }
-    requires given { 1 ≤ number }
-    requires few { number ≤ 64 }
+    requires row { pass.row ≡ J.desk_row }
+    requires caller { (pass.session ≡ number) × (pass.role ≡ session.role) }
+    requires empty { (pass.numbers ≡ []) × (pass.own ≡ []) }
     ensures number { result.number ≡ number }
     ensures role { result.role ≡ session.role }
 {
@@ -144,6 +151,7 @@ fn seat_of<R: Drop, W: Drop, C: Drop, J: Naming>(
         sigs,
         calls: 0,
         share,
+        pass,
     };
     Seat {
         number,
@@ -154,11 +162,16 @@ fn seat_of<R: Drop, W: Drop, C: Drop, J: Naming>(
     }
 }
 
-// Gathers the share of a session that has ended.
-fn left_by<R: Drop, W: Drop, C: Drop, J: Naming>(
+// Gathers the share of a session that has ended, and holds its pass against the journal.
+fn left_by<R: Drop, W: Drop, C: Drop, H: Helpers + Drop, J: Naming>(
     one: Served<R, W, C, J>,
+    desk: &mut Desk<H>,
     all: &mut Share<J>,
 ) -> Ended<R, W, C>
+    requires row { row_of desk.old ≡ J.desk_row }
+    ensures desk { desk.new ≡ desk.old }
+    ensures shown { IsShown J.start desk.old result.number result.role result.calls result.torn
+        result.pass }
     ensures session_end { session_end result.number result.role result.calls result.end
         ≡ session_end one.number one.role one.caller.calls one.end }
     ensures parts { all.new.parts ≡ all.old.parts + 1 }
@@ -176,9 +189,12 @@ fn left_by<R: Drop, W: Drop, C: Drop, J: Naming>(
         clock,
         calls,
         share,
+        mut pass,
         ..
     } = caller;
     all.merge(share);
+    let torn = !desk.holds(&mut pass);
+    let _own = pass.own_len();
     Ended {
         number,
         role,
@@ -187,16 +203,23 @@ fn left_by<R: Drop, W: Drop, C: Drop, J: Naming>(
         clock,
         calls,
         end,
+        pass,
+        torn,
     }
 }
 
 // Gathers the shares of all, and what else the sessions left.
-fn gathered<R: Drop, W: Drop, C: Drop, J: Naming>(
+fn gathered<R: Drop, W: Drop, C: Drop, H: Helpers + Drop, J: Naming>(
     served: Vec<Served<R, W, C, J>>,
+    desk: &mut Desk<H>,
     all: &mut Share<J>,
     mut ended: Vec<Ended<R, W, C>>,
 ) -> Vec<Ended<R, W, C>>
-    requires { (vec_len ended ≡ 0) × (vec_len served ≤ vec_capacity ended) }
+    requires room { (vec_len ended ≡ 0) × (vec_len served ≤ vec_capacity ended) }
+    requires row { row_of desk.old ≡ J.desk_row }
+    ensures desk { desk.new ≡ desk.old }
+    ensures shown { All (λ e. IsShown J.start desk.old e.number e.role e.calls e.torn e.pass)
+        result.items }
     ensures len { vec_len result ≡ vec_len served }
     ensures session_end { map (λ e. session_end e.number e.role e.calls e.end) result.items
         ≡ map (λ s. session_end s.number s.role s.caller.calls s.end) served.items }
@@ -205,7 +228,7 @@ fn gathered<R: Drop, W: Drop, C: Drop, J: Naming>(
         ≡ all.old.amount + sum_by (λ e. e.calls) result.items }
 {
     for one in served {
-        ended.push_reserved(left_by(one, all));
+        ended.push_reserved(left_by(one, desk, all));
     }
     ended
 }
@@ -213,20 +236,28 @@ fn gathered<R: Drop, W: Drop, C: Drop, J: Naming>(
 // Takes the desk from under the lock, and holds the ledger's book against all shares.
 fn close<R: Drop, W: Drop, C: Drop, H: Helpers + Drop, J: Naming>(
     locked: Locked<H, J>,
+    mut first: Pass,
     mut all: Share<J>,
     served: Vec<Served<R, W, C, J>>,
     ended: Vec<Ended<R, W, C>>,
 ) -> Closed<H, R, W, C>
     requires parts { all.parts + vec_len served ≡ J.parts }
     requires room { (vec_len ended ≡ 0) × (vec_len served ≤ vec_capacity ended) }
+    requires first { (first.row ≡ J.desk_row) × (length first.seen ≡ all.amount) }
     ensures sum { length result.desk.history
         ≡ all.amount + sum_by (λ e. e.calls) result.sessions.items }
     ensures session_end { map (λ e. session_end e.number e.role e.calls e.end) result.sessions.items
         ≡ map (λ s. session_end s.number s.role s.caller.calls s.end) served.items }
+    ensures begins { first.seen ≡ take (length first.seen) (reverse result.desk.history) }
+    ensures shown { All (λ e. IsShown J.start result.desk e.number e.role e.calls e.torn e.pass)
+        result.sessions.items }
 {
-    let Locked { desk, mut book } = locked;
-    let sessions = gathered(served, &mut all, ended);
+    let Locked { mut desk, mut book } = locked;
+    let sessions = gathered(served, &mut desk, &mut all, ended);
     book.audit(&mut all);
+    if !desk.holds(&mut first) {
+        unreachable!();
+    }
     Closed { desk, sessions }
 }
 
@@ -234,6 +265,8 @@ fn close<R: Drop, W: Drop, C: Drop, H: Helpers + Drop, J: Naming>(
 #[derive(Drop)]
 struct Opened<R: Drop, W: Drop, C: Drop, H: Helpers + Drop, J: Naming> {
     locked: Locked<H, J>,
+    // It has seen what the desk had before.
+    first: Pass,
     all: Share<J>,
     seats: Vec<Seat<R, W, C, J>>,
     ended: Vec<Ended<R, W, C>>,
@@ -243,12 +276,13 @@ struct Opened<R: Drop, W: Drop, C: Drop, H: Helpers + Drop, J: Naming> {
 fn open<R: Drop, W: Drop, C: Drop, H: Helpers + Drop, J: Naming>(
     alloc: Global,
     blank: Blank,
-    desk: Desk<H>,
+    mut desk: Desk<H>,
     sessions: Vec<Session<R, W, C>>,
 ) -> Result<Opened<R, W, C, H, J>, Desk<H>>
     requires name { blank.name ≡ J.name }
     requires parts { blank.parts ≡ J.parts }
-    requires sigs { desk.sigs ≡ J.sigs }
+    requires row { row_of desk ≡ J.desk_row }
+    requires start { length desk.history ≡ J.start }
     requires all { blank.parts ≡ vec_len sessions + 1 }
     requires few { vec_len sessions ≤ 64 }
     ensures len { IfOk result (λ o. vec_len o.seats ≡ vec_len sessions) }
@@ -256,6 +290,8 @@ fn open<R: Drop, W: Drop, C: Drop, H: Helpers + Drop, J: Naming>(
         ≡ numbered 1 (map (λ s. s.role) sessions.items)) }
     ensures parts { IfOk result (λ o. o.all.parts + vec_len sessions ≡ J.parts) }
     ensures amount { IfOk result (λ o. o.all.amount ≡ length desk.history) }
+    ensures first { IfOk result (λ o. (o.first.row ≡ J.desk_row)
+        × (o.first.seen ≡ reverse desk.history)) }
     ensures room { IfOk result (λ o. (vec_len o.ended ≡ 0)
         × (vec_len sessions ≤ vec_capacity o.ended)) }
     ensures err { IfErr result (λ d. d ≡ desk) }
@@ -267,13 +303,20 @@ fn open<R: Drop, W: Drop, C: Drop, H: Helpers + Drop, J: Naming>(
     let Ok(ended) = Vec::with_capacity(alloc, count) else {
         return Err(desk);
     };
+    let Ok(mut first) = desk.pass(1, Role::AirportOperator) else {
+        return Err(desk);
+    };
+    let Ok(()) = desk.show(&mut first) else {
+        return Err(desk);
+    };
     let (mut book, mut all) = blank.open::<J>();
     book.add(&mut all, desk.len());
-    let Ok(seats) = seated(sessions, desk.sigs(), &mut all, seats) else {
+    let Ok(seats) = seated(sessions, &desk, &mut all, seats) else {
         return Err(desk);
     };
     Ok(Opened {
         locked: Locked { desk, book },
+        first,
         all,
         seats,
         ended,
@@ -299,9 +342,13 @@ fn run_named<
 ) -> Result<Closed<H, R, W, C>, Desk<H>>
     requires name { blank.name ≡ J.name }
     requires parts { blank.parts ≡ J.parts }
-    requires sigs { desk.sigs ≡ J.sigs }
+    requires row { row_of desk ≡ J.desk_row }
+    requires start { length desk.history ≡ J.start }
     requires all { blank.parts ≡ vec_len sessions + 1 }
     requires few { vec_len sessions ≤ 64 }
+    ensures begins { IfOk result (λ c. BeginsWith desk.history c.desk.history) }
+    ensures shown { IfOk result (λ c. All (λ e. IsShown J.start c.desk e.number e.role e.calls
+        e.torn e.pass) c.sessions.items) }
     ensures sum { IfOk result (λ c. length c.desk.history
         ≡ length desk.history + sum_by (λ e. e.calls) c.sessions.items) }
     ensures sessions { IfOk result (λ c. HaveEnded 1 (map (λ s. s.role) sessions.items)
@@ -314,6 +361,7 @@ fn run_named<
     };
     let Opened {
         locked,
+        first,
         all,
         seats,
         ended,
@@ -321,7 +369,7 @@ fn run_named<
     let shared = Mutex::new(locked);
     let crew = filled(rt, alloc, &shared, gate, seats, crew);
     let served = crew.run(rt);
-    Ok(close(shared.into_inner(), all, served, ended))
+    Ok(close(shared.into_inner(), first, all, served, ended))
 }
 
 /// Serves all sessions at once, each on a thread of its own, and waits for all. Session k, from 1,
@@ -354,6 +402,13 @@ pub fn run_sessions<
     ensures sessions { IfOk result (λ c. HaveEnded 1 (map (λ s. s.role) sessions.items)
         (map (λ e. session_end e.number e.role e.calls e.end)
         c.sessions.items)) }
+
+    // The closed journal begins with the opening one and, but for a torn session, with what the
+    // pass of each has seen, and its own entries are a part of what it made. With the sum above
+    // they are all of it.
+    ensures begins { IfOk result (λ c. BeginsWith desk.history c.desk.history) }
+    ensures shown { IfOk result (λ c. All (λ e. IsShown (length desk.history) c.desk e.number e.role e.calls
+        e.torn e.pass) c.sessions.items) }
     ensures err { IfErr result (λ d. d ≡ desk) }
 {
     let parts = sessions.len() as u64 + 1;

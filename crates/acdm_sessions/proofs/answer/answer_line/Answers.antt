@@ -20,24 +20,24 @@ returns-in-Err g c =
     c.in-Ok.request c.in-Ok.ensures.reads c.sigs.ensures c.in-Err.error c.in-Err.ensures.reads
     refl)
 
-pub returns-in-Ok-call : goal.returns-in-Ok-call
-returns-in-Ok-call g c =
-    let made = c.in-Ok-call.ensures.entry in
+pub returns-in-Ok-call_for : goal.returns-in-Ok-call_for
+returns-in-Ok-call_for g c =
+    let made = c.in-Ok-call_for.ensures.entry in
     let room : length c.args.desk.now.history ≢ c.args.desk.now.capacity =
-    λ same. let e = c.in-Ok-call.ensures.full.1 same in cc in
-    answers_entered c.args.desk.now c.call.new.self c.sigs.result.now c.args.line.now
+    λ same. let e = c.in-Ok-call_for.ensures.full.1 same in cc in
+    answers_entered c.args.desk.now c.call_for.new.self c.sigs.result.now c.args.line.now
     c.in-Ok.request c.in-Ok.ensures.reads c.sigs.ensures c.in-Ok-command_for.command
-    made.answers c.in-Ok-call.reply.number c.in-Ok-call.reply.outcome
+    made.answers c.in-Ok-call_for.reply.number c.in-Ok-call_for.reply.outcome
     c.in-Ok-command_for.ensures.reads room made.entry made.outcome_is
-    c.in-Ok-call.ensures.number
+    c.in-Ok-call_for.ensures.number
 
-pub returns-in-Err-Memory-call : goal.returns-in-Err-Memory-call
-returns-in-Err-Memory-call g c =
-    answers_short c.args.desk.now c.call.new.self c.args.line.now c.in-Err-Memory-call.ensures.err
+pub returns-in-Err-Memory-call_for : goal.returns-in-Err-Memory-call_for
+returns-in-Err-Memory-call_for g c =
+    answers_short c.args.desk.now c.call_for.new.self c.args.line.now c.in-Err-Memory-call_for.ensures.err
 
 pub returns-in-Err-Full : goal.returns-in-Err-Full
 returns-in-Err-Full g c =
-    answers_full c.args.desk.now c.call.new.self c.sigs.result.now c.args.line.now
+    answers_full c.args.desk.now c.call_for.new.self c.sigs.result.now c.args.line.now
     c.in-Ok.request c.in-Ok.ensures.reads c.sigs.ensures c.in-Ok-command_for.command
     c.in-Ok-command_for.ensures.reads
     (c.in-Err-Full.ensures.full.0 (ap Err c.in-Err-Full.field-0-is)) c.in-Err-Full.ensures.err
