@@ -19,11 +19,13 @@ passes_send = search (pass_send, row_send, row_sync, sendable, crosses) depth 20
 
 fields_send : (H : RattleType) (g : helpers.Ghosts H.Denot) → IsSend H → IsSend (inside.the_row H g)
 fields_send H g h =
-    declared_send (inside.the_type H g)
-    (search (h, sendable) depth 8, (
-      as_row_send book.the_field book_send,
-      (as_row_send passes.the_field passes_send, tt),
-    ))
+    declared_send (inside.the_type H g) (
+      search (h, sendable) depth 8,
+      (
+        as_row_send book.the_field book_send,
+        (as_row_send passes.the_field passes_send, tt),
+      ),
+    )
 
 pub desk_send : (H : RattleType) (g : helpers.Ghosts H.Denot) → IsSend H → IsSend (desk.the_row H g)
 desk_send H g h = view_send _ _ _ _ _ (fields_send H g h)

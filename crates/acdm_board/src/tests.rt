@@ -99,14 +99,14 @@ fn entered<H: Helpers + Drop>(
     requires few_sessions { session ≤ 64 }
 {
     Ok(
-        desk.call(session, role, NINE, command)
+        desk.call_for(session, role, NINE, command)
             .map_err(|_| "refused")?,
     )
 }
 
 // A call of session 1 that makes none.
 fn refused<H: Helpers + Drop>(desk: &mut Desk<H>, command: Command) -> Option<DeskError> {
-    desk.call(1, Role::AirportOperator, NINE, command).err()
+    desk.call_for(1, Role::AirportOperator, NINE, command).err()
 }
 
 // The TOBT of flight 7.

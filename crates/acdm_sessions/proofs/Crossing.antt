@@ -21,6 +21,7 @@ use Rattle.acdm_sessions.specs.declared.locked.Naming as naming
 use Rattle.acdm_sessions.specs.contracts.locked.Locked as locked
 use Rattle.acdm_sessions.specs.contracts.session.Caller as caller
 use Rattle.acdm_sessions.specs.contracts.session.Seat as seat
+use Rattle.acdm_sessions.specs.contracts.session.Served as served
 use Rattle.acdm_sessions.specs.contracts.sessions.Work as work
 
 locked_send : (H L : RattleType) (g : helpers.Ghosts H.Denot) (n : naming.Ghosts L.Denot)
@@ -73,6 +74,26 @@ seat_send R W C L n l r w c =
           (
             search (counted.the_send, r, sendable) depth 8,
             (search (counted.the_send, w, sendable) depth 8, tt),
+          ),
+        ),
+      ),
+    )
+
+pub served_send : (R W C L : RattleType) (n : naming.Ghosts L.Denot) (l : ledger.Ghosts L.Denot)
+    → IsSend R → IsSend W → IsSend C → IsSend (served.the_row R W C L n l)
+served_send R W C L n l r w c =
+    declared_send (served.the_type R W C L n l) (
+      search sendable depth 8,
+      (
+        search (role.the_send, sendable) depth 8,
+        (
+          caller_send C L n l c,
+          (
+            search (counted.the_send, r, sendable) depth 8,
+            (
+              search (counted.the_send, w, sendable) depth 8,
+              (search sendable depth 8, tt),
+            ),
           ),
         ),
       ),

@@ -1,6 +1,7 @@
 -- Seats, and what is told of those who left them.
 use Rattle.std.proofs.Common.{◌≡◌, ℕ, ◌+◌, List, [], ◌∷◌, map, length, refl, sym, ap, subst, ◌∙◌}
-use Rattle.std.proofs.Common.{arith}
+use Rattle.std.proofs.Common.{◌++◌, arith, append_assoc, length-append}
+use Rattle.std.proofs.lemmas.List.{map-append}
 use Rattle.acdm_milestones.specs.declared.role.Role.{Role}
 use Rattle.acdm_jobs.specs.Each.{Each}
 use Rattle.acdm_sessions.specs.Sessions.{SessionEnd, numbered, HaveEnded, EndsAs}
@@ -8,6 +9,27 @@ use Rattle.acdm_sessions.specs.Sessions.{SessionEnd, numbered, HaveEnded, EndsAs
 pub empty_of : {X : Type 0} (xs : List X) → length xs ≡ 0 → xs ≡ []
 empty_of [] h = refl
 empty_of (x ∷ xs) h = absurd (omega arith)
+
+pub longer_by_one : {X : Type 0} (xs ys : List X) (x : X) → ys ≡ xs ++ x ∷ []
+    → length ys ≡ length xs + 1
+longer_by_one xs ys x h = ap length h ∙ length-append xs (x ∷ [])
+
+-- one more of a list was taken, and what came of it stands behind the others
+pub taken_as : {W S : Type 0} (f : W → S) (done : List W) (w : W) (items rest all : List S)
+    → items ≡ f w ∷ rest → map f done ++ items ≡ all → map f (done ++ w ∷ []) ++ rest ≡ all
+taken_as f done w items rest all next h =
+    ap (λ xs. xs ++ rest) (map-append f done (w ∷ []))
+    ∙ append_assoc (map f done) (f w ∷ []) rest ∙ ap (λ xs. map f done ++ xs) (sym next) ∙ h
+
+-- the same, where both are looked at
+pub taken_both : {W S X : Type 0} (f : W → X) (h : S → X) (done : List W) (w : W) (s : S)
+    (items rest : List S) (all : List X) → items ≡ s ∷ rest → f w ≡ h s
+    → map f done ++ map h items ≡ all → map f (done ++ w ∷ []) ++ map h rest ≡ all
+taken_both f h done w s items rest all next same kept =
+    ap (λ xs. xs ++ map h rest) (map-append f done (w ∷ []))
+    ∙ append_assoc (map f done) (f w ∷ []) (map h rest)
+    ∙ ap (λ x. map f done ++ x ∷ map h rest) same
+    ∙ ap (λ xs. map f done ++ map h xs) (sym next) ∙ kept
 
 -- what is so of each that is looked at through f
 pub each_through : {X Y Z : Type 0} (f : X → Y) (P : Y → Z → Type 0) (xs : List X) (zs : List Z)

@@ -48,7 +48,10 @@ impl<C: Clock + Drop, J: Naming> Caller<C, J> {
         ensures clock { C.gives self.new.clock ≡ C.gives self.old.clock }
     {
         let Caller {
-            share, calls, pass, ..
+            share,
+            calls,
+            pass,
+            ..
         } = self;
         match shared.lock(rt).call(pass, order, share) {
             Ok(reply) => {

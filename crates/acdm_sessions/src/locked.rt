@@ -16,11 +16,13 @@ use std::sync::ledger::{Book, Ledger, Share};
 /// the desk had before it.
 pub(crate) trait Naming: Ledger {
     ghost desk_row: { RowView };
+
     ghost start: { ℕ };
 }
 
 impl Naming for Brand {
     ghost desk_row = { record { cells = []; sigs = [] } };
+
     ghost start = { 0 };
 }
 

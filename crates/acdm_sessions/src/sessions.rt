@@ -233,6 +233,18 @@ fn gathered<R: Drop, W: Drop, C: Drop, H: Helpers + Drop, J: Naming>(
     ended
 }
 
+// Holds the journal against what was seen of it at first.
+fn hold<H: Helpers + Drop>(desk: &mut Desk<H>, first: &mut Pass)
+    requires row { first.old.row ≡ row_of desk.old }
+    requires shorter { length first.old.seen ≤ length desk.old.history }
+    ensures same { desk.new ≡ desk.old }
+    ensures begins { first.old.seen ≡ take (length first.old.seen) (reverse desk.old.history) }
+{
+    if !desk.holds(first) {
+        unreachable!();
+    }
+}
+
 // Takes the desk from under the lock, and holds the ledger's book against all shares.
 fn close<R: Drop, W: Drop, C: Drop, H: Helpers + Drop, J: Naming>(
     locked: Locked<H, J>,
@@ -255,9 +267,7 @@ fn close<R: Drop, W: Drop, C: Drop, H: Helpers + Drop, J: Naming>(
     let Locked { mut desk, mut book } = locked;
     let sessions = gathered(served, &mut desk, &mut all, ended);
     book.audit(&mut all);
-    if !desk.holds(&mut first) {
-        unreachable!();
-    }
+    hold(&mut desk, &mut first);
     Closed { desk, sessions }
 }
 

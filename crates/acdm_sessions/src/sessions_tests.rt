@@ -378,18 +378,35 @@ fn full_house(alloc: Global, lines: usize) -> Result<Vec<Opened>, Fail> {
     Ok(sessions)
 }
 
+// Whether the entry of a number is a session's.
+fn is_of<H: Helpers + Drop>(desk: &mut Desk<H>, number: u64, session: u8) -> bool {
+    let Ok(row) = Arc::try_clone(desk.row()) else {
+        return false;
+    };
+    match desk.entry(&row, number) {
+        Some(entry) => entry.session == session,
+        None => false,
+    }
+}
+
 // How many entries a session made.
-fn entries_of<H: Helpers + Drop>(desk: &mut Desk<H>, session: u8) -> Result<usize, Fail> {
-    let row = Arc::try_clone(desk.row())?;
+fn entries_of<H: Helpers + Drop>(desk: &mut Desk<H>, session: u8) -> usize {
     let mut count = 0;
     for number in 0..desk.len() {
-        if let Some(entry) = desk.entry(&row, number) {
-            if entry.session == session {
-                count += 1;
-            }
+        if is_of(desk, number, session) {
+            count += 1;
         }
     }
-    Ok(count)
+    count
+}
+
+// Whether a session is told by its pass as it is by its calls.
+fn is_shown(left: &Left) -> bool {
+    !left.torn
+        && left.pass.session() == left.number
+        && left.pass.role() == left.role
+        && left.pass.own_len() as u64 == left.calls
+        && left.pass.len() as u64 >= left.calls
 }
 
 fn serves_all<H: Helpers + Drop + Send, Rt: Threads + Wait + Abort + Sync>(
@@ -404,7 +421,8 @@ fn serves_all<H: Helpers + Drop + Send, Rt: Threads + Wait + Abort + Sync>(
     for left in &sessions {
         assert!(rt; left.end == End::End);
         assert_eq!(rt; left.calls, 200);
-        assert_eq!(rt; entries_of(&mut desk, left.number)?, 200);
+        assert_eq!(rt; entries_of(&mut desk, left.number), 200);
+        assert!(rt; is_shown(left));
     }
     Ok(())
 }

@@ -1,12 +1,13 @@
 //! A watch over the row of a desk, which is called between its looks.
-ghost use Rattle.std.specs.Prelude.{◌≡◌, IfOk};
+ghost use Rattle.std.specs.Prelude.{◌≡◌};
 ghost use Rattle.std.specs.Arc.{arc_value};
+ghost use Rattle.acdm_board.specs.Desk.{row_of};
 
 use crate::Watch;
 use acdm_board::Desk;
 use acdm_milestones::{Milestone, Role};
 use acdm_record::{Field, Text};
-use acdm_row::Row;
+use acdm_row::{Pass, Row};
 use acdm_step::{Command, FlightCommand, Plan, Report, Schedule};
 use bpf_helpers::{Bank, Helpers};
 use std::alloc::Global;
@@ -49,72 +50,142 @@ fn target(time: u32) -> Command {
     Command::Flight(FlightCommand::Report(Report::new(7, Milestone::TobtUpdate, time, None)))
 }
 
-// The number of the entry of a command.
-fn entered<H: Helpers + Drop>(
-    desk: &mut Desk<H>,
-    session: u8,
-    role: Role,
-    command: Command,
-) -> Result<u64, Fail> {
-    if session < 1 || session > 64 {
-        return Err("no session".into());
+// A desk, the passes of two sessions, and two watches of its row, of which one has not looked yet.
+#[derive(Drop)]
+struct Table<H: Helpers + Drop> {
+    desk: Desk<H>,
+    first: Pass,
+    second: Pass,
+    row: Arc<Row>,
+    watch: Watch,
+    later: Watch,
+    ghost first_of: { first.row ≡ row_of desk },
+    ghost second_of: { second.row ≡ row_of desk },
+    ghost of_desk: { arc_value row ≡ row_of desk },
+    ghost watches: { watch.row ≡ row_of desk },
+    ghost watches_later: { later.row ≡ row_of desk },
+}
+
+fn table<H: Helpers + Drop>(alloc: Global, helpers: H) -> Result<Table<H>, Fail> {
+    let desk = Desk::new(alloc, helpers, 5)?;
+    let first = desk.pass(1, Role::AircraftOperator)?;
+    let second = desk.pass(2, Role::GroundHandler)?;
+    let row = Arc::try_clone(desk.row())?;
+    let watch = Watch::new(alloc, &row)?;
+    let later = Watch::new(alloc, &row)?;
+    Ok(Table {
+        desk,
+        first,
+        second,
+        row,
+        watch,
+        later,
+    })
+}
+
+// Flight 7 is scheduled and its plan activated, by sessions that have no pass here.
+fn begin<H: Helpers + Drop>(table: &mut Table<H>) -> Result<(), Fail> {
+    let scheduled = scheduled()?;
+    let planned = planned()?;
+    if table
+        .desk
+        .call_for(3, Role::AirportOperator, SEVEN, scheduled)
+        .is_err()
+    {
+        return Err("no flight".into());
     }
-    let reply = desk
-        .call(session, role, SEVEN, command)
+    if table
+        .desk
+        .call_for(4, Role::NetworkManager, SEVEN, planned)
+        .is_err()
+    {
+        return Err("no plan".into());
+    }
+    Ok(())
+}
+
+// The first session sets a target. The number of its entry.
+fn first_calls<H: Helpers + Drop>(table: &mut Table<H>, time: u32) -> Result<u64, Fail> {
+    let command = target(time);
+    let reply = table
+        .desk
+        .call(&mut table.first, SEVEN, command)
         .map_err(|_| "refused")?;
     Ok(reply.number)
 }
 
-fn row_of<H: Helpers + Drop>(desk: &Desk<H>) -> Result<Arc<Row>, Fail> {
-    Ok(Arc::try_clone(desk.row())?)
+// So does the second.
+fn second_calls<H: Helpers + Drop>(table: &mut Table<H>, time: u32) -> Result<u64, Fail> {
+    let command = target(time);
+    let reply = table
+        .desk
+        .call(&mut table.second, SEVEN, command)
+        .map_err(|_| "refused")?;
+    Ok(reply.number)
 }
 
-// Flight 7 is scheduled and its plan activated.
-fn begin<H: Helpers + Drop>(desk: &mut Desk<H>) -> Result<(), Fail> {
-    entered(desk, 1, Role::AirportOperator, scheduled()?)?;
-    entered(desk, 2, Role::NetworkManager, planned()?)?;
-    Ok(())
+// Whether one more entry was in sight.
+fn took<H: Helpers + Drop>(table: &mut Table<H>) -> Result<bool, Fail> {
+    Ok(table.watch.advance_alone(&table.row)?)
 }
 
 // Takes all that is in sight, and tells how many entries that were.
-fn taken(watch: &mut Watch, row: &Arc<Row>) -> Result<usize, Fail>
-    requires { arc_value row.now ≡ watch.old.row }
-    ensures { watch.new.row ≡ watch.old.row }
-{
+fn taken<H: Helpers + Drop>(table: &mut Table<H>) -> Result<usize, Fail> {
     let mut count = 0;
-    while count < 5 && watch.advance_alone(row)? {
+    while count < 5 && took(table)? {
         count += 1;
     }
     Ok(count)
 }
 
-// The TOBT of flight 7 on the board of a watch.
-fn target_seen(watch: &Watch) -> Option<u64> {
-    Some(watch.board().record_of(7)?.get(Field::Tobt))
+// How many entries the watch and the second session have both seen.
+fn met<H: Helpers + Drop>(table: &mut Table<H>) -> usize {
+    table.watch.meet(&mut table.second)
 }
 
-fn made(alloc: Global, row: &Arc<Row>) -> Result<Watch, Fail>
-    ensures { IfOk result (λ w. w.row ≡ arc_value row.now) }
-{
-    Ok(Watch::new(alloc, row)?)
+// Whether the later watch takes one more entry with the pass of the second session.
+fn led<H: Helpers + Drop>(table: &mut Table<H>) -> Result<bool, Fail> {
+    if table.later.len() >= table.second.len() {
+        return Ok(false);
+    }
+    Ok(table.later.advance_with(&table.row, &mut table.second)?)
 }
 
-// A watch sees nothing of an empty journal, then what there is, and later the rest.
+// The same by what takes a pass or none.
+fn led_at_last<H: Helpers + Drop>(table: Table<H>) -> Result<bool, Fail> {
+    let Table {
+        mut second,
+        row,
+        mut later,
+        ..
+    } = table;
+    Ok(later.advance(&row, Some(&mut second))?)
+}
+
+// The TOBT of flight 7 on the board of the watch.
+fn target_seen<H: Helpers + Drop>(table: &Table<H>) -> Option<u64> {
+    Some(table.watch.board().record_of(7)?.get(Field::Tobt))
+}
+
+// A watch sees nothing of an empty journal, then what there is, and later the rest. A pass has seen
+// the journal up to its last call, and its own calls are counted.
 fn watches<H: Helpers + Drop>(rt: &impl Abort, alloc: Global, helpers: H) -> Result<(), Fail> {
-    let mut desk = Desk::new(alloc, helpers, 5)?;
-    let row = row_of(&desk)?;
-    let mut watch = made(alloc, &row)?;
-    assert_eq!(rt; taken(&mut watch, &row)?, 0);
-    begin(&mut desk)?;
-    assert_eq!(rt; taken(&mut watch, &row)?, 2);
-    assert_eq!(rt; target_seen(&watch), Some(0));
-    let later = target(QUARTER_PAST_TEN);
-    assert_eq!(rt; entered(&mut desk, 2, Role::GroundHandler, later)?, 2);
-    let sooner = target(FIVE_PAST_TEN);
-    assert_eq!(rt; entered(&mut desk, 1, Role::AircraftOperator, sooner)?, 3);
-    assert_eq!(rt; taken(&mut watch, &row)?, 2);
-    assert_eq!(rt; watch.len(), 4);
-    assert_eq!(rt; target_seen(&watch), Some(29_000_765));
+    let mut table = table(alloc, helpers)?;
+    assert_eq!(rt; taken(&mut table)?, 0);
+    begin(&mut table)?;
+    assert_eq!(rt; taken(&mut table)?, 2);
+    assert_eq!(rt; target_seen(&table), Some(0));
+    assert_eq!(rt; second_calls(&mut table, QUARTER_PAST_TEN)?, 2);
+    assert_eq!(rt; first_calls(&mut table, FIVE_PAST_TEN)?, 3);
+    assert_eq!(rt; taken(&mut table)?, 2);
+    assert_eq!(rt; table.watch.len(), 4);
+    assert_eq!(rt; target_seen(&table), Some(29_000_765));
+    assert_eq!(rt; (table.first.len(), table.first.own_len()), (4, 1));
+    assert_eq!(rt; (table.second.len(), table.second.own_len()), (3, 1));
+    assert_eq!(rt; met(&mut table), 3);
+    assert!(rt; led(&mut table)?);
+    assert!(rt; led(&mut table)?);
+    assert!(rt; led_at_last(table)?);
     Ok(())
 }
 

@@ -1,7 +1,13 @@
-use Rattle.std.proofs.Common.{◌≡◌, [], ◌++◌, map, sym, ap, ◌∙◌, append-nil}
+use Rattle.std.proofs.Common.{◌≡◌, [], ◌∷◌, ◌++◌, map, sym, ap, subst, ◌∙◌, append-nil, arith, rules}
+use Rattle.std.specs.List.{All}
+use Rattle.std.specs.Prelude.{sum_by}
+use Rattle.std.proofs.lemmas.List.Elements.{All-push}
+use Rattle.std.proofs.lemmas.List.Sums.{sum_by-append}
 use Rattle.std.specs.Vec.Iter.{into_iter_items}
+use Rattle.acdm_board.specs.Desk.{DeskView}
+use Rattle.acdm_sessions.specs.Passes.{IsShown}
 use Rattle.acdm_sessions.specs.Sessions.{session_end}
-use Rattle.acdm_sessions.proofs.Seats.{empty_of}
+use Rattle.acdm_sessions.proofs.Seats.{empty_of, taken_both}
 use Rattle.acdm_sessions.proofs.sessions.gathered.Goals as goal
 
 pub returns-clause-session_end : goal.returns-clause-session_end
@@ -13,3 +19,37 @@ returns-clause-session_end g c =
     ∙ ap (λ xs. map (λ e. session_end e.number e.role e.calls e.end) c.loop-one.ended.items
     ++ map (λ s. session_end s.number s.role s.caller.calls s.end) xs) (sym none)
     ∙ c.loop-one.invariant.session_end
+
+pub loop-one-preserved : goal.loop-one-preserved
+loop-one-preserved g c =
+    let e = c.left_by.result in
+    let rest = into_iter_items c.next.new.self in
+    let items : c.push_reserved.new.self.items ≡ c.loop-one.ended.items ++ e ∷ [] = search rules in
+    let here : IsShown g.J.Naming.start c.args.desk.now e.number e.role e.calls e.torn e.pass =
+    subst (λ (d : DeskView). IsShown g.J.Naming.start d e.number e.role e.calls e.torn e.pass)
+    c.loop-one.invariant.same c.left_by.ensures.shown in
+    record {
+      count = search rules;
+      room = search rules;
+      parts = search rules;
+      same = c.left_by.ensures.desk ∙ c.loop-one.invariant.same;
+      shown = subst (λ es. All (λ e. IsShown g.J.Naming.start c.args.desk.now e.number e.role
+          e.calls e.torn e.pass) es) (sym items)
+          (All-push (λ e. IsShown g.J.Naming.start c.args.desk.now e.number e.role e.calls e.torn
+          e.pass) c.loop-one.ended.items e c.loop-one.invariant.shown here);
+      amount = omega (
+        arith,
+        c.left_by.ensures.amount,
+        c.loop-one.invariant.amount,
+        ap (λ es. sum_by (λ e. e.calls) es) items,
+        sum_by-append (λ e. e.calls) c.loop-one.ended.items (e ∷ []),
+      );
+      session_end = ap (λ es. map (λ e. session_end e.number e.role e.calls e.end) es
+          ++ map (λ s. session_end s.number s.role s.caller.calls s.end) rest) items
+          ∙ taken_both (λ e. session_end e.number e.role e.calls e.end)
+          (λ s. session_end s.number s.role s.caller.calls s.end) c.loop-one.ended.items e
+          c.in-Some.one (into_iter_items c.loop-one.one-iterator) rest
+          (map (λ s. session_end s.number s.role s.caller.calls s.end) c.args.served.items)
+          c.in-Some.ensures.steps.0 c.left_by.ensures.session_end
+          c.loop-one.invariant.session_end;
+    }

@@ -30,8 +30,7 @@ returns-clause-own c =
     let xs = c.pass.inside.front.entries in
     let ys = c.learn.new.self.entries in
     let ks = c.pass.inside.own.items in
-    let begins : xs ≡ take (length xs) ys = search rules in
-    (
+    let begins : xs ≡ take (length xs) ys = search rules in (
       (λ i. (c.pass.view_is i).numbers),
       entries_shown xs ys ks c.pass.invariant.below begins ∙ (λ i. (c.pass.view_is i).own),
     )
