@@ -4,6 +4,7 @@
  */
 #include "flight.h"
 
+__attribute__((section("entry")))
 u64 tobt(const struct flight *flight, u64 length, u64 now, u64 milestone)
 {
     u64 ready = (u64)flight->aibt + flight->mttt;
