@@ -1,7 +1,7 @@
 /*
- * Two rules in one place, for any milestone: the local alerts of slot.c (LOC02) and of alert.c (LOC07, LOC08). Each is a
- * function of its own with bits of its own, which the compiler puts into the rule. The other local alerts stay as they
- * were.
+ * Two rules in one place, for any milestone: the local alerts of slot.c (LOC02) and of alert.c (LOC07, LOC08). Each is
+ * a function of its own with bits of its own, which the compiler puts into the rule. The other local alerts stay as
+ * they were.
  */
 #include "helpers.h"
 

@@ -1,9 +1,9 @@
 /*
  * Local alerts, for milestones 7 (in-block) and 9 (TOBT), with the least turn-round time of the planned type from the
- * in-block time on, and with the taxi time from the stand. LOC03: the flight isn't ready at its EOBT. LOC04: nor at its
- * SOBT. LOC05: also where it leaves its stand at its EOBT it misses its slot (CTOT). LOC06: it misses its slot once it is
- * ready. The other local alerts stay as they were. Four calls of helpers need more values than there are registers that
- * keep them, so some go to the stack.
+ * in-block time on, and with the taxi time from the stand. LOC03: the flight isn't ready at its EOBT. LOC04: nor at
+ * its SOBT. LOC05: also where it leaves its stand at its EOBT it misses its slot (CTOT). LOC06: it misses its slot
+ * once it is ready. The other local alerts stay as they were. Four calls of helpers need more values than there are
+ * registers that keep them, so some go to the stack.
  */
 #include "helpers.h"
 

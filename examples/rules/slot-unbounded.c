@@ -1,6 +1,6 @@
 /*
- * The same as slot.c without the test of the stand. It is refused: a record may hold a stand up to 65535, and the
- * taxi time is promised up to stand 999 alone.
+ * The same as slot.c without the test of the stand. It is refused: a record may hold a stand up to 65535, and the taxi
+ * time is promised up to stand 999 alone.
  */
 #include "helpers.h"
 

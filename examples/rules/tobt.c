@@ -1,6 +1,6 @@
 /*
- * A procedure for the TOBT, for milestone 7 (in-block): the aircraft is ready when its minimum turn-round time
- * has passed since it came in-block, and not before now. The answer 0 changes nothing.
+ * A procedure for the TOBT, for milestone 7 (in-block): the aircraft is ready when its minimum turn-round time has
+ * passed since it came in-block, and not before now. The answer 0 changes nothing.
  */
 #include "flight.h"
 

@@ -1,6 +1,6 @@
 /*
- * A sum by helper 3, whose second argument is at most 10,000. A field of 16 bits is known as 0 to 65,535, whatever the lines
- * of partners allow. Mended: `+`, of which the verifier asks nothing.
+ * A sum by helper 3, whose second argument is at most 10,000. A field of 16 bits is known as 0 to 65,535, whatever the
+ * lines of partners allow. Mended: `+`, of which the verifier asks nothing.
  */
 #include "../helpers.h"
 

@@ -1,6 +1,6 @@
 /*
- * Bytes of a local number, written at an index. In memory that lies at a multiple of 8 clang joins address and index by
- * OR, of which the range is too wide. Mended: an array of bytes, each written by itself first.
+ * Bytes of a local number, written at an index. In memory that lies at a multiple of 8 clang joins address and index
+ * by OR, of which the range is too wide. Mended: an array of bytes, each written by itself first.
  */
 #include "../helpers.h"
 

@@ -1,6 +1,7 @@
 /*
- * What is left of a day after a number of minutes that was limited before. Clang takes the difference first and compares
- * the number afterwards. Mended: the compiler knows nothing of the limited number when it comes to the difference.
+ * What is left of a day after a number of minutes that was limited before. Clang takes the difference first and
+ * compares the number afterwards. Mended: an empty asm stands behind the limit, so that to clang it may be any number
+ * there.
  */
 #include "../helpers.h"
 

@@ -1,6 +1,7 @@
 /*
- * Some numbers that follow one another, for the argument of a helper. Clang makes one comparison of the difference from
- * the least of them. Mended: the greatest number that the helper takes is compared as well, last.
+ * Some numbers that follow one another, for the argument of a helper. Clang makes one comparison of the difference
+ * from the least of them. Mended: the greatest number that the helper takes is compared as well, last, behind an empty
+ * asm.
  */
 #include "../helpers.h"
 

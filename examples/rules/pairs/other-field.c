@@ -1,6 +1,6 @@
 /*
- * A test of another field between the read of a number and its comparison. Clang compares a copy of the number, and passes
- * the number with a mask. Mended: the comparison is right behind the read.
+ * A test of another field between the read of a number and its comparison. Clang compares a copy of the number, and
+ * passes the number with a mask. Mended: the comparison is right behind the read.
  */
 #include "../helpers.h"
 

@@ -1,6 +1,7 @@
 /*
- * A field that is compared, and read again after a call of a helper. Clang reads it from the record again, and of the new
- * number nothing is known but its size. Mended: it is read once, into a variable, and the variable is compared and passed.
+ * A field that is compared, and read again after a call of a helper. Clang reads it from the record again, and of the
+ * new number nothing is known but its size. Mended: it is read once, into a variable, and the variable is compared and
+ * passed.
  */
 #include "../helpers.h"
 

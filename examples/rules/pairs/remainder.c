@@ -1,7 +1,7 @@
 /*
- * A remainder, for the argument of a helper. Clang makes of it a division, a product and a difference, of which the range
- * is too wide, and drops a comparison that can't fail. Mended: the compiler knows nothing of the remainder when it comes to
- * the comparison, so it stays.
+ * A remainder, for the argument of a helper. Clang makes of it a division, a product and a difference, of which the
+ * range is too wide, and drops a comparison that can't fail. Mended: behind an empty asm the remainder may be any
+ * number to clang, so the comparison stays.
  */
 #include "../helpers.h"
 

@@ -1,7 +1,7 @@
 /*
- * A byte that is compared with 128, for an index. Clang makes a test of its sign of it, and tests of signs narrow nothing.
- * Mended: the compiler knows nothing of the number, so it compares the number itself. A comparison with another
- * bound, as `i > 120`, and a mask, as `i & 127`, pass as well.
+ * A byte that is compared with 128, for an index. Clang makes a test of its sign of it, and tests of signs narrow
+ * nothing. Mended: behind an empty asm it may be any number to clang, which then compares the number itself. A
+ * comparison with another bound, as `i > 120`, and a mask, as `i & 127`, pass as well.
  */
 #include "../helpers.h"
 

@@ -1,6 +1,6 @@
 /*
- * A number that is stored on the stack and then compared. A comparison tells of the register and not of the word from which
- * it came, and the use reads the word again. Mended: it is compared before it is stored.
+ * A number that is stored on the stack and then compared. A comparison tells of the register and not of the word from
+ * which it came, and the use reads the word again. Mended: it is compared before it is stored.
  */
 #include "../helpers.h"
 

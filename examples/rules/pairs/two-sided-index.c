@@ -1,7 +1,7 @@
 /*
- * Two bounds of an index into the record, here one of the eight bytes of the call sign. Clang makes one comparison of both,
- * of the difference from the lower bound, and adds the number itself to the address. Mended: the upper bound is compared
- * last, and the compiler knows nothing of the number any more when it comes to it.
+ * Two bounds of an index into the record, here one of the eight bytes of the call sign. Clang makes one comparison of
+ * both, of the number under a mask, and adds the number itself to the address. Mended: the upper bound is compared
+ * last, behind an empty asm, so that to clang it may be any number there.
  */
 #include "../helpers.h"
 

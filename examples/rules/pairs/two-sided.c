@@ -1,7 +1,7 @@
 /*
- * Two bounds of one number, for the argument of a helper. Clang makes one comparison of both, of the difference from the
- * lower bound, and passes the number itself, which is then not known to be at most 999. Mended: the upper bound is compared
- * last, and the compiler knows nothing of the number any more when it comes to it.
+ * Two bounds of one number, for the argument of a helper. Clang makes one comparison of both, of the difference from
+ * the lower bound, and passes the number itself, which is then not known to be at most 999. Mended: the upper bound is
+ * compared last, behind an empty asm, so that to clang it may be any number there.
  */
 #include "../helpers.h"
 
