@@ -6,7 +6,8 @@
 
 Each .hex of examples/rules must have the listing and the verdict of its .lst, each of examples/rules/pairs the verdict
 of verdicts.txt. A source must compile to the bytes that are shipped; another clang than 14 may make others, and then
-its verdict is printed beside. Outside what is proved.
+its verdict is printed beside. The proved program judges where there is one, else a build without proofs. Outside what
+is proved.
 """
 import argparse
 import pathlib
@@ -24,102 +25,119 @@ COMPILE = ["clang", "-O2", "-target", "bpf", "-mcpu=v3", "-I", str(RULES), "-c"]
 MADE_BY = "14"
 
 
-def sources():
-    """Each shipped function: its source, its section, and its name without an ending."""
-    for source in sorted(RULES.glob("*.c")):
-        yield source, "entry", source.with_suffix("")
-    for source in sorted(PAIRS.glob("*.c")):
-        for section in ("refused", "mended"):
-            yield source, section, source.with_name(f"{source.stem}.{section}")
+class Rule:
+    """A shipped function: its source, its section, and the name of its files without an ending."""
 
+    def __init__(self, source, section):
+        self.source, self.section = source, section
+        self.is_of_pair = source.parent == PAIRS
+        self.name = f"{source.stem}.{section}" if self.is_of_pair else source.stem
 
-def compiled(source, section, room):
-    """The bytes of a section, as the recipe of docs/RULES-IN-C.md makes them."""
-    made, cut = room / "rule.o", room / "rule.bin"
-    subprocess.run([*COMPILE, str(source), "-o", str(made)], check=True)
-    subprocess.run(["llvm-objcopy", "-O", "binary", f"--only-section={section}", str(made), str(cut)], check=True)
-    return cut.read_bytes()
+    def file(self, ending):
+        return self.source.with_name(f"{self.name}.{ending}")
 
+    def shipped(self):
+        return bytes.fromhex(self.file("hex").read_text())
 
-def judged(acdm, code, room):
-    """What `acdm verify` prints of bytes."""
-    file = room / "judged.bin"
-    file.write_bytes(code)
-    found = subprocess.run([acdm, "verify", str(file)], stdout=subprocess.PIPE, stderr=subprocess.PIPE, text=True)
-    if found.returncode not in (0, 1):
-        sys.exit(f"verdicts: {acdm} verify ended with status {found.returncode}: {found.stderr.strip()}")
-    return found.stdout
+    def compiled(self, room):
+        """The bytes of the section, as the recipe of docs/RULES-IN-C.md makes them."""
+        made, cut = room / "rule.o", room / "rule.bin"
+        subprocess.run([*COMPILE, str(self.source), "-o", str(made)], check=True)
+        copied = ["llvm-objcopy", "-O", "binary", f"--only-section={self.section}", str(made), str(cut)]
+        subprocess.run(copied, check=True)
+        return cut.read_bytes()
+
+    def wanted(self, verdicts):
+        """What `acdm verify` must print: all of it, or for one of a pair its last line."""
+        return verdicts[self.name] if self.is_of_pair else self.file("lst").read_text().rstrip("\n")
+
+    def is_right(self, found, wanted):
+        if not self.is_of_pair:
+            return found == wanted
+        return last(found) == wanted and wanted.startswith("accepted" if self.section == "mended" else "refused")
 
 
 def last(text):
     return text.splitlines()[-1] if text else "nothing"
 
 
+def rules():
+    pairs = [Rule(source, section) for source in sorted(PAIRS.glob("*.c")) for section in ("refused", "mended")]
+    return [Rule(source, "entry") for source in sorted(RULES.glob("*.c"))] + pairs
+
+
+def judged(codes, acdm, room):
+    """What `acdm verify` prints of each of some programs, by their names."""
+    for name, code in codes.items():
+        (room / name).write_bytes(code)
+    if acdm or ran([str(TOP / "acdm"), "--version"], {0}).startswith("acdm: the proved program"):
+        return {name: ran([acdm or str(TOP / "acdm"), "verify", str(room / name)], {0, 1}) for name in codes}
+    print("judged by a build without proofs, in some minutes", file=sys.stderr, flush=True)
+    said = ran(["rt", "try", "--cases", str(room), "--", "verify", "{}"], range(256), TOP / "crates" / "acdm")
+    parts = re.split(r"^== (.*)\n", said, flags=re.MULTILINE)[1:]
+    found = {name: text.rstrip("\n") for name, text in zip(parts[::2], parts[1::2])}
+    if found.keys() != codes.keys():
+        sys.exit("verdicts: the build without proofs did not judge each program")
+    return found
+
+
+def ran(words, statuses, folder=TOP):
+    done = subprocess.run(words, cwd=folder, stdout=subprocess.PIPE, stderr=subprocess.PIPE, text=True)
+    if done.returncode not in statuses:
+        sys.exit(f"verdicts: {words[0]} ended with status {done.returncode}: {done.stderr.strip()}")
+    return done.stdout.rstrip("\n")
+
+
 def clang():
     """The number of the clang that is there, as 14."""
     if not shutil.which("clang") or not shutil.which("llvm-objcopy"):
         return None
-    said = subprocess.run(["clang", "--version"], stdout=subprocess.PIPE, text=True, check=True).stdout
-    found = re.search(r"version (\d+)", said)
+    found = re.search(r"version (\d+)", ran(["clang", "--version"], {0}))
     return found and found[1]
 
 
-def expected(name):
-    """What verify must print of a shipped program: all of it for a rule, its last line for one of a pair."""
-    if name.parent == RULES:
-        return RULES.joinpath(f"{name.name}.lst").read_text()
-    rows = dict(line.split(" ", 1) for line in VERDICTS.read_text().splitlines())
-    return rows[name.name] + "\n"
+def write(acdm, room):
+    codes = {rule.name: rule.compiled(room) for rule in rules()}
+    found = judged(codes, acdm, pathlib.Path(tempfile.mkdtemp(dir=room)))
+    for rule in rules():
+        rule.file("hex").write_text(codes[rule.name].hex())
+        if not rule.is_of_pair:
+            rule.file("lst").write_text(found[rule.name] + "\n")
+    VERDICTS.write_text("".join(f"{it.name} {last(found[it.name])}\n" for it in rules() if it.is_of_pair))
 
 
 def differences(acdm, compiler, room):
     """What is not as it is shipped."""
-    for source, section, name in sources():
-        code = bytes.fromhex(name.with_name(name.name + ".hex").read_text())
-        wanted, found = expected(name), judged(acdm, code, room)
-        if name.parent == PAIRS and not last(found).startswith("accepted" if section == "mended" else "refused"):
-            yield f"{name.name}: {last(found)}"
-        if (found if name.parent == RULES else last(found) + "\n") != wanted:
-            yield f"{name.name}: {last(found)}, and not {last(wanted)} as it is shipped"
-        if not compiler:
-            continue
-        again = compiled(source, section, room)
-        if again != code and compiler == MADE_BY:
-            yield f"{name.name}: its source compiles to other bytes"
-        elif again != code:
-            print(f"{name.name}: {last(judged(acdm, again, room))} with clang {compiler}; {last(wanted)} is shipped")
-
-
-def write(acdm, room):
-    rows = []
-    for source, section, name in sources():
-        code = compiled(source, section, room)
-        name.with_name(name.name + ".hex").write_text(code.hex())
-        found = judged(acdm, code, room)
-        if name.parent == RULES:
-            name.with_name(name.name + ".lst").write_text(found)
-        else:
-            rows.append(f"{name.name} {last(found)}\n")
-    VERDICTS.write_text("".join(rows))
+    verdicts = dict(line.split(" ", 1) for line in VERDICTS.read_text().splitlines())
+    codes = {rule.name: rule.shipped() for rule in rules()}
+    again = {rule.name: rule.compiled(room) for rule in rules()} if compiler else codes
+    others = {f"{name}.compiled": again[name] for name in codes if again[name] != codes[name]}
+    found = judged(codes | others, acdm, pathlib.Path(tempfile.mkdtemp(dir=room)))
+    for rule in rules():
+        wanted, told = rule.wanted(verdicts), found[rule.name]
+        if not rule.is_right(told, wanted):
+            yield f"{rule.name}: {last(told)}, and {last(wanted)} is shipped"
+        other = found.get(f"{rule.name}.compiled")
+        if other is not None and compiler == MADE_BY:
+            yield f"{rule.name}: its source compiles to other bytes, {last(other)}"
+        elif other is not None:
+            print(f"{rule.name}: {last(other)} as clang {compiler} makes it, {last(wanted)} is shipped")
 
 
 def main():
     words = argparse.ArgumentParser(description="Judges the shipped rules in C.")
-    words.add_argument("--acdm", default=str(TOP / "acdm"), help="the program acdm; that of this repository")
+    words.add_argument("--acdm", help="a program that judges in place of this repository's")
     words.add_argument("--write", action="store_true", help="compile the sources, and write bytes and listings")
     asked, compiler = words.parse_args(), clang()
     with tempfile.TemporaryDirectory() as folder:
         room = pathlib.Path(folder)
+        if asked.write and compiler != MADE_BY:
+            sys.exit(f"verdicts: what is shipped is made by clang {MADE_BY}")
         if asked.write:
-            if compiler != MADE_BY:
-                sys.exit(f"verdicts: what is shipped is made by clang {MADE_BY}")
             write(asked.acdm, room)
         wrong = list(differences(asked.acdm, compiler, room))
-    for line in wrong:
-        print(line)
-    count = len(list(sources()))
-    beside = f"compiled with clang {compiler}" if compiler else "not compiled: there is no clang"
-    print(f"{count} programs, {beside}: {len(wrong)} not as they are shipped")
+    beside = f"sources compiled with clang {compiler}" if compiler else "sources not compiled, there is no clang"
+    print(*wrong, f"{len(rules())} programs judged, {beside}: {len(wrong)} not as they are shipped", sep="\n")
     sys.exit(bool(wrong))
 
 
