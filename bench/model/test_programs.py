@@ -26,9 +26,10 @@ SPILLS = (
 )
 
 
-def flight(kind=b"A320", stand=12, **times):
+def flight(kind=b"A320", stand=12, local=0, landed=False, **times):
     """The flight of the worked lines: scheduled and planned, MTTT 40, EXIT 5, EXOT 10, stand 12; or another."""
-    made = Flight(7, b"DLH7", reached=3, mttt=40, exot=10, stand=stand, exit=5)
+    made = Flight(7, b"DLH7", reached=67 if landed else 3, mttt=40, exot=10, stand=stand, exit=5)
+    made.alerts = local << 16
     made.scheduled = made.plan = {"type": kind, "reg": b"DAIBC", "dest": b"EDDM"}
     made.times.update({"sobt": 29_000_760, "eobt": 29_000_760, **times})
     return made.record()
@@ -200,9 +201,54 @@ class Runs(unittest.TestCase):
             ({"stand": 120, **slot, "tobt": 29_000_761}, 2),
             ({"stand": 900, **slot}, 3),
             ({"stand": 900, **slot, "ctot": 0}, 1),
+            ({"local": 0xFFFF}, 0xFFFC),
+            ({"stand": 900, "local": 0xFFFE}, 0xFFFD),
+            ({"stand": 1000, "local": 0x8003}, 0x8000),
         )
         for given, expected in rows:
             self.assertEqual(self.shipped("far-stand", flight(**given)), expected, given)
+
+    def test_the_alert_of_a_missed_slot(self):
+        rows = (
+            ({}, 0),
+            ({"tobt": 29_000_760, "ctot": 29_000_770}, 0),
+            ({"tobt": 29_000_760, "ctot": 29_000_769}, 4),
+            ({"tobt": 29_000_760, "ctot": 29_000_774, "stand": 120}, 4),
+            ({"tobt": 29_000_760, "ctot": 29_000_700, "stand": 1000}, 0),
+            ({"local": 0xFFFF}, 0xFFFB),
+            ({"tobt": 29_000_760, "ctot": 29_000_769, "local": 0x8001}, 0x8005),
+            ({"tobt": 29_000_760, "ctot": 29_000_770, "local": 0x8005}, 0x8001),
+        )
+        for given, expected in rows:
+            self.assertEqual(self.shipped("slot", flight(**given)), expected, given)
+
+    def test_the_alerts_of_a_late_target_and_of_no_stand(self):
+        rows = (
+            ({"tobt": 29_000_790}, 0),
+            ({"tobt": 29_000_791}, 0x80),
+            ({"tobt": 29_000_791, "eobt": 0}, 0),
+            ({"stand": 0}, 0),
+            ({"stand": 0, "landed": True}, 0x100),
+            ({"tobt": 29_000_791, "stand": 0, "landed": True, "local": 1}, 0x181),
+            ({"local": 0xFFFF}, 0xFE7F),
+        )
+        for given, expected in rows:
+            self.assertEqual(self.shipped("alert", flight(**given)), expected, given)
+
+    def test_the_alerts_of_two_rules_in_one_place(self):
+        rows = (
+            ({}, 0),
+            ({"tobt": 29_000_790, "ctot": 29_000_800}, 0),
+            ({"tobt": 29_000_790, "ctot": 29_000_799}, 4),
+            ({"tobt": 29_000_791, "ctot": 29_000_801}, 0x80),
+            ({"tobt": 29_000_791, "ctot": 29_000_800}, 0x84),
+            ({"tobt": 29_000_791, "ctot": 29_000_800, "stand": 0, "landed": True}, 0x184),
+            ({"tobt": 29_000_791, "ctot": 29_000_800, "stand": 1000, "landed": True}, 0x80),
+            ({"local": 0xFFFF}, 0xFE7B),
+            ({"tobt": 29_000_790, "ctot": 29_000_799, "local": 0x0181}, 5),
+        )
+        for given, expected in rows:
+            self.assertEqual(self.shipped("joined", flight(**given)), expected, given)
 
     def test_the_margins_of_a_turn_round(self):
         rows = (
@@ -219,6 +265,9 @@ class Runs(unittest.TestCase):
             ({"aibt": 29_000_720, "ctot": 29_000_775}, 24),
             ({"aibt": 29_000_700, "ctot": 29_000_774, "stand": 120}, 32),
             ({"aibt": 29_000_720, "ctot": 29_000_700, "stand": 1000}, 0),
+            ({"local": 0xFFFF}, 0xFF87),
+            ({"aibt": 29_000_716, "local": 0x8000}, 0x8018),
+            ({"stand": 1000, "local": 0x79}, 1),
         )
         for given, expected in rows:
             self.assertEqual(self.shipped("margins", flight(**given)), expected, given)

@@ -36,7 +36,7 @@ grep -q "acdm prove" "$room/said" || fail "serve does not say what to do first"
 begin=$SECONDS
 "$room/clone/acdm" prove || fail "prove ended with status $?"
 echo "proved after $((SECONDS - begin)) s"
-"$room/clone/acdm" --version | grep -q "the proved program" || fail "--version does not say that the program is proved"
+"$room/clone/acdm" --version | grep -q "^acdm: the proved program" || fail "--version does not say that the program is proved"
 for example in turn-round day rules-day; do
     replies "$example"
     [ ! -s "$room/said" ] || fail "$example says on standard error: $(cat "$room/said")"
@@ -48,5 +48,5 @@ echo "// One line more." >> "$room/clone/crates/acdm/src/main.rt"
 "$room/clone/acdm" --version | grep -q "not proved" || fail "a changed source counts as proved"
 git -C "$room/clone" checkout --quiet crates/acdm/src/main.rt
 [ "$before" = "$(sha256sum < "$room/clone/crates/acdm/out/acdm")" ] || fail "the proved program was replaced"
-"$room/clone/acdm" --version | grep -q "the proved program" || fail "the proved program is not known again"
+"$room/clone/acdm" --version | grep -q "^acdm: the proved program" || fail "the proved program is not known again"
 echo "newcomer: all as README.md says"

@@ -24,6 +24,9 @@ struct flight {
     u32 tobt, tsat, asbt, ardt, asrt, asat, aobt, atot;
 };
 
+/* The bit of a local alert in the answer of a rule of kind alert, 0 to 15. */
+#define LOC(number) (1ull << (number))
+
 _Static_assert(sizeof(struct flight) == 128, "the record has 128 bytes");
 
 #endif

@@ -5,6 +5,7 @@
  */
 #include "helpers.h"
 
+__attribute__((section("entry")))
 u64 turn_round(const struct flight *flight, u64 length, u64 now, u64 milestone)
 {
     u64 ready;
