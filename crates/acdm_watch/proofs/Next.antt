@@ -49,26 +49,6 @@ module _ (sigs : List (ℕ × Promise)) (J : History) (e : Entry) (n : ℕ) (num
         plans.replays e.session ∙ ap (replay sigs) (after_is J e _ at same),
       )
 
-  pub numbered_of : IsLegal sigs (e ∷ J) → IsNumbered sigs n e
-  numbered_of legal = record {
-    number_is = legal.1 ∙ sym number;
-    range = legal.2;
-    checked = legal.3;
-  }
-
-  pub uses_of : IsLegal sigs (e ∷ J) → UsesAnswers sigs J e.role e.moment e.command e.answers
-  uses_of legal =
-      let same = legal.4.verdict_is in
-      record {
-        used = λ d. legal.4.used (ap is_accepted same ∙ d);
-        unused = λ d. legal.4.unused (ap is_accepted same ∙ d);
-      }
-
-  pub verdict_of_next : (outcome : Outcome) (board : Board) → IsLegal sigs (e ∷ J)
-      → PlansWith sigs J e.role e.moment e.command e.answers outcome board
-      → verdict_in outcome ≡ e.verdict
-  verdict_of_next outcome board legal plans = plans.verdict_is ∙ sym legal.4.verdict_is
-
 append_legal : (sigs : List (ℕ × Promise)) (xs ys : History) → IsLegal sigs (xs ++ ys)
     → IsLegal sigs ys
 append_legal sigs [] ys h = h
