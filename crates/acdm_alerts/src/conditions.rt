@@ -72,7 +72,7 @@ fn differ_by(minutes: u64, record: &Record, one: Field, other: Field) -> bool
 fn texts_differ(record: &Record, one: TextField, other: TextField) -> bool
     ensures { result ≡ have_other_texts record.now one other }
 {
-    has_reached(record, 0) && has_reached(record, 1) && record.text(one) != record.text(other)
+    has_reached(record, 0) && has_reached(record, 1) && !record.has_same_text(one, other)
 }
 
 fn no_airport_slot(record: &Record) -> bool
