@@ -30,6 +30,9 @@ TOP = BENCH.parent
 PARTS = ("day", "instructions", "journal", "fill", "alerts", "tick", "memory", "verifier", "machine")
 MOMENT = 29_000_700
 MOST_FLIGHTS = 4096
+LEAST = 0.08  # seconds
+# valgrind counts one instruction for each byte that a string instruction clears: it is not to be chosen.
+UNSTRUNG = {"GLIBC_TUNABLES": "glibc.cpu.x86_rep_stosb_threshold=1000000000"}
 
 
 def line(role, **command):
@@ -91,7 +94,9 @@ class Peers:
         """Prints what each of `count` things costs, by which one stream has more than another."""
         longer, shorter = (self.costs(lines, len(more), runs, to_pipe) for lines in (more, less))
         whole, alone = ({name: (longer[name][i] - shorter[name][i]) / count for name in longer} for i in (0, 1))
-        told(title, whole, unit, f" (the program alone {alone['acdm'] / max(alone['twin'], 1e-12):.2f})")
+        # (the system tells a program's own part by ticks, of which a short run has none)
+        is_long = min(times[1] for times in longer.values()) > LEAST
+        told(title, whole, unit, f" (the program alone {alone['acdm'] / alone['twin']:.2f})" if is_long else "")
 
     def counted(self, lines, entries):
         """For each program how many instructions it takes for these lines."""
@@ -101,6 +106,7 @@ class Peers:
             tool = ["valgrind", "--tool=callgrind", f"--callgrind-out-file={self.folder / 'calls'}"]
             with open(self.folder / "lines", "rb") as source:
                 how = {"stdin": source, "stdout": subprocess.DEVNULL, "stderr": subprocess.PIPE, "text": True}
+                how["env"] = {**os.environ, **UNSTRUNG}
                 said = subprocess.run([*tool, *command], check=True, **how).stderr
             found[name] = int(re.search(r"Collected : (\d+)", said)[1])
         return found
