@@ -38,8 +38,7 @@ module _ (b : List ℕ) (len : length b ≡ 128) (bytes : (i : ℕ) → slice_in
       → (number_in t == number_in u) ≡ bytes_eq (text_of (fields_at b) t) (text_of (fields_at b) u)
   same_by_number t u width =
       one_answer (number_in t == number_in u)
-      (bytes_eq (text_of (fields_at b) t) (text_of (fields_at b) u))
-      (
+      (bytes_eq (text_of (fields_at b) t) (text_of (fields_at b) u)) (
         (λ e. texts (numbers.0 e)),
         (λ same. numbers.1 (places same)),
       )

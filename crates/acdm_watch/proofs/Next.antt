@@ -1,9 +1,8 @@
 -- An entry that comes next after a legal journal.
-use Rattle.std.proofs.Common.{◌≡◌, ℕ, ◌+◌, ◌≤◌, true, false, List, [], ◌∷◌, ◌++◌, length, take}
+use Rattle.std.proofs.Common.{◌≡◌, ℕ, ◌+◌, List, [], ◌∷◌, ◌++◌, length, take}
 use Rattle.std.proofs.Common.{drop}
-use Rattle.std.proofs.Common.{reverse, refl, sym, ap, ◌∙◌, subst, arith}
-use Rattle.std.proofs.lemmas.List.{take-take, take-append-drop, reverse-append}
-use Rattle.std.proofs.Math.Seq.{take-append_seam}
+use Rattle.std.proofs.Common.{reverse, sym, ap, ◌∙◌, subst}
+use Rattle.std.proofs.lemmas.List.{take-append-drop, reverse-append}
 use Rattle.bpf_helpers.specs.Promise.{Promise}
 use Rattle.acdm_step.specs.declared.entry.Entry.{Entry}
 use Rattle.acdm_step.specs.declared.entry.Verdict.{Verdict}
@@ -11,7 +10,7 @@ use Rattle.acdm_step.specs.declared.outcome.Outcome.{Outcome}
 use Rattle.acdm_step.specs.Commands.{History, is_accepted}
 use Rattle.acdm_step.specs.Verdicts.{verdict_of, verdict_in}
 use Rattle.acdm_step.specs.History.{Board, IsLegal, after, replay}
-use Rattle.acdm_journal.specs.Audit.{PlansWith, UsesAnswers}
+use Rattle.acdm_journal.specs.Audit.{PlansWith}
 use Rattle.acdm_watch.specs.Watching.{IsNumbered}
 
 after_is : (J : History) (e : Entry) (v : Verdict) → e.number ≡ length J → e.verdict ≡ v
