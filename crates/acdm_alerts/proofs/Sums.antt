@@ -1,8 +1,8 @@
 -- The sum of a table of bits that rise has each bit at most once, so what is kept and what is
 -- computed do not touch, and bits 0 and 6 stay clear.
 use Rattle.std.proofs.Common.{◌≡◌, ℕ, zero, suc, ◌+◌, ◌*◌, ◌/◌, ◌%◌, ◌<◌, ◌≤◌, ◌^◌, Bool, true}
-use Rattle.std.proofs.Common.{false, cond, nat_lt, nat_le, ◌==◌, ◌&&◌, List, [], ◌∷◌, refl, sym, ap}
-use Rattle.std.proofs.Common.{ap₂, ◌∙◌, subst, arith}
+use Rattle.std.proofs.Common.{false, cond, nat_lt, nat_le, ◌==◌, ◌&&◌, List, [], ◌∷◌, refl, ap}
+use Rattle.std.proofs.Common.{ap₂, arith}
 use Rattle.std.proofs.lemmas.Bool.{leb-true, ltb-true}
 use Rattle.std.specs.Int.{bit_at}
 use Rattle.acdm_record.specs.Fields.{Fields}

@@ -14,7 +14,8 @@ use Rattle.acdm_record.specs.declared.field.TextField.TheVariants.{PlanRegistrat
 use Rattle.acdm_record.specs.declared.field.TextField.TheVariants.{ScheduledDestination}
 use Rattle.acdm_record.specs.declared.field.TextField.TheVariants.{PlanDestination}
 use Rattle.acdm_record.specs.Fields.{Fields, number_of, text_of}
-use Rattle.acdm_milestones.specs.Tables.{has_reached, is_set}
+use Rattle.acdm_milestones.specs.declared.milestone.Milestone.TheVariants.{TobtUpdate}
+use Rattle.acdm_milestones.specs.Tables.{number, has_reached, is_set}
 
 -- the estimated in-block time: AIBT, else ALDT or else ELDT with the taxi-in time
 abbrev pub eibt : Fields → Option ℕ
@@ -55,7 +56,7 @@ boarding_not_started r moment =
 
 -- CDM10: TOBT rejected or deleted
 abbrev pub tobt_deleted : Fields → Bool
-tobt_deleted r = has_reached r 9 && not (is_set r Tobt)
+tobt_deleted r = has_reached r (number TobtUpdate) && not (is_set r Tobt)
 
 -- CDM11: not compliant with TOBT or TSAT
 abbrev pub tsat_passed : Fields → ℕ → Bool

@@ -16,7 +16,7 @@ ghost use Rattle.acdm_alerts.specs.Conditions.{conditions as computed_word, kept
 ghost use Rattle.acdm_alerts.specs.Conditions.{alert_word};
 
 use crate::alert_set::AlertSet;
-use acdm_milestones::has_reached;
+use acdm_milestones::{Milestone, has_reached};
 use acdm_record::{Field, Record, TextField};
 
 fn is_set(record: &Record, field: Field) -> bool
@@ -72,7 +72,7 @@ fn differ_by(minutes: u64, record: &Record, one: Field, other: Field) -> bool
 fn texts_differ(record: &Record, one: TextField, other: TextField) -> bool
     ensures { result ≡ have_other_texts record.now one other }
 {
-    has_reached(record, 0) && has_reached(record, 1) && record.text(one) != record.text(other)
+    has_reached(record, 0) && has_reached(record, 1) && !record.has_same_text(one, other)
 }
 
 fn no_airport_slot(record: &Record) -> bool
@@ -94,7 +94,7 @@ fn boarding_not_started(record: &Record, moment: u32) -> bool
 fn tobt_deleted(record: &Record) -> bool
     ensures { result ≡ has_no_tobt record.now }
 {
-    has_reached(record, 9) && !is_set(record, Field::Tobt)
+    has_reached(record, Milestone::TobtUpdate.number()) && !is_set(record, Field::Tobt)
 }
 
 fn tsat_passed(record: &Record, moment: u32) -> bool

@@ -27,12 +27,3 @@ value_found o name id n r e h = ap (value_in name id) e
     is_true : (b : Bool) → not b ≡ false → b ≡ true
     is_true true h = refl
     is_true false h = absurd (cc)
-
-pub value_other : (o : Option (Text × List Row)) (name id n : Text) (r : List Row) → o ≡ Some (n, r)
-    → not (bytes_eq n name) ≡ true → value_in name id o ≡ None
-value_other o name id n r e h = ap (value_in name id) e
-    ∙ ap (λ b. cond b (first_of id r) None) (is_false (bytes_eq n name) h)
-  where
-    is_false : (b : Bool) → not b ≡ true → b ≡ false
-    is_false true h = absurd (cc)
-    is_false false h = refl

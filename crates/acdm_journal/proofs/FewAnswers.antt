@@ -6,6 +6,7 @@ use Rattle.std.specs.List.{AllByRecursion}
 use Rattle.std.proofs.lemmas.Option.{same_Some}
 use Rattle.acdm_record.specs.Fields.{Fields, bytes_of}
 use Rattle.bpf_decode.specs.declared.op.Op.{Op}
+use Rattle.bpf_decode.specs.declared.program.TheConstants.{MOST_SLOTS}
 use Rattle.bpf_helpers.specs.Promise.{Promise}
 use Rattle.bpf_semantics.specs.Machine.{Machine, start}
 use Rattle.bpf_semantics.specs.Runs.{RunEnds}
@@ -42,7 +43,7 @@ few_used ops sigs bytes moment m used r0 n run =
     omega (arith, few, f.few, ap length same)
 
 few_in : (p : Option Verified) (r : Fields) (moment m : ℕ) (used : List ℕ) (r0 : Option ℕ)
-    → ((v : Verified) → p ≡ Some v → length v.ops ≤ 4096) → EndsWith p r moment m used r0
+    → ((v : Verified) → p ≡ Some v → length v.ops ≤ MOST_SLOTS) → EndsWith p r moment m used r0
     → length used ≤ 4095
 few_in None r moment m used r0 most e = omega (arith, ap length e.0)
 few_in (Some v) r moment m used r0 most e =
@@ -50,8 +51,8 @@ few_in (Some v) r moment m used r0 most e =
     omega (arith, few, most v refl)
 
 few_ran : (ps : Programs) (r : Fields) (moment m : ℕ) (used : List ℕ)
-    → ((v : Verified) → ps.tobt ≡ Some v → length v.ops ≤ 4096)
-    → ((v : Verified) → ps.alert ≡ Some v → length v.ops ≤ 4096)
+    → ((v : Verified) → ps.tobt ≡ Some v → length v.ops ≤ MOST_SLOTS)
+    → ((v : Verified) → ps.alert ≡ Some v → length v.ops ≤ MOST_SLOTS)
     → Ran ps r moment m used → length used ≤ 8190
 few_ran ps r moment m used tobt alert ran =
     let h = ran.1 in

@@ -25,6 +25,7 @@ use Rattle.acdm_step.specs.declared.command.Command.{Command}
 use Rattle.acdm_step.specs.declared.command.Command.TheVariants as commands
 use Rattle.acdm_step.specs.declared.command.FlightCommand.TheVariants.{Schedule, Report}
 use Rattle.acdm_step.specs.Commands.{is_load}
+use Rattle.acdm_journal.specs.declared.reading.TheConstants.{LONGEST_LINE}
 use Rattle.acdm_journal.specs.declared.stated.Stated.{Stated}
 use Rattle.acdm_journal.specs.Text.{plan_words, plan_words_of, time_words, load_words}
 use Rattle.acdm_journal.specs.Text.{command_words, asked_words, answer_words, head_words, line_of}
@@ -214,7 +215,7 @@ module _ (s : Stated) where
 
   -- a line whose command has so many bytes
   pub line_within : IsStated s → (n : ℕ) → length (spaced (asked_words s.asked)) ≤ n
-      → 21 * length s.answers + n ≤ 199000 → length (line_of s) ≤ 200000
+      → 21 * length s.answers + n ≤ 199000 → length (line_of s) ≤ LONGEST_LINE
   line_within is n asked few =
       let w = is.where_and_when in
       let number : length (decimal s.number) ≤ 20 = decimal_short s.number is.number in

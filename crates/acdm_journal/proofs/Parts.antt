@@ -242,12 +242,6 @@ pub record IsNumbered (a : Milestone) : Type 0 where
   pub some : 1 ≤ number a
   pub most : number a ≤ 16
 
-numbered_up_to : (a : Milestone) (n : ℕ) → milestone_numbered n ≡ Some a → 1 ≤ n → n ≤ 16
-    → IsNumbered a
-numbered_up_to a n h some most =
-    let is = milestone_numbered-back n a h in
-    record { some = omega (arith, is); most = omega (arith, is) }
-
 pub is_numbered : (a : Milestone) → IsNumbered a
 is_numbered m.FlightPlanActivated = record { some = omega arith; most = omega arith }
 is_numbered m.TwoHoursBeforeEobt = record { some = omega arith; most = omega arith }

@@ -12,6 +12,7 @@ use Rattle.acdm_milestones.specs.declared.milestone.Milestone.{Milestone}
 use Rattle.acdm_milestones.specs.declared.milestone.Milestone.TheVariants as m
 use Rattle.acdm_milestones.specs.Tables.{number}
 use Rattle.acdm_step.specs.Facts.{ScheduleFacts, ReportFacts, has_its_plan, has_its_time}
+use Rattle.acdm_step.specs.declared.command.TheConstants.{MINUTES_OF_DAY}
 use Rattle.acdm_step.specs.declared.command.Plan.{Plan}
 use Rattle.acdm_step.specs.declared.command.Command.{Command}
 use Rattle.acdm_step.specs.declared.command.Command.TheVariants as commands
@@ -111,11 +112,11 @@ schedule_at-is s is =
     ∙ bind_is _ _ _ (plan_at-is s.plan _ is.plan)
     ∙ bind_is _ _ _ (number_at-is 1 most_minute s.sobt _ k.sobt_given (omega (arith, is.sobt))
     (omega (arith, is.sobt)))
-    ∙ bind_is _ _ _ (number_at-is 0 1440 s.mttt _ (omega arith) k.mttt_in_range
+    ∙ bind_is _ _ _ (number_at-is 0 MINUTES_OF_DAY s.mttt _ (omega arith) k.mttt_in_range
     (omega (arith, k.mttt_in_range)))
     ∙ bind_is _ _ _ (number_at-is 0 255 s.exit _ (omega arith) (omega (arith, is.exit))
     (omega (arith, is.exit)))
-    ∙ bind_is _ _ _ (number_at-is 0 1440 s.exot _ (omega arith) k.exot_in_range
+    ∙ bind_is _ _ _ (number_at-is 0 MINUTES_OF_DAY s.exot _ (omega arith) k.exot_in_range
     (omega (arith, k.exot_in_range)))
     ∙ bind_is _ _ _ (number_at-is 0 65535 s.stand [] (omega arith) (omega (arith, is.stand))
     (omega (arith, is.stand)))
@@ -127,16 +128,16 @@ schedule_at-back ws a left h =
     let flight = bind_some (number_at 1 most_word ws) _ (a, left) h in
     let plan = bind_some (plan_at flight.0.1) _ (a, left) flight.2 in
     let sobt = bind_some (number_at 1 most_minute plan.0.1) _ (a, left) plan.2 in
-    let mttt = bind_some (number_at 0 1440 sobt.0.1) _ (a, left) sobt.2 in
+    let mttt = bind_some (number_at 0 MINUTES_OF_DAY sobt.0.1) _ (a, left) sobt.2 in
     let exit = bind_some (number_at 0 255 mttt.0.1) _ (a, left) mttt.2 in
-    let exot = bind_some (number_at 0 1440 exit.0.1) _ (a, left) exit.2 in
+    let exot = bind_some (number_at 0 MINUTES_OF_DAY exit.0.1) _ (a, left) exit.2 in
     let stand = bind_some (number_at 0 65535 exot.0.1) _ (a, left) exot.2 in
     let f = number_at-back 1 most_word ws _ _ (omega arith) flight.1 in
     let p = plan_at-back flight.0.1 plan.0.0 plan.0.1 plan.1 in
     let s = number_at-back 1 most_minute plan.0.1 _ _ (omega arith) sobt.1 in
-    let t = number_at-back 0 1440 sobt.0.1 _ _ (omega arith) mttt.1 in
+    let t = number_at-back 0 MINUTES_OF_DAY sobt.0.1 _ _ (omega arith) mttt.1 in
     let i = number_at-back 0 255 mttt.0.1 _ _ (omega arith) exit.1 in
-    let o = number_at-back 0 1440 exit.0.1 _ _ (omega arith) exot.1 in
+    let o = number_at-back 0 MINUTES_OF_DAY exit.0.1 _ _ (omega arith) exot.1 in
     let n = number_at-back 0 65535 exot.0.1 _ _ (omega arith) stand.1 in
     given (ReadsAsked (codes "schedule" ∷ ws)) _ a _ left stand.2 (record {
       words = ap (λ (l : Words). codes "schedule" ∷ l) (f.word

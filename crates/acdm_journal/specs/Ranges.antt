@@ -5,6 +5,7 @@ use Rattle.std.specs.List.{AllByRecursion}
 use Rattle.acdm_record.specs.Texts.{text_from}
 use Rattle.bpf_decode.specs.Encoding.{IsProgram}
 use Rattle.acdm_step.specs.Facts.{IsSchedule, IsReport, ScheduleFacts, ReportFacts}
+use Rattle.acdm_step.specs.declared.command.TheConstants.{MINUTES_OF_DAY}
 use Rattle.acdm_step.specs.declared.command.Plan.{Plan}
 use Rattle.acdm_step.specs.declared.command.Command.{Command}
 use Rattle.acdm_step.specs.declared.command.Command.TheVariants as commands
@@ -40,9 +41,9 @@ IsByte b = b < 256
 pub record AreTimes (s : ScheduleFacts) : Type 0 where
   pub sobt_given : 1 ≤ s.sobt
   pub sobt : s.sobt < 2 ^ 32
-  pub mttt : s.mttt ≤ 1440
+  pub mttt : s.mttt ≤ MINUTES_OF_DAY
   pub exit : s.exit < 2 ^ 8
-  pub exot : s.exot ≤ 1440
+  pub exot : s.exot ≤ MINUTES_OF_DAY
   pub stand : s.stand < 2 ^ 16
 
 -- what a command keeps, and the widths of its numbers

@@ -5,6 +5,7 @@ ghost use Rattle.acdm_lines.specs.NextLine.{Fills};
 
 use crate::counted::Counted;
 use crate::run_error::RunError;
+use memchr::memchr;
 use std::alloc::{AllocError, Global};
 use std::io::Read;
 use std::marker::Model;
@@ -58,7 +59,7 @@ impl Window {
         ensures place { result ≡ position is_line_feed self.now }
         ensures inside { IfSome result (λ i. i < length self.now) }
     {
-        self.as_slice().iter().position(|byte| *byte == b'\n')
+        memchr(b'\n', self.as_slice())
     }
 
     /// Takes all bytes.

@@ -5,3 +5,4 @@ pub mod Kept
 pub mod Judged
 mod FaultRows
 pub mod KeptTexts
+pub mod SameTexts

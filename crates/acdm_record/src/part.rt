@@ -2,6 +2,7 @@
 
 ghost use Rattle.std.specs.Prelude.{◌≡◌, ◌<◌, ◌≤◌, ◌^◌, ◌==◌, length, ℕ, slice_index};
 ghost use Rattle.std.specs.List.{before_first, position_or_len};
+ghost use Rattle.byteorder.specs.Endian.{little_number};
 ghost use Rattle.acdm_record.specs.Place.{width_of, text_offset_of, text_width_of};
 ghost use Rattle.acdm_record.specs.Fields.{part, number_at, padded};
 
@@ -25,6 +26,17 @@ pub(crate) fn text_part(bytes: &[u8; 128], field: TextField) -> &[u8]
 {
     let (offset, width) = field.place();
     &bytes[offset..offset + width]
+}
+
+/// The bytes at a text's place as one number, by which two places of one width are compared.
+pub(crate) fn text_number(bytes: &[u8; 128], field: TextField) -> u64
+    ensures { result ≡ little_number (text_width_of field)
+        (part (text_offset_of field) (text_width_of field) bytes.now) }
+{
+    let (offset, width) = field.place();
+    let text = &bytes[offset..offset + width];
+    in_range(text);
+    LittleEndian::read_uint(text, width)
 }
 
 /// What stands before the first zero byte.

@@ -1,6 +1,7 @@
 //! The record itself.
 ghost use Rattle.std.specs.Prelude.{◌≡◌, ◌<◌, ◌≤◌, ◌^◌, ◌↔◌, length, IsTrue, IsOk, IfOk, IfErr};
 ghost use Rattle.std.specs.Prelude.{Some};
+ghost use Rattle.std.specs.Str.{bytes_eq};
 ghost use Rattle.acdm_record.specs.Place.{width_of, text_width_of};
 ghost use Rattle.acdm_record.specs.Fields.{fields_at, number_of, set_number, text_of, set_text};
 ghost use Rattle.acdm_record.specs.Fields.{is_text, bytes_of, new_record, is_allowed};
@@ -8,7 +9,7 @@ ghost use Rattle.acdm_record.specs.Faults.{AreOfRecord, first_fault};
 
 use crate::fault::{RecordError, fault_of};
 use crate::field::{Field, TextField};
-use crate::part::{before_zero, in_range, number_in, text_part, write_padded};
+use crate::part::{before_zero, in_range, number_in, text_number, text_part, write_padded};
 use byteorder::{ByteOrder, LittleEndian};
 use std::marker::Model;
 
@@ -58,6 +59,17 @@ impl Record {
         ensures short { length result.now ≤ text_width_of field }
     {
         before_zero(text_part(&self.bytes, field))
+    }
+
+    /// Whether the texts under two names are the same.
+    pub fn has_same_text(&self, one: TextField, other: TextField) -> bool
+        ensures { result ≡ bytes_eq (text_of self.now one) (text_of self.now other) }
+    {
+        if one.place().1 != other.place().1 {
+            return self.text(one) == self.text(other);
+        }
+        in_range(&self.bytes);
+        text_number(&self.bytes, one) == text_number(&self.bytes, other)
     }
 
     /// Puts a text under a name, and leaves every other name as it is.

@@ -33,6 +33,17 @@ fn fields_stand_at_their_places(rt: HostRuntime) {
 }
 
 #[test]
+fn texts_are_compared_without_their_zeros(rt: HostRuntime) {
+    let mut record = Record::new(7);
+    record.set_text(TextField::Callsign, b"A320");
+    assert!(rt; !record.has_same_text(TextField::Callsign, TextField::PlanRegistration));
+    record.set_text(TextField::PlanRegistration, b"A320");
+    assert!(rt; record.has_same_text(TextField::Callsign, TextField::PlanRegistration));
+    record.set_text(TextField::PlanType, b"A320");
+    assert!(rt; record.has_same_text(TextField::Callsign, TextField::PlanType));
+}
+
+#[test]
 fn texts_are_one_to_most_printable_bytes(rt: HostRuntime) {
     assert!(rt; Text::<4>::from_bytes(b"").is_none());
     assert!(rt; Text::<4>::from_bytes(b"A3200").is_none());

@@ -4,6 +4,7 @@ use Rattle.std.proofs.Common.{length}
 use Rattle.std.proofs.Common.{Option, refl, sym, ap, subst, ◌∙◌, arith, append_assoc, append-nil}
 use Rattle.std.proofs.Common.{inl, inr}
 use Rattle.std.specs.Io.KnownBytes.{Appends, Consumes}
+use Rattle.acdm_sessions.specs.declared.stream.TheConstants.{LONGEST_LINE, MOST_KEPT}
 use Rattle.acdm_sessions.specs.declared.answer.Answer.{Answer}
 use Rattle.acdm_lines.specs.declared.lines.Lines.{Lines}
 use Rattle.acdm_lines.specs.declared.run_error.RunError.{RunError}
@@ -98,7 +99,7 @@ rest-alone [] l some = absurd (omega arith)
 rest-alone (b ∷ bs) l some = lines_of-rest b bs l
 
 module _ {A R W : Type 0} (may : A → A → List ℕ → Answer → Type 0)
-    (remaining : R → Option (List ℕ)) (r0 r1 r2 : Watched R) (l1 l2 : Lines 70001)
+    (remaining : R → Option (List ℕ)) (r0 r1 r2 : Watched R) (l1 l2 : Lines MOST_KEPT)
     (contents : W → Option (List ℕ)) (w1 w2 : Watched W)
     (before d : A) (old : Option (List ℕ))
     (so_far : Sofar may (remaining r0.inner) (remaining r1.inner) l1.window l1.reads_left
@@ -143,7 +144,7 @@ module _ {A R W : Type 0} (may : A → A → List ℕ → Answer → Type 0)
         so_far.split g
 
     -- one more line is answered
-    pub sofar-line : (after : A) → TakesLine 70001 remaining r1 r2 l1 l2
+    pub sofar-line : (after : A) → TakesLine MOST_KEPT remaining r1 r2 l1 l2
         → Answered may contents w1 w2 d after l2.line
         → Sofar may (remaining r0.inner) (remaining r2.inner) l2.window l2.reads_left
         before after old (contents w2.inner)
@@ -164,7 +165,7 @@ module _ {A R W : Type 0} (may : A → A → List ℕ → Answer → Type 0)
         }
 
     -- its reply could not be written
-    pub part-line : (after : A) (error : RunError) → TakesLine 70001 remaining r1 r2 l1 l2
+    pub part-line : (after : A) (error : RunError) → TakesLine MOST_KEPT remaining r1 r2 l1 l2
         → AnsweredInPart may contents w1 w2 d after l2.line error
         → AnswersPart may (remaining r0.inner) (remaining r2.inner) before after old
         (contents w2.inner)
@@ -188,7 +189,7 @@ module _ {A R W : Type 0} (may : A → A → List ℕ → Answer → Type 0)
     }
 
     -- no line more could be read
-    pub sofar-part : (error : RunError) → TakesPart 70001 remaining r1 r2 l1 l2 error
+    pub sofar-part : (error : RunError) → TakesPart MOST_KEPT remaining r1 r2 l1 l2 error
         → r1.faults ≡ r0.faults → r0.faults < 2 ^ 64 - 1
         → AnswersWhole may (remaining r0.inner) (remaining r2.inner) r0.faults r2.faults before d
         old (contents w1.inner)
@@ -213,11 +214,11 @@ module _ {A R W : Type 0} (may : A → A → List ℕ → Answer → Type 0)
             inr (few.0 ∙ well, omega (arith, all))
 
     -- the text has ended with a line feed, or was empty
-    pub sofar-ends : TakesRest 70001 remaining r1 r2 l1 l2 → length l2.line ≡ 0
+    pub sofar-ends : TakesRest MOST_KEPT remaining r1 r2 l1 l2 → length l2.line ≡ 0
         → AnswersAll may (remaining r0.inner) (remaining r2.inner) before d old (contents w1.inner)
     sofar-ends t empty =
         let none : l1.window ++ t.text ≡ [] =
-        kept-empty 70000 (l1.window ++ t.text) (ap length (sym t.bytes_are) ∙ empty) in
+        kept-empty LONGEST_LINE (l1.window ++ t.text) (ap length (sym t.bytes_are) ∙ empty) in
         record {
           text = so_far.whole;
           consumed = subst (Consumes (remaining r0.inner) (remaining r2.inner))
@@ -229,13 +230,13 @@ module _ {A R W : Type 0} (may : A → A → List ℕ → Answer → Type 0)
         }
 
     -- the text has ended with the rest of a line, which is answered
-    pub sofar-rest : (after : A) → TakesRest 70001 remaining r1 r2 l1 l2 → 0 < length l2.line
+    pub sofar-rest : (after : A) → TakesRest MOST_KEPT remaining r1 r2 l1 l2 → 0 < length l2.line
         → Answered may contents w1 w2 d after l2.line
         → AnswersAll may (remaining r0.inner) (remaining r2.inner) before after old
         (contents w2.inner)
     sofar-rest after t some a =
         let rest : List ℕ = l1.window ++ t.text in
-        let there : 0 < length rest = kept-some 70000 rest
+        let there : 0 < length rest = kept-some LONGEST_LINE rest
         (subst (λ l. 0 < length l) t.bytes_are some) in
         let more = spoken-more rest l2.line after t.bytes_are a in
         let lines = lines_to_end so_far.whole rest so_far.is_whole t.is_line there in
@@ -248,13 +249,13 @@ module _ {A R W : Type 0} (may : A → A → List ℕ → Answer → Type 0)
         }
 
     -- its reply could not be written
-    pub part-rest : (after : A) (error : RunError) → TakesRest 70001 remaining r1 r2 l1 l2
+    pub part-rest : (after : A) (error : RunError) → TakesRest MOST_KEPT remaining r1 r2 l1 l2
         → 0 < length l2.line → AnsweredInPart may contents w1 w2 d after l2.line error
         → AnswersPart may (remaining r0.inner) (remaining r2.inner) before after old
         (contents w2.inner)
     part-rest after error t some a =
         let rest : List ℕ = l1.window ++ t.text in
-        let there : 0 < length rest = kept-some 70000 rest
+        let there : 0 < length rest = kept-some LONGEST_LINE rest
         (subst (λ l. 0 < length l) t.bytes_are some) in
         record {
           whole = so_far.whole;

@@ -283,7 +283,6 @@ is_plain (Load l) = true
 unfoldable pub json_of : List ℕ → Result Data Fault
 json_of bytes = if is_utf8 bytes then or_fault NoJson (read bytes) else Err NoJson
 
--- the longest line, in bytes without its line feed
 -- what a line asks for, or the first fault in it: the order of tests is 105, 100, 101, 102, and
 -- then the fields
 unfoldable pub meant : List ℕ → Result Request Fault

@@ -183,11 +183,6 @@ elsewhere_after l m n kind other p apart = program_after l m n kind other p
 abbrev pub Fits : List (ℕ × Promise) → Option Verified → Type 0
 Fits sigs p = (v : Verified) → p ≡ Some v → (v.sigs ≡ sigs) × Accepts 128 v.ops sigs
 
-pub nothing_fits : (sigs : List (ℕ × Promise)) → AreFit (loaded sigs (λ m kind. None))
-nothing_fits sigs m kind v e =
-    let none : None ≡ Some v = sym (given sigs (λ m kind. None) m kind) ∙ e in
-    absurd (cc)
-
 pub stays_fit : (l : Loaded) (m : Milestone) (kind : Kind) (p : Option Verified) → Fits l.sigs p
     → AreFit l → AreFit (with_program l m kind p)
 stays_fit l m kind p fits fit n other v e =

@@ -59,15 +59,6 @@ pub left_so : (b : Board) (role : Role) (moment : ℕ) (c : Command) (from to : 
 left_so b role moment c from to outcome change e h =
     subst (λ x. Comes b role moment c from to outcome (after_change b x)) (sym e) h
 
--- a plan that was committed
-pub committed : (b new : Board) (role : Role) (moment : ℕ) (c : Command) (from to : OracleView)
-    (planned outcome : Outcome) (change : Change) → outcome ≡ planned → new ≡ after_change b change
-    → Comes b role moment c from to planned (after_change b change)
-    → Comes b role moment c from to outcome new
-committed b new role moment c from to planned outcome change e f h =
-    subst (λ o. Comes b role moment c from to o new) (sym e)
-    (subst (λ x. Comes b role moment c from to planned x) (sym f) h)
-
 module _ (b : Board) (role : Role) (moment : ℕ) (from to : OracleView) (outcome : Outcome)
     (same : Unasked from to) where
   pub plans_nothing : (k : FlightCommand) → owns_change role k ≡ false
@@ -128,11 +119,6 @@ module _ (b : Board) (role : Role) (moment : ℕ) (from to : OracleView) (outcom
       either false = refl
 
 -- ---- what a plan asks of its board
-
-pub fits_tick : (b : Board) (moment : ℕ) (t : Bool) (change : Change)
-    → change ≡ cond t (changes.Touch moment) changes.Nothing → Fits b change
-fits_tick b moment true change e = subst (Fits b) (sym e) tt
-fits_tick b moment false change e = subst (Fits b) (sym e) tt
 
 pub fits_load : (b : Board) (l : command_load.Load) (t : Bool) (change : Change)
     → change ≡ cond t (changes.Load l.milestone l.kind l.program) changes.Nothing

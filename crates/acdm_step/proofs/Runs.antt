@@ -92,12 +92,6 @@ asked_calls ps r moment m from to (second between r0 same ends h) =
     (ap may_ask h.1 ∙ run_asks_calls _ _ _ _ _ h.2.0 h.2.1 h.2.2 h.2.4)
     ∙ or-true (may_ask ps.tobt)
 
--- and one question more was declined
-pub asked_once : (ps : Programs) (r : Fields) (moment m : ℕ) (from to : OracleView)
-    → AsksIn ps r moment m from to → to.refusals ≡ from.refusals + 1
-asked_once ps r moment m from to (first h) = h.4
-asked_once ps r moment m from to (second between r0 same ends h) = h.4 ∙ ap (λ n. n + 1) ends.4
-
 module _ (ps : Programs) (r next : Fields) (moment m : ℕ) (from between to : OracleView)
     (r0 : Option ℕ) (same : SameRule from between)
     (ends : EndsAt ps.tobt r moment m from between r0)

@@ -2,7 +2,7 @@
 use Rattle.std.proofs.Common.{◌≡◌, ℕ, ◌<◌, ◌≤◌, Bool, true, false, cond, ◌||◌, nat_lt, List}
 use Rattle.std.proofs.Common.{[], ◌∷◌, ◌++◌, map, length, get_or, set, Some, is_some, refl, Result}
 use Rattle.std.proofs.Common.{Ok, Err, is_ok, OnOk, OnErr, sym, ap, subst, ◌∙◌, arith, append-nil}
-use Rattle.std.proofs.lemmas.List.{get_or_past, get_or_default}
+use Rattle.std.proofs.lemmas.List.{get_or_default}
 use Rattle.std.proofs.lemmas.Bool.Decides.{nat_tests}
 use Rattle.acdm_record.specs.Fields.{Fields, new_record}
 use Rattle.acdm_milestones.specs.declared.role.Role.{Role}
@@ -64,12 +64,6 @@ pub record_there : (b : List Fields) (flight place : ℕ) (r s : Fields) → pla
 record_there b flight place r s at inside is copied = copied
     ∙ sym (ap (λ n. get_or b n (new_record flight)) (sym at)
     ∙ get_default b (new_record flight) place r inside is)
-
-pub record_absent : (b : List Fields) (flight place : ℕ) (s : Fields) → place ≡ place_of b flight
-    → length b ≤ place → s ≡ new_record flight → s ≡ record_on b flight
-record_absent b flight place s at outside is =
-    is ∙ sym (ap (λ n. get_or b n (new_record flight)) (sym at)
-    ∙ get_or_past b place (new_record flight) outside)
 
 -- ---- commands by their kind
 
@@ -290,15 +284,7 @@ module _ (b : Board) (role : Role) (moment : ℕ) (from to : OracleView) (outcom
   comes_unloaded u v sl e is after =
       comes_placed (Unload u) v sl refl refl e is (ap (outcome_with outcomes.Done) e) after
 
--- the same of a board and a command that are equal to these
-pub comes_as : (b other : Board) (role : Role) (moment : ℕ) (c same : Command)
-    (from to : OracleView) (outcome : Outcome) (new : Board) → b ≡ other → same ≡ c
-    → Comes b role moment c from to outcome new → Comes other role moment same from to outcome new
-comes_as b other role moment c same from to outcome new e f h =
-    subst (λ x. Comes x role moment same from to outcome new) e
-    (subst (λ x. Comes b role moment x from to outcome new) (sym f) h)
-
--- and of one that stays
+-- the same of a board that stays, and of a board and a command that are equal to these
 pub comes_left : (b other : Board) (role : Role) (moment : ℕ) (c same : Command)
     (from to : OracleView) (outcome : Outcome) → b ≡ other → same ≡ c
     → Comes b role moment c from to outcome b → Comes other role moment same from to outcome other

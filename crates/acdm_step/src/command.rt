@@ -116,10 +116,10 @@ impl Schedule {
         self.sobt
     }
 
-    /// MTTT in minutes, at most 1440.
+    /// MTTT in minutes, at most `MINUTES_OF_DAY`.
     pub fn mttt(&self) -> u16
         ensures value { result ≡ self.now.mttt }
-        ensures in_range { result ≤ 1440 }
+        ensures in_range { result ≤ MINUTES_OF_DAY }
     {
         self.mttt
     }
@@ -131,10 +131,10 @@ impl Schedule {
         self.exit
     }
 
-    /// EXOT in minutes, at most 1440.
+    /// EXOT in minutes, at most `MINUTES_OF_DAY`.
     pub fn exot(&self) -> u16
         ensures value { result ≡ self.now.exot }
-        ensures in_range { result ≤ 1440 }
+        ensures in_range { result ≤ MINUTES_OF_DAY }
     {
         self.exot
     }

@@ -1,9 +1,8 @@
 -- An entry that comes next after a legal journal.
-use Rattle.std.proofs.Common.{◌≡◌, ℕ, ◌+◌, ◌≤◌, true, false, List, [], ◌∷◌, ◌++◌, length, take}
+use Rattle.std.proofs.Common.{◌≡◌, ℕ, ◌+◌, List, [], ◌∷◌, ◌++◌, length, take}
 use Rattle.std.proofs.Common.{drop}
-use Rattle.std.proofs.Common.{reverse, refl, sym, ap, ◌∙◌, subst, arith}
-use Rattle.std.proofs.lemmas.List.{take-take, take-append-drop, reverse-append}
-use Rattle.std.proofs.Math.Seq.{take-append_seam}
+use Rattle.std.proofs.Common.{reverse, sym, ap, ◌∙◌, subst}
+use Rattle.std.proofs.lemmas.List.{take-append-drop, reverse-append}
 use Rattle.bpf_helpers.specs.Promise.{Promise}
 use Rattle.acdm_step.specs.declared.entry.Entry.{Entry}
 use Rattle.acdm_step.specs.declared.entry.Verdict.{Verdict}
@@ -11,7 +10,7 @@ use Rattle.acdm_step.specs.declared.outcome.Outcome.{Outcome}
 use Rattle.acdm_step.specs.Commands.{History, is_accepted}
 use Rattle.acdm_step.specs.Verdicts.{verdict_of, verdict_in}
 use Rattle.acdm_step.specs.History.{Board, IsLegal, after, replay}
-use Rattle.acdm_journal.specs.Audit.{PlansWith, UsesAnswers}
+use Rattle.acdm_journal.specs.Audit.{PlansWith}
 use Rattle.acdm_watch.specs.Watching.{IsNumbered}
 
 after_is : (J : History) (e : Entry) (v : Verdict) → e.number ≡ length J → e.verdict ≡ v
@@ -48,26 +47,6 @@ module _ (sigs : List (ℕ × Promise)) (J : History) (e : Entry) (n : ℕ) (num
         ),
         plans.replays e.session ∙ ap (replay sigs) (after_is J e _ at same),
       )
-
-  pub numbered_of : IsLegal sigs (e ∷ J) → IsNumbered sigs n e
-  numbered_of legal = record {
-    number_is = legal.1 ∙ sym number;
-    range = legal.2;
-    checked = legal.3;
-  }
-
-  pub uses_of : IsLegal sigs (e ∷ J) → UsesAnswers sigs J e.role e.moment e.command e.answers
-  uses_of legal =
-      let same = legal.4.verdict_is in
-      record {
-        used = λ d. legal.4.used (ap is_accepted same ∙ d);
-        unused = λ d. legal.4.unused (ap is_accepted same ∙ d);
-      }
-
-  pub verdict_of_next : (outcome : Outcome) (board : Board) → IsLegal sigs (e ∷ J)
-      → PlansWith sigs J e.role e.moment e.command e.answers outcome board
-      → verdict_in outcome ≡ e.verdict
-  verdict_of_next outcome board legal plans = plans.verdict_is ∙ sym legal.4.verdict_is
 
 append_legal : (sigs : List (ℕ × Promise)) (xs ys : History) → IsLegal sigs (xs ++ ys)
     → IsLegal sigs ys

@@ -21,12 +21,6 @@ are_length [] (n ∷ ns) h = absurd h
 are_length (c ∷ cells) (n ∷ ns) h = ap length (first_entry n ns h.0 h.2)
     ∙ ap suc (are_length cells ns h.3)
 
-pub are_cells : (cells : List ℕ) (ns : List (Note Published)) → AreNotes cells ns
-    → length ns ≤ length cells
-are_cells cells [] h = omega arith
-are_cells [] (n ∷ ns) h = absurd h
-are_cells (c ∷ cells) (n ∷ ns) h = omega (arith, are_cells cells ns h.3)
-
 pub are_cell : (cells : List ℕ) (ns : List (Note Published)) → AreNotes cells ns → (k : ℕ)
     → k < length ns → (d : Note Published) (c : ℕ) → (get_or ns k d).cell ≡ get_or cells k c
 are_cell cells [] h k below d c = absurd (omega arith)
