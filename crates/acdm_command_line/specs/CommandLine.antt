@@ -11,6 +11,7 @@ use Rattle.clap.specs.declared.error.kind.ErrorKind.{ErrorKind}
 use Rattle.clap.specs.declared.error.kind.ErrorKind.TheVariants.{OutOfMemory}
 use Rattle.acdm_command_line.specs.declared.command_line.Line.{Line}
 use Rattle.acdm_command_line.specs.declared.command_line.Line.TheVariants.{Run, Serve, Verify, Audit}
+use Rattle.acdm_command_line.specs.declared.command_line.Line.TheVariants.{Explain}
 
 -- `--journal N`, 100000 where it is not given
 abbrev pub journal_rule : Rule
@@ -41,7 +42,7 @@ serve_options_app = with_rule (with_rule (new_app (codes "serve")) journal_rule)
 abbrev pub serve_app : App
 serve_app = with_rule serve_options_app partners_rule
 
--- `verify FILE`, `audit FILE`
+-- `verify FILE`, `audit FILE`, `explain FILE`
 abbrev pub file_rule : Rule
 file_rule = record (new_rule (codes "file")) { value_names = 1; required = true }
 
@@ -51,6 +52,9 @@ verify_app = with_rule (new_app (codes "verify")) file_rule
 abbrev pub audit_app : App
 audit_app = with_rule (new_app (codes "audit")) file_rule
 
+abbrev pub explain_app : App
+explain_app = with_rule (new_app (codes "explain")) file_rule
+
 abbrev required : App → App
 required a = record a { top = record a.top { subcommand_required = true } }
 
@@ -59,8 +63,11 @@ abbrev pub serving_app : App
 serving_app =
     with_subcommand (with_subcommand (required (new_app (codes "acdm"))) run_app.top) serve_app.top
 
+abbrev pub judging_app : App
+judging_app = with_subcommand (with_subcommand serving_app verify_app.top) audit_app.top
+
 abbrev pub program : App
-program = with_subcommand (with_subcommand serving_app verify_app.top) audit_app.top
+program = with_subcommand judging_app explain_app.top
 
 -- the first value of an argument of the subcommand of a name
 abbrev pub value_in : List ℕ → List ℕ → Option (Text × List Row) → Option Text
@@ -79,8 +86,8 @@ abbrev pub IsJournal : Text → Type 0
 IsJournal text =
     IsNumeral 10 (without_leading_plus text) × (1 ≤ number_of text) × (number_of text ≤ 1000000)
 
--- the words ask for `run` or `serve` with this text for its journal, or for `verify` or `audit` of
--- this file
+-- the words ask for `run` or `serve` with this text for its journal, or for `verify`, `audit` or
+-- `explain` of this file
 abbrev pub RunsWith : List Text → Text → Type 0
 RunsWith words text = value_of (codes "run") (codes "journal") words ≡ Some text
 
@@ -93,8 +100,11 @@ Verifies words file = value_of (codes "verify") (codes "file") words ≡ Some fi
 abbrev pub AuditsFile : List Text → Text → Type 0
 AuditsFile words file = value_of (codes "audit") (codes "file") words ≡ Some file
 
--- the words ask for `run` or `serve` with the journal and the file that they name, or for `verify`
--- or `audit` of their file
+abbrev pub Explains : List Text → Text → Type 0
+Explains words file = value_of (codes "explain") (codes "file") words ≡ Some file
+
+-- the words ask for `run` or `serve` with the journal and the file that they name, or for `verify`,
+-- `audit` or `explain` of their file
 abbrev pub AsksFor : List Text → Line → Type 0
 AsksFor words (Run journal save) =
     (text : Text) × RunsWith words text × IsJournal text × (journal ≡ number_of text)
@@ -104,14 +114,16 @@ AsksFor words (Serve journal save partners) =
     × (option_map (λ s. s.now) save ≡ value_of (codes "serve") (codes "save") words)
 AsksFor words (Verify file) = Verifies words file.now
 AsksFor words (Audit file) = AuditsFile words file.now
+AsksFor words (Explain file) = Explains words file.now
 
--- `clap` takes the words, and they ask for one of the four
+-- `clap` takes the words, and they ask for one of the five
 pub record IsRight (words : List Text) : Type 0 where
   pub taken : takes program words ≡ true
   pub asks : ((text : Text) × RunsWith words text × IsJournal text)
       ⊎ ((text : Text) × ServesWith words text × IsJournal text)
       ⊎ ((file : Text) × Verifies words file)
       ⊎ ((file : Text) × AuditsFile words file)
+      ⊎ ((file : Text) × Explains words file)
 
 -- right words are refused only where there is no memory
 abbrev pub Refuses : List Text → ErrorKind → Type 0

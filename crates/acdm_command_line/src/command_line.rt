@@ -7,6 +7,7 @@ ghost use Rattle.clap.specs.Words.{app_of, rule_of, subcommand_rows_of};
 ghost use Rattle.clap.specs.declared.builder.Command.TheViews.{out-Command as fields_of};
 ghost use Rattle.acdm_command_line.specs.CommandLine.{program as the_program, audit_app, run_app, serve_app};
 ghost use Rattle.acdm_command_line.specs.CommandLine.{serve_options_app, serving_app, verify_app};
+ghost use Rattle.acdm_command_line.specs.CommandLine.{explain_app, judging_app};
 ghost use Rattle.acdm_command_line.specs.CommandLine.{journal_rule, save_rule, value_in};
 ghost use Rattle.acdm_command_line.specs.CommandLine.{number_of, IsJournal, AsksFor, Refuses};
 
@@ -39,6 +40,10 @@ pub enum Line<'a> {
     },
     /// `verify`, of the program in this file.
     Verify {
+        file: &'a str,
+    },
+    /// `explain`, of the program in this file.
+    Explain {
         file: &'a str,
     },
 }
@@ -112,6 +117,19 @@ fn verify_command<'a>(alloc: Global) -> Result<Command<'a>, AllocError>
         .arg(file)
 }
 
+fn explain_command<'a>(alloc: Global) -> Result<Command<'a>, AllocError>
+    ensures shape { IfOk result (λ c. app_of c ≡ explain_app) }
+    ensures local { IfOk result (λ c. (fields_of c).has_globals ≡ false) }
+{
+    let file = Arg::new(alloc, "file")
+        .value_name("FILE")
+        .required(true)
+        .help("The raw bytes of a BPF program");
+    Command::new(alloc, "explain")
+        .about("Lists a BPF program with what is known before each slot, and why it is refused")
+        .arg(file)
+}
+
 fn audit_command<'a>(alloc: Global) -> Result<Command<'a>, AllocError>
     ensures shape { IfOk result (λ c. app_of c ≡ audit_app) }
     ensures local { IfOk result (λ c. (fields_of c).has_globals ≡ false) }
@@ -139,14 +157,23 @@ fn serving_program<'a>(alloc: Global) -> Result<Command<'a>, AllocError>
         .subcommand(serve)
 }
 
-fn program<'a>(alloc: Global) -> Result<Command<'a>, AllocError>
-    ensures { IfOk result (λ c. app_of c ≡ the_program) }
+// The program without the subcommand that explains.
+fn judging_program<'a>(alloc: Global) -> Result<Command<'a>, AllocError>
+    ensures shape { IfOk result (λ c. app_of c ≡ judging_app) }
+    ensures local { IfOk result (λ c. (fields_of c).has_globals ≡ false) }
 {
     let verify = verify_command(alloc)?;
     let audit = audit_command(alloc)?;
     serving_program(alloc)?
         .subcommand(verify)?
         .subcommand(audit)
+}
+
+fn program<'a>(alloc: Global) -> Result<Command<'a>, AllocError>
+    ensures { IfOk result (λ c. app_of c ≡ the_program) }
+{
+    let explain = explain_command(alloc)?;
+    judging_program(alloc)?.subcommand(explain)
 }
 
 // The number of entries that a text names, from 1 to 1,000,000.
@@ -199,6 +226,9 @@ pub fn parse<'a>(alloc: Global, words: &'a [&'a str]) -> Result<Line<'a>, Error>
     }
     if let Some(file) = value(&matches, "audit", "file") {
         return Ok(Line::Audit { file });
+    }
+    if let Some(file) = value(&matches, "explain", "file") {
+        return Ok(Line::Explain { file });
     }
     if let Some(text) = value(&matches, "run", "journal") {
         if let Some(journal) = entries_in(text) {
