@@ -3,7 +3,7 @@ use Rattle.std.proofs.Common.{◌≡◌, ℕ, zero, suc, ◌+◌, ◌-◌, ◌<�
 use Rattle.std.proofs.Common.{List, [], ◌∷◌, ◌++◌, length, set, replicate, Option, Some, None, refl}
 use Rattle.std.proofs.Common.{sym, ap, subst, ◌∙◌, arith, below_more, length-set, get_or-set_same}
 use Rattle.std.proofs.Common.{get_or-set_other, ◌≢◌, add-one}
-use Rattle.std.specs.Prelude.{slice_get, slice_index_or}
+use Rattle.std.specs.Prelude.{slice_get, slice_index_or, MatchOption}
 use Rattle.std.proofs.lemmas.Bool.{eqb-true, eqb-false}
 use Rattle.bpf_decode.specs.declared.op.Op.{Op}
 use Rattle.bpf_helpers.specs.Promise.{Promise}
@@ -14,7 +14,10 @@ use Rattle.bpf_regstate.specs.States.{Accepts, IsFirstFault, fault_at, fault_of,
 use Rattle.bpf_regstate.specs.States.{start_shape, state_at, states, unless_fault}
 use Rattle.bpf_regstate.specs.Pass.{with_edge, with_edges, so_far}
 use Rattle.bpf_regstate.proofs.JoinsHold.{length-states, states_at}
+use Rattle.bpf_verifier.specs.Explained.{Explains, slots_told}
 use Rattle.bpf_verifier.specs.Table.{put_edge, sent, sent_from}
+use Rattle.bpf_verifier.specs.Verdict.{code_of}
+use Rattle.bpf_verifier.specs.declared.explanation.Explanation.{Explanation}
 
 -- ---- edges that are put into a table
 
@@ -214,10 +217,18 @@ module _ (ops : List Op) (sigs : List (ℕ × Promise)) where
       omega (arith, ap (λ (l : List (Option Shape)). length l) is, length-states 128 ops sigs n) in
       ap (λ (l : List (Option Shape)). slice_get l slot) is ∙ states_at 128 ops sigs n slot less
 
-  pub as_many : (n : ℕ) (known : List (Option Shape)) → known ≡ states 128 ops sigs n
-      → length known ≡ n
-  as_many n known is =
-      ap (λ (l : List (Option Shape)). length l) is ∙ length-states 128 ops sigs n
+  -- what is told of as many slots as there are states
+  pub explained : (told : Explanation)
+      → told.states.items ≡ states 128 ops sigs (slots_told told.fault (length ops))
+      → MatchOption told.fault (Accepts 128 ops sigs)
+      (λ found. IsFirstFault 128 ops sigs found.1 (code_of found.0)) → Explains ops sigs told
+  explained told is verdict =
+      let n = slots_told told.fault (length ops) in
+      record {
+        states = each_known n told.states.items is;
+        slots = ap (λ (l : List (Option Shape)). length l) is ∙ length-states 128 ops sigs n;
+        verdict = verdict;
+      }
 
   -- ---- the end
 

@@ -55,15 +55,12 @@ fn walk(
 
 /// What `verify` knows before each slot of the program, and its verdict. A state is kept for each
 /// slot, so this takes more memory than `verify`. `Err` only where there is no memory.
-pub fn explain(
-    alloc: Global,
-    program: &Program,
-    sigs: &Sigs,
-) -> Result<Explanation, AllocError>
+pub fn explain(alloc: Global, program: &Program, sigs: &Sigs) -> Result<Explanation, AllocError>
     ensures { IfOk result (Explains program.now sigs.now) }
 {
-    let mut waiting = Waiting::new(alloc, program.slot_count())?;
+    let ops = program.ops();
+    let mut waiting = Waiting::new(alloc, ops.len())?;
     let mut states = Vec::new(alloc);
-    let fault = walk(alloc, program.ops(), sigs, &mut waiting, &mut states)?;
+    let fault = walk(alloc, ops, sigs, &mut waiting, &mut states)?;
     Ok(Explanation { states, fault })
 }
