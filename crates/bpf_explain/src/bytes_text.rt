@@ -17,9 +17,7 @@ fn kind_of(bytes: &[u8]) -> Option<Kind> {
         return Some(Kind::Object);
     }
     let digits = bytes.iter().any(|byte| byte.is_ascii_hexdigit());
-    let alone = bytes
-        .iter()
-        .all(|byte| byte.is_ascii_hexdigit() || byte.is_ascii_whitespace());
+    let alone = bytes.iter().all(|byte| byte.is_ascii_hexdigit() || byte.is_ascii_whitespace());
     if digits && alone {
         Some(Kind::Hexadecimal)
     } else {

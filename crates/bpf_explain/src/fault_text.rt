@@ -50,10 +50,7 @@ fn write_flow<W: Write>(
             "    next: known no slot, wanted an exit as the last instruction"
         ),
         Fault::Helper => write_helpers(sigs, op, writer),
-        Fault::WritesEnd => writeln!(
-            writer,
-            "    destination: known r10, wanted r0 to r9"
-        ),
+        Fault::WritesEnd => writeln!(writer, "    destination: known r10, wanted r0 to r9"),
         _ => Ok(()),
     }
 }
@@ -148,7 +145,10 @@ fn write_argument<W: Write>(
         let register = Register::new(number);
         let known = state.register(register);
         if is_at_fault(fault, known, *wanted) {
-            write!(writer, "    argument {number} of helper {helper}, {register}: ")?;
+            write!(
+                writer,
+                "    argument {number} of helper {helper}, {register}: "
+            )?;
             return write_wish(known, *wanted, writer);
         }
     }
@@ -266,17 +266,15 @@ fn access_of(op: &Op) -> Option<Access>
 
 /// Writes what is known of an address, and where it is wanted: in the stack, and for a load in the
 /// record too.
-fn write_address<W: Write>(
-    state: &State,
-    fault: Fault,
-    op: &Op,
-    writer: &mut W,
-) -> io::Result<()> {
-    let Some(Access {
-        base,
-        offset,
-        count,
-    }) = access_of(op) else {
+fn write_address<W: Write>(state: &State, fault: Fault, op: &Op, writer: &mut W) -> io::Result<()> {
+    let Some(
+        Access {
+            base,
+            offset,
+            count,
+        },
+    ) = access_of(op)
+    else {
         return Ok(());
     };
     let Reg::Known(range) = state.register(base) else {
@@ -304,11 +302,14 @@ fn write_address<W: Write>(
 
 /// Writes which bytes of the stack a load may touch, and which of them are stored.
 fn write_bytes<W: Write>(state: &State, op: &Op, writer: &mut W) -> io::Result<()> {
-    let Some(Access {
-        base,
-        offset,
-        count,
-    }) = access_of(op) else {
+    let Some(
+        Access {
+            base,
+            offset,
+            count,
+        },
+    ) = access_of(op)
+    else {
         return Ok(());
     };
     let Reg::Known(range) = state.register(base) else {

@@ -21,7 +21,10 @@ pub enum Told {
         explanation: Explanation,
     },
     /// They encode none: their first fault and its slot, counted from 0.
-    Unreadable { fault: Fault, slot: usize },
+    Unreadable {
+        fault: Fault,
+        slot: usize,
+    },
 }
 
 /// What there is to tell of these bytes under these signatures: the program that they encode with
