@@ -1,9 +1,11 @@
 //! The command `explain`, over the reader and the writers that it is handed.
+ghost use Rattle.std.specs.Prelude.{◌≡◌};
+ghost use Rattle.acdm.specs.Explained.{status_of};
 
 use crate::failure::Failure;
 use crate::helpers::known_sigs;
 use crate::verifying::MOST_READ;
-use bpf_explain::read;
+use bpf_explain::{Told, read};
 use std::alloc::Global;
 use std::io::{self, BufWriter, ErrorKind, Read, Write};
 
@@ -11,8 +13,8 @@ use std::io::{self, BufWriter, ErrorKind, Read, Write};
 /// its first fault where it may not run with the known helpers; or tells what is wrong with the
 /// bytes.
 ///
-/// The status is 0 for a program that is accepted and 1 for one that is refused, else 2, with a line
-/// on the errors' writer, and one more where the file can't be read.
+/// The status is 0 for a program that is accepted and 1 for one that is refused, else 2, with a
+/// line on the errors' writer, and one more where the file can't be read.
 pub fn explain_on<R: Read + Drop, W: Write + Drop, E: Write + Drop>(
     alloc: Global,
     file: &str,
@@ -29,8 +31,7 @@ pub fn explain_on<R: Read + Drop, W: Write + Drop, E: Write + Drop>(
         Err(error) => return unread(file, error, errors),
     }
     match tell(alloc, bytes.as_slice(), writer) {
-        Ok(true) => 0,
-        Ok(false) => 1,
+        Ok(status) => status,
         Err(failure) => failure.complain(errors),
     }
 }
@@ -43,8 +44,14 @@ pub(crate) fn unread<E: Write + Drop>(file: &str, error: io::Error, mut errors: 
     status
 }
 
-/// Tells of these bytes, and whether they are a program that is accepted.
-fn tell<W: Write + Drop>(alloc: Global, bytes: &[u8], writer: W) -> Result<bool, Failure> {
+/// The status of the command.
+fn status_of(told: &Told) -> u8
+    ensures { result ≡ status_of told.now }
+{
+    if told.is_accepted() { 0 } else { 1 }
+}
+
+fn tell<W: Write + Drop>(alloc: Global, bytes: &[u8], writer: W) -> Result<u8, Failure> {
     let Ok(mut writer) = BufWriter::new(alloc, writer) else {
         return Err(Failure::Memory);
     };
@@ -54,5 +61,5 @@ fn tell<W: Write + Drop>(alloc: Global, bytes: &[u8], writer: W) -> Result<bool,
     if written.is_err() || writer.flush().is_err() {
         return Err(Failure::Write);
     }
-    Ok(told.is_accepted())
+    Ok(status_of(&told))
 }

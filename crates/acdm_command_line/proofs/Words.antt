@@ -5,8 +5,9 @@ use Rattle.std.specs.Str.{bytes_eq}
 use Rattle.clap.proofs.OnLiterals.{clap_on_literals}
 use Rattle.clap.specs.Words.{Row, Text, first_of, is_simple, subcommand_of}
 use Rattle.acdm_command_line.specs.declared.command_line.Line.{Line}
-use Rattle.acdm_command_line.specs.CommandLine.{Answers, AsksNothing, AuditsFile, Explains, IsJournal}
-use Rattle.acdm_command_line.specs.CommandLine.{IsRight, Runs, Serves, Verifies, program, value_in}
+use Rattle.acdm_command_line.specs.CommandLine.{Answers, AsksNothing, AuditsFile, Explains}
+use Rattle.acdm_command_line.specs.CommandLine.{IsJournal, IsRight, Runs, Serves, Verifies}
+use Rattle.acdm_command_line.specs.CommandLine.{program, value_in}
 
 module _ {X : Type 0} (name : X → Text) (rows : X → List Row) where
   abbrev both : X → Text × List Row

@@ -3,12 +3,12 @@
 use bpf_decode::Fault;
 use std::io::{self, Write};
 
-/// A file of another kind than the bytes of a program. No such file encodes one.
+/// A file of another kind than the bytes of a program. None is accepted.
 #[derive(Clone, Copy, PartialEq, Eq, Debug)]
 enum Kind {
-    /// As a compiler writes it (System V ABI, ELF header): its first four bytes say so.
+    /// As a compiler writes it. Its first bytes (System V ABI, ELF header) are no instruction.
     Object,
-    /// Digits and spaces alone.
+    /// Digits and white space alone, none of which is the opcode of an exit.
     Hexadecimal,
 }
 
@@ -37,7 +37,7 @@ pub(crate) fn write_unreadable<W: Write>(
     match kind_of(bytes) {
         Some(Kind::Object) => writeln!(
             writer,
-            "    file: known an object file (ELF), wanted one section of it (llvm-objcopy -O binary)"
+            "    file: known an object file (ELF), wanted one section (llvm-objcopy -O binary)"
         )?,
         Some(Kind::Hexadecimal) => writeln!(
             writer,

@@ -136,8 +136,8 @@ impl fmt::Display for Minute {
     }
 }
 
-/// The words of a range. Where all of them are minutes of the years 2000 to 2099, they are also told
-/// as times.
+/// The words of a range. Where all of them are minutes of the years 2000 to 2099, they are also
+/// told as times.
 #[derive(Clone, Copy, Debug)]
 pub(crate) struct Words(pub Range);
 

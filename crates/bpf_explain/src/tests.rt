@@ -403,27 +403,45 @@ fn bytes_that_encode_no_program_are_told(rt: HostRuntime) -> Result<(), Fail> {
     for (bytes, text) in [
         (
             [].as_slice(),
-            "fault 301 at slot 0: no whole slots of 8 bytes\n    bytes: known 0, wanted 8 for each slot\nrefused 301 0\n",
+            r#"fault 301 at slot 0: no whole slots of 8 bytes
+    bytes: known 0, wanted 8 for each slot
+refused 301 0
+"#,
         ),
         (
             over.as_slice(),
-            "fault 302 at slot 0: more than 4096 slots\n    bytes: known over 32768, wanted 32768 at most\nrefused 302 0\n",
+            r#"fault 302 at slot 0: more than 4096 slots
+    bytes: known over 32768, wanted 32768 at most
+refused 302 0
+"#,
         ),
         (
             [0xff, 1, 2, 3, 4, 5, 6, 7].as_slice(),
-            "fault 303 at slot 0: unknown opcode\n    bytes of the slot: known ff 01 02 03 04 05 06 07, wanted an opcode that programs may have\nrefused 303 0\n",
+            r#"fault 303 at slot 0: unknown opcode
+    bytes of the slot: known ff 01 02 03 04 05 06 07, wanted an opcode that programs may have
+refused 303 0
+"#,
         ),
         (
             [0x95, 0, 1, 0, 0, 0, 0, 0].as_slice(),
-            "fault 304 at slot 0: field value that the opcode does not allow\n    bytes of the slot: known 95 00 01 00 00 00 00 00, wanted values that its opcode allows\nrefused 304 0\n",
+            r#"fault 304 at slot 0: field value that the opcode does not allow
+    bytes of the slot: known 95 00 01 00 00 00 00 00, wanted values that its opcode allows
+refused 304 0
+"#,
         ),
         (
             [0xb7, 11, 0, 0, 0, 0, 0, 0].as_slice(),
-            "fault 305 at slot 0: register over 10\n    bytes of the slot: known b7 0b 00 00 00 00 00 00, wanted registers up to 10\nrefused 305 0\n",
+            r#"fault 305 at slot 0: register over 10
+    bytes of the slot: known b7 0b 00 00 00 00 00 00, wanted registers up to 10
+refused 305 0
+"#,
         ),
         (
             [0x18, 0, 0, 0, 1, 0, 0, 0].as_slice(),
-            "fault 315 at slot 0: wide load without its second slot\n    bytes of the slot: known 18 00 00 00 01 00 00 00, wanted a second slot behind it\nrefused 315 0\n",
+            r#"fault 315 at slot 0: wide load without its second slot
+    bytes of the slot: known 18 00 00 00 01 00 00 00, wanted a second slot behind it
+refused 315 0
+"#,
         ),
     ] {
         tells_of(&rt, alloc, bytes, false, text)?;
@@ -439,13 +457,19 @@ fn files_of_other_kinds_are_told(rt: HostRuntime) -> Result<(), Fail> {
         alloc,
         &[0x7f, 0x45, 0x4c, 0x46, 2, 1, 1, 0],
         false,
-        "fault 304 at slot 0: field value that the opcode does not allow\n    file: known an object file (ELF), wanted one section of it (llvm-objcopy -O binary)\nrefused 304 0\n",
+        r#"fault 304 at slot 0: field value that the opcode does not allow
+    file: known an object file (ELF), wanted one section (llvm-objcopy -O binary)
+refused 304 0
+"#,
     )?;
     tells_of(
         &rt,
         alloc,
         "9500000000000000\n".as_bytes(),
         false,
-        "fault 301 at slot 0: no whole slots of 8 bytes\n    file: known hexadecimal text, wanted the bytes that it tells (xxd -r -p)\nrefused 301 0\n",
+        r#"fault 301 at slot 0: no whole slots of 8 bytes
+    file: known hexadecimal text, wanted the bytes that it tells (xxd -r -p)
+refused 301 0
+"#,
     )
 }
