@@ -149,13 +149,14 @@ fn write_argument<W: Write>(
                 writer,
                 "    argument {number} of helper {helper}, {register}: "
             )?;
-            return write_wish(known, *wanted, writer);
+            return write_argument_ranges(known, *wanted, writer);
         }
     }
     Ok(())
 }
 
-fn write_wish<W: Write>(known: Reg, wanted: Range, writer: &mut W) -> io::Result<()> {
+/// Writes what is known of an argument, and what is wanted.
+fn write_argument_ranges<W: Write>(known: Reg, wanted: Range, writer: &mut W) -> io::Result<()> {
     let wanted = Words(wanted);
     match known {
         Reg::Uninit => writeln!(writer, "known nothing, wanted {wanted}"),
