@@ -1,3 +1,4 @@
+pub mod Explained
 pub mod Helpers
 pub mod Failures
 pub mod Served

@@ -1,5 +1,6 @@
 //! The commands, over the files, the reader and the writers that they are handed.
 use crate::auditing::audit_on;
+use crate::explaining::{explain_on, unread};
 use crate::failure::Failure;
 use crate::saving::file_of;
 use crate::serve_command::serve_words;
@@ -61,6 +62,10 @@ pub fn complete<
         Line::Verify { file } => match fs::open(rt, file) {
             Ok(file) => verify_on(alloc, file, output, errors),
             Err(_) => Failure::Read.complain(errors),
+        },
+        Line::Explain { file } => match fs::open(rt, file) {
+            Ok(opened) => explain_on(alloc, file, opened, output, errors),
+            Err(error) => unread(file, error, errors),
         },
     }
 }

@@ -6,6 +6,9 @@ mod addresses;
 mod audit_tests;
 mod auditing;
 mod commands;
+#[cfg(test)]
+mod explain_tests;
+mod explaining;
 mod failure;
 mod helpers;
 mod minutes;

@@ -27,7 +27,7 @@ const FLIGHT_PLAN: &str =
 
 /// Fails at each read and write.
 #[derive(Drop)]
-struct Broken;
+pub(crate) struct Broken;
 
 impl Read for Broken {
     fn read(&mut self, _buf: &mut [u8]) -> io::Result<usize> {
@@ -77,7 +77,7 @@ const NO_FILE: Option<Broken> = None;
 const TICK: &str = "1 29000580 APT {\"cmd\":\"tick\"}\n";
 
 // What the program writes and answers for these words and this input.
-fn completes<
+pub(crate) fn completes<
     Rt: Files
         + Net<Listener = TcpListener, Stream = TcpStream>
         + Clock
@@ -367,7 +367,7 @@ fn verify_tells_what_failed(rt: HostRuntime) -> Result<(), Fail> {
 
 /// Has no memory at each read.
 #[derive(Drop)]
-struct Short;
+pub(crate) struct Short;
 
 impl Read for Short {
     fn read(&mut self, _buf: &mut [u8]) -> io::Result<usize> {

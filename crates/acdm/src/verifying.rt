@@ -13,7 +13,7 @@ use std::alloc::Global;
 use std::io::{self, BufWriter, ErrorKind, Read, Write};
 
 // More bytes than any program has, so that a longer file is refused by what was read of it.
-const MOST_READ: u64 = 65_537;
+pub(crate) const MOST_READ: u64 = 65_537;
 
 /// What is told of the bytes of a program.
 #[derive(Drop)]

@@ -1,9 +1,13 @@
 -- The subcommand that a parse entered, by its name and its rows.
 use Rattle.std.proofs.Common.{◌≡◌, Bool, true, false, not, cond, List, Option, Some, None}
-use Rattle.std.proofs.Common.{option_map, refl, ap, ◌∙◌}
+use Rattle.std.proofs.Common.{option_map, refl, ap, subst, ◌∙◌, ◌⊎◌, inl, inr}
 use Rattle.std.specs.Str.{bytes_eq}
-use Rattle.clap.specs.Words.{Row, Text, first_of}
-use Rattle.acdm_command_line.specs.CommandLine.{value_in}
+use Rattle.clap.proofs.OnLiterals.{clap_on_literals}
+use Rattle.clap.specs.Words.{Row, Text, first_of, is_simple, subcommand_of}
+use Rattle.acdm_command_line.specs.declared.command_line.Line.{Line}
+use Rattle.acdm_command_line.specs.CommandLine.{Answers, AsksNothing, AuditsFile, Explains}
+use Rattle.acdm_command_line.specs.CommandLine.{IsJournal, IsRight, Runs, Serves, Verifies}
+use Rattle.acdm_command_line.specs.CommandLine.{program, value_in}
 
 module _ {X : Type 0} (name : X → Text) (rows : X → List Row) where
   abbrev both : X → Text × List Row
@@ -27,3 +31,29 @@ value_found o name id n r e h = ap (value_in name id) e
     is_true : (b : Bool) → not b ≡ false → b ≡ true
     is_true true h = refl
     is_true false h = absurd (cc)
+
+-- ---- what is asked for
+
+pub program_is_simple : is_simple program ≡ true
+unfolding clap_on_literals
+program_is_simple = refl
+
+none_asked : (found : Option (Text × List Row)) → AsksNothing found
+    → ((text : Text) × Runs found text × IsJournal text)
+    ⊎ ((text : Text) × Serves found text × IsJournal text)
+    ⊎ ((file : Text) × Verifies found file)
+    ⊎ ((file : Text) × AuditsFile found file)
+    ⊎ ((file : Text) × Explains found file) → ⊥
+none_asked found none (inl h) = none.run h.0 h.1 h.2
+none_asked found none (inr (inl h)) = none.serve h.0 h.1 h.2
+none_asked found none (inr (inr (inl h))) = none.verify h.0 h.1
+none_asked found none (inr (inr (inr (inl h)))) = none.audit h.0 h.1
+none_asked found none (inr (inr (inr (inr h)))) = none.explain h.0 h.1
+
+-- words of which nothing is answered are not right
+pub none_right : (words : List Text) (found : Option (Text × List Row)) (line : Option Line)
+    → found ≡ subcommand_of program words → Answers found line → line ≡ None → IsRight words → ⊥
+none_right words found line same answers none right =
+    let nothing : Answers found None = subst (λ (l : Option Line). Answers found l) none answers in
+    none_asked (subcommand_of program words)
+    (subst (λ (o : Option (Text × List Row)). Answers o None) same nothing) right.asks

@@ -11,6 +11,7 @@ use Rattle.clap.specs.declared.error.kind.ErrorKind.{ErrorKind}
 use Rattle.clap.specs.declared.error.kind.ErrorKind.TheVariants.{OutOfMemory}
 use Rattle.acdm_command_line.specs.declared.command_line.Line.{Line}
 use Rattle.acdm_command_line.specs.declared.command_line.Line.TheVariants.{Run, Serve, Verify, Audit}
+use Rattle.acdm_command_line.specs.declared.command_line.Line.TheVariants.{Explain}
 
 -- `--journal N`, 100000 where it is not given
 abbrev pub journal_rule : Rule
@@ -41,7 +42,7 @@ serve_options_app = with_rule (with_rule (new_app (codes "serve")) journal_rule)
 abbrev pub serve_app : App
 serve_app = with_rule serve_options_app partners_rule
 
--- `verify FILE`, `audit FILE`
+-- `verify FILE`, `audit FILE`, `explain FILE`
 abbrev pub file_rule : Rule
 file_rule = record (new_rule (codes "file")) { value_names = 1; required = true }
 
@@ -51,6 +52,9 @@ verify_app = with_rule (new_app (codes "verify")) file_rule
 abbrev pub audit_app : App
 audit_app = with_rule (new_app (codes "audit")) file_rule
 
+abbrev pub explain_app : App
+explain_app = with_rule (new_app (codes "explain")) file_rule
+
 abbrev required : App → App
 required a = record a { top = record a.top { subcommand_required = true } }
 
@@ -59,8 +63,11 @@ abbrev pub serving_app : App
 serving_app =
     with_subcommand (with_subcommand (required (new_app (codes "acdm"))) run_app.top) serve_app.top
 
+abbrev pub judging_app : App
+judging_app = with_subcommand (with_subcommand serving_app verify_app.top) audit_app.top
+
 abbrev pub program : App
-program = with_subcommand (with_subcommand serving_app verify_app.top) audit_app.top
+program = with_subcommand judging_app explain_app.top
 
 -- the first value of an argument of the subcommand of a name
 abbrev pub value_in : List ℕ → List ℕ → Option (Text × List Row) → Option Text
@@ -79,39 +86,68 @@ abbrev pub IsJournal : Text → Type 0
 IsJournal text =
     IsNumeral 10 (without_leading_plus text) × (1 ≤ number_of text) × (number_of text ≤ 1000000)
 
--- the words ask for `run` or `serve` with this text for its journal, or for `verify` or `audit` of
--- this file
-abbrev pub RunsWith : List Text → Text → Type 0
-RunsWith words text = value_of (codes "run") (codes "journal") words ≡ Some text
+-- the subcommand that was entered is `run` or `serve` with this text for its journal, or `verify`,
+-- `audit` or `explain` of this file
+abbrev pub Runs : Option (Text × List Row) → Text → Type 0
+Runs found text = value_in (codes "run") (codes "journal") found ≡ Some text
 
-abbrev pub ServesWith : List Text → Text → Type 0
-ServesWith words text = value_of (codes "serve") (codes "journal") words ≡ Some text
+abbrev pub Serves : Option (Text × List Row) → Text → Type 0
+Serves found text = value_in (codes "serve") (codes "journal") found ≡ Some text
 
-abbrev pub Verifies : List Text → Text → Type 0
-Verifies words file = value_of (codes "verify") (codes "file") words ≡ Some file
+abbrev pub Verifies : Option (Text × List Row) → Text → Type 0
+Verifies found file = value_in (codes "verify") (codes "file") found ≡ Some file
 
-abbrev pub AuditsFile : List Text → Text → Type 0
-AuditsFile words file = value_of (codes "audit") (codes "file") words ≡ Some file
+abbrev pub AuditsFile : Option (Text × List Row) → Text → Type 0
+AuditsFile found file = value_in (codes "audit") (codes "file") found ≡ Some file
 
--- the words ask for `run` or `serve` with the journal and the file that they name, or for `verify`
--- or `audit` of their file
+abbrev pub Explains : Option (Text × List Row) → Text → Type 0
+Explains found file = value_in (codes "explain") (codes "file") found ≡ Some file
+
+-- it is `run` or `serve` with the journal and the file that are named, or `verify`, `audit` or
+-- `explain` of the file that is
+abbrev pub Asks : Option (Text × List Row) → Line → Type 0
+Asks found (Run journal save) =
+    (text : Text) × Runs found text × IsJournal text × (journal ≡ number_of text)
+    × (option_map (λ s. s.now) save ≡ value_in (codes "run") (codes "save") found)
+Asks found (Serve journal save partners) =
+    (text : Text) × Serves found text × IsJournal text × (journal ≡ number_of text)
+    × (option_map (λ s. s.now) save ≡ value_in (codes "serve") (codes "save") found)
+Asks found (Verify file) = Verifies found file.now
+Asks found (Audit file) = AuditsFile found file.now
+Asks found (Explain file) = Explains found file.now
+
+-- the words ask for this
 abbrev pub AsksFor : List Text → Line → Type 0
-AsksFor words (Run journal save) =
-    (text : Text) × RunsWith words text × IsJournal text × (journal ≡ number_of text)
-    × (option_map (λ s. s.now) save ≡ value_of (codes "run") (codes "save") words)
-AsksFor words (Serve journal save partners) =
-    (text : Text) × ServesWith words text × IsJournal text × (journal ≡ number_of text)
-    × (option_map (λ s. s.now) save ≡ value_of (codes "serve") (codes "save") words)
-AsksFor words (Verify file) = Verifies words file.now
-AsksFor words (Audit file) = AuditsFile words file.now
+AsksFor words = Asks (subcommand_of program words)
 
--- `clap` takes the words, and they ask for one of the four
+-- it is none of the five
+pub record AsksNothing (found : Option (Text × List Row)) : Type 0 where
+  pub run : (text : Text) → Runs found text → IsJournal text → ⊥
+  pub serve : (text : Text) → Serves found text → IsJournal text → ⊥
+  pub verify : (file : Text) → Verifies found file → ⊥
+  pub audit : (file : Text) → AuditsFile found file → ⊥
+  pub explain : (file : Text) → Explains found file → ⊥
+
+abbrev pub Answers : Option (Text × List Row) → Option Line → Type 0
+Answers found (Some line) = Asks found line
+Answers found None = AsksNothing found
+
+-- the journal of the subcommand of a name: the number that its text names, or none
+abbrev pub AnswersJournal : List ℕ → Option (Text × List Row) → Option ℕ → Type 0
+AnswersJournal name found (Some journal) =
+    (text : Text) × (value_in name (codes "journal") found ≡ Some text) × IsJournal text
+    × (journal ≡ number_of text)
+AnswersJournal name found None = (text : Text)
+    → value_in name (codes "journal") found ≡ Some text → IsJournal text → ⊥
+
+-- `clap` takes the words, and they ask for one of the five
 pub record IsRight (words : List Text) : Type 0 where
   pub taken : takes program words ≡ true
-  pub asks : ((text : Text) × RunsWith words text × IsJournal text)
-      ⊎ ((text : Text) × ServesWith words text × IsJournal text)
-      ⊎ ((file : Text) × Verifies words file)
-      ⊎ ((file : Text) × AuditsFile words file)
+  pub asks : ((text : Text) × Runs (subcommand_of program words) text × IsJournal text)
+      ⊎ ((text : Text) × Serves (subcommand_of program words) text × IsJournal text)
+      ⊎ ((file : Text) × Verifies (subcommand_of program words) file)
+      ⊎ ((file : Text) × AuditsFile (subcommand_of program words) file)
+      ⊎ ((file : Text) × Explains (subcommand_of program words) file)
 
 -- right words are refused only where there is no memory
 abbrev pub Refuses : List Text → ErrorKind → Type 0

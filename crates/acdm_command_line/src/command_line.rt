@@ -7,8 +7,10 @@ ghost use Rattle.clap.specs.Words.{app_of, rule_of, subcommand_rows_of};
 ghost use Rattle.clap.specs.declared.builder.Command.TheViews.{out-Command as fields_of};
 ghost use Rattle.acdm_command_line.specs.CommandLine.{program as the_program, audit_app, run_app, serve_app};
 ghost use Rattle.acdm_command_line.specs.CommandLine.{serve_options_app, serving_app, verify_app};
+ghost use Rattle.acdm_command_line.specs.CommandLine.{explain_app, judging_app};
 ghost use Rattle.acdm_command_line.specs.CommandLine.{journal_rule, save_rule, value_in};
 ghost use Rattle.acdm_command_line.specs.CommandLine.{number_of, IsJournal, AsksFor, Refuses};
+ghost use Rattle.acdm_command_line.specs.CommandLine.{Answers, AnswersJournal};
 
 use clap::error::ErrorKind;
 use clap::{Arg, ArgAction, ArgMatches, Command, Error};
@@ -39,6 +41,10 @@ pub enum Line<'a> {
     },
     /// `verify`, of the program in this file.
     Verify {
+        file: &'a str,
+    },
+    /// `explain`, of the program in this file.
+    Explain {
         file: &'a str,
     },
 }
@@ -112,6 +118,19 @@ fn verify_command<'a>(alloc: Global) -> Result<Command<'a>, AllocError>
         .arg(file)
 }
 
+fn explain_command<'a>(alloc: Global) -> Result<Command<'a>, AllocError>
+    ensures shape { IfOk result (λ c. app_of c ≡ explain_app) }
+    ensures local { IfOk result (λ c. (fields_of c).has_globals ≡ false) }
+{
+    let file = Arg::new(alloc, "file")
+        .value_name("FILE")
+        .required(true)
+        .help("The raw bytes of a BPF program");
+    Command::new(alloc, "explain")
+        .about("Lists a BPF program with what is known before each slot, and why it is refused")
+        .arg(file)
+}
+
 fn audit_command<'a>(alloc: Global) -> Result<Command<'a>, AllocError>
     ensures shape { IfOk result (λ c. app_of c ≡ audit_app) }
     ensures local { IfOk result (λ c. (fields_of c).has_globals ≡ false) }
@@ -139,14 +158,23 @@ fn serving_program<'a>(alloc: Global) -> Result<Command<'a>, AllocError>
         .subcommand(serve)
 }
 
-fn program<'a>(alloc: Global) -> Result<Command<'a>, AllocError>
-    ensures { IfOk result (λ c. app_of c ≡ the_program) }
+// The program without the subcommand that explains.
+fn judging_program<'a>(alloc: Global) -> Result<Command<'a>, AllocError>
+    ensures shape { IfOk result (λ c. app_of c ≡ judging_app) }
+    ensures local { IfOk result (λ c. (fields_of c).has_globals ≡ false) }
 {
     let verify = verify_command(alloc)?;
     let audit = audit_command(alloc)?;
     serving_program(alloc)?
         .subcommand(verify)?
         .subcommand(audit)
+}
+
+fn program<'a>(alloc: Global) -> Result<Command<'a>, AllocError>
+    ensures { IfOk result (λ c. app_of c ≡ the_program) }
+{
+    let explain = explain_command(alloc)?;
+    judging_program(alloc)?.subcommand(explain)
 }
 
 // The number of entries that a text names, from 1 to 1,000,000.
@@ -182,6 +210,43 @@ fn partners_in<'a>(alloc: Global, matches: &ArgMatches<'a>) -> Result<Vec<&'a st
     Ok(partners)
 }
 
+// The number of entries that the subcommand of this name is to have room for, if it is that one.
+fn journal_for(matches: &ArgMatches, name: &str) -> Option<usize>
+    ensures { AnswersJournal name.now (subcommand_rows_of matches.now) result }
+{
+    let text = value(matches, name, "journal")?;
+    entries_in(text)
+}
+
+// What is asked for by the subcommand that was entered.
+fn line_of<'a>(alloc: Global, matches: &ArgMatches<'a>) -> Result<Option<Line<'a>>, AllocError>
+    ensures { IfOk result (Answers (subcommand_rows_of matches.now)) }
+{
+    if let Some(file) = value(matches, "verify", "file") {
+        return Ok(Some(Line::Verify { file }));
+    }
+    if let Some(file) = value(matches, "audit", "file") {
+        return Ok(Some(Line::Audit { file }));
+    }
+    if let Some(file) = value(matches, "explain", "file") {
+        return Ok(Some(Line::Explain { file }));
+    }
+    if let Some(journal) = journal_for(matches, "run") {
+        let save = value(matches, "run", "save");
+        return Ok(Some(Line::Run { journal, save }));
+    }
+    let Some(journal) = journal_for(matches, "serve") else {
+        return Ok(None);
+    };
+    let save = value(matches, "serve", "save");
+    let partners = partners_in(alloc, matches)?;
+    Ok(Some(Line::Serve {
+        journal,
+        save,
+        partners,
+    }))
+}
+
 /// What these words ask for; the first is the program's name.
 ///
 /// The journal is what `--journal` says, else 100,000, and the other words are taken as they stand.
@@ -194,28 +259,8 @@ pub fn parse<'a>(alloc: Global, words: &'a [&'a str]) -> Result<Line<'a>, Error>
 {
     let mut command = program(alloc)?;
     let matches = command.try_get_matches_from_mut(words)?;
-    if let Some(file) = value(&matches, "verify", "file") {
-        return Ok(Line::Verify { file });
-    }
-    if let Some(file) = value(&matches, "audit", "file") {
-        return Ok(Line::Audit { file });
-    }
-    if let Some(text) = value(&matches, "run", "journal") {
-        if let Some(journal) = entries_in(text) {
-            let save = value(&matches, "run", "save");
-            return Ok(Line::Run { journal, save });
-        }
-    }
-    if let Some(text) = value(&matches, "serve", "journal") {
-        if let Some(journal) = entries_in(text) {
-            let save = value(&matches, "serve", "save");
-            let partners = partners_in(alloc, &matches)?;
-            return Ok(Line::Serve {
-                journal,
-                save,
-                partners,
-            });
-        }
+    if let Some(line) = line_of(alloc, &matches)? {
+        return Ok(line);
     }
     Err(command.error(
         ErrorKind::ValueValidation,

@@ -67,6 +67,20 @@ fn a_file_to_judge_is_taken_as_it_stands(rt: HostRuntime) -> Result<(), Fail> {
 }
 
 #[test]
+fn a_file_to_explain_is_taken_as_it_stands(rt: HostRuntime) -> Result<(), Fail> {
+    let words = ["acdm", "explain", "rules/slot.bin"];
+    let line = parse(rt.alloc(), words.as_slice()).map_err(|_| "a command line is refused")?;
+    assert_eq!(rt;
+        line,
+        Line::Explain {
+            file: "rules/slot.bin"
+        }
+    );
+    assert!(rt; parse(rt.alloc(), ["acdm", "explain"].as_slice()).is_err());
+    Ok(())
+}
+
+#[test]
 fn a_journal_is_saved_where_it_is_said(rt: HostRuntime) -> Result<(), Fail> {
     let alloc = rt.alloc();
     let words = ["acdm", "run", "--save", "day.txt"];

@@ -286,8 +286,9 @@ impl State {
         }
     }
 
-    /// What is known of a word of the stack.
-    fn word(&self, word: usize) -> Reg
+    /// What is known of an aligned word of the stack: word 0 is that at its end, and word `w` has
+    /// the eight bytes from 504 - 8 * `w` on.
+    pub fn word(&self, word: usize) -> Reg
         ensures value { result ≡ known_word self.now word }
         ensures range { IsReg result }
     {

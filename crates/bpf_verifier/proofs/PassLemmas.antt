@@ -1,9 +1,9 @@
 -- A forward pass over a table: what its rows are before each slot.
 use Rattle.std.proofs.Common.{◌≡◌, ℕ, zero, suc, ◌+◌, ◌-◌, ◌<◌, ◌≤◌, Bool, true, false, cond, eqb}
-use Rattle.std.proofs.Common.{List, [], ◌∷◌, length, set, replicate, Option, Some, None, refl, sym}
-use Rattle.std.proofs.Common.{ap, subst, ◌∙◌, arith, below_more, length-set, get_or-set_same}
-use Rattle.std.proofs.Common.{get_or-set_other, ◌≢◌}
-use Rattle.std.specs.Prelude.{slice_get, slice_index_or}
+use Rattle.std.proofs.Common.{List, [], ◌∷◌, ◌++◌, length, set, replicate, Option, Some, None, refl}
+use Rattle.std.proofs.Common.{sym, ap, subst, ◌∙◌, arith, below_more, length-set, get_or-set_same}
+use Rattle.std.proofs.Common.{get_or-set_other, ◌≢◌, add-one}
+use Rattle.std.specs.Prelude.{slice_get, slice_index_or, MatchOption}
 use Rattle.std.proofs.lemmas.Bool.{eqb-true, eqb-false}
 use Rattle.bpf_decode.specs.declared.op.Op.{Op}
 use Rattle.bpf_helpers.specs.Promise.{Promise}
@@ -11,9 +11,13 @@ use Rattle.bpf_regstate.specs.Shape.{Shape}
 use Rattle.bpf_regstate.specs.Faults.{faults, least}
 use Rattle.bpf_regstate.specs.Edges.{edges}
 use Rattle.bpf_regstate.specs.States.{Accepts, IsFirstFault, fault_at, fault_of, into, sends}
-use Rattle.bpf_regstate.specs.States.{start_shape, state_at, unless_fault}
+use Rattle.bpf_regstate.specs.States.{start_shape, state_at, states, unless_fault}
 use Rattle.bpf_regstate.specs.Pass.{with_edge, with_edges, so_far}
+use Rattle.bpf_regstate.proofs.JoinsHold.{length-states, states_at}
+use Rattle.bpf_verifier.specs.Explained.{Explains, slots_told}
 use Rattle.bpf_verifier.specs.Table.{put_edge, sent, sent_from}
+use Rattle.bpf_verifier.specs.Verdict.{code_of}
+use Rattle.bpf_verifier.specs.declared.explanation.Explanation.{Explanation}
 
 -- ---- edges that are put into a table
 
@@ -185,6 +189,48 @@ module _ (ops : List Op) (sigs : List (ℕ × Promise)) where
         clear = below_more (λ k. fault_at 128 ops sigs k ≡ None) slot passed.clear
             (here slot table op passed inside is ∙ none);
       }
+
+  -- ---- the states before a slot, as a list
+
+  pub none_known : states 128 ops sigs 0 ≡ []
+  unfolding states
+  none_known = refl
+
+  -- and what waits at the slot
+  pub one_known : (slot : ℕ) (table known : List (Option Shape)) (state : Option Shape)
+      → Passed slot table → slot < length ops → known ≡ states 128 ops sigs slot
+      → state ≡ slice_index_or table slot None
+      → known ++ state ∷ [] ≡ states 128 ops sigs (slot + 1)
+  unfolding states
+  one_known slot table known state passed inside is here =
+      let row : state ≡ state_at 128 ops sigs slot =
+      here ∙ passed.rows slot (omega arith) inside in
+      let one : slot + 1 ≡ suc slot = add-one slot in
+      rw one (ap (λ (l : List (Option Shape)). l ++ state ∷ []) is
+      ∙ ap (λ (s : Option Shape). states 128 ops sigs slot ++ s ∷ []) row)
+
+  pub each_known : (n : ℕ) (known : List (Option Shape)) → known ≡ states 128 ops sigs n
+      → (slot : ℕ) → slot < length known
+      → slice_get known slot ≡ Some (state_at 128 ops sigs slot)
+  each_known n known is slot inside =
+      let less : slot < n =
+      omega (arith, ap (λ (l : List (Option Shape)). length l) is, length-states 128 ops sigs n) in
+      ap (λ (l : List (Option Shape)). slice_get l slot) is ∙ states_at 128 ops sigs n slot less
+
+  -- what is told of as many slots as there are states
+  pub explained : (told : Explanation)
+      → told.states.items ≡ states 128 ops sigs (slots_told told.fault (length ops))
+      → MatchOption told.fault (Accepts 128 ops sigs)
+      (λ found. IsFirstFault 128 ops sigs found.1 (code_of found.0)) → Explains ops sigs told
+  explained told is verdict =
+      let n = slots_told told.fault (length ops) in
+      record {
+        states = each_known n told.states.items is;
+        slots = ap (λ (l : List (Option Shape)). length l) is ∙ length-states 128 ops sigs n;
+        verdict = verdict;
+      }
+
+  -- ---- the end
 
   pub all_clear : (table : List (Option Shape)) → Passed (length ops) table → Accepts 128 ops sigs
   all_clear table passed = λ slot inside. passed.clear slot inside

@@ -1,3 +1,4 @@
+pub mod Explained
 pub mod Rows
 pub mod Runs
 pub mod Table

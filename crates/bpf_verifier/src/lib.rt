@@ -2,6 +2,7 @@
 #![tactic(auto)]
 
 mod checked;
+mod explanation;
 mod fault;
 mod flow;
 pub mod laws;
@@ -13,6 +14,7 @@ mod verifier;
 mod waiting;
 
 pub use checked::Checked;
+pub use explanation::{Explanation, explain};
 pub use fault::{Fault, VerifyError};
 pub use verifier::verify;
 

@@ -444,3 +444,21 @@ fn what_is_known_goes_along_many_jumps(rt: HostRuntime) -> Result<(), Fail> {
     }
     Ok(())
 }
+
+#[test]
+fn states_are_told_up_to_the_first_fault(rt: HostRuntime) -> Result<(), Fail> {
+    let alloc = rt.alloc();
+    let sigs = Bank::new(alloc)?.sigs()?;
+    // Slot 1 is jumped over, and slot 2 loads a byte of the stack that is not stored.
+    let text = "0500010000000000b70000000100000071a0ffff000000009500000000000000";
+    let program = decode(alloc, &hex::decode(alloc, text)?)?;
+    let told = explain(alloc, &program, &sigs)?;
+    assert_eq!(rt; told.fault, Some((Fault::StackByte, 2)));
+    let known: Vec<bool> = told
+        .states
+        .iter()
+        .map(|state| state.is_some())
+        .collect(alloc)?;
+    assert_eq!(rt; known.as_slice(), [true, false, true].as_slice());
+    Ok(())
+}

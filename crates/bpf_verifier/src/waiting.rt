@@ -1,6 +1,6 @@
 //! The states that wait at the slots ahead of a forward pass.
 
-ghost use Rattle.std.specs.Prelude.{◌≡◌, Some};
+ghost use Rattle.std.specs.Prelude.{◌≡◌, Some, IfOk};
 ghost use Rattle.bpf_regstate.specs.Pass.{with_edge};
 ghost use Rattle.bpf_verifier.specs.Rows.{contents};
 
@@ -38,6 +38,16 @@ fn join_into(known: Option<Box<State>>, state: Box<State>) -> Box<State>
     }
 }
 
+/// A copy of what is known, if anything is. `Err` only where there is no memory.
+fn copy_of(known: &Option<Box<State>>) -> Result<Option<State>, AllocError>
+    ensures { IfOk result (λ copy. copy ≡ contents known.now) }
+{
+    match known {
+        Some(state) => Ok(Some(state.copy()?)),
+        None => Ok(None),
+    }
+}
+
 impl Waiting {
     ghost use Rattle.std.specs.Prelude.{◌≡◌, ◌<◌, ◌-◌, ◌∷◌, Some, None, length, replicate, IfOk};
     ghost use Rattle.std.specs.Prelude.{slice_index_or, slice_set};
@@ -57,6 +67,14 @@ impl Waiting {
             rows.push(None)?;
         }
         Ok(Waiting { rows })
+    }
+
+    /// A copy of what waits at a slot. `Err` only where there is no memory.
+    pub fn copy(&self, slot: usize) -> Result<Option<State>, AllocError>
+        requires { slot < length self.now }
+        ensures { IfOk result (λ state. state ≡ slice_index_or self.now slot None) }
+    {
+        copy_of(&self.rows[slot])
     }
 
     /// Takes what waits at a slot.

@@ -1,0 +1,13 @@
+//! What the verifier knows before each slot of a program, and its first fault, as text.
+#![tactic(auto)]
+
+mod bytes_text;
+mod fault_text;
+mod range_text;
+mod state_text;
+mod told;
+
+pub use told::{Told, read};
+
+#[cfg(test)]
+mod tests;

@@ -1,0 +1,162 @@
+//! Ranges as text: numbers, addresses and times.
+
+use bpf_helpers::Range;
+use bpf_places::{RECORD_BASE, STACK_BASE, STACK_LENGTH};
+use jiff::Timestamp;
+use std::fmt;
+
+/// How far from the stack an address is still told by its distance.
+const NEAR: u64 = 0x8000_0000;
+
+/// The minute of 2000-01-01T00:00Z, and that of 2100-01-01T00:00Z.
+const YEAR_2000: u64 = 15_778_080;
+
+const YEAR_2100: u64 = 68_374_080;
+
+/// A number with its sign.
+#[derive(Clone, Copy, Debug)]
+pub(crate) struct Signed(pub i64);
+
+impl fmt::Display for Signed {
+    fn fmt<W: fmt::Write>(&self, f: &mut fmt::Formatter<W>) -> fmt::Result {
+        let number = self.0;
+        if number < 0 {
+            write!(f, "{number}")
+        } else {
+            write!(f, "+{number}")
+        }
+    }
+}
+
+/// A number, or an address by the region that it is told from.
+#[derive(Clone, Copy, PartialEq, Eq, Debug)]
+pub(crate) enum Bound {
+    Number(u64),
+    /// So many bytes behind the first address of the record.
+    Record(i64),
+    /// So many bytes behind the end of the stack, so before it where it is negative.
+    Stack(i64),
+}
+
+impl fmt::Display for Bound {
+    fn fmt<W: fmt::Write>(&self, f: &mut fmt::Formatter<W>) -> fmt::Result {
+        match *self {
+            Bound::Number(number) => write!(f, "{number}"),
+            Bound::Record(distance) => {
+                let distance = Signed(distance);
+                write!(f, "record{distance}")
+            }
+            Bound::Stack(distance) => {
+                let distance = Signed(distance);
+                write!(f, "stack{distance}")
+            }
+        }
+    }
+}
+
+/// From the first to the last.
+#[derive(Clone, Copy, Debug)]
+pub(crate) struct Span {
+    pub first: Bound,
+    pub last: Bound,
+}
+
+impl fmt::Display for Span {
+    fn fmt<W: fmt::Write>(&self, f: &mut fmt::Formatter<W>) -> fmt::Result {
+        let first = self.first;
+        let last = self.last;
+        if first == last {
+            write!(f, "{first}")
+        } else {
+            write!(f, "{first} to {last}")
+        }
+    }
+}
+
+/// The place of a byte of the stack, of which the first is 0, or of the byte behind the last.
+pub(crate) fn in_stack(place: usize) -> Bound {
+    let place = place as u64;
+    Bound::Stack(place.wrapping_sub(STACK_LENGTH as u64).cast_signed())
+}
+
+fn from_record(address: u64) -> Bound {
+    Bound::Record(address.wrapping_sub(RECORD_BASE).cast_signed())
+}
+
+fn from_stack(address: u64) -> Bound {
+    let end = STACK_BASE + STACK_LENGTH as u64;
+    Bound::Stack(address.wrapping_sub(end).cast_signed())
+}
+
+/// A range of which both ends are addresses is told by them, any other by its numbers.
+fn span_of(range: Range) -> Span {
+    let Range { lo, hi } = range;
+    if lo < RECORD_BASE || hi >= STACK_BASE + NEAR {
+        Span {
+            first: Bound::Number(lo),
+            last: Bound::Number(hi),
+        }
+    } else if lo >= STACK_BASE - NEAR {
+        Span {
+            first: from_stack(lo),
+            last: from_stack(hi),
+        }
+    } else if hi >= STACK_BASE {
+        Span {
+            first: from_record(lo),
+            last: from_stack(hi),
+        }
+    } else {
+        Span {
+            first: from_record(lo),
+            last: from_record(hi),
+        }
+    }
+}
+
+/// A minute since 1970-01-01T00:00Z as an instant.
+#[derive(Clone, Copy, PartialEq, Eq, Debug)]
+struct Minute(u64);
+
+impl Minute {
+    fn instant(self) -> Option<Timestamp> {
+        let Minute(minutes) = self;
+        let minutes = i64::try_from(minutes).ok()?;
+        let seconds = minutes.checked_mul(60)?;
+        Timestamp::from_second(seconds).ok()
+    }
+}
+
+impl fmt::Display for Minute {
+    fn fmt<W: fmt::Write>(&self, f: &mut fmt::Formatter<W>) -> fmt::Result {
+        match self.instant() {
+            Some(instant) => write!(f, "{instant}"),
+            None => write!(f, "no time"),
+        }
+    }
+}
+
+/// The words of a range. Where all of them are minutes of the years 2000 to 2099, they are also
+/// told as times.
+#[derive(Clone, Copy, Debug)]
+pub(crate) struct Words(pub Range);
+
+impl fmt::Display for Words {
+    fn fmt<W: fmt::Write>(&self, f: &mut fmt::Formatter<W>) -> fmt::Result {
+        let range = self.0;
+        if range.lo == 0 && range.hi == u64::MAX {
+            return write!(f, "any number");
+        }
+        let span = span_of(range);
+        if range.lo < YEAR_2000 || YEAR_2100 <= range.hi {
+            return write!(f, "{span}");
+        }
+        let first = Minute(range.lo);
+        let last = Minute(range.hi);
+        if first == last {
+            write!(f, "{span} ({first})")
+        } else {
+            write!(f, "{span} ({first} to {last})")
+        }
+    }
+}

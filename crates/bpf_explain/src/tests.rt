@@ -1,0 +1,475 @@
+//! The words, by hand: first programs that are accepted, then one for each fault.
+
+use crate::read;
+use bpf_helpers::{Range, Signature, Sigs};
+use std::alloc::Global;
+use std::process::Abort;
+use std::test::Fail;
+
+const EXIT: u64 = 0x9500_0000_0000_0000;
+
+/// Helper 2 takes a stand, helper 3 two numbers of minutes.
+fn signatures(alloc: Global) -> Result<Sigs, Fail> {
+    let mut sigs = Sigs::new(alloc);
+    let stand = vec![in alloc; Range { lo: 0, hi: 999 }]?;
+    let taxi = Signature::new(stand, Range { lo: 1, hi: 60 }, Vec::new(alloc));
+    sigs.push(2, taxi.ok_or("no signature")?)?;
+    let minutes = vec![in alloc;
+        Range {
+            lo: 0,
+            hi: 4_294_967_295
+        },
+        Range { lo: 0, hi: 10_000 },
+    ]?;
+    let answer = Range {
+        lo: 0,
+        hi: 4_294_977_295,
+    };
+    let sum = Signature::new(minutes, answer, Vec::new(alloc));
+    sigs.push(3, sum.ok_or("no signature")?)?;
+    Ok(sigs)
+}
+
+/// This is written of the bytes, and whether they are a program that is accepted.
+fn tells_of(
+    rt: &impl Abort,
+    alloc: Global,
+    bytes: &[u8],
+    accepted: bool,
+    text: &str,
+) -> Result<(), Fail> {
+    let sigs = signatures(alloc)?;
+    let told = read(alloc, bytes, &sigs)?;
+    assert_eq!(rt; told.is_accepted(), accepted);
+    let mut written = Vec::new(alloc);
+    told.write(bytes, &sigs, &mut written)?;
+    let written = String::from_utf8(written).map_err(|_| "no text")?;
+    assert_eq!(rt; written.as_str(), text);
+    Ok(())
+}
+
+/// The same of a program of these slots, each with its bytes in their order.
+fn tells(
+    rt: &impl Abort,
+    alloc: Global,
+    slots: &[u64],
+    accepted: bool,
+    text: &str,
+) -> Result<(), Fail> {
+    let mut bytes = Vec::new(alloc);
+    for slot in slots {
+        bytes.extend_from_slice(&slot.to_be_bytes())?;
+    }
+    tells_of(rt, alloc, bytes.as_slice(), accepted, text)
+}
+
+#[test]
+fn each_slot_has_its_state(rt: HostRuntime) -> Result<(), Fail> {
+    tells(
+        &rt,
+        rt.alloc(),
+        &[0xb700_0000_0000_0000, EXIT],
+        true,
+        r#"0: mov64 r0, 0
+    r1 = record+0, r2 = 128, r3 = 0 to 4294967295, r4 = 1 to 16, r10 = stack+0
+1: exit
+    r0 = 0, r1 = record+0, r2 = 128, r3 = 0 to 4294967295, r4 = 1 to 16, r10 = stack+0
+accepted 2
+"#,
+    )
+}
+
+#[test]
+fn a_slot_to_which_nothing_leads_has_none(rt: HostRuntime) -> Result<(), Fail> {
+    tells(
+        &rt,
+        rt.alloc(),
+        &[
+            0x1800_0000_0700_0000,
+            0,
+            0x0500_0100_0000_0000,
+            0xb700_0000_0100_0000,
+            EXIT,
+        ],
+        true,
+        r#"0: lddw r0, 0x0000000000000007
+    r1 = record+0, r2 = 128, r3 = 0 to 4294967295, r4 = 1 to 16, r10 = stack+0
+1: -
+2: ja +1
+    r0 = 7, r1 = record+0, r2 = 128, r3 = 0 to 4294967295, r4 = 1 to 16, r10 = stack+0
+3: mov64 r0, 1
+    no way leads here
+4: exit
+    r0 = 7, r1 = record+0, r2 = 128, r3 = 0 to 4294967295, r4 = 1 to 16, r10 = stack+0
+accepted 5
+"#,
+    )
+}
+
+// A moment from 2025-02-20T09:00Z to 24 hours later goes to the stack and comes back, beside the
+// address of the record.
+#[test]
+fn times_and_words_of_the_stack_are_told(rt: HostRuntime) -> Result<(), Fail> {
+    tells(
+        &rt,
+        rt.alloc(),
+        &[
+            0xb700_0000_0000_0000,
+            0xa503_0400_fc83_ba01,
+            0x2503_0300_9c89_ba01,
+            0x7b3a_f8ff_0000_0000,
+            0x7b1a_e8ff_0000_0000,
+            0x79a0_f8ff_0000_0000,
+            EXIT,
+        ],
+        true,
+        r#"0: mov64 r0, 0
+    r1 = record+0, r2 = 128, r3 = 0 to 4294967295, r4 = 1 to 16, r10 = stack+0
+1: jlt r3, 29000700, +4
+    r0 = 0, r1 = record+0, r2 = 128, r3 = 0 to 4294967295, r4 = 1 to 16, r10 = stack+0
+2: jgt r3, 29002140, +3
+    r0 = 0, r1 = record+0, r2 = 128, r3 = 29000700 to 4294967295, r4 = 1 to 16, r10 = stack+0
+3: stxdw [r10-8], r3
+    r0 = 0, r1 = record+0, r2 = 128, r3 = 29000700 to 29002140 (2025-02-20T09:00:00Z to 2025-02-21T09:00:00Z), r4 = 1 to 16, r10 = stack+0
+4: stxdw [r10-24], r1
+    r0 = 0, r1 = record+0, r2 = 128, r3 = 29000700 to 29002140 (2025-02-20T09:00:00Z to 2025-02-21T09:00:00Z), r4 = 1 to 16, r10 = stack+0
+    stored: stack-8 to stack-1
+    kept: stack-8 = 29000700 to 29002140 (2025-02-20T09:00:00Z to 2025-02-21T09:00:00Z)
+5: ldxdw r0, [r10-8]
+    r0 = 0, r1 = record+0, r2 = 128, r3 = 29000700 to 29002140 (2025-02-20T09:00:00Z to 2025-02-21T09:00:00Z), r4 = 1 to 16, r10 = stack+0
+    stored: stack-24 to stack-17, stack-8 to stack-1
+    kept: stack-8 = 29000700 to 29002140 (2025-02-20T09:00:00Z to 2025-02-21T09:00:00Z), stack-24 = record+0
+6: exit
+    r0 = 0 to 29002140, r1 = record+0, r2 = 128, r3 = 0 to 4294967295, r4 = 1 to 16, r10 = stack+0
+accepted 7
+"#,
+    )
+}
+
+#[test]
+fn a_jump_backward_has_its_target(rt: HostRuntime) -> Result<(), Fail> {
+    tells(
+        &rt,
+        rt.alloc(),
+        &[0x0500_feff_0000_0000, EXIT],
+        false,
+        r#"0: ja -2
+    r1 = record+0, r2 = 128, r3 = 0 to 4294967295, r4 = 1 to 16, r10 = stack+0
+fault 306 at slot 0: jump backward, outside or into a wide load
+    target: known slot -1 (not later), wanted the slot of a later instruction
+refused 306 0
+"#,
+    )
+}
+
+#[test]
+fn a_jump_outside_has_its_target(rt: HostRuntime) -> Result<(), Fail> {
+    tells(
+        &rt,
+        rt.alloc(),
+        &[0x1504_0100_0100_0000, EXIT],
+        false,
+        r#"0: jeq r4, 1, +1
+    r1 = record+0, r2 = 128, r3 = 0 to 4294967295, r4 = 1 to 16, r10 = stack+0
+fault 306 at slot 0: jump backward, outside or into a wide load
+    target: known slot 2 (behind the last), wanted the slot of a later instruction
+refused 306 0
+"#,
+    )
+}
+
+#[test]
+fn a_jump_into_a_wide_load_has_its_target(rt: HostRuntime) -> Result<(), Fail> {
+    tells(
+        &rt,
+        rt.alloc(),
+        &[0x0600_0000_0100_0000, 0x1800_0000_0000_0000, 0, EXIT],
+        false,
+        r#"0: ja32 +1
+    r1 = record+0, r2 = 128, r3 = 0 to 4294967295, r4 = 1 to 16, r10 = stack+0
+fault 306 at slot 0: jump backward, outside or into a wide load
+    target: known slot 2 (the second of a wide load), wanted the slot of a later instruction
+refused 306 0
+"#,
+    )
+}
+
+#[test]
+fn a_missing_exit_is_told(rt: HostRuntime) -> Result<(), Fail> {
+    tells(
+        &rt,
+        rt.alloc(),
+        &[0xb700_0000_0000_0000],
+        false,
+        r#"0: mov64 r0, 0
+    r1 = record+0, r2 = 128, r3 = 0 to 4294967295, r4 = 1 to 16, r10 = stack+0
+fault 307 at slot 0: end of the program without an exit
+    next: known no slot, wanted an exit as the last instruction
+refused 307 0
+"#,
+    )
+}
+
+#[test]
+fn an_uninitialised_register_is_told(rt: HostRuntime) -> Result<(), Fail> {
+    tells(
+        &rt,
+        rt.alloc(),
+        &[0x0f51_0000_0000_0000, EXIT],
+        false,
+        r#"0: add64 r1, r5
+    r1 = record+0, r2 = 128, r3 = 0 to 4294967295, r4 = 1 to 16, r10 = stack+0
+fault 308 at slot 0: uninitialised register
+    r5: known nothing, wanted a value on every way here
+refused 308 0
+"#,
+    )
+}
+
+#[test]
+fn an_uninitialised_argument_is_told(rt: HostRuntime) -> Result<(), Fail> {
+    tells(
+        &rt,
+        rt.alloc(),
+        &[
+            0xb701_0000_0500_0000,
+            0x8500_0000_0200_0000,
+            0x8500_0000_0200_0000,
+            EXIT,
+        ],
+        false,
+        r#"0: mov64 r1, 5
+    r1 = record+0, r2 = 128, r3 = 0 to 4294967295, r4 = 1 to 16, r10 = stack+0
+1: call 2
+    r1 = 5, r2 = 128, r3 = 0 to 4294967295, r4 = 1 to 16, r10 = stack+0
+2: call 2
+    r0 = 1 to 60, r10 = stack+0
+fault 308 at slot 2: uninitialised register
+    argument 1 of helper 2, r1: known nothing, wanted 0 to 999
+refused 308 2
+"#,
+    )
+}
+
+#[test]
+fn an_address_is_told_with_its_regions(rt: HostRuntime) -> Result<(), Fail> {
+    tells(
+        &rt,
+        rt.alloc(),
+        &[
+            0x6915_3c00_0000_0000,
+            0x0f15_0000_0000_0000,
+            0x6950_0400_0000_0000,
+            EXIT,
+        ],
+        false,
+        r#"0: ldxh r5, [r1+60]
+    r1 = record+0, r2 = 128, r3 = 0 to 4294967295, r4 = 1 to 16, r10 = stack+0
+1: add64 r5, r1
+    r1 = record+0, r2 = 128, r3 = 0 to 4294967295, r4 = 1 to 16, r5 = 0 to 65535, r10 = stack+0
+2: ldxh r0, [r5+4]
+    r1 = record+0, r2 = 128, r3 = 0 to 4294967295, r4 = 1 to 16, r5 = record+0 to record+65535, r10 = stack+0
+fault 309 at slot 2: address outside the record and the stack
+    r5 in [r5+4], size 2: known record+0 to record+65535, wanted record-4 to record+122 or stack-516 to stack-6
+refused 309 2
+"#,
+    )
+}
+
+#[test]
+fn an_address_in_either_region_is_told(rt: HostRuntime) -> Result<(), Fail> {
+    tells(
+        &rt,
+        rt.alloc(),
+        &[
+            0x1504_0200_0100_0000,
+            0xbfa1_0000_0000_0000,
+            0x0701_0000_f8ff_ffff,
+            0x7110_0000_0000_0000,
+            EXIT,
+        ],
+        false,
+        r#"0: jeq r4, 1, +2
+    r1 = record+0, r2 = 128, r3 = 0 to 4294967295, r4 = 1 to 16, r10 = stack+0
+1: mov64 r1, r10
+    r1 = record+0, r2 = 128, r3 = 0 to 4294967295, r4 = 2 to 16, r10 = stack+0
+2: add64 r1, -8
+    r1 = stack+0, r2 = 128, r3 = 0 to 4294967295, r4 = 2 to 16, r10 = stack+0
+3: ldxb r0, [r1+0]
+    r1 = record+0 to stack-8, r2 = 128, r3 = 0 to 4294967295, r4 = 1 to 16, r10 = stack+0
+fault 309 at slot 3: address outside the record and the stack
+    r1 in [r1+0], size 1: known record+0 to stack-8, wanted record+0 to record+127 or stack-512 to stack-1
+refused 309 3
+"#,
+    )
+}
+
+#[test]
+fn uninitialised_bytes_are_told(rt: HostRuntime) -> Result<(), Fail> {
+    tells(
+        &rt,
+        rt.alloc(),
+        &[0x620a_f8ff_0500_0000, 0x79a0_f8ff_0000_0000, EXIT],
+        false,
+        r#"0: stw [r10-8], 5
+    r1 = record+0, r2 = 128, r3 = 0 to 4294967295, r4 = 1 to 16, r10 = stack+0
+1: ldxdw r0, [r10-8]
+    r1 = record+0, r2 = 128, r3 = 0 to 4294967295, r4 = 1 to 16, r10 = stack+0
+    stored: stack-8 to stack-5
+fault 310 at slot 1: uninitialised byte of the stack
+    bytes at [r10-8]: known as stored stack-8 to stack-5, wanted stack-8 to stack-1
+refused 310 1
+"#,
+    )
+}
+
+#[test]
+fn a_store_to_the_record_is_told(rt: HostRuntime) -> Result<(), Fail> {
+    tells(
+        &rt,
+        rt.alloc(),
+        &[0x6201_6000_0000_0000, EXIT],
+        false,
+        r#"0: stw [r1+96], 0
+    r1 = record+0, r2 = 128, r3 = 0 to 4294967295, r4 = 1 to 16, r10 = stack+0
+fault 311 at slot 0: store to the record
+    r1 in [r1+96], size 4: known record+0, wanted stack-608 to stack-100
+refused 311 0
+"#,
+    )
+}
+
+#[test]
+fn an_unknown_helper_is_told(rt: HostRuntime) -> Result<(), Fail> {
+    tells(
+        &rt,
+        rt.alloc(),
+        &[0x8500_0000_0900_0000, EXIT],
+        false,
+        r#"0: call 9
+    r1 = record+0, r2 = 128, r3 = 0 to 4294967295, r4 = 1 to 16, r10 = stack+0
+fault 312 at slot 0: unknown helper
+    helper: known 9, wanted one of 2, 3
+refused 312 0
+"#,
+    )
+}
+
+#[test]
+fn an_argument_out_of_range_is_told(rt: HostRuntime) -> Result<(), Fail> {
+    tells(
+        &rt,
+        rt.alloc(),
+        &[
+            0xbf31_0000_0000_0000,
+            0xb702_0000_1127_0000,
+            0x8500_0000_0300_0000,
+            EXIT,
+        ],
+        false,
+        r#"0: mov64 r1, r3
+    r1 = record+0, r2 = 128, r3 = 0 to 4294967295, r4 = 1 to 16, r10 = stack+0
+1: mov64 r2, 10001
+    r1 = 0 to 4294967295, r2 = 128, r3 = 0 to 4294967295, r4 = 1 to 16, r10 = stack+0
+2: call 3
+    r1 = 0 to 4294967295, r2 = 10001, r3 = 0 to 4294967295, r4 = 1 to 16, r10 = stack+0
+fault 313 at slot 2: argument outside the helper's range
+    argument 2 of helper 3, r2: known 10001, wanted 0 to 10000
+refused 313 2
+"#,
+    )
+}
+
+#[test]
+fn a_write_to_r10_is_told(rt: HostRuntime) -> Result<(), Fail> {
+    tells(
+        &rt,
+        rt.alloc(),
+        &[0x070a_0000_f8ff_ffff, EXIT],
+        false,
+        r#"0: add64 r10, -8
+    r1 = record+0, r2 = 128, r3 = 0 to 4294967295, r4 = 1 to 16, r10 = stack+0
+fault 314 at slot 0: write to r10
+    destination: known r10, wanted r0 to r9
+refused 314 0
+"#,
+    )
+}
+
+#[test]
+fn bytes_that_encode_no_program_are_told(rt: HostRuntime) -> Result<(), Fail> {
+    let alloc = rt.alloc();
+    let over = vec![in alloc; 0u8; 32_769]?;
+    for (bytes, text) in [
+        (
+            [].as_slice(),
+            r#"fault 301 at slot 0: no whole slots of 8 bytes
+    bytes: known 0, wanted 8 for each slot
+refused 301 0
+"#,
+        ),
+        (
+            over.as_slice(),
+            r#"fault 302 at slot 0: more than 4096 slots
+    bytes: known over 32768, wanted 32768 at most
+refused 302 0
+"#,
+        ),
+        (
+            [0xff, 1, 2, 3, 4, 5, 6, 7].as_slice(),
+            r#"fault 303 at slot 0: unknown opcode
+    bytes of the slot: known ff 01 02 03 04 05 06 07, wanted an opcode that programs may have
+refused 303 0
+"#,
+        ),
+        (
+            [0x95, 0, 1, 0, 0, 0, 0, 0].as_slice(),
+            r#"fault 304 at slot 0: field value that the opcode does not allow
+    bytes of the slot: known 95 00 01 00 00 00 00 00, wanted values that its opcode allows
+refused 304 0
+"#,
+        ),
+        (
+            [0xb7, 11, 0, 0, 0, 0, 0, 0].as_slice(),
+            r#"fault 305 at slot 0: register over 10
+    bytes of the slot: known b7 0b 00 00 00 00 00 00, wanted registers up to 10
+refused 305 0
+"#,
+        ),
+        (
+            [0x18, 0, 0, 0, 1, 0, 0, 0].as_slice(),
+            r#"fault 315 at slot 0: wide load without its second slot
+    bytes of the slot: known 18 00 00 00 01 00 00 00, wanted a second slot behind it
+refused 315 0
+"#,
+        ),
+    ] {
+        tells_of(&rt, alloc, bytes, false, text)?;
+    }
+    Ok(())
+}
+
+#[test]
+fn files_of_other_kinds_are_told(rt: HostRuntime) -> Result<(), Fail> {
+    let alloc = rt.alloc();
+    tells_of(
+        &rt,
+        alloc,
+        &[0x7f, 0x45, 0x4c, 0x46, 2, 1, 1, 0],
+        false,
+        r#"fault 304 at slot 0: field value that the opcode does not allow
+    file: known an object file (ELF), wanted one section (llvm-objcopy -O binary)
+refused 304 0
+"#,
+    )?;
+    tells_of(
+        &rt,
+        alloc,
+        "9500000000000000\n".as_bytes(),
+        false,
+        r#"fault 301 at slot 0: no whole slots of 8 bytes
+    file: known hexadecimal text, wanted the bytes that it tells (xxd -r -p)
+refused 301 0
+"#,
+    )
+}
