@@ -131,7 +131,8 @@ def days():
 
 def day(peers):
     for flights, lines in days():
-        runs = peers.runs * (10 if flights <= 100 else 1)
+        # (a short day would lie whole in a slow moment of a shared machine)
+        runs = peers.runs * (10 if flights <= 100 else 4 if flights <= 1000 else 1)
         peers.compared(f"a line of a day of {flights:,} flights", lines, [], len(lines), "us", runs=runs)
 
 
