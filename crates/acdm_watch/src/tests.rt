@@ -66,8 +66,8 @@ struct Table<H: Helpers + Drop> {
     ghost watches_later: { later.row ≡ row_of desk },
 }
 
-fn table<H: Helpers + Drop>(alloc: Global, helpers: H) -> Result<Table<H>, Fail> {
-    let desk = Desk::new(alloc, helpers, 5)?;
+fn opened<H: Helpers + Drop>(alloc: Global, helpers: H, capacity: usize) -> Result<Table<H>, Fail> {
+    let desk = Desk::new(alloc, helpers, capacity)?;
     let first = desk.pass(1, Role::AircraftOperator)?;
     let second = desk.pass(2, Role::GroundHandler)?;
     let row = Arc::try_clone(desk.row())?;
@@ -129,10 +129,10 @@ fn took<H: Helpers + Drop>(table: &mut Table<H>) -> Result<bool, Fail> {
     Ok(table.watch.advance_alone(&table.row)?)
 }
 
-// Takes all that is in sight, and tells how many entries that were.
-fn taken<H: Helpers + Drop>(table: &mut Table<H>) -> Result<usize, Fail> {
+// Takes all that is in sight, at most so many, and tells how many entries that were.
+fn taken<H: Helpers + Drop>(table: &mut Table<H>, most: usize) -> Result<usize, Fail> {
     let mut count = 0;
-    while count < 5 && took(table)? {
+    while count < most && took(table)? {
         count += 1;
     }
     Ok(count)
@@ -170,14 +170,14 @@ fn target_seen<H: Helpers + Drop>(table: &Table<H>) -> Option<u64> {
 // A watch sees nothing of an empty journal, then what there is, and later the rest. A pass has seen
 // the journal up to its last call, and its own calls are counted.
 fn watches<H: Helpers + Drop>(rt: &impl Abort, alloc: Global, helpers: H) -> Result<(), Fail> {
-    let mut table = table(alloc, helpers)?;
-    assert_eq!(rt; taken(&mut table)?, 0);
+    let mut table = opened(alloc, helpers, 5)?;
+    assert_eq!(rt; taken(&mut table, 5)?, 0);
     begin(&mut table)?;
-    assert_eq!(rt; taken(&mut table)?, 2);
+    assert_eq!(rt; taken(&mut table, 5)?, 2);
     assert_eq!(rt; target_seen(&table), Some(0));
     assert_eq!(rt; second_calls(&mut table, QUARTER_PAST_TEN)?, 2);
     assert_eq!(rt; first_calls(&mut table, FIVE_PAST_TEN)?, 3);
-    assert_eq!(rt; taken(&mut table)?, 2);
+    assert_eq!(rt; taken(&mut table, 5)?, 2);
     assert_eq!(rt; table.watch.len(), 4);
     assert_eq!(rt; target_seen(&table), Some(29_000_765));
     assert_eq!(rt; (table.first.len(), table.first.own_len()), (4, 1));
@@ -187,6 +187,46 @@ fn watches<H: Helpers + Drop>(rt: &impl Abort, alloc: Global, helpers: H) -> Res
     assert!(rt; led(&mut table)?);
     assert!(rt; led_at_last(table)?);
     Ok(())
+}
+
+// A tick.
+fn ticks<H: Helpers + Drop>(table: &mut Table<H>) -> Result<u64, Fail> {
+    let reply = table
+        .desk
+        .call_for(1, Role::AirportOperator, SEVEN, Command::Tick)
+        .map_err(|_| "refused")?;
+    Ok(reply.number)
+}
+
+// How many entries the first pass has seen and made, once it is shown all.
+fn shown<H: Helpers + Drop>(table: &mut Table<H>) -> Result<(usize, usize), Fail> {
+    table.desk.show(&mut table.first)?;
+    Ok((table.first.len(), table.first.own_len()))
+}
+
+// How many of them the watch has seen too.
+fn met_first<H: Helpers + Drop>(table: &mut Table<H>) -> usize {
+    table.watch.meet(&mut table.first)
+}
+
+// A watch that begins to look when the journal is full takes all of it.
+fn catches_up<H: Helpers + Drop>(rt: &impl Abort, alloc: Global, helpers: H) -> Result<(), Fail> {
+    let mut table = opened(alloc, helpers, 100_000)?;
+    for number in 0..100_000 {
+        if ticks(&mut table)? != number {
+            return Err("another number".into());
+        }
+    }
+    assert_eq!(rt; taken(&mut table, 200_000)?, 100_000);
+    assert_eq!(rt; shown(&mut table)?, (100_000, 0));
+    assert_eq!(rt; met_first(&mut table), 100_000);
+    Ok(())
+}
+
+#[test]
+fn a_watch_far_behind_catches_up(rt: HostRuntime) -> Result<(), Fail> {
+    let alloc = rt.alloc();
+    catches_up(&rt, alloc, Bank::new(alloc)?)
 }
 
 #[test]
