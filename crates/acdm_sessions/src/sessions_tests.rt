@@ -391,10 +391,10 @@ fn is_of<H: Helpers + Drop>(desk: &mut Desk<H>, number: u64, session: u8) -> boo
 
 // How many entries a session made.
 fn entries_of<H: Helpers + Drop>(desk: &mut Desk<H>, session: u8) -> usize {
-    let mut count = 0;
+    let mut count = 0usize;
     for number in 0..desk.len() {
         if is_of(desk, number, session) {
-            count += 1;
+            count = count.saturating_add(1);
         }
     }
     count
