@@ -131,11 +131,12 @@ fn took<H: Helpers + Drop>(table: &mut Table<H>) -> Result<bool, Fail> {
 
 // Takes all that is in sight, at most so many, and tells how many entries that were.
 fn taken<H: Helpers + Drop>(table: &mut Table<H>, most: usize) -> Result<usize, Fail> {
-    let mut count = 0;
-    while count < most && took(table)? {
-        count += 1;
+    for count in 0..most {
+        if !took(table)? {
+            return Ok(count);
+        }
     }
-    Ok(count)
+    Ok(most)
 }
 
 // How many entries the watch and the second session have both seen.
@@ -167,26 +168,48 @@ fn target_seen<H: Helpers + Drop>(table: &Table<H>) -> Option<u64> {
     Some(table.watch.board().record_of(7)?.get(Field::Tobt))
 }
 
-// A watch sees nothing of an empty journal, then what there is, and later the rest. A pass has seen
-// the journal up to its last call, and its own calls are counted.
-fn watches<H: Helpers + Drop>(rt: &impl Abort, alloc: Global, helpers: H) -> Result<(), Fail> {
-    let mut table = opened(alloc, helpers, 5)?;
-    assert_eq!(rt; taken(&mut table, 5)?, 0);
-    begin(&mut table)?;
-    assert_eq!(rt; taken(&mut table, 5)?, 2);
-    assert_eq!(rt; target_seen(&table), Some(0));
-    assert_eq!(rt; second_calls(&mut table, QUARTER_PAST_TEN)?, 2);
-    assert_eq!(rt; first_calls(&mut table, FIVE_PAST_TEN)?, 3);
-    assert_eq!(rt; taken(&mut table, 5)?, 2);
+// A watch sees nothing of an empty journal, then what there is, and later the rest.
+fn sees<H: Helpers + Drop>(rt: &impl Abort, table: &mut Table<H>) -> Result<(), Fail> {
+    assert_eq!(rt; taken(table, 5)?, 0);
+    begin(table)?;
+    assert_eq!(rt; taken(table, 5)?, 2);
+    assert_eq!(rt; target_seen(table), Some(0));
+    Ok(())
+}
+
+// Both sessions set a target.
+fn sets<H: Helpers + Drop>(rt: &impl Abort, table: &mut Table<H>) -> Result<(), Fail> {
+    assert_eq!(rt; second_calls(table, QUARTER_PAST_TEN)?, 2);
+    assert_eq!(rt; first_calls(table, FIVE_PAST_TEN)?, 3);
+    assert_eq!(rt; taken(table, 5)?, 2);
     assert_eq!(rt; table.watch.len(), 4);
-    assert_eq!(rt; target_seen(&table), Some(29_000_765));
-    assert_eq!(rt; (table.first.len(), table.first.own_len()), (4, 1));
-    assert_eq!(rt; (table.second.len(), table.second.own_len()), (3, 1));
-    assert_eq!(rt; met(&mut table), 3);
+    assert_eq!(rt; target_seen(table), Some(29_000_765));
+    Ok(())
+}
+
+// A pass has seen the journal up to its last call, and its own calls are counted.
+fn counts<H: Helpers + Drop>(rt: &impl Abort, table: &mut Table<H>) {
+    assert_eq!(rt; table.first.len(), 4);
+    assert_eq!(rt; table.first.own_len(), 1);
+    assert_eq!(rt; table.second.len(), 3);
+    assert_eq!(rt; table.second.own_len(), 1);
+    assert_eq!(rt; met(table), 3);
+}
+
+// Another watch takes what the second session has seen.
+fn follows<H: Helpers + Drop>(rt: &impl Abort, mut table: Table<H>) -> Result<(), Fail> {
     assert!(rt; led(&mut table)?);
     assert!(rt; led(&mut table)?);
     assert!(rt; led_at_last(table)?);
     Ok(())
+}
+
+fn watches<H: Helpers + Drop>(rt: &impl Abort, alloc: Global, helpers: H) -> Result<(), Fail> {
+    let mut table = opened(alloc, helpers, 5)?;
+    sees(rt, &mut table)?;
+    sets(rt, &mut table)?;
+    counts(rt, &mut table);
+    follows(rt, table)
 }
 
 // A tick.
@@ -209,24 +232,36 @@ fn met_first<H: Helpers + Drop>(table: &mut Table<H>) -> usize {
     table.watch.meet(&mut table.first)
 }
 
-// A watch that begins to look when the journal is full takes all of it.
-fn catches_up<H: Helpers + Drop>(rt: &impl Abort, alloc: Global, helpers: H) -> Result<(), Fail> {
-    let mut table = opened(alloc, helpers, 100_000)?;
-    for number in 0..100_000 {
-        if ticks(&mut table)? != number {
-            return Err("another number".into());
-        }
+// So many ticks.
+fn fill<H: Helpers + Drop>(table: &mut Table<H>, count: usize) -> Result<(), Fail> {
+    for _ in 0..count {
+        ticks(table)?;
     }
-    assert_eq!(rt; taken(&mut table, 200_000)?, 100_000);
-    assert_eq!(rt; shown(&mut table)?, (100_000, 0));
-    assert_eq!(rt; met_first(&mut table), 100_000);
     Ok(())
+}
+
+// A watch that begins to look when the journal is full takes all of it.
+fn catches_up<H: Helpers + Drop>(rt: &impl Abort, table: &mut Table<H>) -> Result<(), Fail> {
+    fill(table, 100_000)?;
+    assert_eq!(rt; taken(table, 200_000)?, 100_000);
+    assert_eq!(rt; shown(table)?, (100_000, 0));
+    assert_eq!(rt; met_first(table), 100_000);
+    Ok(())
+}
+
+fn catches_up_from_nothing<H: Helpers + Drop>(
+    rt: &impl Abort,
+    alloc: Global,
+    helpers: H,
+) -> Result<(), Fail> {
+    let mut table = opened(alloc, helpers, 100_000)?;
+    catches_up(rt, &mut table)
 }
 
 #[test]
 fn a_watch_far_behind_catches_up(rt: HostRuntime) -> Result<(), Fail> {
     let alloc = rt.alloc();
-    catches_up(&rt, alloc, Bank::new(alloc)?)
+    catches_up_from_nothing(&rt, alloc, Bank::new(alloc)?)
 }
 
 #[test]
