@@ -147,31 +147,46 @@ fn in_block<H: Helpers + Drop>(desk: &mut Desk<H>) -> Result<Reply, Fail> {
 }
 
 // The TOBT of flight 7 is five minutes after its in-block report, as helper 3 says it.
+fn asks<H: Helpers + Drop>(rt: &impl Abort, alloc: Global, desk: &mut Desk<H>) -> Result<(), Fail> {
+    let load = loaded(alloc, &FIVE_LATER, desk.sigs())?;
+    entered(desk, 1, Role::AirportOperator, load)?;
+    let reply = in_block(desk)?;
+    assert_eq!(rt; reply.number, 4);
+    assert_eq!(rt; reply.outcome.verdict(), Verdict::Accepted);
+    Ok(())
+}
+
+fn stands<H: Helpers + Drop>(rt: &impl Abort, desk: &mut Desk<H>) {
+    assert_eq!(rt; tobt_on(desk), Some(29_000_705));
+    assert_eq!(rt; desk.len(), 5);
+    assert!(rt; has_answer(desk, 4, 29_000_705));
+    assert!(rt; !has_entry(desk, 5));
+}
+
+// A program that was checked against other signatures, and then a full journal.
+fn refuses<H: Helpers + Drop>(
+    rt: &impl Abort,
+    alloc: Global,
+    desk: &mut Desk<H>,
+) -> Result<(), Fail> {
+    let empty = no_sigs(alloc)?;
+    let foreign = loaded(alloc, &NOTHING, &empty)?;
+    assert_eq!(rt; refused(desk, foreign), Some(DeskError::OtherSignatures));
+    assert_eq!(rt; desk.len(), 5);
+    entered(desk, 1, Role::AirportOperator, Command::Tick)?;
+    assert_eq!(rt; refused(desk, Command::Tick), Some(DeskError::Full));
+    Ok(())
+}
+
 fn five_minutes_later<H: Helpers + Drop>(
     rt: &impl Abort,
     alloc: Global,
     helpers: H,
 ) -> Result<(), Fail> {
     let mut desk = Desk::new(alloc, helpers, 6)?;
-    let load = loaded(alloc, &FIVE_LATER, desk.sigs())?;
-    entered(&mut desk, 1, Role::AirportOperator, load)?;
-    let reply = in_block(&mut desk)?;
-    assert_eq!(rt; reply.number, 4);
-    assert_eq!(rt; reply.outcome.verdict(), Verdict::Accepted);
-    assert_eq!(rt; tobt_on(&desk), Some(29_000_705));
-    assert_eq!(rt; desk.len(), 5);
-    assert!(rt; has_answer(&mut desk, 4, 29_000_705));
-    assert!(rt; !has_entry(&mut desk, 5));
-    let empty = no_sigs(alloc)?;
-    let foreign = loaded(alloc, &NOTHING, &empty)?;
-    assert_eq!(rt;
-        refused(&mut desk, foreign),
-        Some(DeskError::OtherSignatures)
-    );
-    assert_eq!(rt; desk.len(), 5);
-    entered(&mut desk, 1, Role::AirportOperator, Command::Tick)?;
-    assert_eq!(rt; refused(&mut desk, Command::Tick), Some(DeskError::Full));
-    Ok(())
+    asks(rt, alloc, &mut desk)?;
+    stands(rt, &mut desk);
+    refuses(rt, alloc, &mut desk)
 }
 
 #[test]
