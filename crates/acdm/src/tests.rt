@@ -154,6 +154,32 @@ fn words_and_files_that_fail_are_told_as_errors(rt: HostRuntime) -> Result<(), F
     Ok(())
 }
 
+// Whether these lines are answered so.
+fn is_answered<H: Helpers + Drop>(
+    alloc: Global,
+    lines: &str,
+    desk: &mut Desk<H>,
+    expected: &str,
+) -> bool {
+    let mut replies = Counted::new(Vec::new(alloc));
+    let mut reader = Counted::new(lines.as_bytes());
+    if run(alloc, &mut reader, &mut replies, desk).is_err() {
+        return false;
+    }
+    replies.into_inner().as_slice() == expected.as_bytes()
+}
+
+// Whether flight 7 is the same on both.
+fn has_same_flight<H: Helpers + Drop>(one: &Desk<H>, other: &Desk<H>) -> bool {
+    let Some(kept) = one.core().record_of(7) else {
+        return false;
+    };
+    match other.core().record_of(7) {
+        Some(made) => kept.bytes().as_slice() == made.bytes().as_slice(),
+        None => false,
+    }
+}
+
 // A desk for one entry takes a schedule, and not the flight plan after it.
 fn takes_the_schedule_alone<H: Helpers + Drop>(
     rt: &impl Abort,
@@ -161,34 +187,12 @@ fn takes_the_schedule_alone<H: Helpers + Drop>(
     some: H,
     others: H,
 ) -> Result<(), Fail> {
-    let mut replies = Counted::new(Vec::new(alloc));
     let mut one = Desk::new(alloc, some, 1)?;
-    run(
-        alloc,
-        &mut Counted::new(SCHEDULE.as_bytes()),
-        &mut replies,
-        &mut one,
-    )?;
-    run(
-        alloc,
-        &mut Counted::new(FLIGHT_PLAN.as_bytes()),
-        &mut replies,
-        &mut one,
-    )?;
-    assert_eq!(rt;
-        replies.into_inner().as_slice(),
-        b"ok 0\nbad 502\n".as_slice()
-    );
+    assert!(rt; is_answered(alloc, SCHEDULE, &mut one, "ok 0\n"));
+    assert!(rt; is_answered(alloc, FLIGHT_PLAN, &mut one, "bad 502\n"));
     let mut expected = Desk::new(alloc, others, 10)?;
-    run(
-        alloc,
-        &mut Counted::new(SCHEDULE.as_bytes()),
-        &mut Counted::new(Vec::new(alloc)),
-        &mut expected,
-    )?;
-    let kept = one.core().record_of(7).ok_or("the flight is gone")?;
-    let scheduled = expected.core().record_of(7).ok_or("no flight was made")?;
-    assert_eq!(rt; kept.bytes().as_slice(), scheduled.bytes().as_slice());
+    assert!(rt; is_answered(alloc, SCHEDULE, &mut expected, "ok 0\n"));
+    assert!(rt; has_same_flight(&one, &expected));
     Ok(())
 }
 
