@@ -1,5 +1,5 @@
-//! Passes of one row, for those who call through another's hands.
-ghost use Rattle.std.specs.Prelude.{◌≡◌, ◌<◌, ◌≤◌, IfOk, IfSome, length};
+//! The passes that a desk keeps for the sessions and roles that it is called for.
+ghost use Rattle.std.specs.Prelude.{◌≡◌, ◌≤◌, IfOk};
 ghost use Rattle.std.specs.Arc.{arc_value};
 
 use acdm_milestones::Role;

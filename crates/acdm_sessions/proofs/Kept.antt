@@ -1,12 +1,13 @@
--- What stays as it is while lines are answered.
+-- What stays as it is while lines are answered, and what another sees of it.
 use Rattle.std.proofs.Common.{◌≡◌, ℕ, List, [], ◌∷◌, Option, Result, Ok, Err, refl, sym, ap, ◌∙◌}
+use Rattle.std.proofs.Common.{subst}
 use Rattle.std.specs.Prelude.{OnOk}
 use Rattle.acdm_lines.specs.Lines.{lines_of}
 use Rattle.acdm_lines.specs.declared.run_error.RunError.{RunError}
 use Rattle.acdm_lines.specs.declared.run_error.RunError.TheVariants.{Read, Write, Memory}
 use Rattle.acdm_sessions.specs.declared.answer.Answer.{Answer}
 use Rattle.acdm_sessions.specs.Stream.{Answering, AnswersAll, AnswersEach, AnswersPart}
-use Rattle.acdm_sessions.specs.Stream.{AnswersWhole, kept}
+use Rattle.acdm_sessions.specs.Stream.{AnswersText, AnswersWhole, kept}
 
 module _ {A X : Type 0} (f : A → X) (may : Answering A)
     (keeps : (a b : A) (l : List ℕ) (x : Answer) → may a b l x → f b ≡ f a) where
@@ -35,3 +36,81 @@ module _ {A X : Type 0} (f : A → X) (may : Answering A)
       keeps h.middle b (kept h.line) h.answer h.is_right
       ∙ each_keeps a h.middle (lines_of h.whole) h.served.answers h.served.are_right
   all_keep a b (Err Memory) left later old new faults more all whole part none = ap f (none refl)
+
+-- What is seen of those who answer, through f, while something stays so of them: lines that were
+-- answered are lines that were answered in what is seen.
+module _ {A B : Type 0} (f : A → B) (may : Answering A) (seen : Answering B) (stays : A → Type 0)
+    (goes : (a b : A) (l : List ℕ) (x : Answer) → stays a → may a b l x
+    → seen (f a) (f b) l x × stays b) where
+  each_seen : (a b : A) (ls : List (List ℕ)) (xs : List Answer) → stays a
+      → AnswersEach may a b ls xs → AnswersEach seen (f a) (f b) ls xs × stays b
+  each_seen a b [] [] s e = (ap f e, subst stays e s)
+  each_seen a b (l ∷ ls) (x ∷ xs) s e =
+      let one = goes a e.0 (kept l) x s e.1 in
+      let more = each_seen e.0 b ls xs one.1 e.2 in
+      ((f e.0, one.0, more.0), more.1)
+  each_seen a b [] (x ∷ xs) s e = absurd e
+  each_seen a b (l ∷ ls) [] s e = absurd e
+
+  module _ (a b : A) (left later old new : Option (List ℕ)) (start : stays a) where
+    all_seen : AnswersAll may left later a b old new
+        → AnswersAll seen left later (f a) (f b) old new
+    all_seen h = record {
+      text = h.text;
+      consumed = h.consumed;
+      ended = h.ended;
+      served = record {
+        answers = h.served.answers;
+        are_right = (each_seen a b (lines_of h.text) h.served.answers start
+            h.served.are_right).0;
+        wrote = h.served.wrote;
+      };
+    }
+
+    pub ok_seen : {T : Type 0} (result : Result T RunError)
+        → OnOk result (AnswersAll may left later a b old new)
+        → OnOk result (AnswersAll seen left later (f a) (f b) old new)
+    ok_seen (Ok x) h = all_seen h
+    ok_seen (Err e) h = tt
+
+    pub whole_seen : (faults more : ℕ) → AnswersWhole may left later faults more a b old new
+        → AnswersWhole seen left later faults more (f a) (f b) old new
+    whole_seen faults more h = record {
+      whole = h.whole;
+      part = h.part;
+      is_whole = h.is_whole;
+      is_part = h.is_part;
+      consumed = h.consumed;
+      why = h.why;
+      served = record {
+        answers = h.served.answers;
+        are_right = (each_seen a b (lines_of h.whole) h.served.answers start
+            h.served.are_right).0;
+        wrote = h.served.wrote;
+      };
+    }
+
+    pub part_seen : AnswersPart may left later a b old new
+        → AnswersPart seen left later (f a) (f b) old new
+    part_seen h =
+        let so_far = each_seen a h.middle (lines_of h.whole) h.served.answers start
+        h.served.are_right in
+        record {
+          whole = h.whole;
+          line = h.line;
+          later = h.later;
+          others = h.others;
+          is_whole = h.is_whole;
+          is_next = h.is_next;
+          consumed = h.consumed;
+          middle = f h.middle;
+          between = h.between;
+          served = record {
+            answers = h.served.answers;
+            are_right = so_far.0;
+            wrote = h.served.wrote;
+          };
+          answer = h.answer;
+          is_right = (goes h.middle b (kept h.line) h.answer so_far.1 h.is_right).0;
+          in_hand = h.in_hand;
+        }

@@ -11,5 +11,6 @@ pub mod Passes
 pub mod ProgramRows
 pub mod Running
 pub mod Seats
+pub mod NewPass
 pub mod Serving
 pub mod Writing

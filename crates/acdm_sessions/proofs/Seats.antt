@@ -1,6 +1,6 @@
 -- Seats, and what is told of those who left them.
-use Rattle.std.proofs.Common.{◌≡◌, ℕ, ◌+◌, List, [], ◌∷◌, map, length, refl, sym, ap, subst, ◌∙◌}
-use Rattle.std.proofs.Common.{◌++◌, arith, append_assoc, length-append}
+use Rattle.std.proofs.Common.{◌≡◌, ℕ, ◌+◌, ◌<◌, ◌≤◌, List, [], ◌∷◌, map, length, refl, sym, ap}
+use Rattle.std.proofs.Common.{◌++◌, ◌∙◌, subst, arith, append_assoc, length-append}
 use Rattle.std.proofs.lemmas.List.{map-append}
 use Rattle.acdm_milestones.specs.declared.role.Role.{Role}
 use Rattle.acdm_jobs.specs.Each.{Each}
@@ -31,6 +31,17 @@ taken_both f h done w s items rest all next same kept =
     ∙ ap (λ x. map f done ++ x ∷ map h rest) same
     ∙ ap (λ xs. map f done ++ map h xs) (sym next) ∙ kept
 
+-- the same, where what is taken has its number
+pub taken_numbered : {W S X : Type 0} (f : W → ℕ × X) (h : S → X) (n : ℕ) (done : List W) (w : W)
+    (s : S) (items rest : List S) (all : List (ℕ × X)) → items ≡ s ∷ rest → f w ≡ (n, h s)
+    → map f done ++ numbered n (map h items) ≡ all
+    → map f (done ++ w ∷ []) ++ numbered (n + 1) (map h rest) ≡ all
+taken_numbered f h n done w s items rest all next same kept =
+    ap (λ xs. xs ++ numbered (n + 1) (map h rest)) (map-append f done (w ∷ []))
+    ∙ append_assoc (map f done) (f w ∷ []) (numbered (n + 1) (map h rest))
+    ∙ ap (λ x. map f done ++ x ∷ numbered (n + 1) (map h rest)) same
+    ∙ ap (λ xs. map f done ++ numbered n (map h xs)) (sym next) ∙ kept
+
 -- what is so of each that is looked at through f
 pub each_through : {X Y Z : Type 0} (f : X → Y) (P : Y → Z → Type 0) (xs : List X) (zs : List Z)
     → Each (λ x z. P (f x) z) xs zs → Each P (map f xs) zs
@@ -39,30 +50,86 @@ each_through f P (x ∷ xs) (z ∷ zs) e = (e.0, each_through f P xs zs e.1)
 each_through f P [] (z ∷ zs) e = absurd e
 each_through f P (x ∷ xs) [] e = absurd e
 
--- sessions that sat on numbered seats have ended
-pub have_ended : {Y : Type 0} (session_end : Y
-    → SessionEnd) (n : ℕ) (roles : List Role) (ys : List Y)
-    → Each (λ s y. EndsAs s.0 s.1 (session_end y)) (numbered n roles) ys
-    → HaveEnded n roles (map session_end ys)
-have_ended session_end n [] [] e = tt
-have_ended session_end n (r ∷ rs) (y ∷ ys) e =
-    (e.0.same_number, e.0.same_role, e.0.not_started, have_ended session_end (n + 1) rs ys e.1)
-have_ended session_end n [] (y ∷ ys) e = absurd e
-have_ended session_end n (r ∷ rs) [] e = absurd e
+-- what is so of each is so of each that it implies
+pub each_as : {X Y : Type 0} (P Q : X → Y → Type 0) (xs : List X) (ys : List Y)
+    → ((x : X) (y : Y) → P x y → Q x y) → Each P xs ys → Each Q xs ys
+each_as P Q [] [] h e = tt
+each_as P Q (x ∷ xs) (y ∷ ys) h e = (h x y e.0, each_as P Q xs ys h e.1)
+each_as P Q [] (y ∷ ys) h e = absurd e
+each_as P Q (x ∷ xs) [] h e = absurd e
 
--- sessions that worked on seats of these roles have ended
-pub sessions_ended : {S W Y : Type 0} (seat : W → S) (place : S → ℕ × Role) (end_of : Y
-    → SessionEnd)
-    (works : List W) (seats : List S) (ys : List Y) (roles : List Role) (ts : List SessionEnd)
-    → Each (λ w y. EndsAs (place (seat w)).0 (place (seat w)).1 (end_of y)) works ys
-    → map seat works ≡ seats → map place seats ≡ numbered 1 roles → ts ≡ map end_of ys
-    → HaveEnded 1 roles ts
-sessions_ended {S} {W} {Y} seat place end_of works seats ys roles ts e on placed same =
-    let P : ℕ × Role → Y → Type 0 = λ p y. EndsAs p.0 p.1 (end_of y) in
-    let first : Each (λ s y. P (place s) y) (map seat works) ys =
-    each_through seat (λ s y. P (place s) y) works ys e in
-    let second : Each P (map place (map seat works)) ys =
-    each_through place P (map seat works) ys first in
-    let third : Each P (numbered 1 roles) ys =
-    subst (λ ps. Each P ps ys) (ap (map place) on ∙ placed) second in
-    subst (HaveEnded 1 roles) (sym same) (have_ended end_of 1 roles ys third)
+-- what is so of each of the others that is looked at through f
+each_onto : {X Y Z : Type 0} (f : Y → Z) (P : X → Z → Type 0) (xs : List X) (ys : List Y)
+    → Each (λ x y. P x (f y)) xs ys → Each P xs (map f ys)
+each_onto f P [] [] e = tt
+each_onto f P (x ∷ xs) (y ∷ ys) e = (e.0, each_onto f P xs ys e.1)
+each_onto f P [] (y ∷ ys) e = absurd e
+each_onto f P (x ∷ xs) [] e = absurd e
+
+-- what is so of works and of what they gave, told of their seats and of what was left
+pub each_seated : {S W X Y Z : Type 0} (P : X → Z → Type 0) (seat : W → S) (place : S → X)
+    (left_of : Y → Z) (works : List W) (seats : List S) (ys : List Y) (xs : List X) (zs : List Z)
+    → Each (λ w y. P (place (seat w)) (left_of y)) works ys → map seat works ≡ seats
+    → map place seats ≡ xs → zs ≡ map left_of ys → Each P xs zs
+each_seated {S} {W} {X} {Y} {Z} P seat place left_of works seats ys xs zs e on placed left =
+    let first : Each (λ s y. P (place s) (left_of y)) (map seat works) ys =
+    each_through seat (λ s y. P (place s) (left_of y)) works ys e in
+    let second : Each (λ x y. P x (left_of y)) (map place (map seat works)) ys =
+    each_through place (λ x y. P x (left_of y)) (map seat works) ys first in
+    let third : Each P (map place (map seat works)) (map left_of ys) =
+    each_onto left_of P (map place (map seat works)) ys second in
+    subst (λ vs. Each P xs vs) (sym left)
+    (subst (λ vs. Each P vs (map left_of ys)) (ap (map place) on ∙ placed) third)
+
+-- sessions that sat on numbered seats have ended
+pub have_ended : (n : ℕ) (roles : List Role) (ts : List SessionEnd)
+    → Each (λ s t. EndsAs s.0 s.1 t) (numbered n roles) ts → HaveEnded n roles ts
+have_ended n [] [] e = tt
+have_ended n (r ∷ rs) (t ∷ ts) e =
+    (e.0.same_number, e.0.same_role, e.0.not_started, have_ended (n + 1) rs ts e.1)
+have_ended n [] (t ∷ ts) e = absurd e
+have_ended n (r ∷ rs) [] e = absurd e
+
+-- one more was counted of those that are left
+pub count_on : (n left later all : ℕ) → later + 1 ≡ left → n + left ≡ all → n + 1 + later ≡ all
+count_on n left later all one h = omega arith
+
+-- one part less is left of those that there were
+pub part_less : (n now before all : ℕ) → now + 1 ≡ before → before + n ≡ all
+    → now + (n + 1) ≡ all
+part_less n now before all one h = omega arith
+
+-- what the next of them asks for is there
+pub few_so_far : (n left later all : ℕ) → later + 1 ≡ left → n + left ≡ all → all ≤ 64
+    → (1 ≤ n + 1) × (n + 1 ≤ 64)
+few_so_far n left later all one h few = (omega arith, omega arith)
+
+pub parts_so_far : (n left later all parts whole : ℕ) → later + 1 ≡ left → n + left ≡ all
+    → parts + n ≡ whole → all < whole → 1 < parts
+parts_so_far n left later all parts whole one h kept more = omega arith
+
+pub room_so_far : (n left later all len cap : ℕ) → later + 1 ≡ left → n + left ≡ all → len ≡ n
+    → all ≤ cap → len < cap
+room_so_far n left later all len cap one h same room = omega arith
+
+-- where none is left
+pub len_of_all : (n left all len : ℕ) → left ≡ 0 → n + left ≡ all → len ≡ n → len ≡ all
+len_of_all n left all len none h same = omega arith
+
+pub parts_of_all : (n left all parts whole : ℕ) → left ≡ 0 → n + left ≡ all → parts + n ≡ whole
+    → parts + all ≡ whole
+parts_of_all n left all parts whole none h kept = omega arith
+
+-- all parts are there when the ledger is opened
+pub parts_any : (opened named blank len : ℕ) → opened ≡ named → blank ≡ named → blank ≡ len + 1
+    → 0 < opened
+parts_any opened named blank len on given all = omega arith
+
+pub parts_there : (now opened named blank len : ℕ) → now ≡ opened → opened ≡ named
+    → blank ≡ named → blank ≡ len + 1 → len < now
+parts_there now opened named blank len same on given all = omega arith
+
+-- the share has what was added, and no more
+pub amount_there : (now added opened more there : ℕ) → now ≡ added → added ≡ opened + more
+    → opened ≡ 0 → more ≡ there → now ≡ there
+amount_there now added opened more there same grew none is = omega arith

@@ -1,37 +1,69 @@
 -- What sessions are served, and what is told of them once they have ended.
-use Rattle.std.specs.Prelude.{ℕ, ◌+◌, ◌≡◌, ◌⊎◌, Bool, List, [], ◌∷◌, Result, Ok, Err}
+use Rattle.std.specs.Prelude.{ℕ, ◌+◌, ◌≡◌, ◌⊎◌, Bool, List, [], ◌∷◌, ◌++◌, length, reverse, take}
+use Rattle.std.specs.Prelude.{Option, Result, Ok, Err}
 use Rattle.acdm_milestones.specs.declared.role.Role.{Role}
 use Rattle.bpf_helpers.specs.Promise.{Promise}
+use Rattle.acdm_step.specs.Commands.{History}
+use Rattle.acdm_step.specs.History.{after}
+use Rattle.acdm_step.specs.Verdicts.{outcome_of, verdict_of}
+use Rattle.acdm_row.specs.Views.{PassView, RowView, IsSameCaller}
+use Rattle.acdm_board.specs.declared.desk.Reply.{Reply}
+use Rattle.acdm_jobs.specs.Each.{Each}
+use Rattle.acdm_lines.specs.declared.run_error.RunError.{RunError}
+use Rattle.acdm_lines.specs.declared.run_error.RunError.TheVariants as errors
 use Rattle.acdm_sessions.specs.declared.fault.Bad.{Bad}
 use Rattle.acdm_sessions.specs.declared.fault.Bad.TheVariants.{NoMemory, FullJournal}
 use Rattle.acdm_sessions.specs.declared.answer.Answer.{Answer}
 use Rattle.acdm_sessions.specs.declared.answer.Answer.TheVariants.{Entered, Rejected}
 use Rattle.acdm_sessions.specs.declared.order.Order.{Order}
 use Rattle.acdm_sessions.specs.declared.session.End.{End}
+use Rattle.acdm_sessions.specs.declared.session.End.TheVariants as ends
 use Rattle.acdm_sessions.specs.declared.session.End.TheVariants.{Start}
 use Rattle.acdm_sessions.specs.Orders.{Orders}
+use Rattle.acdm_sessions.specs.Stream.{AnswersAll, AnswersPart, AnswersWhole}
 
 -- ---- one line
 
--- What is answered to a call of the desk, and how many calls have made an entry before it and after
--- it: it makes one, unless memory was refused or the journal is full.
-abbrev pub CallAnswers : ℕ → ℕ → Answer → Type 0
-CallAnswers calls later (Entered reply) = later ≡ calls + 1
-CallAnswers calls later (Rejected b) =
-    (later ≡ calls) × ((b ≡ NoMemory) ⊎ (b ≡ FullJournal))
+-- A call of a pass made an entry for an order. The journal before it, the newest entry first, began
+-- with what the pass had seen. The pass has seen all of the journal then, and the entry, of its
+-- session and role, is the last of its own. The reply has the entry's number and what came of it.
+pub record Calls (sigs : List (ℕ × Promise)) (o : Order) (old new : PassView) (reply : Reply)
+    : Type 0 where
+  pub before : History
+  pub answers : List ℕ
+  pub begins : old.seen ≡ take (length old.seen) (reverse before)
+  pub caller : IsSameCaller old new
+  pub seen : new.seen ≡ reverse (after before old.session old.role o.moment o.command
+      (verdict_of sigs before old.role o.command) answers)
+  pub numbers : new.numbers ≡ old.numbers ++ length before ∷ []
+  pub own : new.own ≡ old.own ++ take 1 (after before old.session old.role o.moment o.command
+      (verdict_of sigs before old.role o.command) answers)
+  pub number : reply.number ≡ length before
+  pub outcome : reply.outcome ≡ outcome_of sigs before old.role o.command
+
+-- What is answered to a call of the desk, and the session's pass before it and after it: it makes
+-- an entry, unless memory was refused or the journal is full.
+abbrev pub CallAnswers : List (ℕ × Promise) → Order → PassView → PassView → Answer → Type 0
+CallAnswers sigs o old new (Entered reply) = Calls sigs o old new reply
+CallAnswers sigs o old new (Rejected b) =
+    (new ≡ old) × ((b ≡ NoMemory) ⊎ (b ≡ FullJournal))
 
 -- the same of an order, or of a line that gives none
-abbrev pub OrderAnswers : Result Order Bad → ℕ → ℕ → Answer → Type 0
-OrderAnswers (Err b) calls later answer = (later ≡ calls) × (answer ≡ Rejected b)
-OrderAnswers (Ok o) calls later answer = CallAnswers calls later answer
+abbrev pub OrderAnswers : List (ℕ × Promise) → Result Order Bad → PassView → PassView → Answer
+    → Type 0
+OrderAnswers sigs (Err b) old new answer = (new ≡ old) × (answer ≡ Rejected b)
+OrderAnswers sigs (Ok o) old new answer = CallAnswers sigs o old new answer
 
--- a session answered a line so, and is the same session after it
-pub record SessionAnswers (gives later_gives : ℕ → Bool) (number later_number : ℕ)
-    (role later_role : Role) (sigs : List (ℕ × Promise)) (calls later : ℕ) (line : List ℕ)
-    (answer : Answer) : Type 0 where
+-- a session whose clock may give these minutes answered a line so
+pub record SessionAnswers (gives : ℕ → Bool) (sigs : List (ℕ × Promise)) (old new : PassView)
+    (line : List ℕ) (answer : Answer) : Type 0 where
   pub order : Result Order Bad
   pub orders : Orders gives sigs line order
-  pub answers : OrderAnswers order calls later answer
+  pub answers : OrderAnswers sigs order old new answer
+
+-- it is the same session after it
+pub record StaysItself (gives later_gives : ℕ → Bool) (number later_number : ℕ)
+    (role later_role : Role) : Type 0 where
   pub same_number : later_number ≡ number
   pub same_role : later_role ≡ role
   pub same_clock : later_gives ≡ gives
@@ -50,10 +82,10 @@ abbrev pub session_end : ℕ → Role → ℕ → End → SessionEnd
 session_end number role calls end =
     record { number = number; role = role; calls = calls; end = end }
 
--- roles with their numbers, one after the other from this one on
-abbrev pub numbered : ℕ → List Role → List (ℕ × Role)
+-- those of a list with their numbers, one after the other from this one on
+abbrev pub numbered : {X : Type 0} → ℕ → List X → List (ℕ × X)
 numbered n [] = []
-numbered n (r ∷ rs) = (n, r) ∷ numbered (n + 1) rs
+numbered n (x ∷ xs) = (n, x) ∷ numbered (n + 1) xs
 
 -- Sessions of these roles have ended, numbered from here on. One that was not started made no
 -- entry.
@@ -69,3 +101,86 @@ pub record EndsAs (number : ℕ) (role : Role) (t : SessionEnd) : Type 0 where
   pub same_number : t.number ≡ number
   pub same_role : t.role ≡ role
   pub not_started : t.end ≡ Start → t.calls ≡ 0
+
+-- ---- what was read and written
+
+-- what a session is opened with: its role, what its reader has left and how often it failed, what
+-- its writer holds, and the minutes that its clock may give
+pub record SessionStart : Type 0 where
+  pub role : Role
+  pub unread : Option (List ℕ)
+  pub faults : ℕ
+  pub written : Option (List ℕ)
+  pub gives : ℕ → Bool
+
+abbrev pub session_start : Role → Option (List ℕ) → ℕ → Option (List ℕ) → (ℕ → Bool)
+    → SessionStart
+session_start role unread faults written gives =
+    record {
+      role = role;
+      unread = unread;
+      faults = faults;
+      written = written;
+      gives = gives;
+    }
+
+-- what it leaves: how it ended, what its reader has left and how often it failed, what its writer
+-- holds, and its pass
+pub record SessionLeft : Type 0 where
+  pub end : End
+  pub unread : Option (List ℕ)
+  pub faults : ℕ
+  pub written : Option (List ℕ)
+  pub pass : PassView
+
+abbrev pub session_left : End → Option (List ℕ) → ℕ → Option (List ℕ) → PassView → SessionLeft
+session_left end unread faults written pass =
+    record {
+      end = end;
+      unread = unread;
+      faults = faults;
+      written = written;
+      pass = pass;
+    }
+
+-- a pass that has seen nothing
+abbrev pub new_pass : RowView → ℕ → Role → PassView
+new_pass row session role =
+    record {
+      row = row;
+      session = session;
+      role = role;
+      seen = [];
+      numbers = [];
+      own = [];
+    }
+
+-- how a session ends whose lines were answered so
+abbrev pub end_for : {T : Type 0} → Result T RunError → End
+end_for (Ok x) = ends.End
+end_for (Err errors.Read) = ends.Read
+end_for (Err errors.Write) = ends.Write
+end_for (Err errors.Memory) = ends.Memory
+
+-- Lines were answered, from a pass that had seen nothing to the one that the session leaves: all of
+-- the input, or the whole lines before its reader failed or without end, or those before its
+-- writer failed. One that had no memory for its buffers, or was not started, did nothing.
+abbrev pub ServesAs : RowView → ℕ → SessionStart → SessionLeft → End → Type 0
+ServesAs row number s t ends.End =
+    AnswersAll (SessionAnswers s.gives row.sigs) s.unread t.unread (new_pass row number s.role)
+    t.pass s.written t.written
+ServesAs row number s t ends.Read =
+    AnswersWhole (SessionAnswers s.gives row.sigs) s.unread t.unread s.faults t.faults
+    (new_pass row number s.role) t.pass s.written t.written
+ServesAs row number s t ends.Write =
+    AnswersPart (SessionAnswers s.gives row.sigs) s.unread t.unread (new_pass row number s.role)
+    t.pass s.written t.written
+ServesAs row number s t _ =
+    (t.unread ≡ s.unread) × (t.written ≡ s.written) × (t.pass ≡ new_pass row number s.role)
+
+abbrev pub HasServed : RowView → ℕ → SessionStart → SessionLeft → Type 0
+HasServed row number s t = ServesAs row number s t t.end
+
+-- the same of all sessions, numbered from 1
+abbrev pub HaveServed : RowView → List SessionStart → List SessionLeft → Type 0
+HaveServed row ss ts = Each (λ p t. HasServed row p.0 p.1 t) (numbered 1 ss) ts

@@ -1,8 +1,10 @@
 //! One session, from its first line to its last reply.
-ghost use Rattle.std.specs.Prelude.{◌≡◌, ◌+◌, ◌-◌, ◌≤◌, ◌<◌, ◌^◌, false, IfOk};
+ghost use Rattle.std.specs.Prelude.{◌≡◌, ◌-◌, ◌≤◌, ◌<◌, ◌^◌, false, Err, IfOk, OnOk};
 ghost use Rattle.acdm_board.specs.Desk.{is_foreign};
 ghost use Rattle.acdm_sessions.specs.Orders.{Orders};
-ghost use Rattle.acdm_sessions.specs.Sessions.{CallAnswers, EndsAs, session_end};
+ghost use Rattle.acdm_sessions.specs.Sessions.{CallAnswers, EndsAs, HasServed, SessionAnswers};
+ghost use Rattle.acdm_sessions.specs.Sessions.{end_for, session_end, session_left, session_start};
+ghost use Rattle.acdm_sessions.specs.Stream.{AnswersAll, AnswersPart, AnswersWhole};
 
 use crate::answer::Answer;
 use crate::answerer::Answerer;
@@ -25,7 +27,7 @@ impl<C: Clock + Drop, J: Naming> Caller<C, J> {
         ensures orders { Orders (C.gives self.old.clock) J.desk_row.sigs line.now result }
         ensures from_one { IfOk result (λ order. 1 ≤ order.moment) }
         ensures checked { IfOk result (λ order. is_foreign J.desk_row.sigs order.command ≡ false) }
-        ensures calls { self.new.calls ≡ self.old.calls }
+        ensures pass { self.new.pass ≡ self.old.pass }
         ensures number { self.new.number ≡ self.old.number }
         ensures role { self.new.role ≡ self.old.role }
         ensures clock { C.gives self.new.clock ≡ C.gives self.old.clock }
@@ -42,7 +44,7 @@ impl<C: Clock + Drop, J: Naming> Caller<C, J> {
     ) -> Answer
         requires moment_given { 1 ≤ order.moment }
         requires checked { is_foreign J.desk_row.sigs order.command ≡ false }
-        ensures answers { CallAnswers self.old.calls self.new.calls result }
+        ensures answers { CallAnswers J.desk_row.sigs order self.old.pass self.new.pass result }
         ensures number { self.new.number ≡ self.old.number }
         ensures role { self.new.role ≡ self.old.role }
         ensures clock { C.gives self.new.clock ≡ C.gives self.old.clock }
@@ -80,12 +82,12 @@ struct AtDesk<'s, C: Drop, H: Helpers + Drop, J: Naming, G, Rt> {
 
 impl<'s, C: Clock + Drop, H: Helpers + Drop, J: Naming, G: Gate, Rt: Wait> Answerer
     for AtDesk<'s, C, H, J, G, Rt> {
-    ghost use Rattle.acdm_sessions.specs.Sessions.{SessionAnswers};
+    ghost use Rattle.acdm_sessions.specs.Sessions.{SessionAnswers, StaysItself};
 
-    ghost may = { λ before after line answer. SessionAnswers
-        (C.gives before.caller.clock) (C.gives after.caller.clock)
-        before.caller.number after.caller.number before.caller.role after.caller.role
-        J.desk_row.sigs before.caller.calls after.caller.calls line answer };
+    ghost may = { λ before after line answer. SessionAnswers (C.gives before.caller.clock)
+        J.desk_row.sigs before.caller.pass after.caller.pass line answer
+        × StaysItself (C.gives before.caller.clock) (C.gives after.caller.clock)
+        before.caller.number after.caller.number before.caller.role after.caller.role };
 
     fn answer(&mut self, alloc: Global, line: &[u8]) -> Answer {
         self.called = false;
@@ -127,8 +129,37 @@ fn answer_all<
     requires writes { writer.old.faults < 2 ^ 64 - 1 }
     ensures number { who.new.caller.number ≡ who.old.caller.number }
     ensures role { who.new.caller.role ≡ who.old.caller.role }
+    ensures output { OnOk result (AnswersAll
+        (SessionAnswers (C.gives who.old.caller.clock) J.desk_row.sigs)
+        (R.remaining reader.old.inner) (R.remaining reader.new.inner)
+        who.old.caller.pass who.new.caller.pass
+        (W.contents writer.old.inner) (W.contents writer.new.inner)) }
+    ensures read { result ≡ Err RunError.Read → AnswersWhole
+        (SessionAnswers (C.gives who.old.caller.clock) J.desk_row.sigs)
+        (R.remaining reader.old.inner) (R.remaining reader.new.inner)
+        reader.old.faults reader.new.faults who.old.caller.pass who.new.caller.pass
+        (W.contents writer.old.inner) (W.contents writer.new.inner) }
+    ensures written_in_part { result ≡ Err RunError.Write → AnswersPart
+        (SessionAnswers (C.gives who.old.caller.clock) J.desk_row.sigs)
+        (R.remaining reader.old.inner) (R.remaining reader.new.inner)
+        who.old.caller.pass who.new.caller.pass
+        (W.contents writer.old.inner) (W.contents writer.new.inner) }
+    ensures memory { result ≡ Err RunError.Memory →
+        (reader.new ≡ reader.old) × (writer.new ≡ writer.old) × (who.new ≡ who.old) }
 {
     serve_lines(alloc, reader, writer, who)
+}
+
+// How a session ends whose lines were answered so.
+fn end_of(answered: Result<(), RunError>) -> End
+    ensures { result ≡ end_for answered }
+{
+    match answered {
+        Ok(()) => End::End,
+        Err(RunError::Read) => End::Read,
+        Err(RunError::Write) => End::Write,
+        Err(RunError::Memory) => End::Memory,
+    }
 }
 
 // A session from its beginning to its end. With no leave to begin it ends at once.
@@ -148,8 +179,13 @@ pub(crate) fn serve<
     seat: Seat<R, W, C, J>,
     begins: bool,
 ) -> Served<R, W, C, J>
-    ensures { EndsAs seat.number seat.role
+    ensures end { EndsAs seat.number seat.role
         (session_end result.number result.role result.caller.calls result.end) }
+    ensures served { HasServed J.desk_row seat.number
+        (session_start seat.role (R.remaining seat.reader.inner) seat.reader.faults
+        (W.contents seat.writer.inner) (C.gives seat.caller.clock))
+        (session_left result.end (R.remaining result.reader.inner) result.reader.faults
+        (W.contents result.writer.inner) result.caller.pass) }
 {
     let Seat {
         number,
@@ -176,12 +212,7 @@ pub(crate) fn serve<
         turn: 0,
         called: false,
     };
-    let end = match answer_all(alloc, &mut reader, &mut writer, &mut at_desk) {
-        Ok(()) => End::End,
-        Err(RunError::Read) => End::Read,
-        Err(RunError::Write) => End::Write,
-        Err(RunError::Memory) => End::Memory,
-    };
+    let end = end_of(answer_all(alloc, &mut reader, &mut writer, &mut at_desk));
     let AtDesk { caller, .. } = at_desk;
     Served {
         number,

@@ -2,8 +2,9 @@
 ghost use Rattle.std.specs.Prelude.{◌≡◌, ◌≢◌, ◌+◌, ◌<◌, ◌≤◌, ◌^◌, ◌↔◌, ℕ, [], true, false, length};
 ghost use Rattle.std.specs.Prelude.{Err, OnOk, OnErr, IfOk};
 ghost use Rattle.acdm_row.specs.Views.{IsSameCaller, RowView};
-ghost use Rattle.acdm_board.specs.Desk.{Enters, Extends, is_foreign, row_of};
+ghost use Rattle.acdm_board.specs.Desk.{is_foreign, row_of};
 ghost use Rattle.acdm_sessions.specs.Passes.{are_from};
+ghost use Rattle.acdm_sessions.specs.Sessions.{Calls};
 
 use crate::order::Order;
 use acdm_board::{Desk, DeskError, Reply};
@@ -54,14 +55,12 @@ impl<H: Helpers + Drop, J: Naming> Locked<H, J> {
         ensures fits { OnOk result (mine.new.amount < 2 ^ 64) }
         ensures err { OnErr result ((mine.new.amount ≡ mine.old.amount)
             × (self.new.desk ≡ self.old.desk) × (pass.new ≡ pass.old)) }
-        ensures entry { IfOk result (λ reply. Enters self.old.desk pass.old.session pass.old.role
-            order.moment order.command self.new.desk reply.outcome) }
-        ensures pass { OnOk result (Extends self.old.desk self.new.desk pass.old pass.new) }
+        ensures calls { IfOk result (λ reply. Calls J.desk_row.sigs order pass.old pass.new
+            reply) }
         ensures caller { IsSameCaller pass.old pass.new }
         ensures own { OnOk result (length pass.new.own ≡ length pass.old.own + 1) }
         ensures since { OnOk result (are_from J.start pass.old.numbers ≡ true
             → are_from J.start pass.new.numbers ≡ true) }
-        ensures number { IfOk result (λ reply. reply.number ≡ length self.old.desk.history) }
         ensures full { (result ≡ Err DeskError.Full)
             ↔ (length self.old.desk.history ≡ self.old.desk.capacity) }
         ensures known { result ≢ Err DeskError.OtherSignatures }

@@ -1,6 +1,7 @@
 //! Sessions: before they begin, and when they have ended.
 ghost use Rattle.std.specs.Prelude.{◌≡◌, ◌<◌, ◌-◌, ◌^◌, true, length};
 ghost use Rattle.acdm_sessions.specs.Passes.{are_from};
+ghost use Rattle.acdm_sessions.specs.Sessions.{new_pass};
 
 use crate::locked::Naming;
 use acdm_board::Desk;
@@ -60,8 +61,8 @@ pub struct Ended<R: Drop, W: Drop, C: Drop> {
     pub end: End,
     /// What it has seen of the journal, and which entries its calls made.
     pub pass: Pass,
-    /// Whether its pass has seen more than the journal of the desk has, of which nothing is told
-    /// then. That is only known not to be by this test.
+    /// Whether its pass has seen more than the journal of the desk has. What the pass has seen and
+    /// made is not told of then. No contract of a cell excludes it, and no test meets it.
     pub torn: bool,
 }
 
@@ -106,6 +107,7 @@ pub(crate) struct Seat<R: Drop, W: Drop, C: Drop, J: Naming> {
     ghost same_number: { caller.number ≡ number },
     ghost same_role: { caller.role ≡ role },
     ghost none_yet: { caller.calls ≡ 0 },
+    ghost new: { caller.pass ≡ new_pass J.desk_row number role },
     ghost reads: { reader.faults < 2 ^ 64 - 1 },
     ghost writes: { writer.faults < 2 ^ 64 - 1 },
 }

@@ -5,7 +5,8 @@ ghost use Rattle.acdm_jobs.specs.Each.{Each};
 ghost use Rattle.std.specs.List.{All};
 ghost use Rattle.acdm_board.specs.Desk.{row_of};
 ghost use Rattle.acdm_sessions.specs.Passes.{BeginsWith, IsShown};
-ghost use Rattle.acdm_sessions.specs.Sessions.{HaveEnded, numbered, session_end};
+ghost use Rattle.acdm_sessions.specs.Sessions.{HaveEnded, HaveServed, numbered, session_end};
+ghost use Rattle.acdm_sessions.specs.Sessions.{session_left, session_start};
 
 use crate::at_desk::serve;
 use crate::clock::{Clock, Gate};
@@ -43,10 +44,16 @@ impl<
     G: Gate + Sync,
     Rt: Wait + Sync,
 > Job<Served<R, W, C, J>> for Work<'s, R, W, C, H, J, G, Rt> {
-    ghost use Rattle.acdm_sessions.specs.Sessions.{EndsAs, session_end};
+    ghost use Rattle.acdm_sessions.specs.Sessions.{EndsAs, HasServed, session_end, session_left};
+    ghost use Rattle.acdm_sessions.specs.Sessions.{session_start};
 
     ghost gives = { λ work served. EndsAs work.seat.number work.seat.role
-        (session_end served.number served.role served.caller.calls served.end) };
+        (session_end served.number served.role served.caller.calls served.end)
+        × HasServed J.desk_row work.seat.number
+        (session_start work.seat.role (R.remaining work.seat.reader.inner) work.seat.reader.faults
+        (W.contents work.seat.writer.inner) (C.gives work.seat.caller.clock))
+        (session_left served.end (R.remaining served.reader.inner) served.reader.faults
+        (W.contents served.writer.inner) served.caller.pass) };
 
     fn run(self, begins: bool) -> Served<R, W, C, J> {
         let Work {
@@ -95,7 +102,7 @@ fn filled<
 }
 
 // A seat for each session, in order, with a part of the ledger each.
-fn seated<R: Drop, W: Drop, C: Drop, H: Helpers + Drop, J: Naming>(
+fn seated<R: Read + Drop, W: Write + Drop, C: Clock + Drop, H: Helpers + Drop, J: Naming>(
     sessions: Vec<Session<R, W, C>>,
     desk: &Desk<H>,
     all: &mut Share<J>,
@@ -108,22 +115,52 @@ fn seated<R: Drop, W: Drop, C: Drop, H: Helpers + Drop, J: Naming>(
     ensures len { IfOk result (λ v. vec_len v ≡ vec_len sessions) }
     ensures seats { IfOk result (λ v. map (λ s. (s.number, s.role)) v.items
         ≡ numbered 1 (map (λ s. s.role) sessions.items)) }
+    ensures starts { IfOk result (λ v. map (λ s. (
+      s.number,
+      session_start s.role
+          (R.remaining s.reader.inner) s.reader.faults (W.contents s.writer.inner)
+          (C.gives s.caller.clock),
+    )) v.items ≡ numbered 1 (map (λ s. session_start s.role
+        (R.remaining s.reader.inner) s.reader.faults (W.contents s.writer.inner)
+        (C.gives s.clock)) sessions.items)) }
     ensures parts { OnOk result (all.new.parts + vec_len sessions ≡ all.old.parts) }
     ensures amount { OnOk result (all.new.amount ≡ all.old.amount) }
 {
     let mut number = 0u8;
     for session in sessions {
-        let sigs = desk.sigs().copy()?;
-        let pass = desk.pass(number + 1, session.role)?;
         number += 1;
-        let share = all.split_off(1, 0);
-        seats.push_reserved(seat_of(number, session, sigs, share, pass));
+        let seat = seat_for(number, session, desk, all)?;
+        seats.push_reserved(seat);
     }
     Ok(seats)
 }
 
+// The seat of a session at the desk, with a part of the ledger.
+fn seat_for<R: Read + Drop, W: Write + Drop, C: Clock + Drop, H: Helpers + Drop, J: Naming>(
+    number: u8,
+    session: Session<R, W, C>,
+    desk: &Desk<H>,
+    all: &mut Share<J>,
+) -> Result<Seat<R, W, C, J>, AllocError>
+    requires row { row_of desk.now ≡ J.desk_row }
+    requires number { (1 ≤ number) × (number ≤ 64) }
+    requires parts { 1 < all.old.parts }
+    ensures place { IfOk result (λ s. (s.number ≡ number) × (s.role ≡ session.role)) }
+    ensures start { IfOk result (λ s. session_start s.role (R.remaining s.reader.inner)
+        s.reader.faults (W.contents s.writer.inner) (C.gives s.caller.clock)
+        ≡ session_start session.role (R.remaining session.reader.inner) session.reader.faults
+        (W.contents session.writer.inner) (C.gives session.clock)) }
+    ensures share { OnOk result ((all.new.parts + 1 ≡ all.old.parts)
+        × (all.new.amount ≡ all.old.amount)) }
+{
+    let sigs = desk.sigs().copy()?;
+    let pass = desk.pass(number, session.role)?;
+    let share = all.split_off(1, 0);
+    Ok(seat_of(number, session, sigs, share, pass))
+}
+
 // The seat of a session.
-fn seat_of<R: Drop, W: Drop, C: Drop, J: Naming>(
+fn seat_of<R: Read + Drop, W: Write + Drop, C: Clock + Drop, J: Naming>(
     number: u8,
     session: Session<R, W, C>,
     sigs: Sigs,
@@ -134,9 +171,13 @@ fn seat_of<R: Drop, W: Drop, C: Drop, J: Naming>(
     requires part { (share.parts ≡ 1) × (share.amount ≡ 0) }
     requires row { pass.row ≡ J.desk_row }
     requires caller { (pass.session ≡ number) × (pass.role ≡ session.role) }
-    requires empty { (pass.numbers ≡ []) × (pass.own ≡ []) }
+    requires empty { (pass.seen ≡ []) × (pass.numbers ≡ []) × (pass.own ≡ []) }
     ensures number { result.number ≡ number }
     ensures role { result.role ≡ session.role }
+    ensures start { session_start result.role (R.remaining result.reader.inner)
+        result.reader.faults (W.contents result.writer.inner) (C.gives result.caller.clock)
+        ≡ session_start session.role (R.remaining session.reader.inner) session.reader.faults
+        (W.contents session.writer.inner) (C.gives session.clock) }
 {
     let Session {
         role,
@@ -163,7 +204,7 @@ fn seat_of<R: Drop, W: Drop, C: Drop, J: Naming>(
 }
 
 // Gathers the share of a session that has ended, and holds its pass against the journal.
-fn left_by<R: Drop, W: Drop, C: Drop, H: Helpers + Drop, J: Naming>(
+fn left_by<R: Read + Drop, W: Write + Drop, C: Drop, H: Helpers + Drop, J: Naming>(
     one: Served<R, W, C, J>,
     desk: &mut Desk<H>,
     all: &mut Share<J>,
@@ -174,6 +215,10 @@ fn left_by<R: Drop, W: Drop, C: Drop, H: Helpers + Drop, J: Naming>(
         result.pass }
     ensures session_end { session_end result.number result.role result.calls result.end
         ≡ session_end one.number one.role one.caller.calls one.end }
+    ensures left { session_left result.end (R.remaining result.reader.inner) result.reader.faults
+        (W.contents result.writer.inner) result.pass
+        ≡ session_left one.end (R.remaining one.reader.inner) one.reader.faults
+        (W.contents one.writer.inner) one.caller.pass }
     ensures parts { all.new.parts ≡ all.old.parts + 1 }
     ensures amount { all.new.amount ≡ all.old.amount + result.calls }
 {
@@ -209,7 +254,7 @@ fn left_by<R: Drop, W: Drop, C: Drop, H: Helpers + Drop, J: Naming>(
 }
 
 // Gathers the shares of all, and what else the sessions left.
-fn gathered<R: Drop, W: Drop, C: Drop, H: Helpers + Drop, J: Naming>(
+fn gathered<R: Read + Drop, W: Write + Drop, C: Drop, H: Helpers + Drop, J: Naming>(
     served: Vec<Served<R, W, C, J>>,
     desk: &mut Desk<H>,
     all: &mut Share<J>,
@@ -223,6 +268,10 @@ fn gathered<R: Drop, W: Drop, C: Drop, H: Helpers + Drop, J: Naming>(
     ensures len { vec_len result ≡ vec_len served }
     ensures session_end { map (λ e. session_end e.number e.role e.calls e.end) result.items
         ≡ map (λ s. session_end s.number s.role s.caller.calls s.end) served.items }
+    ensures left { map (λ e. session_left e.end (R.remaining e.reader.inner) e.reader.faults
+        (W.contents e.writer.inner) e.pass) result.items
+        ≡ map (λ s. session_left s.end (R.remaining s.reader.inner) s.reader.faults
+        (W.contents s.writer.inner) s.caller.pass) served.items }
     ensures parts { all.new.parts ≡ all.old.parts + vec_len served }
     ensures amount { all.new.amount
         ≡ all.old.amount + sum_by (λ e. e.calls) result.items }
@@ -246,7 +295,7 @@ fn hold<H: Helpers + Drop>(desk: &mut Desk<H>, first: &mut Pass)
 }
 
 // Takes the desk from under the lock, and holds the ledger's book against all shares.
-fn close<R: Drop, W: Drop, C: Drop, H: Helpers + Drop, J: Naming>(
+fn close<R: Read + Drop, W: Write + Drop, C: Drop, H: Helpers + Drop, J: Naming>(
     locked: Locked<H, J>,
     mut first: Pass,
     mut all: Share<J>,
@@ -260,6 +309,10 @@ fn close<R: Drop, W: Drop, C: Drop, H: Helpers + Drop, J: Naming>(
         ≡ all.amount + sum_by (λ e. e.calls) result.sessions.items }
     ensures session_end { map (λ e. session_end e.number e.role e.calls e.end) result.sessions.items
         ≡ map (λ s. session_end s.number s.role s.caller.calls s.end) served.items }
+    ensures left { map (λ e. session_left e.end (R.remaining e.reader.inner) e.reader.faults
+        (W.contents e.writer.inner) e.pass) result.sessions.items
+        ≡ map (λ s. session_left s.end (R.remaining s.reader.inner) s.reader.faults
+        (W.contents s.writer.inner) s.caller.pass) served.items }
     ensures begins { first.seen ≡ take (length first.seen) (reverse result.desk.history) }
     ensures shown { All (λ e. IsShown J.start result.desk e.number e.role e.calls e.torn e.pass)
         result.sessions.items }
@@ -283,7 +336,7 @@ struct Opened<R: Drop, W: Drop, C: Drop, H: Helpers + Drop, J: Naming> {
 }
 
 // Opens the ledger over the desk, and seats the sessions.
-fn open<R: Drop, W: Drop, C: Drop, H: Helpers + Drop, J: Naming>(
+fn open<R: Read + Drop, W: Write + Drop, C: Clock + Drop, H: Helpers + Drop, J: Naming>(
     alloc: Global,
     blank: Blank,
     mut desk: Desk<H>,
@@ -298,6 +351,14 @@ fn open<R: Drop, W: Drop, C: Drop, H: Helpers + Drop, J: Naming>(
     ensures len { IfOk result (λ o. vec_len o.seats ≡ vec_len sessions) }
     ensures seats { IfOk result (λ o. map (λ s. (s.number, s.role)) o.seats.items
         ≡ numbered 1 (map (λ s. s.role) sessions.items)) }
+    ensures starts { IfOk result (λ o. map (λ s. (
+      s.number,
+      session_start s.role
+          (R.remaining s.reader.inner) s.reader.faults (W.contents s.writer.inner)
+          (C.gives s.caller.clock),
+    )) o.seats.items ≡ numbered 1 (map (λ s. session_start s.role
+        (R.remaining s.reader.inner) s.reader.faults (W.contents s.writer.inner)
+        (C.gives s.clock)) sessions.items)) }
     ensures parts { IfOk result (λ o. o.all.parts + vec_len sessions ≡ J.parts) }
     ensures amount { IfOk result (λ o. o.all.amount ≡ length desk.history) }
     ensures first { IfOk result (λ o. (o.first.row ≡ J.desk_row)
@@ -364,6 +425,11 @@ fn run_named<
     ensures sessions { IfOk result (λ c. HaveEnded 1 (map (λ s. s.role) sessions.items)
         (map (λ e. session_end e.number e.role e.calls e.end)
         c.sessions.items)) }
+    ensures served { IfOk result (λ c. HaveServed (row_of desk)
+        (map (λ s. session_start s.role (R.remaining s.reader.inner) s.reader.faults
+        (W.contents s.writer.inner) (C.gives s.clock)) sessions.items)
+        (map (λ e. session_left e.end (R.remaining e.reader.inner) e.reader.faults
+        (W.contents e.writer.inner) e.pass) c.sessions.items)) }
     ensures err { IfErr result (λ d. d ≡ desk) }
 {
     let Ok(crew) = Crew::new(alloc, sessions.len()) else {
@@ -412,6 +478,15 @@ pub fn run_sessions<
     ensures sessions { IfOk result (λ c. HaveEnded 1 (map (λ s. s.role) sessions.items)
         (map (λ e. session_end e.number e.role e.calls e.end)
         c.sessions.items)) }
+
+    // What each session read was answered line by line, from a pass that had seen nothing to the
+    // pass that it leaves. A line that made an entry made the next of the pass's own, for what the
+    // line asks at a minute that the clock may give, and the reply tells of that entry.
+    ensures served { IfOk result (λ c. HaveServed (row_of desk)
+        (map (λ s. session_start s.role (R.remaining s.reader.inner) s.reader.faults
+        (W.contents s.writer.inner) (C.gives s.clock)) sessions.items)
+        (map (λ e. session_left e.end (R.remaining e.reader.inner) e.reader.faults
+        (W.contents e.writer.inner) e.pass) c.sessions.items)) }
 
     // The closed journal begins with the opening one and, but for a torn session, with what the
     // pass of each has seen, and its own entries are a part of what it made. With the sum above

@@ -6,7 +6,7 @@ use Rattle.std.proofs.lemmas.List.Sums.{sum_by-append}
 use Rattle.std.specs.Vec.Iter.{into_iter_items}
 use Rattle.acdm_board.specs.Desk.{DeskView}
 use Rattle.acdm_sessions.specs.Passes.{IsShown}
-use Rattle.acdm_sessions.specs.Sessions.{session_end}
+use Rattle.acdm_sessions.specs.Sessions.{session_end, session_left}
 use Rattle.acdm_sessions.proofs.Seats.{empty_of, taken_both}
 use Rattle.acdm_sessions.proofs.sessions.gathered.Goals as goal
 
@@ -19,6 +19,43 @@ returns-clause-session_end g c =
     ∙ ap (λ xs. map (λ e. session_end e.number e.role e.calls e.end) c.loop-one.ended.items
     ++ map (λ s. session_end s.number s.role s.caller.calls s.end) xs) (sym none)
     ∙ c.loop-one.invariant.session_end
+
+pub returns-clause-left : goal.returns-clause-left
+returns-clause-left g c =
+    let it = c.loop-one.one-iterator in
+    let none : into_iter_items it ≡ [] =
+    empty_of it.rest.items (sym it.rest.ok.0 ∙ c.in-None.ensures.steps.0) in
+    sym (append-nil (map (λ e. session_left e.end (g.R.Read.remaining e.reader.inner)
+    e.reader.faults (g.W.Write.contents e.writer.inner) e.pass) c.loop-one.ended.items))
+    ∙ ap (λ xs. map (λ e. session_left e.end (g.R.Read.remaining e.reader.inner)
+    e.reader.faults (g.W.Write.contents e.writer.inner) e.pass) c.loop-one.ended.items
+    ++ map (λ s. session_left s.end (g.R.Read.remaining s.reader.inner) s.reader.faults
+    (g.W.Write.contents s.writer.inner) s.caller.pass) xs) (sym none)
+    ∙ c.loop-one.invariant.left
+
+pub loop-one-init : goal.loop-one-init
+loop-one-init g c =
+    let none : c.args.ended.items ≡ [] =
+    empty_of c.args.ended.items (sym c.args.ended.ok.0 ∙ c.requires.room.0) in
+    let it = into_iter_items c.into_iter-one-iterator.result in
+    let all : it ≡ c.args.served.items = search rules in
+    record {
+      count = search rules;
+      room = search rules;
+      parts = search rules;
+      same = search rules;
+      shown = search rules;
+      amount = omega (arith, ap (λ es. sum_by (λ e. e.calls) es) none);
+      session_end = ap (λ es. map (λ e. session_end e.number e.role e.calls e.end) es
+          ++ map (λ s. session_end s.number s.role s.caller.calls s.end) it) none
+          ∙ ap (λ es. map (λ s. session_end s.number s.role s.caller.calls s.end) es) all;
+      left = ap (λ es. map (λ e. session_left e.end (g.R.Read.remaining e.reader.inner)
+          e.reader.faults (g.W.Write.contents e.writer.inner) e.pass) es
+          ++ map (λ s. session_left s.end (g.R.Read.remaining s.reader.inner) s.reader.faults
+          (g.W.Write.contents s.writer.inner) s.caller.pass) it) none
+          ∙ ap (λ es. map (λ s. session_left s.end (g.R.Read.remaining s.reader.inner)
+          s.reader.faults (g.W.Write.contents s.writer.inner) s.caller.pass) es) all;
+    }
 
 pub loop-one-preserved : goal.loop-one-preserved
 loop-one-preserved g c =
@@ -52,4 +89,16 @@ loop-one-preserved g c =
           (map (λ s. session_end s.number s.role s.caller.calls s.end) c.args.served.items)
           c.in-Some.ensures.steps.0 c.left_by.ensures.session_end
           c.loop-one.invariant.session_end;
+      left = ap (λ es. map (λ e. session_left e.end (g.R.Read.remaining e.reader.inner)
+          e.reader.faults (g.W.Write.contents e.writer.inner) e.pass) es
+          ++ map (λ s. session_left s.end (g.R.Read.remaining s.reader.inner) s.reader.faults
+          (g.W.Write.contents s.writer.inner) s.caller.pass) rest) items
+          ∙ taken_both (λ e. session_left e.end (g.R.Read.remaining e.reader.inner)
+          e.reader.faults (g.W.Write.contents e.writer.inner) e.pass)
+          (λ s. session_left s.end (g.R.Read.remaining s.reader.inner) s.reader.faults
+          (g.W.Write.contents s.writer.inner) s.caller.pass) c.loop-one.ended.items e
+          c.in-Some.one (into_iter_items c.loop-one.one-iterator) rest
+          (map (λ s. session_left s.end (g.R.Read.remaining s.reader.inner) s.reader.faults
+          (g.W.Write.contents s.writer.inner) s.caller.pass) c.args.served.items)
+          c.in-Some.ensures.steps.0 c.left_by.ensures.left c.loop-one.invariant.left;
     }

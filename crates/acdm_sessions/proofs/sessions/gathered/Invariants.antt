@@ -2,7 +2,7 @@ use Rattle.std.specs.Prelude.{◌≡◌, ◌+◌, ◌≤◌, ◌++◌, map, vec_
 use Rattle.std.specs.Vec.Iter.{into_iter_len, into_iter_items}
 use Rattle.std.specs.List.{All}
 use Rattle.acdm_sessions.specs.Passes.{IsShown}
-use Rattle.acdm_sessions.specs.Sessions.{session_end}
+use Rattle.acdm_sessions.specs.Sessions.{session_end, session_left}
 use Rattle.acdm_sessions.proofs.sessions.gathered.Given as goal
 
 abbrev pub invariant-loop-one : goal.invariant-loop-one
@@ -19,4 +19,10 @@ invariant-loop-one g l = record {
       ++ map (λ s. session_end s.number s.role s.caller.calls s.end)
       (into_iter_items l.one-iterator)
       ≡ map (λ s. session_end s.number s.role s.caller.calls s.end) l.fn.served.items;
+  left : map (λ e. session_left e.end (g.R.Read.remaining e.reader.inner) e.reader.faults
+      (g.W.Write.contents e.writer.inner) e.pass) l.ended.items
+      ++ map (λ s. session_left s.end (g.R.Read.remaining s.reader.inner) s.reader.faults
+      (g.W.Write.contents s.writer.inner) s.caller.pass) (into_iter_items l.one-iterator)
+      ≡ map (λ s. session_left s.end (g.R.Read.remaining s.reader.inner) s.reader.faults
+      (g.W.Write.contents s.writer.inner) s.caller.pass) l.fn.served.items;
 }

@@ -1,7 +1,10 @@
-use Rattle.std.proofs.Common.{length, reverse, take, sym, ap, ◌∙◌}
+use Rattle.std.proofs.Common.{◌+◌, length, map, reverse, take, sym, ap, subst, ◌∙◌}
+use Rattle.std.specs.Prelude.{sum_by}
+use Rattle.acdm_row.specs.Views.{RowView}
 use Rattle.std.proofs.lemmas.List.{length-reverse}
-use Rattle.acdm_sessions.specs.Sessions.{session_end}
-use Rattle.acdm_sessions.proofs.Seats.{sessions_ended}
+use Rattle.acdm_sessions.specs.Sessions.{EndsAs, HasServed, HaveServed, session_end, session_left}
+use Rattle.acdm_sessions.specs.Sessions.{session_start}
+use Rattle.acdm_sessions.proofs.Seats.{each_as, each_seated, have_ended}
 use denote.Exit.{no}
 use denote.Param.Send.{param_send, arg_send}
 use Rattle.acdm_sessions.proofs.Crossing.{served_send, work_send}
@@ -34,7 +37,49 @@ returns-clause-begins g c =
 
 pub returns-clause-sessions : goal.returns-clause-sessions
 returns-clause-sessions g c =
-    sessions_ended (λ w. w.seat) (λ s. (s.number, s.role))
+    have_ended 1 _ _
+    (each_seated (λ s t. EndsAs s.0 s.1 t) (λ w. w.seat) (λ s. (s.number, s.role))
     (λ y. session_end y.number y.role y.caller.calls y.end) c.filled-crew.result.jobs
-    c.in_ok-locked.field-0.seats.items c.run-served.result.items _ _ c.run-served.ensures.gives
-    c.filled-crew.ensures.seats c.in_ok-locked.ensures.seats c.close.ensures.session_end
+    c.in_ok-locked.field-0.seats.items c.run-served.result.items _ _
+    (each_as _ _ c.filled-crew.result.jobs c.run-served.result.items (λ w y h. h.0)
+    c.run-served.ensures.gives)
+    c.filled-crew.ensures.seats c.in_ok-locked.ensures.seats c.close.ensures.session_end)
+
+pub returns-clause-served : goal.returns-clause-served
+returns-clause-served g c =
+    let starts = map (λ s. session_start s.role (g.R.Read.remaining s.reader.inner)
+    s.reader.faults (g.W.Write.contents s.writer.inner) (g.C.Clock.gives s.clock))
+    c.args.sessions.items in
+    let lefts = map (λ e. session_left e.end (g.R.Read.remaining e.reader.inner) e.reader.faults
+    (g.W.Write.contents e.writer.inner) e.pass) c.close.result.sessions.items in
+    let served : HaveServed g.J.Naming.desk_row starts lefts =
+    each_seated (λ p t. HasServed g.J.Naming.desk_row p.0 p.1 t) (λ w. w.seat)
+    (λ s. (
+      s.number,
+      session_start s.role (g.R.Read.remaining s.reader.inner) s.reader.faults
+          (g.W.Write.contents s.writer.inner) (g.C.Clock.gives s.caller.clock),
+    ))
+    (λ y. session_left y.end (g.R.Read.remaining y.reader.inner) y.reader.faults
+    (g.W.Write.contents y.writer.inner) y.caller.pass) c.filled-crew.result.jobs
+    c.in_ok-locked.field-0.seats.items c.run-served.result.items _ _
+    (each_as _ _ c.filled-crew.result.jobs c.run-served.result.items (λ w y h. h.1)
+    c.run-served.ensures.gives)
+    c.filled-crew.ensures.seats c.in_ok-locked.ensures.starts c.close.ensures.left in
+    subst (λ (row : RowView). HaveServed row starts lefts) (sym c.requires.row) served
+
+pub returns-clause-shown : goal.returns-clause-shown
+returns-clause-shown g c = c.close.ensures.shown
+
+pub returns-clause-sum : goal.returns-clause-sum
+returns-clause-sum g c =
+    c.close.ensures.sum
+    ∙ ap (λ n. n + sum_by (λ e. e.calls) c.close.result.sessions.items)
+    c.in_ok-locked.ensures.amount
+
+pub close-requires-clause-first : goal.close-requires-clause-first
+close-requires-clause-first g c =
+    let first = c.in_ok-locked.ensures.first in (
+      first.0,
+      ap length first.1 ∙ length-reverse c.args.desk.history
+          ∙ sym c.in_ok-locked.ensures.amount,
+    )

@@ -1,6 +1,6 @@
 use Rattle.std.specs.Prelude.{◌≡◌, ◌+◌, ◌≤◌, ◌++◌, map, vec_len, vec_capacity}
 use Rattle.std.specs.Vec.Iter.{into_iter_len, into_iter_items}
-use Rattle.acdm_sessions.specs.Sessions.{numbered}
+use Rattle.acdm_sessions.specs.Sessions.{numbered, session_start}
 use Rattle.acdm_sessions.proofs.sessions.seated.Given as goal
 
 abbrev pub invariant-loop-session : goal.invariant-loop-session
@@ -13,4 +13,16 @@ invariant-loop-session g l = record {
   places : map (λ s. (s.number, s.role)) l.seats.items
       ++ numbered (l.number + 1) (map (λ s. s.role) (into_iter_items l.session-iterator))
       ≡ numbered 1 (map (λ s. s.role) l.fn.sessions.items);
+  starts : map (λ s. (
+    s.number,
+    session_start s.role (g.R.Read.remaining s.reader.inner)
+        s.reader.faults (g.W.Write.contents s.writer.inner) (g.C.Clock.gives s.caller.clock),
+  ))
+      l.seats.items
+      ++ numbered (l.number + 1) (map (λ s. session_start s.role (g.R.Read.remaining s.reader.inner)
+      s.reader.faults (g.W.Write.contents s.writer.inner) (g.C.Clock.gives s.clock))
+      (into_iter_items l.session-iterator))
+      ≡ numbered 1 (map (λ s. session_start s.role (g.R.Read.remaining s.reader.inner)
+      s.reader.faults (g.W.Write.contents s.writer.inner) (g.C.Clock.gives s.clock))
+      l.fn.sessions.items);
 }

@@ -1,0 +1,143 @@
+use Rattle.std.proofs.Common.{◌≡◌, [], ◌++◌, map, sym, ap, subst, ◌∙◌, append-nil, refl, rules}
+use Rattle.std.proofs.Common.{◌+◌, ◌≤◌}
+use Rattle.std.specs.Vec.Iter.{into_iter_items}
+use Rattle.acdm_sessions.specs.Sessions.{numbered, session_start}
+use Rattle.acdm_sessions.proofs.Seats.{count_on, empty_of, few_so_far, len_of_all, part_less}
+use Rattle.acdm_sessions.proofs.Seats.{parts_of_all, parts_so_far, room_so_far, taken_numbered}
+use Rattle.acdm_sessions.proofs.sessions.seated.Goals as goal
+
+pub loop-session-init : goal.loop-session-init
+loop-session-init g c =
+    let none : c.args.seats.items ≡ [] =
+    empty_of c.args.seats.items (sym c.args.seats.ok.0 ∙ c.requires.room.0) in
+    let it = into_iter_items c.into_iter-session-iterator.result in
+    let all : it ≡ c.args.sessions.items =
+    c.into_iter-session-iterator.ensures.into_iter_gives.0 in
+    record {
+      count = search rules;
+      seats = c.requires.room.0;
+      room = c.requires.room.1;
+      parts = search rules;
+      amount = refl;
+      places = ap (λ es. map (λ s. (s.number, s.role)) es ++ numbered 1 (map (λ s. s.role) it)) none
+          ∙ ap (λ es. numbered 1 (map (λ s. s.role) es)) all;
+      starts = ap (λ es. map (λ s. (
+        s.number,
+        session_start s.role (g.R.Read.remaining s.reader.inner) s.reader.faults
+            (g.W.Write.contents s.writer.inner) (g.C.Clock.gives s.caller.clock),
+      )) es ++ numbered 1 (map (λ s. session_start s.role (g.R.Read.remaining s.reader.inner)
+          s.reader.faults (g.W.Write.contents s.writer.inner) (g.C.Clock.gives s.clock)) it)) none
+          ∙ ap (λ es. numbered 1 (map (λ s. session_start s.role
+          (g.R.Read.remaining s.reader.inner) s.reader.faults (g.W.Write.contents s.writer.inner)
+          (g.C.Clock.gives s.clock)) es)) all;
+    }
+
+pub loop-session-preserved : goal.loop-session-preserved
+loop-session-preserved g c =
+    let n = c.loop-session.number in
+    let before = c.loop-session.invariant in
+    let done = c.loop-session.seats.items in
+    let one = c.in_ok-seat.seat in
+    let given = c.in_ok-seat.ensures in
+    let pushed = c.push_reserved.ensures in
+    let items = into_iter_items c.loop-session.session-iterator in
+    let rest = into_iter_items c.next.new.self in
+    let steps = c.in-Some.ensures.steps in
+    record {
+      count = count_on n _ _ _ steps.1 before.count;
+      seats = pushed.len ∙ ap (λ k. k + 1) before.seats;
+      room = subst (λ k. c.args.sessions.len ≤ k) (sym pushed.capacity) before.room;
+      parts = part_less n _ _ _ given.share.0 before.parts;
+      amount = given.share.1 ∙ before.amount;
+      places = ap (λ es. map (λ s. (s.number, s.role)) es
+          ++ numbered (n + 1 + 1) (map (λ s. s.role) rest)) pushed.items
+          ∙ taken_numbered (λ s. (s.number, s.role)) (λ s. s.role) (n + 1) done one
+          c.in-Some.session items rest (numbered 1 (map (λ s. s.role) c.args.sessions.items))
+          steps.0
+          (ap (λ k. (k, one.role)) given.place.0 ∙ ap (λ r. (n + 1, r)) given.place.1)
+          before.places;
+      starts = ap (λ es. map (λ s. (
+        s.number,
+        session_start s.role (g.R.Read.remaining s.reader.inner) s.reader.faults
+            (g.W.Write.contents s.writer.inner) (g.C.Clock.gives s.caller.clock),
+      )) es ++ numbered (n + 1 + 1) (map (λ s. session_start s.role
+          (g.R.Read.remaining s.reader.inner) s.reader.faults (g.W.Write.contents s.writer.inner)
+          (g.C.Clock.gives s.clock)) rest)) pushed.items
+          ∙ taken_numbered (λ s. (
+            s.number,
+            session_start s.role (g.R.Read.remaining s.reader.inner) s.reader.faults
+                (g.W.Write.contents s.writer.inner) (g.C.Clock.gives s.caller.clock),
+          )) (λ s. session_start s.role (g.R.Read.remaining s.reader.inner) s.reader.faults
+          (g.W.Write.contents s.writer.inner) (g.C.Clock.gives s.clock)) (n + 1) done one
+          c.in-Some.session items rest
+          (numbered 1 (map (λ s. session_start s.role (g.R.Read.remaining s.reader.inner)
+          s.reader.faults (g.W.Write.contents s.writer.inner) (g.C.Clock.gives s.clock))
+          c.args.sessions.items)) steps.0
+          (ap (λ k. (
+            k,
+            session_start one.role (g.R.Read.remaining one.reader.inner) one.reader.faults
+                (g.W.Write.contents one.writer.inner) (g.C.Clock.gives one.caller.clock),
+          )) given.place.0 ∙ ap (λ t. (n + 1, t)) given.start)
+          before.starts;
+    }
+
+pub seat_for-requires-clause-row : goal.seat_for-requires-clause-row
+seat_for-requires-clause-row g c = c.requires.row
+
+pub seat_for-requires-clause-number : goal.seat_for-requires-clause-number
+seat_for-requires-clause-number g c =
+    few_so_far c.loop-session.number _ _ _ c.in-Some.ensures.steps.1
+    c.loop-session.invariant.count c.requires.few
+
+pub seat_for-requires-clause-parts : goal.seat_for-requires-clause-parts
+seat_for-requires-clause-parts g c =
+    parts_so_far c.loop-session.number _ _ _ _ _ c.in-Some.ensures.steps.1
+    c.loop-session.invariant.count c.loop-session.invariant.parts c.requires.parts
+
+pub push_reserved-requires : goal.push_reserved-requires
+push_reserved-requires g c =
+    room_so_far c.loop-session.number _ _ _ _ _ c.in-Some.ensures.steps.1
+    c.loop-session.invariant.count c.loop-session.invariant.seats c.loop-session.invariant.room
+
+pub returns-clause-len : goal.returns-clause-len
+returns-clause-len g c =
+    len_of_all c.loop-session.number _ _ _ c.in-None.ensures.steps.0
+    c.loop-session.invariant.count c.loop-session.invariant.seats
+
+pub returns-clause-parts : goal.returns-clause-parts
+returns-clause-parts g c =
+    parts_of_all c.loop-session.number _ _ _ _ c.in-None.ensures.steps.0
+    c.loop-session.invariant.count c.loop-session.invariant.parts
+
+pub returns-clause-amount : goal.returns-clause-amount
+returns-clause-amount g c = c.loop-session.invariant.amount
+
+pub returns-clause-seats : goal.returns-clause-seats
+returns-clause-seats g c =
+    let it = c.loop-session.session-iterator in
+    let none : into_iter_items it ≡ [] =
+    empty_of it.rest.items (sym it.rest.ok.0 ∙ c.in-None.ensures.steps.0) in
+    sym (append-nil (map (λ s. (s.number, s.role)) c.loop-session.seats.items))
+    ∙ ap (λ xs. map (λ s. (s.number, s.role)) c.loop-session.seats.items
+    ++ numbered (c.loop-session.number + 1) (map (λ s. s.role) xs)) (sym none)
+    ∙ c.loop-session.invariant.places
+
+pub returns-clause-starts : goal.returns-clause-starts
+returns-clause-starts g c =
+    let it = c.loop-session.session-iterator in
+    let none : into_iter_items it ≡ [] =
+    empty_of it.rest.items (sym it.rest.ok.0 ∙ c.in-None.ensures.steps.0) in
+    sym (append-nil (map (λ s. (
+      s.number,
+      session_start s.role (g.R.Read.remaining s.reader.inner) s.reader.faults
+          (g.W.Write.contents s.writer.inner) (g.C.Clock.gives s.caller.clock),
+    )) c.loop-session.seats.items))
+    ∙ ap (λ xs. map (λ s. (
+      s.number,
+      session_start s.role (g.R.Read.remaining s.reader.inner) s.reader.faults
+          (g.W.Write.contents s.writer.inner) (g.C.Clock.gives s.caller.clock),
+    )) c.loop-session.seats.items
+    ++ numbered (c.loop-session.number + 1) (map (λ s. session_start s.role
+    (g.R.Read.remaining s.reader.inner) s.reader.faults (g.W.Write.contents s.writer.inner)
+    (g.C.Clock.gives s.clock)) xs)) (sym none)
+    ∙ c.loop-session.invariant.starts
