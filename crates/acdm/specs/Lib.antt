@@ -4,3 +4,4 @@ pub mod Failures
 pub mod Served
 pub mod Verdicts
 pub mod Findings
+pub mod Displayed

@@ -26,7 +26,11 @@ pub fn complete<
         + SystemClock
         + Threads
         + Wait
-        + Sync,
+        + Clone
+        + Drop
+        + Send
+        + Sync
+        + 'static,
     R: Read + Drop,
     W: Write + Drop,
     E: Write + Drop,
@@ -42,12 +46,14 @@ pub fn complete<
         Line::Serve {
             journal,
             save,
+            watch,
             partners,
         } => match file_of(rt, save) {
             Ok(file) => serve_words(
                 rt,
                 alloc,
                 journal,
+                watch,
                 partners.as_slice(),
                 output,
                 file,

@@ -22,6 +22,8 @@ pub enum Failure {
     Address(usize),
     /// The partner of this number can't be accepted.
     Accept(usize),
+    /// The address for displays is none, or can't be listened at.
+    Watch,
 }
 
 impl Failure {
@@ -36,6 +38,7 @@ impl Failure {
             Failure::Role(number) => writeln!(errors, "acdm: role {number}"),
             Failure::Address(number) => writeln!(errors, "acdm: address {number}"),
             Failure::Accept(number) => writeln!(errors, "acdm: accept {number}"),
+            Failure::Watch => writeln!(errors, "acdm: watch address"),
         };
         2
     }

@@ -7,6 +7,9 @@ mod audit_tests;
 mod auditing;
 mod commands;
 #[cfg(test)]
+mod display_tests;
+mod displays;
+#[cfg(test)]
 mod explain_tests;
 mod explaining;
 mod failure;

@@ -1,10 +1,15 @@
 //! The command `serve`, from its words on.
+ghost use Rattle.std.specs.Prelude.{◌≤◌, vec_len};
+
 use crate::addresses::listen;
+use crate::displays::Displays;
 use crate::failure::Failure;
 use crate::helpers::{bank_of, minutes_later, taxi_minutes, turn_round_minutes};
 use crate::partners::serve_on;
 use crate::saving::save;
 use acdm_board::Desk;
+use acdm_milestones::Role;
+use acdm_sessions::Clock;
 use bpf_helpers::{Code, Helpers};
 use std::alloc::Global;
 use std::io::Write;
@@ -14,13 +19,22 @@ use std::thread::Threads;
 use std::time::Clock as SystemClock;
 
 /// Serves a partner for each word `ROLE=ADDR`, at most 64, all at once, with room for so many
-/// entries in the journal, and tells on the writer what it does. When all partners are gone, the
-/// journal is written as text to the writer that it is to be saved by, if there is one.
+/// entries in the journal, and tells on the writer what it does. Where there is an address for
+/// displays, each that connects there is sent the journal as text meanwhile. When all partners are
+/// gone, the journal is written as text to the writer that it is to be saved by, if there is one.
 ///
 /// The status is 0 where all was told and the journal was saved, else 2, with a line on the errors'
 /// writer.
 pub(crate) fn serve_words<
-    Rt: Net<Listener = TcpListener, Stream = TcpStream> + SystemClock + Threads + Wait + Sync,
+    Rt: Net<Listener = TcpListener, Stream = TcpStream>
+        + SystemClock
+        + Threads
+        + Wait
+        + Clone
+        + Drop
+        + Send
+        + Sync
+        + 'static,
     W: Write + Drop,
     F: Write + Drop,
     E: Write + Drop,
@@ -28,12 +42,13 @@ pub(crate) fn serve_words<
     rt: &Rt,
     alloc: Global,
     journal: usize,
+    watch: Option<&str>,
     words: &[&str],
     writer: W,
     saved: Option<F>,
     errors: E,
 ) -> u8 {
-    match serve(rt, alloc, journal, words, writer, saved) {
+    match serve(rt, alloc, journal, watch, words, writer, saved) {
         Ok(()) => 0,
         Err(failure) => failure.complain(errors),
     }
@@ -41,13 +56,22 @@ pub(crate) fn serve_words<
 
 // Makes the known helpers.
 fn serve<
-    Rt: Net<Listener = TcpListener, Stream = TcpStream> + SystemClock + Threads + Wait + Sync,
+    Rt: Net<Listener = TcpListener, Stream = TcpStream>
+        + SystemClock
+        + Threads
+        + Wait
+        + Clone
+        + Drop
+        + Send
+        + Sync
+        + 'static,
     W: Write + Drop,
     F: Write + Drop,
 >(
     rt: &Rt,
     alloc: Global,
     journal: usize,
+    watch: Option<&str>,
     words: &[&str],
     writer: W,
     saved: Option<F>,
@@ -56,12 +80,20 @@ fn serve<
     let stands: Code = Box::new(alloc, taxi_minutes)?;
     let minutes: Code = Box::new(alloc, minutes_later)?;
     let bank = bank_of(alloc, kinds, stands, minutes)?;
-    serve_with(rt, alloc, bank, journal, words, writer, saved)
+    serve_with(rt, alloc, bank, journal, watch, words, writer, saved)
 }
 
 // Serves a desk that is empty at first.
 fn serve_with<
-    Rt: Net<Listener = TcpListener, Stream = TcpStream> + SystemClock + Threads + Wait + Sync,
+    Rt: Net<Listener = TcpListener, Stream = TcpStream>
+        + SystemClock
+        + Threads
+        + Wait
+        + Clone
+        + Drop
+        + Send
+        + Sync
+        + 'static,
     H: Helpers + Drop + Send,
     W: Write + Drop,
     F: Write + Drop,
@@ -70,8 +102,9 @@ fn serve_with<
     alloc: Global,
     helpers: H,
     journal: usize,
+    watch: Option<&str>,
     words: &[&str],
-    mut writer: W,
+    writer: W,
     saved: Option<F>,
 ) -> Result<(), Failure> {
     let desk = Desk::new(alloc, helpers, journal)?;
@@ -79,6 +112,31 @@ fn serve_with<
     if partners.len() > 64 {
         return Err(Failure::Address(65));
     }
+    let displays = Displays::open(rt, alloc, watch, desk.row())?;
+    let ended = serve_all(rt, alloc, partners, desk, writer, saved);
+    if let Some(displays) = displays {
+        displays.close(rt);
+    }
+    ended
+}
+
+// Serves the partners, and saves what they made.
+fn serve_all<
+    Rt: Threads + Wait + Sync,
+    H: Helpers + Drop + Send,
+    C: Clock + Drop + Send,
+    W: Write + Drop,
+    F: Write + Drop,
+>(
+    rt: &Rt,
+    alloc: Global,
+    partners: Vec<(Role, TcpListener, C)>,
+    desk: Desk<H>,
+    mut writer: W,
+    saved: Option<F>,
+) -> Result<(), Failure>
+    requires { vec_len partners ≤ 64 }
+{
     let mut closed = serve_on(rt, alloc, partners, desk, &mut writer)?;
     save(alloc, &mut closed.desk, saved)
 }

@@ -22,7 +22,7 @@ const UNKNOWN_FLIGHT: &str = "{\"cmd\":\"show\",\"flight\":8}\n";
 
 /// Tells 2025-02-20T07:00Z, always.
 #[derive(Drop)]
-struct Morning;
+pub(crate) struct Morning;
 
 impl Clock for Morning {
     ghost use Rattle.std.specs.Prelude.{true};
@@ -45,7 +45,7 @@ fn is_told(stream: &mut TcpStream, line: &str, reply: &str) -> bool {
 }
 
 // The network manager files a plan and leaves; then the tower asks for another flight.
-fn talk(manager: TcpStream, tower: TcpStream) -> bool {
+pub(crate) fn talk(manager: TcpStream, tower: TcpStream) -> bool {
     let mut manager = manager;
     let mut tower = tower;
     if !is_told(&mut manager, FLIGHT_PLAN, "ok 0\n") {
@@ -65,7 +65,7 @@ fn keep_silent(silent: TcpStream, manager: TcpStream) -> bool {
 }
 
 // Listens on a port of its own, with a partner that is connected.
-fn listening<Rt: Net<Listener = TcpListener, Stream = TcpStream>>(
+pub(crate) fn listening<Rt: Net<Listener = TcpListener, Stream = TcpStream>>(
     rt: &Rt,
 ) -> Result<(TcpListener, TcpStream), Fail> {
     let listener = TcpListener::bind(rt, "127.0.0.1:0").map_err(|_| "no port")?;
@@ -143,7 +143,11 @@ fn complains<
         + SystemClock
         + Threads
         + Wait
-        + Sync,
+        + Clone
+        + Drop
+        + Send
+        + Sync
+        + 'static,
 >(rt: &Rt, alloc: Global, words: &[&str], complaint: &str) -> bool {
     let mut output = Vec::new(alloc);
     let mut errors = Vec::new(alloc);
@@ -200,5 +204,18 @@ fn at_most_64_partners_are_taken(rt: HostRuntime) -> Result<(), Fail> {
     let alloc = rt.alloc();
     let more = words_for(alloc, 65)?;
     assert!(rt; complains(&rt, alloc, more.as_slice(), "acdm: address 65\n"));
+    Ok(())
+}
+
+#[test]
+fn an_address_for_displays_that_is_none_is_told(rt: HostRuntime) -> Result<(), Fail> {
+    let alloc = rt.alloc();
+    for address in ["here", "127.0.0.1", "127.0.0.1:many"] {
+        let words = ["acdm", "serve", "--watch", address, "NM=127.0.0.1:0"];
+        assert!(rt;
+            complains(&rt, alloc, words.as_slice(), "acdm: watch address\n"),
+            "{address}"
+        );
+    }
     Ok(())
 }

@@ -25,10 +25,14 @@ journal_rule = record (new_rule (codes "journal")) {
 abbrev pub save_rule : Rule
 save_rule = record (new_rule (codes "save")) { long = Some (codes "save"); value_names = 1 }
 
+-- `--watch ADDR`
+abbrev pub watch_rule : Rule
+watch_rule = record (new_rule (codes "watch")) { long = Some (codes "watch"); value_names = 1 }
+
 abbrev pub run_app : App
 run_app = with_rule (with_rule (new_app (codes "run")) journal_rule) save_rule
 
--- `serve [--journal N] [--save FILE] ROLE=ADDR...`, of at least one address
+-- `serve [--journal N] [--save FILE] [--watch ADDR] ROLE=ADDR...`, of at least one partner
 abbrev pub partners_rule : Rule
 partners_rule = record (new_rule (codes "partners")) {
   value_names = 1;
@@ -37,7 +41,8 @@ partners_rule = record (new_rule (codes "partners")) {
 }
 
 abbrev pub serve_options_app : App
-serve_options_app = with_rule (with_rule (new_app (codes "serve")) journal_rule) save_rule
+serve_options_app =
+    with_rule (with_rule (with_rule (new_app (codes "serve")) journal_rule) save_rule) watch_rule
 
 abbrev pub serve_app : App
 serve_app = with_rule serve_options_app partners_rule
@@ -103,15 +108,16 @@ AuditsFile found file = value_in (codes "audit") (codes "file") found ≡ Some f
 abbrev pub Explains : Option (Text × List Row) → Text → Type 0
 Explains found file = value_in (codes "explain") (codes "file") found ≡ Some file
 
--- it is `run` or `serve` with the journal and the file that are named, or `verify`, `audit` or
--- `explain` of the file that is
+-- it is `run` or `serve` with the journal, the file and the address that are named, or `verify`,
+-- `audit` or `explain` of the file that is
 abbrev pub Asks : Option (Text × List Row) → Line → Type 0
 Asks found (Run journal save) =
     (text : Text) × Runs found text × IsJournal text × (journal ≡ number_of text)
     × (option_map (λ s. s.now) save ≡ value_in (codes "run") (codes "save") found)
-Asks found (Serve journal save partners) =
+Asks found (Serve journal save watch partners) =
     (text : Text) × Serves found text × IsJournal text × (journal ≡ number_of text)
     × (option_map (λ s. s.now) save ≡ value_in (codes "serve") (codes "save") found)
+    × (option_map (λ s. s.now) watch ≡ value_in (codes "serve") (codes "watch") found)
 Asks found (Verify file) = Verifies found file.now
 Asks found (Audit file) = AuditsFile found file.now
 Asks found (Explain file) = Explains found file.now

@@ -8,7 +8,7 @@ ghost use Rattle.clap.specs.declared.builder.Command.TheViews.{out-Command as fi
 ghost use Rattle.acdm_command_line.specs.CommandLine.{program as the_program, audit_app, run_app, serve_app};
 ghost use Rattle.acdm_command_line.specs.CommandLine.{serve_options_app, serving_app, verify_app};
 ghost use Rattle.acdm_command_line.specs.CommandLine.{explain_app, judging_app};
-ghost use Rattle.acdm_command_line.specs.CommandLine.{journal_rule, save_rule, value_in};
+ghost use Rattle.acdm_command_line.specs.CommandLine.{journal_rule, save_rule, value_in, watch_rule};
 ghost use Rattle.acdm_command_line.specs.CommandLine.{number_of, IsJournal, AsksFor, Refuses};
 ghost use Rattle.acdm_command_line.specs.CommandLine.{Answers, AnswersJournal};
 
@@ -29,10 +29,12 @@ pub enum Line<'a> {
         save: Option<&'a str>,
     },
     /// `serve`, with room for so many entries in the journal, from 1 to 1,000,000, which is to be
-    /// saved in this file, for the partners of these words, as they stand.
+    /// saved in this file and may be watched at this address, for the partners of these words, as
+    /// they stand.
     Serve {
         journal: usize,
         save: Option<&'a str>,
+        watch: Option<&'a str>,
         partners: Vec<&'a str>,
     },
     /// `audit`, of the journal in this file.
@@ -72,6 +74,17 @@ fn save<'a>(alloc: Global) -> Arg<'a>
         .help("Where the journal is written as text at the end")
 }
 
+// `--watch ADDR`.
+fn watch<'a>(alloc: Global) -> Arg<'a>
+    ensures rule { rule_of result ≡ watch_rule }
+    ensures optional { (result.required ≡ false) × (result.global ≡ false) }
+{
+    Arg::new(alloc, "watch")
+        .long("watch")
+        .value_name("ADDR")
+        .help("The IP address and port where displays are sent the journal as text")
+}
+
 fn run_command<'a>(alloc: Global) -> Result<Command<'a>, AllocError>
     ensures shape { IfOk result (λ c. app_of c ≡ run_app) }
     ensures local { IfOk result (λ c. (fields_of c).has_globals ≡ false) }
@@ -90,7 +103,8 @@ fn serve_options<'a>(alloc: Global) -> Result<Command<'a>, AllocError>
     Command::new(alloc, "serve")
         .about("Accepts a partner at each address, and serves all at once")
         .arg(journal(alloc))?
-        .arg(save(alloc))
+        .arg(save(alloc))?
+        .arg(watch(alloc))
 }
 
 fn serve_command<'a>(alloc: Global) -> Result<Command<'a>, AllocError>
@@ -239,10 +253,12 @@ fn line_of<'a>(alloc: Global, matches: &ArgMatches<'a>) -> Result<Option<Line<'a
         return Ok(None);
     };
     let save = value(matches, "serve", "save");
+    let watch = value(matches, "serve", "watch");
     let partners = partners_in(alloc, matches)?;
     Ok(Some(Line::Serve {
         journal,
         save,
+        watch,
         partners,
     }))
 }

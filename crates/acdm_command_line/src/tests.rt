@@ -103,9 +103,15 @@ fn asks_to_serve(alloc: Global, words: &[&str], wanted: usize, words_wanted: &[&
             Line::Serve {
                 journal,
                 save,
+                watch,
                 partners,
             },
-        ) => journal == wanted && save.is_none() && partners.as_slice() == words_wanted,
+        ) => {
+            journal == wanted
+                && save.is_none()
+                && watch.is_none()
+                && partners.as_slice() == words_wanted
+        }
         _ => false,
     }
 }
@@ -122,5 +128,21 @@ fn words_of_serve_are_taken_as_they_stand(rt: HostRuntime) -> Result<(), Fail> {
     assert!(rt; asks_to_serve(alloc, &["acdm", "serve", "GH="], 100_000, &["GH="]));
     assert!(rt; is_refused(alloc, &["acdm", "serve"]));
     assert!(rt; is_refused(alloc, &["acdm", "serve", "--journal", "0", "NM=one"]));
+    Ok(())
+}
+
+#[test]
+fn a_board_is_watched_where_it_is_said(rt: HostRuntime) -> Result<(), Fail> {
+    let alloc = rt.alloc();
+    let words = ["acdm", "serve", "--watch", "[::1]:4000", "NM=127.0.0.1:0"];
+    match parse(alloc, words.as_slice()) {
+        Ok(Line::Serve { save, watch, .. }) => {
+            assert_eq!(rt; watch, Some("[::1]:4000"));
+            assert_eq!(rt; save, None);
+        }
+        _ => assert!(rt; false, "another command"),
+    }
+    assert!(rt; is_refused(alloc, &["acdm", "run", "--watch", "127.0.0.1:0"]));
+    assert!(rt; is_refused(alloc, &["acdm", "serve", "--watch", "127.0.0.1:0"]));
     Ok(())
 }

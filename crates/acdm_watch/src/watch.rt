@@ -1,6 +1,6 @@
 //! A watch: what was seen of a row, and the board of it.
 ghost use Rattle.std.specs.Prelude.{◌≡◌, ◌<◌, ◌+◌, ◌++◌, ◌∷◌, [], true, false, length, take};
-ghost use Rattle.std.specs.Prelude.{reverse, min, IfOk, IfSome, OnErr};
+ghost use Rattle.std.specs.Prelude.{reverse, min, IfOk, IfSome, OnErr, Ok, None};
 ghost use Rattle.std.specs.Arc.{arc_value};
 ghost use Rattle.acdm_step.specs.declared.entry.Entry.{Entry as AnEntry};
 ghost use Rattle.acdm_step.specs.History.{IsLegal, replay};
@@ -8,7 +8,7 @@ ghost use Rattle.acdm_step.specs.History.{IsLegal, replay};
 use crate::checks::plan_of;
 use crate::sight::Sight;
 use acdm_row::{Pass, Row};
-use acdm_step::Core;
+use acdm_step::{Core, Entry};
 use std::alloc::{AllocError, Global};
 use std::marker::Model;
 use std::sync::Arc;
@@ -110,17 +110,30 @@ impl Watch {
         ensures left { IfOk result (λ took. took ≡ false → self.new ≡ self.old) }
         ensures err { OnErr result (self.new ≡ self.old) }
     {
+        Ok(self.take_next(row)?.is_some())
+    }
+
+    /// Takes the next entry, where a legal one is in sight, and shows it. It takes no lock, and
+    /// never waits. `Err` only where memory was refused; nothing has changed then.
+    pub fn take_next<'a>(&mut self, row: &'a Row) -> Result<Option<&'a Entry>, AllocError>
+        requires { row.now ≡ self.old.row }
+        ensures row { self.new.row ≡ self.old.row }
+        ensures took { IfOk result (λ o. IfSome o (λ e.
+            self.new.seen ≡ self.old.seen ++ e.now ∷ [])) }
+        ensures left { result ≡ Ok None → self.new ≡ self.old }
+        ensures err { OnErr result (self.new ≡ self.old) }
+    {
         let Some((found, note)) = self.sight.look(row) else {
-            return Ok(false);
+            return Ok(None);
         };
         self.sight.reserve()?;
         let number = self.sight.len() as u64;
         let Some(plan) = plan_of(&self.core, number, &found.entry)? else {
-            return Ok(false);
+            return Ok(None);
         };
         self.core.commit(plan);
         self.sight.take(note);
-        Ok(true)
+        Ok(Some(&found.entry))
     }
 
     /// Takes one more entry, which is the pass's.
