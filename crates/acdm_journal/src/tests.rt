@@ -244,22 +244,30 @@ fn read(alloc: Global, line: &str) -> Result<Stated, Fail> {
     }
 }
 
-#[test]
-fn the_head_of_a_line_is_read(rt: HostRuntime) -> Result<(), Fail> {
-    let stated = read(rt.alloc(), "3 5 29000580 GH 0 1 10 report 7 9 29000760")?;
-    assert_eq!(rt; stated.number, 3);
-    assert_eq!(rt; stated.session, 5);
-    assert_eq!(rt; stated.moment, SEVEN);
+// Who sent what a line states, when, and what came of it.
+fn tells_its_head(rt: &impl Abort, stated: &Stated) {
+    for (found, value) in [
+        (stated.number, 3),
+        (u64::from(stated.session), 5),
+        (u64::from(stated.moment), u64::from(SEVEN)),
+        (stated.outcome, 0),
+    ] {
+        assert_eq!(rt; found, value);
+    }
     assert_eq!(rt; stated.role, Role::GroundHandler);
-    assert_eq!(rt; stated.outcome, 0);
     assert_eq!(rt; stated.answers.as_slice(), [10].as_slice());
-    Ok(())
 }
 
 #[test]
-fn a_report_is_read(rt: HostRuntime) -> Result<(), Fail> {
+fn the_head_of_a_line_is_read(rt: HostRuntime) -> Result<(), Fail> {
     let stated = read(rt.alloc(), "3 5 29000580 GH 0 1 10 report 7 9 29000760")?;
-    let Asked::Plain(Command::Flight(FlightCommand::Report(report))) = &stated.asked else {
+    tells_its_head(&rt, &stated);
+    Ok(())
+}
+
+// A report of flight 7, without a plan.
+fn tells_a_report(rt: &impl Abort, asked: &Asked) -> Result<(), Fail> {
+    let Asked::Plain(Command::Flight(FlightCommand::Report(report))) = asked else {
         return Err("no report".into());
     };
     assert_eq!(rt; report.flight(), 7);
@@ -270,31 +278,51 @@ fn a_report_is_read(rt: HostRuntime) -> Result<(), Fail> {
 }
 
 #[test]
-fn a_schedule_is_read(rt: HostRuntime) -> Result<(), Fail> {
-    let line = "0 1 29000580 APT 0 0 schedule 7 DLH7 A320 DAIBC EDDM 29000760 40 5 10 12";
-    let stated = read(rt.alloc(), line)?;
-    let Asked::Plain(Command::Flight(FlightCommand::Schedule(schedule))) = &stated.asked else {
+fn a_report_is_read(rt: HostRuntime) -> Result<(), Fail> {
+    let stated = read(rt.alloc(), "3 5 29000580 GH 0 1 10 report 7 9 29000760")?;
+    tells_a_report(&rt, &stated.asked)
+}
+
+// A schedule of these values.
+fn tells_a_schedule(rt: &impl Abort, asked: &Asked) -> Result<(), Fail> {
+    let Asked::Plain(Command::Flight(FlightCommand::Schedule(schedule))) = asked else {
         return Err("no schedule".into());
     };
-    assert_eq!(rt; schedule.flight(), 7);
-    assert_eq!(rt; schedule.sobt(), TEN);
-    assert_eq!(rt; schedule.mttt(), 40);
-    assert_eq!(rt; schedule.exit(), 5);
-    assert_eq!(rt; schedule.exot(), 10);
-    assert_eq!(rt; schedule.stand(), 12);
+    for (found, value) in [
+        (schedule.flight(), 7),
+        (u64::from(schedule.sobt()), u64::from(TEN)),
+        (u64::from(schedule.mttt()), 40),
+        (u64::from(schedule.exit()), 5),
+        (u64::from(schedule.exot()), 10),
+        (u64::from(schedule.stand()), 12),
+    ] {
+        assert_eq!(rt; found, value);
+    }
     Ok(())
 }
 
 #[test]
-fn the_bytes_of_a_load_are_read(rt: HostRuntime) -> Result<(), Fail> {
-    let stated = read(rt.alloc(), "0 1 29000580 APT 0 0 load 9 alert 9500fe")?;
-    let Asked::Load(load) = &stated.asked else {
+fn a_schedule_is_read(rt: HostRuntime) -> Result<(), Fail> {
+    let line = "0 1 29000580 APT 0 0 schedule 7 DLH7 A320 DAIBC EDDM 29000760 40 5 10 12";
+    let stated = read(rt.alloc(), line)?;
+    tells_a_schedule(&rt, &stated.asked)
+}
+
+// A load for the alerts of milestone 9.
+fn tells_a_load(rt: &impl Abort, asked: &Asked) -> Result<(), Fail> {
+    let Asked::Load(load) = asked else {
         return Err("no load".into());
     };
     assert_eq!(rt; load.milestone, Milestone::TobtUpdate);
     assert_eq!(rt; load.kind, Kind::Alert);
     assert_eq!(rt; load.program.as_slice(), [0x95, 0, 0xfe].as_slice());
     Ok(())
+}
+
+#[test]
+fn the_bytes_of_a_load_are_read(rt: HostRuntime) -> Result<(), Fail> {
+    let stated = read(rt.alloc(), "0 1 29000580 APT 0 0 load 9 alert 9500fe")?;
+    tells_a_load(&rt, &stated.asked)
 }
 
 fn is_unreadable(alloc: Global, line: &[u8]) -> bool {
@@ -329,12 +357,21 @@ fn long_line(alloc: Global, digits: usize) -> Result<Vec<u8>, Fail> {
     Ok(line)
 }
 
+fn reads_the_longest(rt: &impl Abort, alloc: Global) -> Result<(), Fail> {
+    let longest = long_line(alloc, 199_966)?;
+    assert_eq!(rt; longest.len(), 200_000);
+    assert!(rt; read_line(alloc, longest.as_slice()).is_ok());
+    Ok(())
+}
+
+fn refuses_a_longer(rt: &impl Abort, alloc: Global) -> Result<(), Fail> {
+    let longer = long_line(alloc, 199_968)?;
+    assert!(rt; is_unreadable(alloc, longer.as_slice()));
+    Ok(())
+}
+
 #[test]
 fn a_line_has_at_most_200_000_bytes(rt: HostRuntime) -> Result<(), Fail> {
-    let longest = long_line(rt.alloc(), 199_966)?;
-    assert_eq!(rt; longest.len(), 200_000);
-    assert!(rt; read_line(rt.alloc(), longest.as_slice()).is_ok());
-    let longer = long_line(rt.alloc(), 199_968)?;
-    assert!(rt; is_unreadable(rt.alloc(), longer.as_slice()));
-    Ok(())
+    reads_the_longest(&rt, rt.alloc())?;
+    refuses_a_longer(&rt, rt.alloc())
 }

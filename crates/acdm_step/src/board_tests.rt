@@ -3,7 +3,7 @@
 ghost use Rattle.std.specs.Prelude.{◌≤◌};
 
 use crate::change::{change, touch};
-use crate::tests::{done, no_sigs, plan};
+use crate::tests::{done, empty_board, no_sigs, plan};
 use crate::verdicts::{flight_of_command, verdict};
 use crate::{
     Alerted, Command, Core, FlightCommand, FlightNumber, Outcome, Report, Schedule, Verdict,
@@ -13,6 +13,7 @@ use acdm_milestones::{Milestone, Refusal, Role};
 use acdm_record::{Field, Record};
 use acdm_slots::Slots;
 use bpf_helpers::Logged;
+use std::alloc::Global;
 use std::process::Abort;
 use std::test::Fail;
 
@@ -119,6 +120,16 @@ fn tick_both(core: &mut Core, records: &mut [Record], moment: u32) -> Result<boo
     Ok(outcome.verdict().is_accepted())
 }
 
+// A command by chance of a flight, but no tick, and who sends it.
+fn command_by_chance(chance: u32, flight: u64, moment: u32) -> Result<(Role, Command), Fail> {
+    match chance % 5 {
+        0 => Ok((Role::NetworkManager, activated(flight)?)),
+        1 => Ok((Role::AirportOperator, scheduled_at(flight, 12)?)),
+        2 => Ok((Role::AircraftOperator, with_tobt(flight, moment)?)),
+        _ => Ok((Role::GroundHandler, with_tobt(flight, 0)?)),
+    }
+}
+
 // One command by chance on both, and whether the verdicts are the same.
 fn step_both(
     core: &mut Core,
@@ -132,41 +143,11 @@ fn step_both(
         u64::from(chance / 16 % 30) + 1
     };
     let moment = SEVEN + chance / 512 % 400;
-    match chance % 5 {
-        0 => both(
-            core,
-            records,
-            slots,
-            Role::NetworkManager,
-            moment,
-            &activated(flight)?,
-        ),
-        1 => both(
-            core,
-            records,
-            slots,
-            Role::AirportOperator,
-            moment,
-            &scheduled_at(flight, 12)?,
-        ),
-        2 => both(
-            core,
-            records,
-            slots,
-            Role::AircraftOperator,
-            moment,
-            &with_tobt(flight, moment)?,
-        ),
-        3 => both(
-            core,
-            records,
-            slots,
-            Role::GroundHandler,
-            moment,
-            &with_tobt(flight, 0)?,
-        ),
-        _ => tick_both(core, records.as_mut_slice(), moment),
+    if chance % 5 == 4 {
+        return tick_both(core, records.as_mut_slice(), moment);
     }
+    let (role, command) = command_by_chance(chance, flight, moment)?;
+    both(core, records, slots, role, moment, &command)
 }
 
 // Whether these are the flights with an alert among some records, in their order.
@@ -196,23 +177,53 @@ fn lists_as_walked(core: &mut Core, records: &[Record]) -> Result<bool, Fail> {
     Ok(are_alerted(list.as_slice(), records))
 }
 
-#[test]
-fn the_board_is_what_a_walk_over_its_records_makes_it(rt: HostRuntime) -> Result<(), Fail> {
-    let alloc = rt.alloc();
-    let mut core = Core::new(alloc, no_sigs(alloc)?)?;
+// A board, and what a walk over a list of records makes of the same commands.
+#[derive(Drop)]
+struct Pair {
+    core: Core,
+    slots: Slots,
+    records: Vec<Record>,
+}
+
+fn empty_pair(alloc: Global) -> Result<Pair, Fail> {
+    let core = empty_board(alloc)?;
     let slots = Slots::new(alloc, no_sigs(alloc)?)?;
-    let mut records = Vec::new(alloc);
+    let records = Vec::new(alloc);
+    Ok(Pair {
+        core,
+        slots,
+        records,
+    })
+}
+
+// One command by chance on both, and whether the verdicts and the lists are the same.
+fn next_alike(rt: &impl Abort, pair: &mut Pair, chance: u32) -> Result<(), Fail> {
+    let Pair {
+        core,
+        slots,
+        records,
+    } = pair;
+    assert!(rt; step_both(core, records, slots, chance)?);
+    assert!(rt; lists_as_walked(core, records.as_slice())?);
+    Ok(())
+}
+
+fn all_alike(rt: &impl Abort, pair: &mut Pair) -> Result<(), Fail> {
     let mut state = 7u64;
     for _ in 0..600 {
         state = state
             .wrapping_mul(6_364_136_223_846_793_005)
             .wrapping_add(1_442_695_040_888_963_407);
-        let chance = (state >> 33) as u32;
-        assert!(rt; step_both(&mut core, &mut records, &slots, chance)?);
-        assert!(rt; lists_as_walked(&mut core, records.as_slice())?);
+        next_alike(rt, pair, (state >> 33) as u32)?;
     }
-    assert_eq!(rt; records.len(), 34);
+    assert_eq!(rt; pair.records.len(), 34);
     Ok(())
+}
+
+#[test]
+fn the_board_is_what_a_walk_over_its_records_makes_it(rt: HostRuntime) -> Result<(), Fail> {
+    let mut pair = empty_pair(rt.alloc())?;
+    all_alike(&rt, &mut pair)
 }
 
 // The flight that is created as number i, in an order that is not that of the numbers.
@@ -247,28 +258,45 @@ fn are_all(list: &[Alerted]) -> bool {
     rest.is_empty()
 }
 
-#[test]
-fn a_board_takes_4096_flights(rt: HostRuntime) -> Result<(), Fail> {
-    let mut core = Core::new(rt.alloc(), no_sigs(rt.alloc())?)?;
-    assert!(rt; create_all(&mut core)?);
-    let Outcome::Listed(list) = done(&mut core, Role::GroundHandler, SEVEN, &Command::Alerts)?
-    else {
+// Whether the board lists all flights in order of creation.
+fn lists_all(core: &mut Core) -> Result<bool, Fail> {
+    let Outcome::Listed(list) = done(core, Role::GroundHandler, SEVEN, &Command::Alerts)? else {
         return Err("no list".into());
     };
-    assert!(rt; are_all(list.as_slice()));
-    let full = Verdict::Refused(Refusal::FullBoard);
-    let refused = done(&mut core, Role::NetworkManager, SEVEN, &activated(4097)?)?;
-    assert_eq!(rt; refused.verdict(), full);
-    let refused = done(
-        &mut core,
-        Role::AirportOperator,
-        SEVEN,
-        &scheduled_at(4097, 1)?,
-    )?;
-    assert_eq!(rt; refused.verdict(), full);
-    let again = done(&mut core, Role::NetworkManager, SEVEN, &activated(1)?)?;
-    assert_eq!(rt; again.verdict(), Verdict::Accepted);
+    Ok(are_all(list.as_slice()))
+}
+
+// The verdict on the plan of a flight.
+fn verdict_on_plan(core: &mut Core, flight: u64) -> Result<Verdict, Fail> {
+    let plan = activated(flight)?;
+    Ok(done(core, Role::NetworkManager, SEVEN, &plan)?.verdict())
+}
+
+// The verdict on the schedule of a flight.
+fn verdict_on_schedule(core: &mut Core, flight: u64) -> Result<Verdict, Fail> {
+    let schedule = scheduled_at(flight, 1)?;
+    Ok(done(core, Role::AirportOperator, SEVEN, &schedule)?.verdict())
+}
+
+fn takes_all(rt: &impl Abort, core: &mut Core) -> Result<(), Fail> {
+    assert!(rt; create_all(core)?);
+    assert!(rt; lists_all(core)?);
     Ok(())
+}
+
+fn takes_no_more(rt: &impl Abort, core: &mut Core) -> Result<(), Fail> {
+    let full = Verdict::Refused(Refusal::FullBoard);
+    assert_eq!(rt; verdict_on_plan(core, 4097)?, full);
+    assert_eq!(rt; verdict_on_schedule(core, 4097)?, full);
+    assert_eq!(rt; verdict_on_plan(core, 1)?, Verdict::Accepted);
+    Ok(())
+}
+
+#[test]
+fn a_board_takes_4096_flights(rt: HostRuntime) -> Result<(), Fail> {
+    let mut core = empty_board(rt.alloc())?;
+    takes_all(&rt, &mut core)?;
+    takes_no_more(&rt, &mut core)
 }
 
 fn stand_of(core: &Core, flight: u64) -> u64 {
@@ -278,19 +306,36 @@ fn stand_of(core: &Core, flight: u64) -> u64 {
     }
 }
 
-#[test]
-fn flights_whose_numbers_have_one_hash_are_kept_apart(rt: HostRuntime) -> Result<(), Fail> {
-    let mut core = Core::new(rt.alloc(), no_sigs(rt.alloc())?)?;
+// Three flights come onto the board, each with a stand of its own.
+fn schedule_three(core: &mut Core) -> Result<(), Fail> {
     for i in 0..3 {
         let schedule = scheduled_at(ALIKE[i], i as u16 + 10)?;
-        done(&mut core, Role::AirportOperator, SEVEN, &schedule)?;
+        done(core, Role::AirportOperator, SEVEN, &schedule)?;
     }
-    assert_eq!(rt; stand_of(&core, ALIKE[0]), 10);
-    assert_eq!(rt; stand_of(&core, ALIKE[1]), 11);
-    assert_eq!(rt; stand_of(&core, ALIKE[2]), 12);
-    assert_eq!(rt; stand_of(&core, ALIKE[3]), 0);
-    let unknown = Command::Show(FlightNumber::new(ALIKE[3]));
-    let unseen = done(&mut core, Role::GroundHandler, SEVEN, &unknown)?;
-    assert_eq!(rt; unseen.verdict(), Verdict::Refused(Refusal::UnknownFlight));
     Ok(())
+}
+
+// The verdict where a flight is to be shown.
+fn verdict_on_show(core: &mut Core, flight: u64) -> Result<Verdict, Fail> {
+    if flight == 0 {
+        return Err("no flight".into());
+    }
+    let show = Command::Show(FlightNumber::new(flight));
+    Ok(done(core, Role::GroundHandler, SEVEN, &show)?.verdict())
+}
+
+fn keeps_apart(rt: &impl Abort, core: &mut Core) -> Result<(), Fail> {
+    for (i, stand) in [10, 11, 12, 0].into_iter().enumerate() {
+        assert_eq!(rt; stand_of(core, ALIKE[i]), stand, "at {i}");
+    }
+    let unknown = Verdict::Refused(Refusal::UnknownFlight);
+    assert_eq!(rt; verdict_on_show(core, ALIKE[3])?, unknown);
+    Ok(())
+}
+
+#[test]
+fn flights_whose_numbers_have_one_hash_are_kept_apart(rt: HostRuntime) -> Result<(), Fail> {
+    let mut core = empty_board(rt.alloc())?;
+    schedule_three(&mut core)?;
+    keeps_apart(&rt, &mut core)
 }

@@ -13,6 +13,7 @@ use bpf_decode::decode;
 use bpf_helpers::{Bank, Code, Helper, Logged, Range, Signature, Sigs};
 use bpf_verifier::verify;
 use std::alloc::Global;
+use std::process::Abort;
 use std::test::Fail;
 
 // 2025-02-20T07:00Z, 09:00Z and 10:00Z.
@@ -139,44 +140,82 @@ fn field_of(core: &Core, field: Field) -> Result<u64, Fail> {
     Ok(core.record_of(7).ok_or("no flight")?.get(field))
 }
 
+// A field of the flight holds this value.
+fn holds(rt: &impl Abort, core: &Core, field: Field, value: u64) -> Result<(), Fail> {
+    assert_eq!(rt; field_of(core, field)?, value);
+    Ok(())
+}
+
+// A command is refused by this number, or accepted for 0.
+fn judges(
+    rt: &impl Abort,
+    core: &mut Core,
+    role: Role,
+    moment: u32,
+    command: &Command,
+    code: u16,
+) -> Result<(), Fail> {
+    assert_eq!(rt; code_of(core, role, moment, command)?, code);
+    Ok(())
+}
+
+// The flight gets its schedule, at a moment.
+fn schedule(core: &mut Core, moment: u32) -> Result<(), Fail> {
+    let scheduled = scheduled()?;
+    done(core, Role::AirportOperator, moment, &scheduled)?;
+    Ok(())
+}
+
+// It gets its plan.
+fn activate(core: &mut Core, moment: u32) -> Result<(), Fail> {
+    let planned = planned()?;
+    done(core, Role::NetworkManager, moment, &planned)?;
+    Ok(())
+}
+
+// A board without flights, for programs that call no helper.
+pub(crate) fn empty_board(alloc: Global) -> Result<Core, Fail> {
+    Ok(Core::new(alloc, no_sigs(alloc)?)?)
+}
+
 // A board on which the flight has its plan, at a moment.
 fn board_with_plan(alloc: Global, moment: u32) -> Result<Core, Fail> {
-    let mut core = Core::new(alloc, no_sigs(alloc)?)?;
-    done(&mut core, Role::NetworkManager, moment, &planned()?)?;
+    let mut core = empty_board(alloc)?;
+    activate(&mut core, moment)?;
     Ok(core)
 }
 
 // A board on which it has its schedule.
 fn board_with_schedule(alloc: Global, moment: u32) -> Result<Core, Fail> {
-    let mut core = Core::new(alloc, no_sigs(alloc)?)?;
-    done(&mut core, Role::AirportOperator, moment, &scheduled()?)?;
+    let mut core = empty_board(alloc)?;
+    schedule(&mut core, moment)?;
     Ok(core)
+}
+
+fn tells_until_the_schedule(rt: &impl Abort, core: &mut Core) -> Result<(), Fail> {
+    holds(rt, core, Field::Alerts, 2)?;
+    schedule(core, SEVEN)?;
+    holds(rt, core, Field::Alerts, 0)
 }
 
 #[test]
 fn a_flight_plan_without_a_slot_is_told_until_the_schedule(rt: HostRuntime) -> Result<(), Fail> {
     let mut core = board_with_plan(rt.alloc(), SEVEN)?;
-    assert_eq!(rt; field_of(&core, Field::Alerts)?, 2);
-    done(&mut core, Role::AirportOperator, SEVEN, &scheduled()?)?;
-    assert_eq!(rt; field_of(&core, Field::Alerts)?, 0);
-    Ok(())
+    tells_until_the_schedule(&rt, &mut core)
+}
+
+fn tells_on_a_tick(rt: &impl Abort, core: &mut Core) -> Result<(), Fail> {
+    holds(rt, core, Field::Alerts, 0)?;
+    judges(rt, core, Role::NetworkManager, SEVEN, &Command::Tick, 201)?;
+    holds(rt, core, Field::Alerts, 0)?;
+    judges(rt, core, Role::AirportOperator, SEVEN, &Command::Tick, 0)?;
+    holds(rt, core, Field::Alerts, 1 << 13)
 }
 
 #[test]
 fn a_tick_tells_a_missing_flight_plan(rt: HostRuntime) -> Result<(), Fail> {
     let mut core = board_with_schedule(rt.alloc(), 29_000_579)?;
-    assert_eq!(rt; field_of(&core, Field::Alerts)?, 0);
-    assert_eq!(rt;
-        code_of(&mut core, Role::NetworkManager, SEVEN, &Command::Tick)?,
-        201
-    );
-    assert_eq!(rt; field_of(&core, Field::Alerts)?, 0);
-    assert_eq!(rt;
-        code_of(&mut core, Role::AirportOperator, SEVEN, &Command::Tick)?,
-        0
-    );
-    assert_eq!(rt; field_of(&core, Field::Alerts)?, 1 << 13);
-    Ok(())
+    tells_on_a_tick(&rt, &mut core)
 }
 
 // What a field of a shown flight holds.
@@ -191,14 +230,18 @@ fn shown(core: &mut Core, flight: u64, field: Field) -> Result<u64, Fail> {
     }
 }
 
+fn shows(rt: &impl Abort, core: &mut Core) -> Result<(), Fail> {
+    for (field, value) in [(Field::Sobt, 29_000_760), (Field::Stand, 12)] {
+        assert_eq!(rt; shown(core, 7, field)?, value);
+    }
+    let unknown = Command::Show(FlightNumber::new(8));
+    judges(rt, core, Role::GroundHandler, 1, &unknown, 202)
+}
+
 #[test]
 fn a_record_is_shown_of_a_flight_that_is_there(rt: HostRuntime) -> Result<(), Fail> {
     let mut core = board_with_schedule(rt.alloc(), SEVEN)?;
-    assert_eq!(rt; shown(&mut core, 7, Field::Sobt)?, 29_000_760);
-    assert_eq!(rt; shown(&mut core, 7, Field::Stand)?, 12);
-    let unknown = Command::Show(FlightNumber::new(8));
-    assert_eq!(rt; code_of(&mut core, Role::GroundHandler, 1, &unknown)?, 202);
-    Ok(())
+    shows(&rt, &mut core)
 }
 
 fn listed(core: &mut Core) -> Result<AlertList, Fail> {
@@ -216,109 +259,143 @@ fn is_of_flight_7(list: &[Alerted]) -> bool {
     }
 }
 
-#[test]
-fn flights_with_alerts_are_listed(rt: HostRuntime) -> Result<(), Fail> {
-    let mut core = board_with_plan(rt.alloc(), SEVEN)?;
-    assert!(rt; is_of_flight_7(listed(&mut core)?.as_slice()));
-    done(&mut core, Role::AirportOperator, SEVEN, &scheduled()?)?;
-    assert!(rt; listed(&mut core)?.as_slice().is_empty());
+fn lists(rt: &impl Abort, core: &mut Core) -> Result<(), Fail> {
+    assert!(rt; is_of_flight_7(listed(core)?.as_slice()));
+    schedule(core, SEVEN)?;
+    assert!(rt; listed(core)?.as_slice().is_empty());
     Ok(())
 }
 
+#[test]
+fn flights_with_alerts_are_listed(rt: HostRuntime) -> Result<(), Fail> {
+    let mut core = board_with_plan(rt.alloc(), SEVEN)?;
+    lists(&rt, &mut core)
+}
+
 // AND of the stand with 511, helper 2, exit.
-const TAXI_TIME: [u8; 32] = [
+static TAXI_TIME: [u8; 32] = [
     0x69, 0x11, 0x3c, 0, 0, 0, 0, 0, 0x57, 0x01, 0, 0, 0xff, 0x01, 0, 0, 0x85, 0, 0, 0, 2, 0, 0, 0,
     0x95, 0, 0, 0, 0, 0, 0, 0,
 ];
 
 // r0 = TOBT of the record.
-const TOBT_OF_RECORD: [u8; 16] = [0x61, 0x10, 0x60, 0, 0, 0, 0, 0, 0x95, 0, 0, 0, 0, 0, 0, 0];
+static TOBT_OF_RECORD: [u8; 16] = [0x61, 0x10, 0x60, 0, 0, 0, 0, 0, 0x95, 0, 0, 0, 0, 0, 0, 0];
 
 // r0 = the milestone.
-const MILESTONE: [u8; 16] = [0xbf, 0x40, 0, 0, 0, 0, 0, 0, 0x95, 0, 0, 0, 0, 0, 0, 0];
+static MILESTONE: [u8; 16] = [0xbf, 0x40, 0, 0, 0, 0, 0, 0, 0x95, 0, 0, 0, 0, 0, 0, 0];
 
 // r0 = the moment and 10 minutes.
-const TEN_LATER: [u8; 24] = [
+static TEN_LATER: [u8; 24] = [
     0xbf, 0x30, 0, 0, 0, 0, 0, 0, 0x07, 0, 0, 0, 0x0a, 0, 0, 0, 0x95, 0, 0, 0, 0, 0, 0, 0,
 ];
 
-// A board for programs that call helper 2, with this program for the alerts of milestone 9.
+// Loads a program that may call helper 2 for the alerts of milestone 9.
+fn load_asking(alloc: Global, core: &mut Core, bytes: &[u8]) -> Result<(), Fail> {
+    let load = loaded(
+        alloc,
+        Milestone::TobtUpdate,
+        Kind::Alert,
+        bytes,
+        core.sigs(),
+    )?;
+    done(core, Role::AirportOperator, SEVEN, &load)?;
+    Ok(())
+}
+
+// A board for programs that call helper 2.
+fn asking_board(alloc: Global) -> Result<Core, Fail> {
+    Ok(Core::new(alloc, taxi_sigs(alloc)?)?)
+}
+
+// The same, with this program for the alerts of milestone 9.
 fn board_that_asks(alloc: Global, bytes: &[u8]) -> Result<Core, Fail> {
-    let sigs = taxi_sigs(alloc)?;
-    let load = loaded(alloc, Milestone::TobtUpdate, Kind::Alert, bytes, &sigs)?;
-    let mut core = Core::new(alloc, sigs)?;
-    done(&mut core, Role::AirportOperator, SEVEN, &load)?;
+    let mut core = asking_board(alloc)?;
+    load_asking(alloc, &mut core, bytes)?;
     Ok(core)
 }
 
 // The flight is scheduled and planned.
 fn begin(core: &mut Core, moment: u32) -> Result<(), Fail> {
-    done(core, Role::AirportOperator, moment, &scheduled()?)?;
-    done(core, Role::NetworkManager, moment, &planned()?)?;
-    Ok(())
+    schedule(core, moment)?;
+    activate(core, moment)
+}
+
+// A report of milestone 9 whose program gets no answer.
+fn refuses(rt: &impl Abort, core: &mut Core, report: &Command) -> Result<(), Fail> {
+    judges(rt, core, Role::GroundHandler, SEVEN, report, 599)?;
+    holds(rt, core, Field::Alerts, 0)?;
+    holds(rt, core, Field::Tobt, 0)
+}
+
+// The program is still there: with its answer it sets LOC01 and LOC03.
+fn accepts(rt: &impl Abort, core: &mut Core, report: &Command) -> Result<(), Fail> {
+    answered(core, &[10], Role::GroundHandler, SEVEN, report)?;
+    holds(rt, core, Field::Alerts, 655_360)
+}
+
+fn refuses_and_accepts(rt: &impl Abort, core: &mut Core) -> Result<(), Fail> {
+    begin(core, SEVEN)?;
+    let report = reported(Milestone::TobtUpdate, TEN)?;
+    refuses(rt, core, &report)?;
+    accepts(rt, core, &report)
 }
 
 #[test]
 fn a_program_that_gets_no_answer_refuses_its_report(rt: HostRuntime) -> Result<(), Fail> {
     let mut core = board_that_asks(rt.alloc(), &TAXI_TIME)?;
-    begin(&mut core, SEVEN)?;
-    let report = reported(Milestone::TobtUpdate, TEN)?;
-    assert_eq!(rt;
-        code_of(&mut core, Role::GroundHandler, SEVEN, &report)?,
-        599
-    );
-    assert_eq!(rt; field_of(&core, Field::Alerts)?, 0);
-    assert_eq!(rt; field_of(&core, Field::Tobt)?, 0);
-    // The program is still there: with its answer it sets LOC01 and LOC03.
-    answered(&mut core, &[10], Role::GroundHandler, SEVEN, &report)?;
-    assert_eq!(rt; field_of(&core, Field::Alerts)?, 655_360);
-    Ok(())
+    refuses_and_accepts(&rt, &mut core)
 }
 
-// For how many answers a report of milestone 9 needs room where this program judges its alerts.
-fn room_for(alloc: Global, bytes: &[u8]) -> Result<u64, Fail> {
+// For how many answers a report of milestone 9 needs room.
+fn room_on(core: &Core) -> Result<u64, Fail> {
+    let report = reported(Milestone::TobtUpdate, TEN)?;
+    Ok(core.answers_room(&report))
+}
+
+// So much where this program judges its alerts.
+fn needs_room(rt: &impl Abort, alloc: Global, bytes: &[u8], room: u64) -> Result<(), Fail> {
     let core = board_that_asks(alloc, bytes)?;
-    Ok(core.answers_room(&reported(Milestone::TobtUpdate, TEN)?))
+    assert_eq!(rt; room_on(&core)?, room);
+    Ok(())
 }
 
 #[test]
 fn answers_get_room_where_a_helper_is_called(rt: HostRuntime) -> Result<(), Fail> {
-    assert_eq!(rt; room_for(rt.alloc(), &TAXI_TIME)?, 4);
-    assert_eq!(rt; room_for(rt.alloc(), &MILESTONE)?, 0);
-    Ok(())
+    needs_room(&rt, rt.alloc(), &TAXI_TIME, 4)?;
+    needs_room(&rt, rt.alloc(), &MILESTONE, 0)
 }
 
-#[test]
-fn a_program_for_other_helpers_is_not_loaded(rt: HostRuntime) -> Result<(), Fail> {
-    let alloc = rt.alloc();
-    let mut core = Core::new(alloc, taxi_sigs(alloc)?)?;
+// A load of a program that was checked for no helper.
+fn load_of_other(alloc: Global) -> Result<Command, Fail> {
     let others = no_sigs(alloc)?;
-    let load = loaded(
+    loaded(
         alloc,
         Milestone::TobtUpdate,
         Kind::Alert,
         &MILESTONE,
         &others,
-    )?;
-    assert_eq!(rt;
-        code_of(&mut core, Role::AirportOperator, SEVEN, &load)?,
-        322
-    );
-    Ok(())
+    )
+}
+
+fn refuses_other(rt: &impl Abort, alloc: Global, core: &mut Core) -> Result<(), Fail> {
+    let load = load_of_other(alloc)?;
+    judges(rt, core, Role::AirportOperator, SEVEN, &load, 322)
+}
+
+#[test]
+fn a_program_for_other_helpers_is_not_loaded(rt: HostRuntime) -> Result<(), Fail> {
+    let mut core = asking_board(rt.alloc())?;
+    refuses_other(&rt, rt.alloc(), &mut core)
 }
 
 #[test]
 fn an_empty_slot_is_told_first_on_a_new_board(rt: HostRuntime) -> Result<(), Fail> {
-    let mut core = Core::new(rt.alloc(), no_sigs(rt.alloc())?)?;
+    let mut core = empty_board(rt.alloc())?;
     let unload = Command::Unload(Unload {
         milestone: Milestone::TobtUpdate,
         kind: Kind::Alert,
     });
-    assert_eq!(rt;
-        code_of(&mut core, Role::AirportOperator, SEVEN, &unload)?,
-        321
-    );
-    Ok(())
+    judges(&rt, &mut core, Role::AirportOperator, SEVEN, &unload, 321)
 }
 
 fn load(
@@ -333,25 +410,23 @@ fn load(
     Ok(())
 }
 
-// A board with programs in three slots: both of milestone 7, and the alert slot of milestone 8.
-fn board_with_three(alloc: Global) -> Result<Core, Fail> {
-    let mut core = Core::new(alloc, no_sigs(alloc)?)?;
-    load(alloc, &mut core, Milestone::InBlock, Kind::Tobt, &TEN_LATER)?;
+// Programs come into three slots: both of milestone 7, and the alert slot of milestone 8.
+fn load_three(alloc: Global, core: &mut Core) -> Result<(), Fail> {
+    load(alloc, core, Milestone::InBlock, Kind::Tobt, &TEN_LATER)?;
     load(
         alloc,
-        &mut core,
+        core,
         Milestone::InBlock,
         Kind::Alert,
         &TOBT_OF_RECORD,
     )?;
     load(
         alloc,
-        &mut core,
+        core,
         Milestone::GroundHandlingStarts,
         Kind::Alert,
         &MILESTONE,
-    )?;
-    Ok(core)
+    )
 }
 
 // The room that a report needs, and TOBT and the local alerts after it.
@@ -367,19 +442,55 @@ fn after_report(
     Ok((room, field_of(core, Field::Tobt)?, locals))
 }
 
+// The room that a report needs, and TOBT and the local alerts after it, are these.
+fn tells_after(
+    rt: &impl Abort,
+    core: &mut Core,
+    role: Role,
+    milestone: Milestone,
+    told: (u64, u64, u64),
+) -> Result<(), Fail> {
+    assert!(rt; after_report(core, role, milestone)? == told);
+    Ok(())
+}
+
+fn runs_its_own(rt: &impl Abort, core: &mut Core) -> Result<(), Fail> {
+    tells_after(
+        rt,
+        core,
+        Role::AirTrafficControl,
+        Milestone::Landed,
+        (0, 0, 0),
+    )?;
+    // The alert program reads the TOBT that the other one gave, of which the low 16 bits are 33798.
+    let in_block = (5, 29_000_710, 33_798);
+    tells_after(
+        rt,
+        core,
+        Role::AirportOperator,
+        Milestone::InBlock,
+        in_block,
+    )?;
+    let handled = (2, 29_000_710, 8);
+    tells_after(
+        rt,
+        core,
+        Role::GroundHandler,
+        Milestone::GroundHandlingStarts,
+        handled,
+    )
+}
+
+fn runs_three(rt: &impl Abort, alloc: Global, core: &mut Core) -> Result<(), Fail> {
+    load_three(alloc, core)?;
+    begin(core, NINE)?;
+    runs_its_own(rt, core)
+}
+
 #[test]
 fn each_milestone_runs_its_own_programs(rt: HostRuntime) -> Result<(), Fail> {
-    let mut core = board_with_three(rt.alloc())?;
-    begin(&mut core, NINE)?;
-    let landed = after_report(&mut core, Role::AirTrafficControl, Milestone::Landed)?;
-    assert!(rt; landed == (0, 0, 0));
-    // The alert program reads the TOBT that the other one gave, of which the low 16 bits are 33798.
-    let in_block = after_report(&mut core, Role::AirportOperator, Milestone::InBlock)?;
-    assert!(rt; in_block == (5, 29_000_710, 33_798));
-    let handler = Role::GroundHandler;
-    let handled = after_report(&mut core, handler, Milestone::GroundHandlingStarts)?;
-    assert!(rt; handled == (2, 29_000_710, 8));
-    Ok(())
+    let mut core = empty_board(rt.alloc())?;
+    runs_three(&rt, rt.alloc(), &mut core)
 }
 
 fn copied(outcome: &Outcome) -> Result<AlertList, Fail> {
@@ -389,21 +500,29 @@ fn copied(outcome: &Outcome) -> Result<AlertList, Fail> {
     }
 }
 
-#[test]
-fn a_copy_of_an_outcome_equals_it(rt: HostRuntime) -> Result<(), Fail> {
-    let mut core = board_with_plan(rt.alloc(), SEVEN)?;
-    let listed = done(&mut core, Role::GroundHandler, 1, &Command::Alerts)?;
+fn copies(rt: &impl Abort, core: &mut Core) -> Result<(), Fail> {
+    let listed = done(core, Role::GroundHandler, 1, &Command::Alerts)?;
     assert!(rt; is_of_flight_7(copied(&listed)?.as_slice()));
     Ok(())
 }
 
 #[test]
+fn a_copy_of_an_outcome_equals_it(rt: HostRuntime) -> Result<(), Fail> {
+    let mut core = board_with_plan(rt.alloc(), SEVEN)?;
+    copies(&rt, &mut core)
+}
+
+// The answers are 10 and 45.
+fn are_in_order(rt: &impl Abort, answers: &[u64]) {
+    assert_eq!(rt; answers.len(), 2);
+    assert_eq!(rt; answers[0], 10);
+    assert_eq!(rt; answers[1], 45);
+}
+
+#[test]
 fn answers_are_kept_in_order(rt: HostRuntime) -> Result<(), Fail> {
-    let given = vec![in rt.alloc(); 10u64, 45]?;
-    let answers = Answers::from(given);
-    assert_eq!(rt; answers.as_slice().len(), 2);
-    assert_eq!(rt; answers.as_slice()[0], 10);
-    assert_eq!(rt; answers.as_slice()[1], 45);
+    let answers = Answers::from(vec![in rt.alloc(); 10u64, 45]?);
+    are_in_order(&rt, answers.as_slice());
     assert!(rt; Answers::none(rt.alloc()).as_slice().is_empty());
     Ok(())
 }
