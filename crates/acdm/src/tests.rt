@@ -84,7 +84,11 @@ pub(crate) fn completes<
         + Threads
         + Wait
         + Abort
-        + Sync,
+        + Clone
+        + Drop
+        + Send
+        + Sync
+        + 'static,
 >(
     rt: &Rt,
     alloc: Global,
