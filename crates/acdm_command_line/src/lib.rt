@@ -3,7 +3,5 @@
 #![tactic(auto)]
 
 mod command_line;
-#[cfg(test)]
-mod tests;
 
 pub use command_line::{Line, asked, parse};

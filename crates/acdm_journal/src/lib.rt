@@ -15,6 +15,3 @@ pub use entry_text::{WriteError, write_entry};
 pub use judge::{AuditError, Clause, judge_line, plan_with};
 pub use reading::read_line;
 pub use stated::{Asked, LineError, LoadLine, ProgramBytes, Stated};
-
-#[cfg(test)]
-mod tests;

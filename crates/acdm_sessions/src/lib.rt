@@ -29,16 +29,3 @@ pub use request::{Asked, LineError, LoadRequest, Request};
 pub use session::{Closed, End, Ended, Session};
 pub use sessions::run_sessions;
 pub use stream::run;
-
-#[cfg(test)]
-mod ample_tests;
-#[cfg(test)]
-mod board_tests;
-#[cfg(test)]
-mod program_tests;
-#[cfg(test)]
-mod sessions_tests;
-#[cfg(test)]
-mod tests;
-#[cfg(test)]
-mod wire_tests;

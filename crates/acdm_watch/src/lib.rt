@@ -7,6 +7,3 @@ mod watch;
 
 pub use sight::Sight;
 pub use watch::Watch;
-
-#[cfg(test)]
-mod tests;

@@ -19,6 +19,3 @@ pub use insn::Insn;
 pub use listing::line;
 pub use op::{Bytes, Code, Condition, Op, Operand, Order, Part, Register, Size, Width};
 pub use program::{MOST_SLOTS, Program};
-
-#[cfg(test)]
-mod tests;

@@ -8,6 +8,3 @@ mod state_text;
 mod told;
 
 pub use told::{Told, read};
-
-#[cfg(test)]
-mod tests;

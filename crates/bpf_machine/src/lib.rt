@@ -17,16 +17,3 @@ pub use refusal::{ExecuteError, RegisterFault, SetError};
 pub use tested::run_tested;
 pub use untested::run;
 pub use vm::{EbpfVmRaw, NotRegistered};
-
-#[cfg(test)]
-mod cross_check;
-#[cfg(test)]
-mod form_vectors;
-#[cfg(test)]
-mod forms;
-#[cfg(test)]
-mod tests;
-#[cfg(test)]
-mod vectors;
-#[cfg(test)]
-mod vm_tests;

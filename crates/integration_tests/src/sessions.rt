@@ -1,6 +1,12 @@
 //! Streams of lines, with the replies that the profile's worked examples give.
-use crate::{Counted, RunError, run};
+mod ample;
+mod board;
+mod programs;
+mod threads;
+mod wire;
+
 use acdm_board::Desk;
+use acdm_sessions::{Counted, RunError, run};
 use bpf_helpers::{Bank, Helpers};
 use std::alloc::Global;
 use std::cell::Cell;

@@ -1,5 +1,5 @@
 //! What command lines ask for.
-use crate::{Line, parse};
+use acdm_command_line::{Line, parse};
 use std::alloc::Global;
 use std::test::Fail;
 

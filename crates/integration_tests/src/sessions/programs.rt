@@ -4,7 +4,7 @@
 ghost use Rattle.std.specs.Prelude.{◌≡◌, ◌+◌, ◌^◌, ◌<◌, IfOk};
 ghost use Rattle.bpf_helpers.specs.Known.{sum, taxi, taxi_from};
 
-use crate::tests::{replies_of, replies_to};
+use crate::sessions::{replies_of, replies_to};
 use acdm_board::Desk;
 use acdm_record::Field;
 use bpf_helpers::{Bank, Code, Helper, Helpers, Range, Signature};

@@ -2,7 +2,7 @@
 ghost use Rattle.std.specs.Prelude.{◌≡◌, ◌+◌, ◌<◌, ◌≤◌, ◌^◌, IfOk};
 ghost use Rattle.bpf_helpers.specs.Known.{sum};
 
-use crate::{Desk, DeskError, Reply};
+use acdm_board::{Desk, DeskError, Reply};
 use acdm_milestones::{Milestone, Role};
 use acdm_record::{Field, Text};
 use acdm_slots::Kind;

@@ -1,6 +1,6 @@
 //! Worked rows of the encoding and of the listing.
 
-use super::*;
+use bpf_decode::{DecodeError, Fault, Register, decode, encode, line};
 use std::alloc::Global;
 use std::process::Abort;
 use std::test::Fail;

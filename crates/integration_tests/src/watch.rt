@@ -3,12 +3,12 @@ ghost use Rattle.std.specs.Prelude.{◌≡◌};
 ghost use Rattle.std.specs.Arc.{arc_value};
 ghost use Rattle.acdm_board.specs.Desk.{row_of};
 
-use crate::Watch;
 use acdm_board::Desk;
 use acdm_milestones::{Milestone, Role};
 use acdm_record::{Field, Text};
 use acdm_row::{Pass, Row};
 use acdm_step::{Command, FlightCommand, Plan, Report, Schedule};
+use acdm_watch::Watch;
 use bpf_helpers::{Bank, Helpers};
 use std::alloc::Global;
 use std::process::Abort;

@@ -3,10 +3,10 @@
 ghost use Rattle.std.specs.Prelude.{◌≡◌, ◌+◌, ◌<◌, ◌^◌, IfOk};
 ghost use Rattle.bpf_helpers.specs.Known.{sum, taxi, taxi_from, turn_round, turn_round_of};
 
-use crate::tests::planned;
-use crate::{EbpfVmRaw, Ended};
+use crate::machine::planned;
 use acdm_milestones::Milestone;
 use bpf_helpers::{Code, Helper, Range, Signature};
+use bpf_machine::{EbpfVmRaw, Ended};
 use std::alloc::Global;
 use std::test::Fail;
 

@@ -1,5 +1,5 @@
 //! The limits of each field of a line, and one beside each limit.
-use crate::tests::replies_to;
+use crate::sessions::replies_to;
 use std::alloc::Global;
 use std::test::Fail;
 

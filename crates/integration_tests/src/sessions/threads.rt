@@ -1,9 +1,9 @@
 //! Sessions on threads of their own, over one desk.
-use crate::tests::replies_of;
-use crate::{Clock, Closed, Counted, End, Ended, Gate, Session, run_sessions};
+use crate::sessions::replies_of;
 use acdm_board::Desk;
 use acdm_milestones::Role;
 use acdm_record::Field;
+use acdm_sessions::{Clock, Closed, Counted, End, Ended, Gate, Session, run_sessions};
 use bpf_helpers::{Bank, Helpers};
 use std::alloc::Global;
 use std::io::{self, Cursor, Read, Write};

@@ -1,10 +1,10 @@
 //! Each form of instruction against results from outside, by bench/forms/generate.py, which says of
 //! what programs the rows are.
-use crate::form_vectors::{ARITHMETIC, JUMPS, LOADS, STORES};
-use crate::run_tested;
+use crate::machine::form_vectors::{ARITHMETIC, JUMPS, LOADS, STORES};
 use acdm_milestones::Milestone;
 use bpf_decode::decode;
 use bpf_helpers::{Bank, Logged};
+use bpf_machine::run_tested;
 use std::alloc::{AllocError, Global};
 use std::process::Abort;
 use std::test::Fail;

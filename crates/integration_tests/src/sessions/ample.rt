@@ -1,7 +1,7 @@
 //! Streams with ample memory, at the limits of the board: no reply says that memory was refused.
 //!
 //! Minute 29000580 is 2025-02-20T07:00Z.
-use crate::tests::replies_to;
+use crate::sessions::replies_to;
 use std::alloc::Global;
 use std::test::Fail;
 

@@ -1,9 +1,9 @@
 //! Arithmetic of the machine against results that were computed outside it, by vectors/vectors.py.
-use crate::vectors::{VECTORS, Vector};
-use crate::{Ended, run_tested};
+use crate::machine::vectors::{VECTORS, Vector};
 use acdm_milestones::Milestone;
 use bpf_decode::decode;
 use bpf_helpers::{Bank, Logged};
+use bpf_machine::{Ended, run_tested};
 use std::test::Fail;
 
 // Two wide loads of r0 and r1, the instruction on them, and an exit.

@@ -3,10 +3,16 @@
 ghost use Rattle.std.specs.Prelude.{◌≡◌, IfOk};
 ghost use Rattle.bpf_helpers.specs.Known.{taxi, taxi_from};
 
-use super::*;
+mod cross_check;
+mod form_vectors;
+mod forms;
+mod vectors;
+mod vm;
+
 use acdm_milestones::Milestone;
 use bpf_decode::decode;
 use bpf_helpers::{Bank, Code, Helper, Logged, Range, Signature, Sigs};
+use bpf_machine::{Ended, Trap, run, run_tested};
 use bpf_verifier::verify;
 use std::alloc::Global;
 use std::process::Abort;

@@ -1,10 +1,10 @@
 #!/usr/bin/env python3
-"""Writes vectors.rt: arithmetic instructions with their results, computed here with Python's whole numbers.
+"""Writes src/machine/vectors.rt: arithmetic instructions with their results, computed here with Python's whole numbers.
 
 Each row is (opcode, offset, immediate, destination, source, result): the instruction's fields, both registers before it
 and the destination after it, by RFC 9669, sections 4.1 and 4.2. Run it again where a row is to be added:
 
-    python3 vectors.py > ../src/vectors.rt && (cd .. && rt fmt)
+    python3 vectors.py > ../src/machine/vectors.rt && (cd .. && rt fmt)
 """
 
 EDGES = [0, 1, 7, 0x7F, 0x80, 0x7FFF, 0x8000, 2**31 - 1, 2**31, 2**32 - 1, 2**32, 2**63 - 1, 2**63, 2**64 - 7, 2**64 - 1]

@@ -1,5 +1,5 @@
 //! Entries written, and lines read.
-use crate::{Asked, LineError, Stated, WriteError, read_line, write_entry};
+use acdm_journal::{Asked, LineError, Stated, WriteError, read_line, write_entry};
 use acdm_milestones::{Milestone, Refusal, Role};
 use acdm_record::Text;
 use acdm_slots::Kind;

@@ -1,6 +1,6 @@
 //! The words, by hand: first programs that are accepted, then one for each fault.
 
-use crate::read;
+use bpf_explain::read;
 use bpf_helpers::{Range, Signature, Sigs};
 use std::alloc::Global;
 use std::process::Abort;

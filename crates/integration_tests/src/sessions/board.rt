@@ -1,7 +1,7 @@
 //! The board as partners see it, by the profile's worked examples.
 //!
 //! Minute 29000580 is 2025-02-20T07:00Z, and 29000760 is 10:00Z of that day.
-use crate::tests::replies_to;
+use crate::sessions::replies_to;
 use std::test::Fail;
 
 // Flight 7 with a schedule and a flight plan.

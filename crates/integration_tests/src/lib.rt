@@ -1,0 +1,20 @@
+//! What crates answer through their public calls: the tests of those whose own check takes more
+//! than two minutes. A check of a crate's tests proves the crate once more, so they stand here.
+#![tactic(auto)]
+
+#[cfg(test)]
+mod board;
+#[cfg(test)]
+mod command_line;
+#[cfg(test)]
+mod decode;
+#[cfg(test)]
+mod explain;
+#[cfg(test)]
+mod journal;
+#[cfg(test)]
+mod machine;
+#[cfg(test)]
+mod sessions;
+#[cfg(test)]
+mod watch;
