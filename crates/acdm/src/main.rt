@@ -1,31 +1,7 @@
 //! The program `acdm`: the shared board of an A-CDM airport.
 #![tactic(auto)]
 
-mod addresses;
-#[cfg(test)]
-mod audit_tests;
-mod auditing;
-mod commands;
-#[cfg(test)]
-mod display_tests;
-mod displays;
-#[cfg(test)]
-mod explain_tests;
-mod explaining;
-mod failure;
-mod helpers;
-mod minutes;
-mod partners;
-mod saving;
-mod serve_command;
-#[cfg(test)]
-mod serve_tests;
-mod serving;
-#[cfg(test)]
-mod tests;
-mod verifying;
-
-use commands::complete;
+use acdm_commands::complete;
 use std::process::ExitCode;
 use std::{env, io};
 

@@ -7,6 +7,8 @@ mod board;
 #[cfg(test)]
 mod command_line;
 #[cfg(test)]
+mod commands;
+#[cfg(test)]
 mod decode;
 #[cfg(test)]
 mod explain;

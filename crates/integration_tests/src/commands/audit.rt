@@ -1,0 +1,161 @@
+//! Journals that are saved, and the audit of them.
+use acdm_commands::{audit_on, run_on};
+use std::alloc::Global;
+use std::io::{self, Read, Write};
+use std::process::Abort;
+use std::test::Fail;
+
+// A program for milestone 9 asks for the taxi time from the stand, and its answer is the local
+// alerts.
+const LINES: &str =
+    r#"1 29000580 APT {"cmd":"load","milestone":9,"kind":"alert","program":"69113c000000000057010000ff01000085000000020000009500000000000000"}
+1 29000580 APT {"cmd":"schedule","flight":7,"callsign":"DLH7","type":"A320","reg":"DAIBC","dest":"EDDM","sobt":"2025-02-20T10:00:00Z","mttt":40,"exit":5,"exot":10,"stand":12}
+2 29000580 NM {"cmd":"report","flight":7,"milestone":1,"time":"2025-02-20T10:00:00Z","callsign":"DLH7","type":"A320","reg":"DAIBC","dest":"EDDM"}
+5 29000580 GH {"cmd":"report","flight":7,"milestone":9,"time":"2025-02-20T10:00:00Z"}
+1 29000580 APT {"cmd":"alerts"}
+"#;
+
+const LOADED: &str =
+    "0 1 29000580 APT 0 0 load 9 alert 69113c000000000057010000ff01000085000000020000009500000000000000\n";
+
+const ENTERED: &str =
+    "1 1 29000580 APT 0 0 schedule 7 DLH7 A320 DAIBC EDDM 29000760 40 5 10 12\n2 2 29000580 NM 0 0 report 7 1 29000760 DLH7 A320 DAIBC EDDM\n";
+
+const REPORTED: &str = "3 5 29000580 GH 0 1 10 report 7 9 29000760\n";
+
+const LISTED: &str = "4 1 29000580 APT 0 0 alerts\n";
+
+// Flight 7 is scheduled and planned, and has no TOBT when a TSAT is reported.
+const PLANNED: &str =
+    "0 1 29000580 APT 0 0 schedule 7 DLH7 A320 DAIBC EDDM 29000760 40 5 10 12\n1 2 29000580 NM 0 0 report 7 1 29000760 DLH7 A320 DAIBC EDDM\n";
+
+fn joined(alloc: Global, parts: &[&str]) -> Result<String, Fail> {
+    let mut text = String::new(alloc);
+    for part in parts {
+        text.push_str(part)?;
+    }
+    Ok(text)
+}
+
+fn audits_to(
+    rt: &impl Abort,
+    alloc: Global,
+    parts: &[&str],
+    expected: (u8, &str),
+) -> Result<(), Fail> {
+    let journal = joined(alloc, parts)?;
+    let mut output = Vec::new(alloc);
+    let mut errors = Vec::new(alloc);
+    let status = audit_on(alloc, journal.as_bytes(), &mut output, &mut errors);
+    let (wanted, told) = expected;
+    assert_eq!(rt; status, wanted);
+    assert_eq!(rt; output.as_slice(), told.as_bytes());
+    assert!(rt; errors.is_empty());
+    Ok(())
+}
+
+#[test]
+fn a_day_is_saved_as_text(rt: HostRuntime) -> Result<(), Fail> {
+    let alloc = rt.alloc();
+    let mut replies = Vec::new(alloc);
+    let mut saved = Vec::new(alloc);
+    let mut errors = Vec::new(alloc);
+    let file = Some(&mut saved);
+    let status = run_on(alloc, 10, LINES.as_bytes(), &mut replies, file, &mut errors);
+    let expected = joined(alloc, &[LOADED, ENTERED, REPORTED, LISTED])?;
+    assert_eq!(rt; status, 0);
+    assert_eq!(rt; saved.as_slice(), expected.as_bytes());
+    audits_to(&rt, alloc, &[expected.as_str()], (0, "legal 5\n"))
+}
+
+#[test]
+fn an_entry_with_other_answers_is_told(rt: HostRuntime) -> Result<(), Fail> {
+    let alloc = rt.alloc();
+    for fourth in [
+        "3 5 29000580 GH 0 1 11 report 7 9 29000760\n",
+        "3 5 29000580 GH 0 0 report 7 9 29000760\n",
+        "3 5 29000580 GH 0 2 10 10 report 7 9 29000760\n",
+        "3 5 29000580 GH 599 0 report 7 9 29000760\n",
+    ] {
+        let parts = [LOADED, ENTERED, fourth, LISTED];
+        audits_to(&rt, alloc, parts.as_slice(), (1, "entry 3 404\n"))?;
+    }
+    Ok(())
+}
+
+#[test]
+fn an_entry_that_is_none_is_told(rt: HostRuntime) -> Result<(), Fail> {
+    let alloc = rt.alloc();
+    let zero = "3 5 29000580 GH 0 1 10 report 07 9 29000760\n";
+    audits_to(&rt, alloc, &[LOADED, ENTERED, zero], (1, "entry 3 401\n"))?;
+    let exit = "0 1 29000580 APT 0 0 load 9 alert 9500000000000000\n";
+    audits_to(&rt, alloc, &[exit, ENTERED], (1, "entry 0 403\n"))?;
+    let cut = "4 1 29000580 APT 0 0 alerts";
+    let parts = [LOADED, ENTERED, REPORTED, cut];
+    audits_to(&rt, alloc, parts.as_slice(), (1, "entry 4 401\n"))?;
+    audits_to(&rt, alloc, &["\n"], (1, "entry 0 401\n"))?;
+    audits_to(&rt, alloc, &[], (0, "legal 0\n"))
+}
+
+#[test]
+fn an_entry_with_another_outcome_is_told(rt: HostRuntime) -> Result<(), Fail> {
+    let alloc = rt.alloc();
+    for (third, status, told) in [
+        (
+            "2 3 29000580 ATC 205 0 report 7 10 29000760\n",
+            0,
+            "legal 3\n",
+        ),
+        (
+            "2 3 29000580 ATC 0 0 report 7 10 29000760\n",
+            1,
+            "entry 2 405\n",
+        ),
+        (
+            "3 3 29000580 ATC 205 0 report 7 10 29000760\n",
+            1,
+            "entry 2 402\n",
+        ),
+    ] {
+        audits_to(&rt, alloc, &[PLANNED, third], (status, told))?;
+    }
+    Ok(())
+}
+
+/// Fails at each read and write.
+#[derive(Drop)]
+struct Broken;
+
+impl Read for Broken {
+    fn read(&mut self, _buf: &mut [u8]) -> io::Result<usize> {
+        Err(io::Error::from(io::ErrorKind::BrokenPipe))
+    }
+}
+
+impl Write for Broken {
+    fn write(&mut self, _buf: &[u8]) -> io::Result<usize> {
+        Err(io::Error::from(io::ErrorKind::BrokenPipe))
+    }
+
+    fn flush(&mut self) -> io::Result<()> {
+        Ok(())
+    }
+}
+
+#[test]
+fn what_fails_is_told(rt: HostRuntime) -> Result<(), Fail> {
+    let alloc = rt.alloc();
+    let mut replies = Vec::new(alloc);
+    let mut errors = Vec::new(alloc);
+    let file = Some(Broken);
+    let status = run_on(alloc, 10, LINES.as_bytes(), &mut replies, file, &mut errors);
+    assert_eq!(rt; status, 2);
+    assert_eq!(rt; errors.as_slice(), b"acdm: save failed\n".as_slice());
+    errors.clear();
+    assert_eq!(rt; audit_on(alloc, Broken, &mut replies, &mut errors), 2);
+    assert_eq!(rt; errors.as_slice(), b"acdm: read failed\n".as_slice());
+    errors.clear();
+    assert_eq!(rt; audit_on(alloc, b"".as_slice(), Broken, &mut errors), 2);
+    assert_eq!(rt; errors.as_slice(), b"acdm: write failed\n".as_slice());
+    Ok(())
+}

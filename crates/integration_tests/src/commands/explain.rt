@@ -1,0 +1,116 @@
+//! What `explain` tells of files, and its statuses.
+use crate::commands::{Broken, Short, completes};
+use acdm_commands::{explain_on, verify_on};
+use std::alloc::Global;
+use std::io::Read;
+use std::process::Abort;
+use std::test::Fail;
+
+// `explain` writes this on both writers of what the reader gives, with this status.
+fn explains<R: Read + Drop>(
+    rt: &impl Abort,
+    alloc: Global,
+    reader: R,
+    expected: (u8, &str, &str),
+) -> Result<(), Fail> {
+    let mut text = Vec::new(alloc);
+    let mut errors = Vec::new(alloc);
+    let status = explain_on(alloc, "rules/slot.bin", reader, &mut text, &mut errors);
+    let (wanted, written, complaint) = expected;
+    assert_eq!(rt; status, wanted);
+    assert_eq!(rt; text.as_slice(), written.as_bytes());
+    assert_eq!(rt; errors.as_slice(), complaint.as_bytes());
+    Ok(())
+}
+
+#[test]
+fn a_program_is_explained(rt: HostRuntime) -> Result<(), Fail> {
+    let bytes = [0xb7, 0, 0, 0, 0, 0, 0, 0, 0x95, 0, 0, 0, 0, 0, 0, 0];
+    let text = r#"0: mov64 r0, 0
+    r1 = record+0, r2 = 128, r3 = 0 to 4294967295, r4 = 1 to 16, r10 = stack+0
+1: exit
+    r0 = 0, r1 = record+0, r2 = 128, r3 = 0 to 4294967295, r4 = 1 to 16, r10 = stack+0
+accepted 2
+"#;
+    explains(&rt, rt.alloc(), bytes.as_slice(), (0, text, ""))
+}
+
+// A stand is passed to helper 2 as it was read.
+#[test]
+fn a_refusal_is_explained(rt: HostRuntime) -> Result<(), Fail> {
+    let bytes = [
+        0x69, 0x11, 0x3c, 0, 0, 0, 0, 0, 0x85, 0, 0, 0, 2, 0, 0, 0, 0x95, 0, 0, 0, 0, 0, 0, 0,
+    ];
+    let text = r#"0: ldxh r1, [r1+60]
+    r1 = record+0, r2 = 128, r3 = 0 to 4294967295, r4 = 1 to 16, r10 = stack+0
+1: call 2
+    r1 = 0 to 65535, r2 = 128, r3 = 0 to 4294967295, r4 = 1 to 16, r10 = stack+0
+fault 313 at slot 1: argument outside the helper's range
+    argument 1 of helper 2, r1: known 0 to 65535, wanted 0 to 999
+refused 313 1
+"#;
+    explains(&rt, rt.alloc(), bytes.as_slice(), (1, text, ""))
+}
+
+// Both commands have one status and one last line.
+fn ends_with(rt: &impl Abort, alloc: Global, bytes: &[u8], line: &str) -> Result<(), Fail> {
+    let mut verdict = Vec::new(alloc);
+    let mut text = Vec::new(alloc);
+    let mut errors = Vec::new(alloc);
+    let wanted = verify_on(alloc, bytes, &mut verdict, &mut errors);
+    let status = explain_on(alloc, "rules/slot.bin", bytes, &mut text, &mut errors);
+    assert_eq!(rt; status, wanted);
+    assert!(rt; verdict.as_slice().ends_with(line.as_bytes()));
+    assert!(rt; text.as_slice().ends_with(line.as_bytes()));
+    assert!(rt; errors.is_empty());
+    Ok(())
+}
+
+#[test]
+fn the_last_line_is_that_of_verify(rt: HostRuntime) -> Result<(), Fail> {
+    let alloc = rt.alloc();
+    let many = vec![in alloc; 0u8; 65_536]?;
+    for (bytes, line) in [
+        ([0x95, 0, 1, 0, 0, 0, 0, 0].as_slice(), "refused 304 0\n"),
+        ([0u8; 12].as_slice(), "refused 301 0\n"),
+        ([0x95, 0, 0, 0, 0, 0, 0, 0].as_slice(), "refused 308 0\n"),
+        ([0xb7, 0, 0, 0, 0, 0, 0, 0].as_slice(), "refused 307 0\n"),
+        (many.as_slice(), "refused 302 0\n"),
+        (
+            [0xb7, 0, 0, 0, 0, 0, 0, 0, 0x95, 0, 0, 0, 0, 0, 0, 0].as_slice(),
+            "accepted 2\n",
+        ),
+    ] {
+        ends_with(&rt, alloc, bytes, line)?;
+    }
+    Ok(())
+}
+
+#[test]
+fn a_file_that_cannot_be_opened_is_named(rt: HostRuntime) -> Result<(), Fail> {
+    completes(
+        &rt,
+        rt.alloc(),
+        &["acdm", "explain", "no-such-folder/no-such-file"],
+        "",
+        (
+            2,
+            "",
+            "acdm: read failed\nacdm: no-such-folder/no-such-file: No such file or directory (os error 2)\n",
+        ),
+    )
+}
+
+#[test]
+fn explain_tells_what_failed(rt: HostRuntime) -> Result<(), Fail> {
+    let alloc = rt.alloc();
+    let complaint = "acdm: read failed\nacdm: rules/slot.bin: broken pipe\n";
+    explains(&rt, alloc, Broken, (2, "", complaint))?;
+    explains(&rt, alloc, Short, (2, "", "acdm: no memory\n"))?;
+    let mut errors = Vec::new(alloc);
+    let exit = [0x95, 0, 0, 0, 0, 0, 0, 0];
+    let status = explain_on(alloc, "exit.bin", exit.as_slice(), Broken, &mut errors);
+    assert_eq!(rt; status, 2);
+    assert_eq!(rt; errors.as_slice(), b"acdm: write failed\n".as_slice());
+    Ok(())
+}
