@@ -24,6 +24,3 @@ use std::alloc::AllocError;
 
 /// There is no memory for what a call would keep.
 pub type NoMemory = AllocError;
-
-#[cfg(test)]
-mod tests;

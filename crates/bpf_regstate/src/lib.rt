@@ -16,6 +16,3 @@ pub use bpf_helpers::Range;
 pub use places::{RECORD_LENGTH, place_of_access};
 pub use reg::Reg;
 pub use state::State;
-
-#[cfg(test)]
-mod tests;

@@ -1,5 +1,5 @@
 //! What crates answer through their public calls: the tests of those whose own check takes more
-//! than two minutes. A check of a crate's tests proves the crate once more, so they stand here.
+//! than a minute. A check of a crate's tests proves the crate once more, so they stand here.
 #![tactic(auto)]
 
 #[cfg(test)]
@@ -13,10 +13,16 @@ mod decode;
 #[cfg(test)]
 mod explain;
 #[cfg(test)]
+mod helpers;
+#[cfg(test)]
+mod jobs;
+#[cfg(test)]
 mod journal;
 #[cfg(test)]
 mod machine;
 #[cfg(test)]
 mod sessions;
+#[cfg(test)]
+mod states;
 #[cfg(test)]
 mod watch;

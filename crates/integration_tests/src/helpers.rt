@@ -4,15 +4,7 @@ ghost use Rattle.std.specs.Prelude.{◌≡◌, ◌+◌, ◌^◌, ◌<◌, IfOk, 
 ghost use Rattle.bpf_helpers.specs.Promise.{is_question};
 ghost use Rattle.bpf_helpers.specs.Known.{sum, taxi, taxi_from, turn_round, turn_round_of};
 
-use crate::bank::Bank;
-use crate::helper::{Code, Helper};
-use crate::helpers::Helpers;
-use crate::live::Live;
-use crate::logged::Logged;
-use crate::oracle::Oracle;
-use crate::range::Range;
-use crate::signature::Signature;
-use crate::sigs::Sigs;
+use bpf_helpers::{Bank, Code, Helper, Helpers, Live, Logged, Oracle, Range, Signature, Sigs};
 use std::alloc::Global;
 use std::test::Fail;
 

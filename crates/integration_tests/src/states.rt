@@ -3,10 +3,10 @@
 ghost use Rattle.std.specs.Prelude.{◌≡◌, ◌<◌, ◌≤◌, IfOk};
 ghost use Rattle.bpf_helpers.specs.Known.{taxi, taxi_from};
 
-use super::*;
 use bpf_decode::{Bytes, Code, Condition, Op, Operand, Order, Part, Register, Size, Width};
-use bpf_helpers::{Bank, Helper, Signature, Sigs};
+use bpf_helpers::{Bank, Helper, Range, Signature, Sigs};
 use bpf_places::Place;
+use bpf_regstate::{Reg, State, place_of_access};
 use std::alloc::Global;
 use std::process::Abort;
 use std::test::Fail;

@@ -1,7 +1,7 @@
 //! Jobs, at once and in order.
 ghost use Rattle.std.specs.Prelude.{◌≡◌};
 
-use crate::{Crew, Job};
+use acdm_jobs::{Crew, Job};
 use std::sync::atomic::{AtomicU64, Ordering};
 use std::test::Fail;
 
