@@ -58,12 +58,51 @@ pub fn serve_on<
     ensures sessions { IfOk result (λ c. HaveEnded 1 (map (λ p. p.0) partners.items)
         (map (λ e. session_end e.number e.role e.calls e.end) c.sessions.items)) }
 {
+    let sessions = arrived(alloc, partners, writer)?;
+    let closed = closed_by(rt, alloc, desk, sessions)?;
+    told(closed, writer)
+}
+
+// Tells of the listeners, and accepts a partner on each.
+fn arrived<C: Drop, W: Write>(
+    alloc: Global,
+    partners: Vec<(Role, TcpListener, C)>,
+    writer: &mut W,
+) -> Result<Vec<Session<TcpStream, TcpStream, C>>, ServeError>
+    ensures len { IfOk result (λ sessions. vec_len sessions ≡ vec_len partners) }
+    ensures roles { IfOk result (λ sessions. map (λ s. s.role) sessions.items
+        ≡ map (λ p. p.0) partners.items) }
+{
     announce(&partners, writer)?;
-    let sessions = accept_all(alloc, partners)?;
-    let closed = match run_sessions(rt, alloc, desk, sessions, &Open) {
-        Ok(closed) => closed,
-        Err(_desk) => return Err(ServeError::Memory),
-    };
+    accept_all(alloc, partners)
+}
+
+// Serves all sessions.
+fn closed_by<Rt: Threads + Wait + Sync, H: Helpers + Drop + Send, C: Clock + Drop + Send>(
+    rt: &Rt,
+    alloc: Global,
+    desk: Desk<H>,
+    sessions: Vec<Session<TcpStream, TcpStream, C>>,
+) -> Result<Closed<H, TcpStream, TcpStream, C>, ServeError>
+    requires few { vec_len sessions ≤ 64 }
+    ensures sum { IfOk result (λ c. length c.desk.history
+        ≡ length desk.history + sum_by (λ e. e.calls) c.sessions.items) }
+    ensures sessions { IfOk result (λ c. HaveEnded 1 (map (λ s. s.role) sessions.items)
+        (map (λ e. session_end e.number e.role e.calls e.end) c.sessions.items)) }
+{
+    match run_sessions(rt, alloc, desk, sessions, &Open) {
+        Ok(closed) => Ok(closed),
+        Err(_desk) => Err(ServeError::Memory),
+    }
+}
+
+// Tells of the sessions that have ended.
+fn told<H: Helpers + Drop, C: Drop, W: Write>(
+    closed: Closed<H, TcpStream, TcpStream, C>,
+    writer: &mut W,
+) -> Result<Closed<H, TcpStream, TcpStream, C>, ServeError>
+    ensures same { IfOk result (λ c. c ≡ closed) }
+{
     tell(&closed, writer)?;
     Ok(closed)
 }

@@ -1,7 +1,7 @@
 //! The command `serve`, from its words on.
-ghost use Rattle.std.specs.Prelude.{◌≤◌, vec_len};
+ghost use Rattle.std.specs.Prelude.{◌≤◌, IfOk, vec_len};
 
-use crate::addresses::listen;
+use crate::addresses::{Partner, listen};
 use crate::displays::Displays;
 use crate::failure::Failure;
 use crate::helpers::{bank_of, minutes_later, taxi_minutes, turn_round_minutes};
@@ -9,12 +9,13 @@ use crate::partners::serve_on;
 use crate::saving::save;
 use acdm_board::Desk;
 use acdm_milestones::Role;
+use acdm_row::Row;
 use acdm_sessions::Clock;
 use bpf_helpers::{Code, Helpers};
 use std::alloc::Global;
 use std::io::Write;
 use std::net::{Net, TcpListener, TcpStream};
-use std::sync::Wait;
+use std::sync::{Arc, Wait};
 use std::thread::Threads;
 use std::time::Clock as SystemClock;
 
@@ -83,7 +84,7 @@ fn serve<
     serve_with(rt, alloc, bank, journal, watch, words, writer, saved)
 }
 
-// Serves a desk that is empty at first.
+// Makes a desk that is empty at first.
 fn serve_with<
     Rt: Net<Listener = TcpListener, Stream = TcpStream>
         + SystemClock
@@ -108,16 +109,82 @@ fn serve_with<
     saved: Option<F>,
 ) -> Result<(), Failure> {
     let desk = Desk::new(alloc, helpers, journal)?;
+    serve_at(rt, alloc, desk, watch, words, writer, saved)
+}
+
+// Serves a desk at the addresses of the words, and of displays.
+fn serve_at<
+    Rt: Net<Listener = TcpListener, Stream = TcpStream>
+        + SystemClock
+        + Threads
+        + Wait
+        + Clone
+        + Drop
+        + Send
+        + Sync
+        + 'static,
+    H: Helpers + Drop + Send,
+    W: Write + Drop,
+    F: Write + Drop,
+>(
+    rt: &Rt,
+    alloc: Global,
+    desk: Desk<H>,
+    watch: Option<&str>,
+    words: &[&str],
+    writer: W,
+    saved: Option<F>,
+) -> Result<(), Failure> {
+    let (partners, displays) = opened(rt, alloc, desk.row(), watch, words)?;
+    let ended = serve_all(rt, alloc, partners, desk, writer, saved);
+    close(rt, displays);
+    ended
+}
+
+// Listens for the partners of the words.
+fn few_partners<'r, Rt: Net<Listener = TcpListener, Stream = TcpStream> + SystemClock>(
+    rt: &'r Rt,
+    alloc: Global,
+    words: &[&str],
+) -> Result<Vec<Partner<'r, Rt>>, Failure>
+    ensures { IfOk result (λ partners. vec_len partners ≤ 64) }
+{
     let partners = listen(rt, alloc, words)?;
     if partners.len() > 64 {
         return Err(Failure::Address(65));
     }
-    let displays = Displays::open(rt, alloc, watch, desk.row())?;
-    let ended = serve_all(rt, alloc, partners, desk, writer, saved);
+    Ok(partners)
+}
+
+// Listens for partners, and for displays of a row.
+fn opened<
+    'r,
+    Rt: Net<Listener = TcpListener, Stream = TcpStream>
+        + SystemClock
+        + Threads
+        + Clone
+        + Drop
+        + Send
+        + 'static,
+>(
+    rt: &'r Rt,
+    alloc: Global,
+    row: &Arc<Row>,
+    watch: Option<&str>,
+    words: &[&str],
+) -> Result<(Vec<Partner<'r, Rt>>, Option<Displays>), Failure>
+    ensures { IfOk result (λ opened. vec_len opened.0 ≤ 64) }
+{
+    let partners = few_partners(rt, alloc, words)?;
+    let displays = Displays::open(rt, alloc, watch, row)?;
+    Ok((partners, displays))
+}
+
+// Closes displays, where there are any.
+fn close<Rt: SystemClock + Threads>(rt: &Rt, displays: Option<Displays>) {
     if let Some(displays) = displays {
         displays.close(rt);
     }
-    ended
 }
 
 // Serves the partners, and saves what they made.
