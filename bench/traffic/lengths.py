@@ -4,7 +4,7 @@
     python3 bench/traffic/lengths.py [--runs N] [ACDM]
 
 Reports of one flight by two sessions in turn, as from a file, so nothing grows but the journal and what the two sessions' passes have made. Times are
-processor time, the least of some runs, less that of a run without a line.
+processor time, the mean of some runs, less that of a run without a line.
 ACDM is the built program, else crates/acdm/out/acdm.
 """
 
@@ -14,6 +14,7 @@ import subprocess
 import sys
 import tempfile
 from pathlib import Path
+from statistics import fmean
 
 HERE = Path(__file__).resolve().parent
 sys.path[:0] = [str(HERE.parent), str(HERE)]
@@ -49,7 +50,7 @@ def main():
         with tempfile.TemporaryFile() as source, tempfile.TemporaryFile() as nothing:
             source.writelines(lines(entries))
             source.flush()
-            took = min(seconds(command, source) for _ in range(runs)) - min(seconds(command, nothing) for _ in range(runs))
+            took = fmean(seconds(command, source) for _ in range(runs)) - fmean(seconds(command, nothing) for _ in range(runs))
         found = peak_over(command, lines(entries))
         idle = peak_over(command, lines(2))
         print(
