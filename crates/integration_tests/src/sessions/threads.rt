@@ -106,6 +106,8 @@ type Opened = Session<Cursor<Vec<u8>>, Vec<u8>, Fixed>;
 
 type Left = Ended<Cursor<Vec<u8>>, Vec<u8>, Fixed>;
 
+type Stands<H> = Closed<H, Cursor<Vec<u8>>, Vec<u8>, Fixed>;
+
 // A session that reads this text, with a clock that tells this minute.
 fn opened(alloc: Global, role: Role, text: &str, minute: Option<u32>) -> Result<Opened, Fail> {
     let mut bytes = Vec::new(alloc);
@@ -204,18 +206,15 @@ fn last_of(alloc: Global, sessions: &mut Vec<Left>) -> Result<String, Fail> {
     told_of(alloc, sessions.pop().ok_or("a session is lost")?)
 }
 
-// What two sessions that meet were told, the second first, and what stands on the desk then.
+// What stands after two sessions that meet.
 fn both_meet<H: Helpers + Drop + Send, Rt: Threads + Wait + Sync>(
     rt: &Rt,
     alloc: Global,
     helpers: H,
-) -> Result<(String, String, Desk<H>), Fail> {
+) -> Result<Stands<H>, Fail> {
+    let sessions = both(alloc)?;
     let desk = begun(alloc, helpers, 10)?;
-    let gate = Meeting::new();
-    let Closed { desk, mut sessions } = closed_by(rt, alloc, desk, both(alloc)?, &gate)?;
-    let second = last_of(alloc, &mut sessions)?;
-    let first = last_of(alloc, &mut sessions)?;
-    Ok((second, first, desk))
+    closed_by(rt, alloc, desk, sessions, &Meeting::new())
 }
 
 // Session 2 was answered first, and session 1 after it.
@@ -225,17 +224,30 @@ fn in_their_order<H: Helpers + Drop>(desk: &mut Desk<H>) -> Result<bool, Fail> {
     Ok(third == (2, 29_000_585) && fourth == (1, 29_000_590))
 }
 
+// Each was told of its entry.
+fn are_told(rt: &impl Abort, alloc: Global, sessions: &mut Vec<Left>) -> Result<(), Fail> {
+    let second = last_of(alloc, sessions)?;
+    assert_eq!(rt; second.as_str(), "2 1 End: ok 2\n");
+    let first = last_of(alloc, sessions)?;
+    assert_eq!(rt; first.as_str(), "1 1 End: ok 3\n");
+    Ok(())
+}
+
+// Both entries stand in the journal, and the later target on the board.
+fn have_set<H: Helpers + Drop>(rt: &impl Abort, desk: &mut Desk<H>) -> Result<(), Fail> {
+    assert!(rt; desk.len() == 4 && in_their_order(desk)?);
+    assert_eq!(rt; target_of(desk)?, 29_000_765);
+    Ok(())
+}
+
 fn meet<H: Helpers + Drop + Send, Rt: Threads + Wait + Abort + Sync>(
     rt: &Rt,
     alloc: Global,
     helpers: H,
 ) -> Result<(), Fail> {
-    let (second, first, mut desk) = both_meet(rt, alloc, helpers)?;
-    assert_eq!(rt; second.as_str(), "2 1 End: ok 2\n");
-    assert_eq!(rt; first.as_str(), "1 1 End: ok 3\n");
-    assert!(rt; desk.len() == 4 && in_their_order(&mut desk)?);
-    assert_eq!(rt; target_of(&desk)?, 29_000_765);
-    Ok(())
+    let mut closed = both_meet(rt, alloc, helpers)?;
+    are_told(rt, alloc, &mut closed.sessions)?;
+    have_set(rt, &mut closed.desk)
 }
 
 #[test]
@@ -244,8 +256,28 @@ fn two_sessions_call_one_desk(rt: HostRuntime) -> Result<(), Fail> {
     meet(&rt, alloc, Bank::new(alloc)?)
 }
 
-// What one session is told at a desk for so many entries, on which a flight was scheduled and
+// What stands after one session at a desk for so many entries, on which a flight was scheduled and
 // planned.
+fn one_served<H: Helpers + Drop + Send, Rt: Threads + Wait + Sync>(
+    rt: &Rt,
+    alloc: Global,
+    helpers: H,
+    capacity: usize,
+    session: Opened,
+) -> Result<Stands<H>, Fail> {
+    let mut sessions = Vec::new(alloc);
+    push(&mut sessions, session)?;
+    let desk = begun(alloc, helpers, capacity)?;
+    closed_by(rt, alloc, desk, sessions, &Open)
+}
+
+// What the last session was told, and the journal's length.
+fn last_told<H: Helpers + Drop>(alloc: Global, closed: &mut Stands<H>) -> Result<String, Fail> {
+    let told = last_of(alloc, &mut closed.sessions)?;
+    Ok(format!(in alloc; "{told}{}", closed.desk.len())?)
+}
+
+// What one session is told at such a desk, and the journal's length then.
 fn serves_one<H: Helpers + Drop + Send, Rt: Threads + Wait + Sync>(
     rt: &Rt,
     alloc: Global,
@@ -253,12 +285,8 @@ fn serves_one<H: Helpers + Drop + Send, Rt: Threads + Wait + Sync>(
     capacity: usize,
     session: Opened,
 ) -> Result<String, Fail> {
-    let desk = begun(alloc, helpers, capacity)?;
-    let mut sessions = Vec::new(alloc);
-    push(&mut sessions, session)?;
-    let Closed { desk, mut sessions } = closed_by(rt, alloc, desk, sessions, &Open)?;
-    let told = last_of(alloc, &mut sessions)?;
-    Ok(format!(in alloc; "{told}{}", desk.len())?)
+    let mut closed = one_served(rt, alloc, helpers, capacity, session)?;
+    last_told(alloc, &mut closed)
 }
 
 #[test]
@@ -320,14 +348,12 @@ impl Write for Broken {
     }
 }
 
-// How a session with this reader and writer ends, its calls, and the journal's length then.
-fn ends_as<
-    H: Helpers + Drop + Send,
-    R: Read + Drop + Send,
-    W: Write + Drop + Send,
-    Rt: Threads + Wait + Sync,
->(rt: &Rt, alloc: Global, helpers: H, reader: R, writer: W) -> Result<(End, u64, u64), Fail> {
-    let desk = Desk::new(alloc, helpers, 10)?;
+// A session with this reader and writer.
+fn session_over<R: Read + Drop, W: Write + Drop>(
+    alloc: Global,
+    reader: R,
+    writer: W,
+) -> Result<Vec<Session<R, W, Fixed>>, Fail> {
     let mut sessions = Vec::new(alloc);
     let session = Session {
         role: Role::AirportOperator,
@@ -338,9 +364,43 @@ fn ends_as<
     if sessions.push(session).is_err() {
         return Err("no memory".into());
     }
-    let Closed { desk, sessions } = closed_by(rt, alloc, desk, sessions, &Open)?;
-    let left = sessions.first().ok_or("a session is lost")?;
-    Ok((left.end, left.calls, desk.len()))
+    Ok(sessions)
+}
+
+// What stands after sessions at an empty desk.
+fn served<
+    H: Helpers + Drop + Send,
+    R: Read + Drop + Send,
+    W: Write + Drop + Send,
+    Rt: Threads + Wait + Sync,
+>(
+    rt: &Rt,
+    alloc: Global,
+    helpers: H,
+    sessions: Vec<Session<R, W, Fixed>>,
+) -> Result<Closed<H, R, W, Fixed>, Fail> {
+    let desk = Desk::new(alloc, helpers, 20_000)?;
+    closed_by(rt, alloc, desk, sessions, &Open)
+}
+
+// How the first session ended, its calls, and the journal's length.
+fn end_of<H: Helpers + Drop, R: Drop, W: Drop>(
+    closed: &Closed<H, R, W, Fixed>,
+) -> Result<(End, u64, u64), Fail> {
+    let left = closed.sessions.first().ok_or("a session is lost")?;
+    Ok((left.end, left.calls, closed.desk.len()))
+}
+
+// How a session with this reader and writer ends, its calls, and the journal's length then.
+fn ends_as<
+    H: Helpers + Drop + Send,
+    R: Read + Drop + Send,
+    W: Write + Drop + Send,
+    Rt: Threads + Wait + Sync,
+>(rt: &Rt, alloc: Global, helpers: H, reader: R, writer: W) -> Result<(End, u64, u64), Fail> {
+    let sessions = session_over(alloc, reader, writer)?;
+    let closed = served(rt, alloc, helpers, sessions)?;
+    end_of(&closed)
 }
 
 #[test]
@@ -409,21 +469,26 @@ fn is_shown(left: &Left) -> bool {
         && left.pass.len() as u64 >= left.calls
 }
 
+// Each of 64 sessions made 200 entries, and each of these stands in the journal.
+fn all_stand<H: Helpers + Drop>(rt: &impl Abort, closed: &mut Stands<H>) {
+    assert_eq!(rt; closed.desk.len(), 12_800);
+    assert_eq!(rt; closed.sessions.len(), 64);
+    for left in &closed.sessions {
+        assert!(rt; left.end == End::End);
+        assert_eq!(rt; left.calls, 200);
+        assert_eq!(rt; entries_of(&mut closed.desk, left.number), 200);
+        assert!(rt; is_shown(left));
+    }
+}
+
 fn serves_all<H: Helpers + Drop + Send, Rt: Threads + Wait + Abort + Sync>(
     rt: &Rt,
     alloc: Global,
     helpers: H,
 ) -> Result<(), Fail> {
-    let desk = Desk::new(alloc, helpers, 20_000)?;
-    let Closed { mut desk, sessions } = closed_by(rt, alloc, desk, full_house(alloc, 200)?, &Open)?;
-    assert_eq!(rt; desk.len(), 12_800);
-    assert_eq!(rt; sessions.len(), 64);
-    for left in &sessions {
-        assert!(rt; left.end == End::End);
-        assert_eq!(rt; left.calls, 200);
-        assert_eq!(rt; entries_of(&mut desk, left.number), 200);
-        assert!(rt; is_shown(left));
-    }
+    let sessions = full_house(alloc, 200)?;
+    let mut closed = served(rt, alloc, helpers, sessions)?;
+    all_stand(rt, &mut closed);
     Ok(())
 }
 
