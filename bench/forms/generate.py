@@ -1,12 +1,12 @@
 #!/usr/bin/env python3
-"""Writes the C program that prints crates/integration_tests/src/machine/form_vectors.rt: each form of instruction with its results.
+"""Writes the C program that prints crates/bpf_tests/src/machine/form_vectors.rt: each form of instruction with its results.
 
 Each row stands for a program (`arithmetic`, `compare`, `load` and `keep` below, and the functions of the same names in
-crates/integration_tests/src/machine/forms.rt). C is told of it by plain statements on integers of 64 and 32 bits, one for each
+crates/bpf_tests/src/machine/forms.rt). C is told of it by plain statements on integers of 64 and 32 bits, one for each
 instruction, by RFC 9669, sections 3 to 5; what r0 is at the exit is printed by the program that cc builds of them:
 
     forms=$(mktemp) && python3 generate.py | cc -O1 -fwrapv -w -x c -o "$forms" -
-    "$forms" > ../../crates/integration_tests/src/machine/form_vectors.rt && (cd ../../crates/integration_tests && rt fmt)
+    "$forms" > ../../crates/bpf_tests/src/machine/form_vectors.rt && (cd ../../crates/bpf_tests && rt fmt)
 
 The record's byte k is (37 k + 129) mod 256. C has no answer for the least signed number over -1, so that is left out.
 """

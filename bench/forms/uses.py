@@ -1,7 +1,7 @@
 #!/usr/bin/env python3
 """Says which forms of instruction the tests use, and which none uses; the status is 1 where there is one.
 
-A form is used by a run where its result comes from outside (integration_tests: machine.rt, and form_vectors.rt, vectors.rt and
+A form is used by a run where its result comes from outside (bpf_tests: machine.rt, and form_vectors.rt, vectors.rt and
 forms.rt of machine/), and by a verdict where a program with it is accepted, or refused for a fault of its own slot
 (bpf_verifier: form_verdicts.rt and tests.rt). With --table it prints each form with its three counts.
 """
@@ -38,7 +38,7 @@ def forms_of(program):
 
 
 def runs():
-    vectors = source("integration_tests/src/machine/form_vectors.rt")
+    vectors = source("bpf_tests/src/machine/form_vectors.rt")
     for opcode, offset, imm, *_ in rows(vectors, "ARITHMETIC"):
         yield form_of(opcode, offset, imm)
     for opcode, *_ in rows(vectors, "JUMPS"):
@@ -47,13 +47,13 @@ def runs():
         yield form_of(opcode)
     for store, read, *_ in rows(vectors, "STORES"):
         yield from (form_of(store), form_of(read))
-    for opcode, offset, imm, *_ in rows(source("integration_tests/src/machine/vectors.rt"), "VECTORS"):
+    for opcode, offset, imm, *_ in rows(source("bpf_tests/src/machine/vectors.rt"), "VECTORS"):
         yield form_of(opcode, offset, imm)
-    for opcode in re.findall(r"slot\((0x0[56]),", source("integration_tests/src/machine/forms.rt")):
+    for opcode in re.findall(r"slot\((0x0[56]),", source("bpf_tests/src/machine/forms.rt")):
         yield form_of(int(opcode, 0))
     yield from ("lddw", "exit")
     # A call's answer comes from the table of helpers.
-    for text in re.findall(r'"((?:[0-9a-f]{16})+)"', source("integration_tests/src/machine.rt")):
+    for text in re.findall(r'"((?:[0-9a-f]{16})+)"', source("bpf_tests/src/machine.rt")):
         yield from (form for form in forms_of(bytes.fromhex(text)) if form in ("call", "exit"))
 
 

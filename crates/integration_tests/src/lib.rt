@@ -1,5 +1,6 @@
-//! What crates answer through their public calls: the tests of those whose own check takes more
-//! than a minute. A check of a crate's tests proves the crate once more, so they stand here.
+//! What the crates of the board answer through their public calls: the tests of those whose own
+//! check takes more than a minute. A check of a crate's tests proves the crate once more, so they
+//! stand here.
 #![tactic(auto)]
 
 #[cfg(test)]
@@ -9,20 +10,10 @@ mod command_line;
 #[cfg(test)]
 mod commands;
 #[cfg(test)]
-mod decode;
-#[cfg(test)]
-mod explain;
-#[cfg(test)]
-mod helpers;
-#[cfg(test)]
 mod jobs;
 #[cfg(test)]
 mod journal;
 #[cfg(test)]
-mod machine;
-#[cfg(test)]
 mod sessions;
-#[cfg(test)]
-mod states;
 #[cfg(test)]
 mod watch;

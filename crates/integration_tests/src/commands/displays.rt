@@ -93,6 +93,9 @@ fn a_display_is_sent_the_journal(rt: HostRuntime) -> Result<(), Fail> {
 
 // A tick of this minute, by session 1.
 fn tick<H: Helpers + Drop>(desk: &mut Desk<H>, moment: u32) -> Result<(), Fail> {
+    if moment < 1 {
+        return Err(Fail::from("no minute"));
+    }
     match desk.call_for(1, Role::AirportOperator, moment, Command::Tick) {
         Ok(_) => Ok(()),
         Err(_) => Err(Fail::from("no entry")),
@@ -103,7 +106,7 @@ fn tick<H: Helpers + Drop>(desk: &mut Desk<H>, moment: u32) -> Result<(), Fail> 
 fn sent<H: Helpers + Drop>(alloc: Global, helpers: H, ticks: &[u32]) -> Result<String, Fail> {
     let mut desk = Desk::new(alloc, helpers, 10)?;
     for moment in ticks {
-        tick(&mut desk, (*moment).max(1))?;
+        tick(&mut desk, *moment)?;
     }
     let closing = AtomicBool::new(false);
     let mut output = Vec::new(alloc);
