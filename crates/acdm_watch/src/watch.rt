@@ -4,6 +4,7 @@ ghost use Rattle.std.specs.Prelude.{reverse, min, IfOk, IfSome, OnErr, Ok, None}
 ghost use Rattle.std.specs.Arc.{arc_value};
 ghost use Rattle.acdm_step.specs.declared.entry.Entry.{Entry as AnEntry};
 ghost use Rattle.acdm_step.specs.History.{IsLegal, replay};
+ghost use Rattle.acdm_watch.specs.Watching.{IsUnchanged};
 
 use crate::checks::plan_of;
 use crate::sight::Sight;
@@ -86,6 +87,7 @@ impl Watch {
         requires row { row.now ≡ self.old.row }
         requires same { IfSome pass (λ p. p.now.row ≡ self.old.row) }
         ensures row { self.new.row ≡ self.old.row }
+        ensures pass { IsUnchanged pass.entry pass.exit }
         ensures must { IfSome pass.entry (λ p. length self.old.seen < length p.now.seen
             → IfOk result (λ took. took ≡ true)) }
         ensures took { IfOk result (λ took. took ≡ true
