@@ -1,4 +1,4 @@
-use Rattle.std.proofs.Common.{◌≡◌, sym, ap, subst, ◌∙◌, rules}
+use Rattle.std.proofs.Common.{◌≡◌, ap, subst, rules}
 use Rattle.acdm_step.specs.Verdicts.{verdict_in}
 use Rattle.acdm_step.specs.Prepared.{after_change}
 use Rattle.acdm_watch.specs.Watching.{IsNumbered}
