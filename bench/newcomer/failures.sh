@@ -42,8 +42,11 @@ says 2 "install the kit" env PATH=/nowhere "$(python3 -c 'import sys; print(sys.
 says 2 "one word at most" ./acdm prove 1 2
 
 # Two at once; then the first is stopped, and what it proved is kept.
+# (with job control, or what is started in the background would not hear of an interrupt)
+set -m
 ./acdm prove 2> "$room/first" > /dev/null &
 first=$!
+set +m
 [ -n "$(provers "$room/clone")" ] || fail "no prover was started"
 says 2 "another ./acdm prove is at work here (process $first)" ./acdm prove
 for _ in $(seq 1200); do
