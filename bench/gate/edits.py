@@ -11,31 +11,16 @@ bodies together, which saves the gate a check for each; the gate does not read t
 it, and by which message: that has to be a goal of the function that the pair turns, or of one that calls it. The exit
 status is 1 if anything was not refused.
 """
-import importlib.machinery
-import importlib.util
-import os
 import pathlib
 import shutil
 import sys
 import tempfile
 import time
 
-TOP = pathlib.Path(__file__).resolve().parents[2]
+from kit import crates, gate
+
 MARK = "each pair alone"
 FLAGS = ["--jobs", "1"]
-
-
-def gate():
-    """Returns the gate, the rt on PATH, as a module."""
-    found = shutil.which("rt")
-    if found is None:
-        sys.exit("there is no rt on PATH")
-    file = os.path.realpath(found)
-    sys.path.insert(0, os.path.dirname(file))
-    loader = importlib.machinery.SourceFileLoader("rt", file)
-    made = importlib.util.module_from_spec(importlib.util.spec_from_loader("rt", loader))
-    loader.exec_module(made)
-    return made
 
 
 def pairs_of(text):
@@ -82,12 +67,12 @@ def try_all(rt, crate, edits, room):
     for edit in edits:
         for file, told in tries(edit, room):
             began = time.monotonic()
-            is_refused, said = rt.must_fail(crate, str(file), FLAGS, str(kept))
+            came_to, said = rt.must_fail(crate, str(file), FLAGS, str(kept))
             print(f"{time.monotonic() - began:5.0f} s  {said}", flush=True)
             if told:
                 print(f"         {told}", flush=True)
             number += 1
-            if not is_refused:
+            if came_to not in (rt.REFUSED, rt.AT_LIMIT):
                 bad.append(file.stem)
     print(f"{number - len(bad)} of {number} were refused{': not ' if bad else ''}{', '.join(bad)}")
     return len(bad)
@@ -100,10 +85,9 @@ def main():
         return 0 if words else 2
     rt = gate()
     rt.rtlib.guarded()
-    found = [it for it in rt.rtlib.crates_below(str(TOP)) if it.name == words[0]]
-    if not found:
+    crate = crates(rt).get(words[0])
+    if crate is None:
         sys.exit(f"crates.txt names no crate {words[0]}")
-    crate = found[0]
     edits = edits_of(rt, crate, words[1:])
     if any(it.build_rlib(FLAGS, anew=False) for it in crate.below()):
         sys.exit("a library below the crate is not proved")

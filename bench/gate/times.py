@@ -1,13 +1,14 @@
 #!/usr/bin/env python3
 """Runs the gate, or a part of it, and says where its time went.
 
-usage: bench/gate/times.py [COMMAND..]      as bench/gate/times.py rt must-fail acdm_lines; with no command: rt ci
+usage: bench/gate/times.py [--log FILE] [COMMAND..]      as bench/gate/times.py rt ci acdm_lines; with no command: rt ci --anew
 
 The command runs at the top of the repository, and its output is passed on. Each run of the prover below it is seen in
-/proc, with its crate and what it was for: the proofs of a crate (or its build), those of its tests, or an edit of
-must-fail/. At the end a table says for each crate the processor seconds of each kind, and when it began and ended, in
-seconds from the start; below it stand the dearest edits. The first edit of a crate proves the whole crate, and each
-later one what it changed. It reads /proc, so it needs Linux.
+/proc, with its crate and what it was for: the proofs of a crate (or its build), those of its tests, the check of the
+crate as it stands that its edits begin with (and the one after the last of them), or an edit of must-fail/. At the end
+a table says for each crate the processor seconds of each kind, and when it began and ended, in seconds from the start;
+below it stand the dearest edits. With --log each run is written to that file as it ends, so that a run of the gate that
+is cut off leaves what it measured. It reads /proc, so it needs Linux.
 """
 import os
 import pathlib
@@ -15,19 +16,23 @@ import subprocess
 import sys
 import time
 
-TOP = pathlib.Path(__file__).resolve().parents[2]
+from kit import TOP, crates, gate
+
 EVERY = 0.2
 TICKS = os.sysconf("SC_CLK_TCK")
-KINDS = ("proofs", "tests", "edits")
+KINDS = ("proofs", "tests", "base", "edits")
 
 
 class Run:
-    """One run of the prover: its crate, its kind, when it was seen first and last, and its processor seconds."""
+    """One run of the prover: its crate, its kind, its edit, when it was seen first and last, and its processor seconds."""
 
-    def __init__(self, crate, kind, now):
-        self.crate, self.kind = crate, kind
+    def __init__(self, crate, kind, edit, now):
+        self.crate, self.kind, self.edit = crate, kind, edit
         self.began = self.ended = now
         self.seconds = 0.0
+
+    def __str__(self):
+        return f"{self.crate} {self.kind} {self.edit or '-'} {self.seconds:.1f} {self.began:.0f} {self.ended:.0f}"
 
 
 def processes():
@@ -59,7 +64,28 @@ def words_of(pid):
         return []
 
 
-def run_of(pid, now):
+def edited_texts():
+    """Returns for each crate its edits by name, each with the texts of the files that it changes."""
+    rt = gate()
+    found = {}
+    for crate in crates(rt).values():
+        read = {pathlib.Path(it).stem: rt.read_edit(it, crate.folder)[0] for it in rt.edits_of(crate)[0]}
+        found[crate.name] = {name: texts for name, texts in read.items() if texts}
+    return found
+
+
+def edit_in(folder, edits):
+    """Returns the name of the edit that was made in this copy of its crate, or None where it is the crate as it stands."""
+    for name, texts in edits.items():
+        try:
+            if all(pathlib.Path(folder, file).read_text(encoding="utf-8") == text for file, text in texts.items()):
+                return name
+        except OSError:
+            continue
+    return None
+
+
+def run_of(pid, edits, now):
     """Returns the run that the process is, if it is one of the prover's own on a crate."""
     words = words_of(pid)
     if len(words) < 4 or os.path.basename(words[0]) != "rattle" or words[1] not in ("check", "build"):
@@ -69,11 +95,13 @@ def run_of(pid, now):
     except OSError:
         return None
     crate = words[words.index("--crate-name") + 1] if "--crate-name" in words else ""
-    is_edit = os.path.basename(folder).startswith("rt-edit-")
-    return Run(crate, "edits" if is_edit else "tests" if "--test" in words else "proofs", now)
+    if not os.path.basename(folder).startswith("rt-edit-"):
+        return Run(crate, "tests" if "--test" in words else "proofs", None, now)
+    edit = edit_in(folder, edits.get(crate, {}))
+    return Run(crate, "edits" if edit else "base", edit, now)
 
 
-def sample(top, seen, runs, now):
+def sample(top, edits, seen, runs, now):
     """Adds what the processes below top have used to the runs that they belong to."""
     found, sums = processes(), {}
     for pid, (parent, seconds) in found.items():
@@ -81,7 +109,7 @@ def sample(top, seen, runs, now):
             continue
         if pid not in seen:
             # (a copy that the prover forks of itself has its words, and is part of its run)
-            own = seen.get(parent) or run_of(pid, now)
+            own = seen.get(parent) or run_of(pid, edits, now)
             if own is None:
                 continue
             seen[pid] = own
@@ -96,27 +124,31 @@ def sample(top, seen, runs, now):
         del seen[pid]
 
 
-def watched(command):
+def watched(command, log):
     """Runs the command and returns its status, how long it took, and the runs of the prover below it."""
-    start, seen, runs = time.monotonic(), {}, []
+    start, seen, runs, told = time.monotonic(), {}, [], set()
+    edits = edited_texts()
+
+    def tell(is_over):
+        for it in runs if log else ():
+            if id(it) not in told and (is_over or it not in seen.values()):
+                told.add(id(it))
+                print(it, file=log, flush=True)
+
     with subprocess.Popen(command, cwd=TOP) as ran:
         while ran.poll() is None:
-            sample(ran.pid, seen, runs, time.monotonic() - start)
+            sample(ran.pid, edits, seen, runs, time.monotonic() - start)
+            tell(False)
             time.sleep(EVERY)
+    tell(True)
     return ran.returncode, time.monotonic() - start, runs
 
 
-def names_of(crate):
-    return sorted(it.stem for it in (TOP / "crates" / crate / "must-fail").glob("*.edit"))
-
-
 def report(runs, whole):
-    crates = sorted({it.crate for it in runs if it.crate})
     heads = "".join(f"{kind:>9}{'from':>7}{'to':>7}" for kind in KINDS)
     print(f"\n{'crate':18}{heads}{'number':>8}{'each':>7}")
     sums = dict.fromkeys(KINDS, 0.0)
-    dear = []
-    for crate in crates:
+    for crate in sorted({it.crate for it in runs if it.crate}):
         line = f"{crate:18}"
         for kind in KINDS:
             own = [it for it in runs if it.crate == crate and it.kind == kind]
@@ -124,23 +156,25 @@ def report(runs, whole):
             sums[kind] += seconds
             ended = max((it.ended for it in own), default=0)
             line += f"{seconds:9.0f}{own[0].began:7.0f}{ended:7.0f}" if own else f"{'-':>9}{'':14}"
-        tried = [it for it in runs if it.crate == crate and it.kind == "edits"]
-        later = sorted(it.seconds for it in tried[1:])
-        line += f"{len(names_of(crate)):8}{later[len(later) // 2]:7.0f}" if later else ""
-        dear += [(it.seconds, crate, name) for it, name in zip(tried[1:], names_of(crate)[1:])]
+        tried = sorted(it.seconds for it in runs if it.crate == crate and it.kind == "edits")
+        line += f"{len(tried):8}{tried[len(tried) // 2]:7.0f}" if tried else ""
         print(line)
     print(f"{'all':18}" + "".join(f"{sums[kind]:9.0f}{'':14}" for kind in KINDS))
     print(f"{sum(sums.values()) / 60:.1f} processor minutes in {whole / 60:.1f} minutes")
-    for seconds, crate, name in sorted(dear, reverse=True)[:20]:
-        print(f"{seconds:7.0f}  {crate}/{name}")
+    dear = sorted((it for it in runs if it.edit), key=lambda it: -it.seconds)
+    for it in dear[:20]:
+        print(f"{it.seconds:7.0f}  {it.crate}/{it.edit}")
 
 
 def main():
-    command = sys.argv[1:] or ["rt", "ci"]
-    if command[0] in ("-h", "--help"):
+    words = sys.argv[1:]
+    if words[:1] in (["-h"], ["--help"]):
         print(__doc__)
         return 0
-    status, whole, runs = watched(command)
+    log = None
+    if words[:1] == ["--log"] and len(words) > 1:
+        log, words = open(words[1], "w", encoding="utf-8"), words[2:]
+    status, whole, runs = watched(words or ["rt", "ci", "--anew"], log)
     report(runs, whole)
     return status
 
