@@ -29,8 +29,9 @@ save_rule = record (new_rule (codes "save")) { long = Some (codes "save"); value
 abbrev pub watch_rule : Rule
 watch_rule = record (new_rule (codes "watch")) { long = Some (codes "watch"); value_names = 1 }
 
-abbrev pub run_app : App
-run_app = with_rule (with_rule (new_app (codes "run")) journal_rule) save_rule
+-- a subcommand of this name that keeps a journal
+abbrev pub keeping_app : Text → App
+keeping_app name = with_rule (with_rule (new_app name) journal_rule) save_rule
 
 -- `serve [--journal N] [--save FILE] [--watch ADDR] ROLE=ADDR...`, of at least one partner
 abbrev pub partners_rule : Rule
@@ -41,38 +42,32 @@ partners_rule = record (new_rule (codes "partners")) {
 }
 
 abbrev pub serve_options_app : App
-serve_options_app =
-    with_rule (with_rule (with_rule (new_app (codes "serve")) journal_rule) save_rule) watch_rule
+serve_options_app = with_rule (keeping_app (codes "serve")) watch_rule
 
 abbrev pub serve_app : App
 serve_app = with_rule serve_options_app partners_rule
 
--- `verify FILE`, `audit FILE`, `explain FILE`
+-- a subcommand of this name on a file, as `verify FILE`
 abbrev pub file_rule : Rule
 file_rule = record (new_rule (codes "file")) { value_names = 1; required = true }
 
-abbrev pub verify_app : App
-verify_app = with_rule (new_app (codes "verify")) file_rule
-
-abbrev pub audit_app : App
-audit_app = with_rule (new_app (codes "audit")) file_rule
-
-abbrev pub explain_app : App
-explain_app = with_rule (new_app (codes "explain")) file_rule
+abbrev pub file_app : Text → App
+file_app name = with_rule (new_app name) file_rule
 
 abbrev required : App → App
 required a = record a { top = record a.top { subcommand_required = true } }
 
 -- the program, of which one subcommand is wanted
-abbrev pub serving_app : App
-serving_app =
-    with_subcommand (with_subcommand (required (new_app (codes "acdm"))) run_app.top) serve_app.top
+abbrev pub running_app : App
+running_app = with_subcommand (required (new_app (codes "acdm"))) (keeping_app (codes "run")).top
 
-abbrev pub judging_app : App
-judging_app = with_subcommand (with_subcommand serving_app verify_app.top) audit_app.top
+abbrev pub serving_app : App
+serving_app = with_subcommand running_app serve_app.top
 
 abbrev pub program : App
-program = with_subcommand judging_app explain_app.top
+program =
+    with_subcommand (with_subcommand (with_subcommand serving_app (file_app (codes "verify")).top)
+    (file_app (codes "audit")).top) (file_app (codes "explain")).top
 
 -- the first value of an argument of the subcommand of a name
 abbrev pub value_in : List ℕ → List ℕ → Option (Text × List Row) → Option Text

@@ -3,11 +3,11 @@ ghost use Rattle.std.specs.Prelude.{◌≡◌, false, IfOk, IfErr, map, codes};
 ghost use Rattle.std.specs.Prelude.{option_map};
 ghost use Rattle.std.specs.Option.{SomeIff};
 ghost use Rattle.clap.specs.Values.{kind_of};
-ghost use Rattle.clap.specs.Words.{app_of, rule_of, subcommand_rows_of};
+ghost use Rattle.clap.specs.Words.{app_of, rule_of, subcommand_rows_of, with_subcommand};
 ghost use Rattle.clap.specs.declared.builder.Command.TheViews.{out-Command as fields_of};
-ghost use Rattle.acdm_command_line.specs.CommandLine.{program as the_program, audit_app, run_app, serve_app};
-ghost use Rattle.acdm_command_line.specs.CommandLine.{serve_options_app, serving_app, verify_app};
-ghost use Rattle.acdm_command_line.specs.CommandLine.{explain_app, judging_app};
+ghost use Rattle.acdm_command_line.specs.CommandLine.{program as the_program, file_app, keeping_app};
+ghost use Rattle.acdm_command_line.specs.CommandLine.{running_app, serve_app, serve_options_app};
+ghost use Rattle.acdm_command_line.specs.CommandLine.{serving_app};
 ghost use Rattle.acdm_command_line.specs.CommandLine.{journal_rule, save_rule, value_in, watch_rule};
 ghost use Rattle.acdm_command_line.specs.CommandLine.{number_of, IsJournal, AsksFor, Refuses};
 ghost use Rattle.acdm_command_line.specs.CommandLine.{Answers, AnswersJournal};
@@ -85,12 +85,13 @@ fn watch<'a>(alloc: Global) -> Arg<'a>
         .help("The IP address and port where displays are sent the journal as text")
 }
 
-fn run_command<'a>(alloc: Global) -> Result<Command<'a>, AllocError>
-    ensures shape { IfOk result (λ c. app_of c ≡ run_app) }
+// A subcommand that keeps a journal, with `--journal` and `--save`.
+fn keeping<'a>(alloc: Global, name: &'a str, about: &'a str) -> Result<Command<'a>, AllocError>
+    ensures shape { IfOk result (λ c. app_of c ≡ keeping_app name.now) }
     ensures local { IfOk result (λ c. (fields_of c).has_globals ≡ false) }
 {
-    Command::new(alloc, "run")
-        .about("Answers the lines of standard input on standard output")
+    Command::new(alloc, name)
+        .about(about)
         .arg(journal(alloc))?
         .arg(save(alloc))
 }
@@ -100,11 +101,8 @@ fn serve_options<'a>(alloc: Global) -> Result<Command<'a>, AllocError>
     ensures shape { IfOk result (λ c. app_of c ≡ serve_options_app) }
     ensures local { IfOk result (λ c. (fields_of c).has_globals ≡ false) }
 {
-    Command::new(alloc, "serve")
-        .about("Accepts a partner at each address, and serves all at once")
-        .arg(journal(alloc))?
-        .arg(save(alloc))?
-        .arg(watch(alloc))
+    let about = "Accepts a partner at each address, and serves all at once";
+    keeping(alloc, "serve", about)?.arg(watch(alloc))
 }
 
 fn serve_command<'a>(alloc: Global) -> Result<Command<'a>, AllocError>
@@ -119,76 +117,74 @@ fn serve_command<'a>(alloc: Global) -> Result<Command<'a>, AllocError>
     serve_options(alloc)?.arg(partners)
 }
 
-fn verify_command<'a>(alloc: Global) -> Result<Command<'a>, AllocError>
-    ensures shape { IfOk result (λ c. app_of c ≡ verify_app) }
+// A subcommand on one file.
+fn on_file<'a>(
+    alloc: Global,
+    name: &'a str,
+    about: &'a str,
+    help: &'a str,
+) -> Result<Command<'a>, AllocError>
+    ensures shape { IfOk result (λ c. app_of c ≡ file_app name.now) }
     ensures local { IfOk result (λ c. (fields_of c).has_globals ≡ false) }
 {
     let file = Arg::new(alloc, "file")
         .value_name("FILE")
         .required(true)
-        .help("The raw bytes of a BPF program");
-    Command::new(alloc, "verify")
-        .about("Lists a BPF program that may run, or tells its first fault")
-        .arg(file)
+        .help(help);
+    Command::new(alloc, name).about(about).arg(file)
 }
 
-fn explain_command<'a>(alloc: Global) -> Result<Command<'a>, AllocError>
-    ensures shape { IfOk result (λ c. app_of c ≡ explain_app) }
+// The program with the subcommand `run` alone.
+fn run_program<'a>(alloc: Global) -> Result<Command<'a>, AllocError>
+    ensures shape { IfOk result (λ c. app_of c ≡ running_app) }
     ensures local { IfOk result (λ c. (fields_of c).has_globals ≡ false) }
 {
-    let file = Arg::new(alloc, "file")
-        .value_name("FILE")
-        .required(true)
-        .help("The raw bytes of a BPF program");
-    Command::new(alloc, "explain")
-        .about("Lists a BPF program with what is known before each slot, and why it is refused")
-        .arg(file)
+    let about = "Answers the lines of standard input on standard output";
+    let run = keeping(alloc, "run", about)?;
+    Command::new(alloc, "acdm")
+        .about("The shared board of an A-CDM airport")
+        .subcommand_required(true)
+        .subcommand(run)
 }
 
-fn audit_command<'a>(alloc: Global) -> Result<Command<'a>, AllocError>
-    ensures shape { IfOk result (λ c. app_of c ≡ audit_app) }
-    ensures local { IfOk result (λ c. (fields_of c).has_globals ≡ false) }
-{
-    let file = Arg::new(alloc, "file")
-        .value_name("FILE")
-        .required(true)
-        .help("A journal that was saved as text");
-    Command::new(alloc, "audit")
-        .about("Judges a saved journal by itself, or tells its first fault")
-        .arg(file)
-}
-
-// The program with the two subcommands that serve.
+// The program with the two subcommands that keep a journal.
 fn serving_program<'a>(alloc: Global) -> Result<Command<'a>, AllocError>
     ensures shape { IfOk result (λ c. app_of c ≡ serving_app) }
     ensures local { IfOk result (λ c. (fields_of c).has_globals ≡ false) }
 {
-    let run = run_command(alloc)?;
     let serve = serve_command(alloc)?;
-    Command::new(alloc, "acdm")
-        .about("The shared board of an A-CDM airport")
-        .subcommand_required(true)
-        .subcommand(run)?
-        .subcommand(serve)
+    run_program(alloc)?.subcommand(serve)
 }
 
-// The program without the subcommand that explains.
-fn judging_program<'a>(alloc: Global) -> Result<Command<'a>, AllocError>
-    ensures shape { IfOk result (λ c. app_of c ≡ judging_app) }
+// The program with one more subcommand, on a file.
+fn with_file<'a>(
+    alloc: Global,
+    program: Command<'a>,
+    name: &'a str,
+    about: &'a str,
+    help: &'a str,
+) -> Result<Command<'a>, AllocError>
+    requires { (fields_of program).has_globals ≡ false }
+    ensures shape { IfOk result (λ c. app_of c
+        ≡ with_subcommand (app_of program.entry) (file_app name.now).top) }
     ensures local { IfOk result (λ c. (fields_of c).has_globals ≡ false) }
 {
-    let verify = verify_command(alloc)?;
-    let audit = audit_command(alloc)?;
-    serving_program(alloc)?
-        .subcommand(verify)?
-        .subcommand(audit)
+    let command = on_file(alloc, name, about, help)?;
+    program.subcommand(command)
 }
 
 fn program<'a>(alloc: Global) -> Result<Command<'a>, AllocError>
-    ensures { IfOk result (λ c. app_of c ≡ the_program) }
+    ensures shape { IfOk result (λ c. app_of c ≡ the_program) }
+    ensures local { IfOk result (λ c. (fields_of c).has_globals ≡ false) }
 {
-    let explain = explain_command(alloc)?;
-    judging_program(alloc)?.subcommand(explain)
+    let bytes = "The raw bytes of a BPF program";
+    let verifies = "Lists a BPF program that may run, or tells its first fault";
+    let audits = "Judges a saved journal by itself, or tells its first fault";
+    let explains = "Lists a BPF program with what is known before each slot, and why it is refused";
+    let saved = "A journal that was saved as text";
+    let judging = with_file(alloc, serving_program(alloc)?, "verify", verifies, bytes)?;
+    let judging = with_file(alloc, judging, "audit", audits, saved)?;
+    with_file(alloc, judging, "explain", explains, bytes)
 }
 
 // The number of entries that a text names, from 1 to 1,000,000.
@@ -263,6 +259,28 @@ fn line_of<'a>(alloc: Global, matches: &ArgMatches<'a>) -> Result<Option<Line<'a
     }))
 }
 
+// What these words ask for, by the definition of the program.
+fn parse_by<'a>(
+    alloc: Global,
+    command: &mut Command<'a>,
+    words: &'a [&'a str],
+) -> Result<Line<'a>, Error>
+    requires shape { app_of command.old ≡ the_program }
+    requires local { (fields_of command.old).has_globals ≡ false }
+    ensures asks { IfOk result (AsksFor (map (λ w. w.now) words.entry.now)) }
+    ensures refuses { IfErr result (λ error.
+        Refuses (map (λ w. w.now) words.entry.now) (kind_of error)) }
+{
+    let matches = command.try_get_matches_from_mut(words)?;
+    if let Some(line) = line_of(alloc, &matches)? {
+        return Ok(line);
+    }
+    Err(command.error(
+        ErrorKind::ValueValidation,
+        "invalid value for '--journal <N>': it is not a number from 1 to 1000000",
+    )?)
+}
+
 /// What these words ask for; the first is the program's name.
 ///
 /// The journal is what `--journal` says, else 100,000, and the other words are taken as they stand.
@@ -274,14 +292,7 @@ pub fn parse<'a>(alloc: Global, words: &'a [&'a str]) -> Result<Line<'a>, Error>
         Refuses (map (λ w. w.now) words.entry.now) (kind_of error)) }
 {
     let mut command = program(alloc)?;
-    let matches = command.try_get_matches_from_mut(words)?;
-    if let Some(line) = line_of(alloc, &matches)? {
-        return Ok(line);
-    }
-    Err(command.error(
-        ErrorKind::ValueValidation,
-        "invalid value for '--journal <N>': it is not a number from 1 to 1000000",
-    )?)
+    parse_by(alloc, &mut command, words)
 }
 
 /// What these words ask for. Where they ask for nothing, `clap`'s text on them is written for whoever
