@@ -61,18 +61,54 @@ fn errors_have_numbers(rt: HostRuntime) -> Result<(), Fail> {
     Ok(())
 }
 
-#[test]
-fn nothing_is_loaded_at_first(rt: HostRuntime) -> Result<(), Fail> {
-    let alloc = rt.alloc();
-    let mut slots = Slots::new(alloc, Bank::new(alloc)?.sigs()?)?;
+/// Loads the program of these bytes at milestone 7.
+fn load(alloc: Global, slots: &mut Slots, sigs: &Sigs, kind: Kind, text: &str) -> Result<(), Fail> {
+    Ok(slots.load(Milestone::InBlock, kind, checked(alloc, sigs, text)?)?)
+}
+
+/// The number of the refusal of an unload, or 0 where it is none.
+fn unloaded(slots: &mut Slots, milestone: Milestone, kind: Kind) -> u16 {
+    match slots.unload(milestone, kind) {
+        Ok(()) => 0,
+        Err(error) => error.code(),
+    }
+}
+
+/// No slot has a program.
+fn nothing_is_loaded(rt: &impl Abort, slots: &mut Slots) -> Result<(), Fail> {
     for number in 1..17 {
         let milestone = Milestone::from_number(number).ok_or("no milestone")?;
         for kind in [Kind::Tobt, Kind::Alert] {
             assert!(rt; slots.get(milestone, kind).is_none());
-            let error = slots.unload(milestone, kind).err().ok_or("unloaded")?;
-            assert_eq!(rt; error.code(), 321);
+            assert_eq!(rt; unloaded(slots, milestone, kind), 321);
         }
     }
+    Ok(())
+}
+
+#[test]
+fn nothing_is_loaded_at_first(rt: HostRuntime) -> Result<(), Fail> {
+    let alloc = rt.alloc();
+    let mut slots = Slots::new(alloc, Bank::new(alloc)?.sigs()?)?;
+    nothing_is_loaded(&rt, &mut slots)
+}
+
+/// A load replaces what stands there, and nothing else, and so does an unload.
+fn come_and_go(rt: &impl Abort, alloc: Global, slots: &mut Slots, sigs: &Sigs) -> Result<(), Fail> {
+    assert!(rt; slots.sigs().is_same(sigs));
+    let at = Milestone::InBlock;
+    load(alloc, slots, sigs, Kind::Tobt, NOTHING)?;
+    has(rt, alloc, slots, at, Kind::Tobt, NOTHING)?;
+    has(rt, alloc, slots, at, Kind::Alert, "")?;
+    has(rt, alloc, slots, Milestone::Landed, Kind::Tobt, "")?;
+    load(alloc, slots, sigs, Kind::Alert, NOTHING)?;
+    load(alloc, slots, sigs, Kind::Tobt, MOMENT)?;
+    has(rt, alloc, slots, at, Kind::Tobt, MOMENT)?;
+    has(rt, alloc, slots, at, Kind::Alert, NOTHING)?;
+    assert_eq!(rt; unloaded(slots, at, Kind::Tobt), 0);
+    has(rt, alloc, slots, at, Kind::Tobt, "")?;
+    has(rt, alloc, slots, at, Kind::Alert, NOTHING)?;
+    assert_eq!(rt; unloaded(slots, at, Kind::Tobt), 321);
     Ok(())
 }
 
@@ -81,25 +117,32 @@ fn programs_come_and_go(rt: HostRuntime) -> Result<(), Fail> {
     let alloc = rt.alloc();
     let sigs = Bank::new(alloc)?.sigs()?;
     let mut slots = Slots::new(alloc, sigs.copy()?)?;
-    assert!(rt; slots.sigs().is_same(&sigs));
-    let at = Milestone::InBlock;
-    slots.load(at, Kind::Tobt, checked(alloc, &sigs, NOTHING)?)?;
-    has(&rt, alloc, &slots, at, Kind::Tobt, NOTHING)?;
-    has(&rt, alloc, &slots, at, Kind::Alert, "")?;
-    has(&rt, alloc, &slots, Milestone::Landed, Kind::Tobt, "")?;
+    come_and_go(&rt, alloc, &mut slots, &sigs)
+}
 
-    // A load replaces what stands there, and nothing else.
-    slots.load(at, Kind::Alert, checked(alloc, &sigs, NOTHING)?)?;
-    slots.load(at, Kind::Tobt, checked(alloc, &sigs, MOMENT)?)?;
-    has(&rt, alloc, &slots, at, Kind::Tobt, MOMENT)?;
-    has(&rt, alloc, &slots, at, Kind::Alert, NOTHING)?;
+/// A program that was checked under other signatures is refused, and changes nothing.
+fn keeps_its_signatures(
+    rt: &impl Abort,
+    alloc: Global,
+    slots: &mut Slots,
+    sigs: &Sigs,
+    others: &Sigs,
+) -> Result<(), Fail> {
+    load(alloc, slots, sigs, Kind::Alert, TAXI)?;
+    let error = load_refused(alloc, slots, others)?;
+    assert_eq!(rt; error.code(), 322);
+    has(rt, alloc, slots, Milestone::InBlock, Kind::Alert, TAXI)
+}
 
-    slots.unload(at, Kind::Tobt)?;
-    has(&rt, alloc, &slots, at, Kind::Tobt, "")?;
-    has(&rt, alloc, &slots, at, Kind::Alert, NOTHING)?;
-    let error = slots.unload(at, Kind::Tobt).err().ok_or("unloaded twice")?;
-    assert_eq!(rt; error, SlotError::EmptySlot);
-    Ok(())
+/// Why a program that was checked under these signatures is not loaded.
+fn load_refused(alloc: Global, slots: &mut Slots, sigs: &Sigs) -> Result<SlotError, Fail> {
+    let program = checked(alloc, sigs, NOTHING)?;
+    Ok(
+        slots
+            .load(Milestone::InBlock, Kind::Alert, program)
+            .err()
+            .ok_or("loaded")?,
+    )
 }
 
 #[test]
@@ -125,12 +168,5 @@ fn signatures_have_to_be_the_same(rt: HostRuntime) -> Result<(), Fail> {
     let sigs = bank.sigs()?;
     let none = Bank::new(alloc)?.sigs()?;
     let mut slots = Slots::new(alloc, sigs.copy()?)?;
-    let at = Milestone::TobtUpdate;
-    slots.load(at, Kind::Alert, checked(alloc, &sigs, TAXI)?)?;
-    let error = slots
-        .load(at, Kind::Alert, checked(alloc, &none, NOTHING)?)
-        .err()
-        .ok_or("loaded")?;
-    assert_eq!(rt; error.code(), 322);
-    has(&rt, alloc, &slots, at, Kind::Alert, TAXI)
+    keeps_its_signatures(&rt, alloc, &mut slots, &sigs, &none)
 }
