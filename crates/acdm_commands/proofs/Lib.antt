@@ -1,3 +1,1 @@
-pub mod Crossing
-pub mod Displayed
 pub mod Saved

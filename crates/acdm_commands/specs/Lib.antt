@@ -1,7 +1,3 @@
-pub mod Explained
-pub mod Helpers
-pub mod Failures
 pub mod Served
-pub mod Verdicts
-pub mod Findings
-pub mod Displayed
+pub use Rattle.acdm_failures.specs.Failures
+pub use Rattle.acdm_judging.specs.Helpers

@@ -1,6 +1,6 @@
 //! The words `ROLE=ADDR` of the command `serve`.
-use crate::failure::Failure;
 use crate::minutes::SystemMinutes;
+use acdm_failures::Failure;
 use acdm_milestones::Role;
 use std::alloc::Global;
 use std::net::{Net, SocketAddr, TcpListener, TcpStream};

@@ -1,12 +1,10 @@
 //! The commands, over the files, the reader and the writers that they are handed.
-use crate::auditing::audit_on;
-use crate::explaining::{explain_on, unread};
-use crate::failure::Failure;
 use crate::saving::file_of;
 use crate::serve_command::serve_words;
 use crate::serving::run_on;
-use crate::verifying::verify_on;
 use acdm_command_line::{Line, asked};
+use acdm_failures::Failure;
+use acdm_judging::{audit_on, explain_on, unread, verify_on};
 use std::alloc::Global;
 use std::fs::{self, Files};
 use std::io::{Read, Write};

@@ -3,6 +3,7 @@ ghost use Rattle.std.specs.Prelude.{◌≡◌, ◌+◌, ◌≤◌, IfOk, length,
 ghost use Rattle.acdm_sessions.specs.Sessions.{HaveEnded, session_end};
 
 use acdm_board::Desk;
+use acdm_failures::ServeError;
 use acdm_milestones::Role;
 use acdm_sessions::{Clock, Closed, Counted, End, Gate, Session, run_sessions};
 use bpf_helpers::Helpers;
@@ -11,17 +12,6 @@ use std::io::Write;
 use std::net::{TcpListener, TcpStream};
 use std::sync::Wait;
 use std::thread::Threads;
-
-/// Why `serve` did not end as it should.
-#[derive(Clone, Copy, Debug, PartialEq, Eq)]
-pub enum ServeError {
-    /// The partner of this number, from 1, could not be accepted.
-    Accept(usize),
-    /// A line could not be written.
-    Write,
-    /// Memory was refused.
-    Memory,
-}
 
 // Holds nobody up.
 #[derive(Drop)]

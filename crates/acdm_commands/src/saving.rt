@@ -3,8 +3,8 @@ ghost use Rattle.std.specs.Prelude.{◌≡◌, OnOk};
 ghost use Rattle.acdm_board.specs.Desk.{row_of};
 ghost use Rattle.acdm_journal.specs.Whole.{Saves};
 
-use crate::failure::Failure;
 use acdm_board::Desk;
+use acdm_failures::Failure;
 use acdm_journal::write_entry;
 use acdm_row::Row;
 use bpf_helpers::Helpers;

@@ -2,12 +2,13 @@
 ghost use Rattle.std.specs.Prelude.{◌≤◌, IfOk, vec_len};
 
 use crate::addresses::{Partner, listen};
-use crate::displays::Displays;
-use crate::failure::Failure;
-use crate::helpers::{bank_of, minutes_later, taxi_minutes, turn_round_minutes};
+use crate::known::{minutes_later, taxi_minutes, turn_round_minutes};
 use crate::partners::serve_on;
 use crate::saving::save;
 use acdm_board::Desk;
+use acdm_displays::Displays;
+use acdm_failures::Failure;
+use acdm_judging::bank_of;
 use acdm_milestones::Role;
 use acdm_row::Row;
 use acdm_sessions::Clock;

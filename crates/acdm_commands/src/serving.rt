@@ -2,10 +2,11 @@
 ghost use Rattle.std.specs.Prelude.{◌≡◌, ◌-◌, ◌^◌, ◌<◌, IfOk};
 ghost use Rattle.acdm_commands.specs.Served.{ServesFromEmpty};
 
-use crate::failure::Failure;
-use crate::helpers::{bank_of, minutes_later, taxi_minutes, turn_round_minutes};
+use crate::known::{minutes_later, taxi_minutes, turn_round_minutes};
 use crate::saving::save;
 use acdm_board::Desk;
+use acdm_failures::Failure;
+use acdm_judging::bank_of;
 use acdm_sessions::{Counted, run};
 use bpf_helpers::{Code, Helpers};
 use std::alloc::Global;

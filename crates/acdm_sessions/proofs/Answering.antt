@@ -7,18 +7,18 @@ use Rattle.acdm_step.specs.declared.command.Command.{Command}
 use Rattle.acdm_step.specs.declared.outcome.Outcome.{Outcome}
 use Rattle.acdm_step.specs.Verdicts.{outcome_of}
 use Rattle.acdm_board.specs.Desk.{DeskView, entered}
-use Rattle.acdm_sessions.specs.declared.fault.Fault.{Fault}
-use Rattle.acdm_sessions.specs.declared.fault.Bad.{Bad}
-use Rattle.acdm_sessions.specs.declared.fault.Bad.TheVariants.{Faulty, NoMemory, FullJournal}
-use Rattle.acdm_sessions.specs.declared.program.ProgramError.{ProgramError}
-use Rattle.acdm_sessions.specs.declared.program.ProgramError.TheVariants.{Memory, Refused}
-use Rattle.acdm_sessions.specs.declared.request.LineError.{LineError}
-use Rattle.acdm_sessions.specs.declared.request.LineError.TheVariants as errors
-use Rattle.acdm_sessions.specs.declared.request.Request.{Request}
+use Rattle.acdm_wire.specs.declared.fault.Fault.{Fault}
+use Rattle.acdm_wire.specs.declared.fault.Bad.{Bad}
+use Rattle.acdm_wire.specs.declared.fault.Bad.TheVariants.{Faulty, NoMemory, FullJournal}
+use Rattle.acdm_wire.specs.declared.program.ProgramError.{ProgramError}
+use Rattle.acdm_wire.specs.declared.program.ProgramError.TheVariants.{Memory, Refused}
+use Rattle.acdm_wire.specs.declared.request.LineError.{LineError}
+use Rattle.acdm_wire.specs.declared.request.LineError.TheVariants as errors
+use Rattle.acdm_wire.specs.declared.request.Request.{Request}
 use Rattle.acdm_sessions.specs.declared.answer.Answer.{Answer}
 use Rattle.acdm_sessions.specs.declared.answer.Answer.TheVariants.{Entered, Rejected}
-use Rattle.acdm_sessions.specs.Codes.{bad_of}
-use Rattle.acdm_sessions.specs.Meant.{Gives, meant}
+use Rattle.acdm_wire.specs.Codes.{bad_of}
+use Rattle.acdm_wire.specs.Meant.{Gives, meant}
 use Rattle.acdm_sessions.specs.Output.{Supply, no_supply, IsReadingFor, IsReadingOf, IsRight}
 use Rattle.acdm_sessions.specs.Output.{Completes, command_with, is_full, answer_command}
 use Rattle.acdm_sessions.specs.Output.{desk_command}

@@ -6,12 +6,12 @@ use Rattle.bpf_helpers.proofs.SameSigs.{same_sigs-decides}
 use Rattle.bpf_verifier.specs.Verdict.{Verified}
 use Rattle.acdm_step.specs.declared.command.Command.{Command}
 use Rattle.acdm_step.specs.declared.command.Command.TheVariants as commands
-use Rattle.acdm_sessions.specs.declared.program.ProgramError.{ProgramError}
-use Rattle.acdm_sessions.specs.declared.program.ProgramError.TheVariants.{Memory, Refused}
-use Rattle.acdm_sessions.specs.declared.request.LoadRequest.{LoadRequest}
-use Rattle.acdm_sessions.specs.declared.request.Asked.{Asked}
-use Rattle.acdm_sessions.specs.declared.request.Asked.TheVariants.{Plain, Load}
-use Rattle.acdm_sessions.specs.Reading.{GivesReading}
+use Rattle.acdm_wire.specs.declared.program.ProgramError.{ProgramError}
+use Rattle.acdm_wire.specs.declared.program.ProgramError.TheVariants.{Memory, Refused}
+use Rattle.acdm_wire.specs.declared.request.LoadRequest.{LoadRequest}
+use Rattle.acdm_wire.specs.declared.request.Asked.{Asked}
+use Rattle.acdm_wire.specs.declared.request.Asked.TheVariants.{Plain, Load}
+use Rattle.acdm_wire.specs.Reading.{GivesReading}
 use Rattle.acdm_sessions.specs.Output.{Completes}
 
 pub completes_plain : (sigs : List (ℕ × Promise)) (asked : Asked) (c : Command)

@@ -1,10 +1,7 @@
 pub mod Answering
 pub mod Completing
 pub mod Crossing
-pub mod Json
 pub mod Kept
-pub mod MeantRows
-pub mod OneReading
 pub mod Ordering
 pub mod OutputRows
 pub mod Passes
@@ -13,4 +10,3 @@ pub mod Running
 pub mod Seats
 pub mod NewPass
 pub mod Serving
-pub mod Writing

@@ -4,17 +4,17 @@ use Rattle.std.proofs.Common.{subst, ◌∙◌}
 use Rattle.std.proofs.lemmas.Bool.{false≢true}
 use Rattle.bpf_helpers.specs.Promise.{Promise}
 use Rattle.acdm_step.specs.declared.command.Command.{Command}
-use Rattle.acdm_sessions.specs.declared.fault.Fault.{Fault}
-use Rattle.acdm_sessions.specs.declared.fault.Bad.TheVariants.{Faulty, NoMinute, NoMemory}
-use Rattle.acdm_sessions.specs.declared.program.ProgramError.{ProgramError}
-use Rattle.acdm_sessions.specs.declared.program.ProgramError.TheVariants.{Memory, Refused}
-use Rattle.acdm_sessions.specs.declared.request.Asked.{Asked}
-use Rattle.acdm_sessions.specs.declared.request.LineError.{LineError}
-use Rattle.acdm_sessions.specs.declared.request.LineError.TheVariants as errors
-use Rattle.acdm_sessions.specs.Codes.{bad_of}
-use Rattle.acdm_sessions.specs.Meant.{Gives}
+use Rattle.acdm_wire.specs.declared.fault.Fault.{Fault}
+use Rattle.acdm_wire.specs.declared.fault.Bad.TheVariants.{Faulty, NoMinute, NoMemory}
+use Rattle.acdm_wire.specs.declared.program.ProgramError.{ProgramError}
+use Rattle.acdm_wire.specs.declared.program.ProgramError.TheVariants.{Memory, Refused}
+use Rattle.acdm_wire.specs.declared.request.Asked.{Asked}
+use Rattle.acdm_wire.specs.declared.request.LineError.{LineError}
+use Rattle.acdm_wire.specs.declared.request.LineError.TheVariants as errors
+use Rattle.acdm_wire.specs.Codes.{bad_of}
 use Rattle.acdm_sessions.specs.Output.{Completes}
-use Rattle.acdm_sessions.specs.Orders.{asked_of, OrderFacts, order_at, order_asked, IsReadingAt}
+use Rattle.acdm_wire.specs.Meant.{Gives, asked_of}
+use Rattle.acdm_sessions.specs.Orders.{OrderFacts, order_at, order_asked, IsReadingAt}
 use Rattle.acdm_sessions.specs.Orders.{Orders}
 
 abbrev nothing : OrderFacts

@@ -10,15 +10,15 @@ use Rattle.acdm_record.specs.Fields.{bytes_of}
 use Rattle.acdm_alerts.specs.Names.{names_text}
 use Rattle.acdm_milestones.specs.declared.refusal.Refusal.TheVariants.{TimeOrder}
 use Rattle.acdm_step.specs.declared.outcome.Outcome.TheVariants.{Done, Refused}
-use Rattle.acdm_sessions.specs.declared.fault.Fault.TheVariants.{TooLong}
-use Rattle.acdm_sessions.specs.declared.fault.Bad.TheVariants.{Faulty, Program}
+use Rattle.acdm_wire.specs.declared.fault.Fault.TheVariants.{TooLong}
+use Rattle.acdm_wire.specs.declared.fault.Bad.TheVariants.{Faulty, Program}
 use Rattle.acdm_sessions.specs.declared.answer.Answer.TheVariants.{Entered, Rejected}
 use Rattle.acdm_lines.specs.Lines.{lines_of}
-use Rattle.acdm_sessions.specs.Meant.{meant, head_of, natural_of, number_field, text_field}
-use Rattle.acdm_sessions.specs.Meant.{time_field, time_or_null, plan_field, schedule_field}
-use Rattle.acdm_sessions.specs.Meant.{milestone_field, report_field, show_field, kind_field}
-use Rattle.acdm_sessions.specs.Meant.{program_field, load_field, unload_field, plain_named}
-use Rattle.acdm_sessions.specs.Meant.{command_named, command_of, json_of}
+use Rattle.acdm_wire.specs.Meant.{meant, head_of, natural_of, number_field, text_field}
+use Rattle.acdm_wire.specs.Meant.{time_field, time_or_null, plan_field, schedule_field}
+use Rattle.acdm_wire.specs.Meant.{milestone_field, report_field, show_field, kind_field}
+use Rattle.acdm_wire.specs.Meant.{program_field, load_field, unload_field, plain_named}
+use Rattle.acdm_wire.specs.Meant.{command_named, command_of, json_of}
 use Rattle.acdm_sessions.specs.Output.{reply_text, output}
 
 -- an empty rest is no line, and an empty line is one

@@ -17,12 +17,12 @@ use Rattle.bpf_decode.specs.declared.op.Width.TheVariants.{W64}
 use Rattle.bpf_helpers.specs.Known.{taxi}
 use Rattle.bpf_semantics.specs.Machine.{start}
 use Rattle.bpf_regstate.specs.States.{Accepts, states, start_shape}
-use Rattle.acdm_sessions.specs.Reading.{Reading, IsReading}
-use Rattle.acdm_sessions.specs.Meant.{meant, head_of, natural_of, number_field, text_field}
-use Rattle.acdm_sessions.specs.Meant.{time_field, time_or_null, plan_field, schedule_field}
-use Rattle.acdm_sessions.specs.Meant.{milestone_field, report_field, show_field, kind_field}
-use Rattle.acdm_sessions.specs.Meant.{program_field, load_field, unload_field, plain_named}
-use Rattle.acdm_sessions.specs.Meant.{command_named, command_of, json_of}
+use Rattle.acdm_wire.specs.Reading.{Reading, IsReading}
+use Rattle.acdm_wire.specs.Meant.{meant, head_of, natural_of, number_field, text_field}
+use Rattle.acdm_wire.specs.Meant.{time_field, time_or_null, plan_field, schedule_field}
+use Rattle.acdm_wire.specs.Meant.{milestone_field, report_field, show_field, kind_field}
+use Rattle.acdm_wire.specs.Meant.{program_field, load_field, unload_field, plain_named}
+use Rattle.acdm_wire.specs.Meant.{command_named, command_of, json_of}
 use Rattle.acdm_sessions.specs.Output.{Supply, no_supply, output}
 
 -- ---- readings

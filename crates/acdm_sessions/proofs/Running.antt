@@ -4,7 +4,8 @@ use Rattle.std.proofs.Common.{length}
 use Rattle.std.proofs.Common.{Option, refl, sym, ap, subst, ◌∙◌, arith, append_assoc, append-nil}
 use Rattle.std.proofs.Common.{inl, inr}
 use Rattle.std.specs.Io.KnownBytes.{Appends, Consumes}
-use Rattle.acdm_sessions.specs.declared.stream.TheConstants.{LONGEST_LINE, MOST_KEPT}
+use Rattle.acdm_wire.specs.declared.request.TheConstants.{LONGEST_LINE}
+use Rattle.acdm_sessions.specs.declared.stream.TheConstants.{MOST_KEPT}
 use Rattle.acdm_sessions.specs.declared.answer.Answer.{Answer}
 use Rattle.acdm_lines.specs.declared.lines.Lines.{Lines}
 use Rattle.acdm_lines.specs.declared.run_error.RunError.{RunError}
@@ -16,7 +17,7 @@ use Rattle.acdm_sessions.specs.Stream.{Answered, AnsweredInPart, AnswersEach, re
 use Rattle.acdm_sessions.specs.Stream.{AnswersText, AnswersAll, AnswersWhole, AnswersPart}
 use Rattle.acdm_sessions.specs.Stream.{kept}
 use Rattle.acdm_lines.proofs.Feeds.{lines_of-line, lines_of-rest}
-use Rattle.acdm_sessions.proofs.Writing.{Appends-none, Appends-both}
+use Rattle.acdm_wire.proofs.Writing.{Appends-none, Appends-both}
 use Rattle.acdm_lines.proofs.Whole.{lines_of-whole, IsWhole-line, IsWhole-append}
 use Rattle.acdm_lines.proofs.Taking.{Consumes-none}
 use Rattle.acdm_lines.proofs.Reading.{kept-empty, kept-some, faults-more, consumed-more, gave-more}

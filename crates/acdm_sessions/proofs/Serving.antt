@@ -8,25 +8,26 @@ use Rattle.std.specs.Io.KnownBytes.{Appends}
 use Rattle.bpf_helpers.specs.Promise.{Promise}
 use Rattle.acdm_step.specs.declared.command.Command.{Command}
 use Rattle.acdm_board.specs.Desk.{DeskView, entered}
-use Rattle.acdm_sessions.specs.declared.fault.Fault.{Fault}
-use Rattle.acdm_sessions.specs.declared.fault.Fault.TheVariants.{TooLong}
-use Rattle.acdm_sessions.specs.declared.fault.Bad.{Bad}
-use Rattle.acdm_sessions.specs.declared.fault.Bad.TheVariants.{NoMemory}
+use Rattle.acdm_wire.specs.declared.fault.Fault.{Fault}
+use Rattle.acdm_wire.specs.declared.fault.Fault.TheVariants.{TooLong}
+use Rattle.acdm_wire.specs.declared.fault.Bad.{Bad}
+use Rattle.acdm_wire.specs.declared.fault.Bad.TheVariants.{NoMemory}
 use Rattle.acdm_sessions.specs.declared.answer.Answer.{Answer}
 use Rattle.acdm_sessions.specs.declared.answer.Answer.TheVariants.{Rejected}
-use Rattle.acdm_sessions.specs.declared.request.Request.{Request}
+use Rattle.acdm_wire.specs.declared.request.Request.{Request}
 use Rattle.acdm_lines.specs.Lines.{lines_of}
-use Rattle.acdm_sessions.specs.Meant.{meant}
+use Rattle.acdm_wire.specs.Meant.{meant}
 use Rattle.acdm_sessions.specs.Output.{Supply, IsReadingOf, IsRight, AreRight, command_with}
 use Rattle.acdm_sessions.specs.Output.{is_full}
 use Rattle.acdm_sessions.specs.Output.{answer_meant, desk_command, desk_meant, answer_to}
 use Rattle.acdm_sessions.specs.Output.{desk_after}
 use Rattle.acdm_sessions.specs.Output.{reply_text, replies, desk_after_all, Answers, Serves}
-use Rattle.acdm_sessions.specs.Reply.{AppendsPart}
+use Rattle.acdm_wire.specs.Writes.{AppendsPart}
 use Rattle.acdm_sessions.specs.Run.{ServesAll, ServesWhole, ServesPart}
 use Rattle.acdm_sessions.specs.Stream.{AnswersEach, AnswersText, AnswersAll, AnswersWhole}
 use Rattle.acdm_sessions.specs.Stream.{AnswersPart, replies_text, kept}
-use Rattle.acdm_sessions.specs.declared.stream.TheConstants.{LONGEST_LINE, MOST_KEPT}
+use Rattle.acdm_wire.specs.declared.request.TheConstants.{LONGEST_LINE}
+use Rattle.acdm_sessions.specs.declared.stream.TheConstants.{MOST_KEPT}
 
 -- ---- the signatures stay as they are
 

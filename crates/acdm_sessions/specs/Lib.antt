@@ -1,10 +1,11 @@
-pub mod Codes
-pub mod Meant
 pub mod Orders
 pub mod Output
 pub mod Passes
-pub mod Reading
-pub mod Reply
 pub mod Run
 pub mod Sessions
 pub mod Stream
+pub use Rattle.acdm_wire.specs.Codes
+pub use Rattle.acdm_wire.specs.Meant
+pub use Rattle.acdm_wire.specs.Reading
+pub use Rattle.acdm_wire.specs.Replies
+pub use Rattle.acdm_wire.specs.Writes

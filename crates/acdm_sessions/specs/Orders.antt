@@ -3,23 +3,14 @@ use Rattle.std.specs.Prelude.{ℕ, ◌≡◌, Bool, true, false, if◌then◌els
 use Rattle.std.specs.Prelude.{List, Option, Some, None, Result, Ok, Err}
 use Rattle.bpf_helpers.specs.Promise.{Promise}
 use Rattle.acdm_step.specs.declared.command.Command.{Command}
-use Rattle.acdm_sessions.specs.declared.fault.Fault.{Fault}
-use Rattle.acdm_sessions.specs.declared.fault.Fault.TheVariants.{TooLong}
-use Rattle.acdm_sessions.specs.declared.fault.Bad.{Bad}
-use Rattle.acdm_sessions.specs.declared.fault.Bad.TheVariants.{Faulty, NoMinute, NoMemory}
-use Rattle.acdm_sessions.specs.declared.request.Asked.{Asked}
-use Rattle.acdm_sessions.specs.Meant.{◌>>=◌, demand, json_of, command_of}
-use Rattle.acdm_sessions.specs.Reading.{Reading}
+use Rattle.acdm_wire.specs.declared.fault.Fault.{Fault}
+use Rattle.acdm_wire.specs.declared.fault.Bad.{Bad}
+use Rattle.acdm_wire.specs.declared.fault.Bad.TheVariants.{Faulty, NoMinute, NoMemory}
+use Rattle.acdm_wire.specs.declared.request.Asked.{Asked}
+use Rattle.acdm_wire.specs.Meant.{asked_of}
+use Rattle.acdm_wire.specs.Reading.{Reading}
 use Rattle.acdm_sessions.specs.Output.{IsReadingFor, command_with}
 use Rattle.acdm_sessions.specs.declared.order.Order.{Order}
-use Rattle.acdm_sessions.specs.declared.stream.TheConstants.{LONGEST_LINE}
-
--- what a line asks for, or its first fault
-unfoldable pub asked_of : List ℕ → Result Asked Fault
-asked_of line = do
-  _ ← demand TooLong (nat_le (length line) LONGEST_LINE)
-  d ← json_of line
-  command_of d
 
 -- What is told of a line beside its bytes: whether memory was refused for it, the minute that the
 -- clock gave, and how the bytes of its program are read.

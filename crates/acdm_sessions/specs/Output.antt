@@ -1,38 +1,29 @@
 -- What is written for what is read.
 use Rattle.std.specs.Prelude.{ℕ, ◌≡◌, Bool, false, ◌==◌, if◌then◌else◌}
 use Rattle.std.specs.Prelude.{List, [], ◌∷◌, ◌++◌, length, codes, Option, Result, Ok, Err}
-use Rattle.std.specs.Fmt.{decimal}
-use Rattle.std.specs.List.{flat_map}
 use Rattle.std.specs.Io.KnownBytes.{Appends}
-use Rattle.hex.specs.Hex.{encode_lower}
-use Rattle.acdm_record.specs.Fields.{bytes_of}
-use Rattle.acdm_alerts.specs.Names.{names_text}
-use Rattle.acdm_milestones.specs.Codes.{refusal_code}
 use Rattle.acdm_milestones.specs.declared.role.Role.{Role}
 use Rattle.bpf_helpers.specs.Promise.{Promise}
 use Rattle.acdm_step.specs.declared.command.Command.{Command}
 use Rattle.acdm_step.specs.declared.command.Command.TheVariants as commands
-use Rattle.acdm_step.specs.declared.outcome.Alerted.{Alerted}
-use Rattle.acdm_step.specs.declared.outcome.Outcome.{Outcome}
-use Rattle.acdm_step.specs.declared.outcome.Outcome.TheVariants.{Done, Shown, Listed, Refused}
 use Rattle.acdm_step.specs.Verdicts.{outcome_of}
 use Rattle.acdm_board.specs.Desk.{DeskView, entered}
-use Rattle.acdm_sessions.specs.declared.fault.Fault.{Fault}
-use Rattle.acdm_sessions.specs.declared.fault.Bad.{Bad}
-use Rattle.acdm_sessions.specs.declared.fault.Bad.TheVariants.{Faulty, Program, NoMemory}
-use Rattle.acdm_sessions.specs.declared.fault.Bad.TheVariants.{FullJournal}
+use Rattle.acdm_wire.specs.declared.fault.Fault.{Fault}
+use Rattle.acdm_wire.specs.declared.fault.Bad.{Bad}
+use Rattle.acdm_wire.specs.declared.fault.Bad.TheVariants.{Faulty, Program, NoMemory}
+use Rattle.acdm_wire.specs.declared.fault.Bad.TheVariants.{FullJournal}
 use Rattle.acdm_sessions.specs.declared.answer.Answer.{Answer}
 use Rattle.acdm_sessions.specs.declared.answer.Answer.TheVariants.{Entered, Rejected}
-use Rattle.acdm_sessions.specs.declared.program.ProgramError.{ProgramError}
-use Rattle.acdm_sessions.specs.declared.program.ProgramError.TheVariants as errors
-use Rattle.acdm_sessions.specs.declared.request.Request.{Request}
-use Rattle.acdm_sessions.specs.declared.request.Asked.{Asked}
-use Rattle.acdm_sessions.specs.declared.request.Asked.TheVariants.{Plain, Load}
-use Rattle.acdm_sessions.specs.Codes.{bad_code}
+use Rattle.acdm_wire.specs.declared.program.ProgramError.{ProgramError}
+use Rattle.acdm_wire.specs.declared.program.ProgramError.TheVariants as errors
+use Rattle.acdm_wire.specs.declared.request.Request.{Request}
+use Rattle.acdm_wire.specs.declared.request.Asked.{Asked}
+use Rattle.acdm_wire.specs.declared.request.Asked.TheVariants.{Plain, Load}
+use Rattle.acdm_wire.specs.Replies.{entry_text, bad_text}
 use Rattle.acdm_lines.specs.Lines.{lines_of}
-use Rattle.acdm_sessions.specs.Reply.{AppendsPart}
-use Rattle.acdm_sessions.specs.Reading.{Reading, IsReading}
-use Rattle.acdm_sessions.specs.Meant.{meant}
+use Rattle.acdm_wire.specs.Writes.{AppendsPart}
+use Rattle.acdm_wire.specs.Reading.{Reading, IsReading}
+use Rattle.acdm_wire.specs.Meant.{meant}
 
 -- What the world supplies to a line: whether memory was refused for it, what the bytes of its
 -- program are read as, and the answers of helpers.
@@ -125,37 +116,7 @@ pub record Answers (before after : DeskView) (line : List ℕ) (answer : Answer)
   pub answer_is : answer ≡ answer_to before supply line
   pub desk_is : after ≡ desk_after before supply line
 
--- ---- the texts of replies
-
--- a flight with its alerts: `ID:NAME,NAME`
-abbrev pub alerted_text : Alerted → List ℕ
-alerted_text a = decimal a.flight ++ 58 ∷ names_text a.alerts
-
--- one flight more, after others
-abbrev pub next_text : Alerted → List ℕ
-next_text a = 59 ∷ alerted_text a
-
--- flights with their alerts, `;` between them, and `-` where there is none
-abbrev pub list_text : List Alerted → List ℕ
-list_text [] = codes "-"
-list_text (a ∷ more) = alerted_text a ++ flat_map next_text more
-
--- what stands before them in a reply
-abbrev pub list_head : ℕ → List ℕ
-list_head n = codes "alerts " ++ decimal n ++ 32 ∷ []
-
--- the reply: `ok N`, `rec N HEX`, `alerts N LIST`, `no N CODE`, `bad CODE` or `bad CODE SLOT`, and
--- a line feed
-abbrev pub entry_text : ℕ → Outcome → List ℕ
-entry_text n Done = codes "ok " ++ decimal n ++ 10 ∷ []
-entry_text n (Shown r) = codes "rec " ++ decimal n ++ 32 ∷ encode_lower (bytes_of r) ++ 10 ∷ []
-entry_text n (Listed flights) = list_head n ++ (list_text flights ++ 10 ∷ [])
-entry_text n (Refused x) =
-    codes "no " ++ decimal n ++ 32 ∷ [] ++ decimal (refusal_code x) ++ 10 ∷ []
-
-abbrev pub bad_text : Bad → List ℕ
-bad_text (Program code slot) = codes "bad " ++ decimal code ++ 32 ∷ [] ++ decimal slot ++ 10 ∷ []
-bad_text b = codes "bad " ++ decimal (bad_code b) ++ 10 ∷ []
+-- ---- replies
 
 abbrev pub reply_text : Answer → List ℕ
 reply_text (Entered reply) = entry_text reply.number reply.outcome

@@ -11,8 +11,8 @@ use Rattle.acdm_board.specs.declared.desk.Reply.{Reply}
 use Rattle.acdm_jobs.specs.Each.{Each}
 use Rattle.acdm_lines.specs.declared.run_error.RunError.{RunError}
 use Rattle.acdm_lines.specs.declared.run_error.RunError.TheVariants as errors
-use Rattle.acdm_sessions.specs.declared.fault.Bad.{Bad}
-use Rattle.acdm_sessions.specs.declared.fault.Bad.TheVariants.{NoMemory, FullJournal}
+use Rattle.acdm_wire.specs.declared.fault.Bad.{Bad}
+use Rattle.acdm_wire.specs.declared.fault.Bad.TheVariants.{NoMemory, FullJournal}
 use Rattle.acdm_sessions.specs.declared.answer.Answer.{Answer}
 use Rattle.acdm_sessions.specs.declared.answer.Answer.TheVariants.{Entered, Rejected}
 use Rattle.acdm_sessions.specs.declared.order.Order.{Order}

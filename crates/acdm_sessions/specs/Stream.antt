@@ -9,7 +9,7 @@ use Rattle.acdm_lines.specs.Counted.{Watched, faults_after}
 use Rattle.acdm_lines.specs.Lines.{IsLine, IsWhole, lines_of}
 use Rattle.acdm_lines.specs.NextLine.{FailsOrEndless}
 use Rattle.acdm_sessions.specs.Output.{reply_text}
-use Rattle.acdm_sessions.specs.Reply.{AppendsPart}
+use Rattle.acdm_wire.specs.Writes.{AppendsPart}
 use Rattle.acdm_sessions.specs.declared.stream.TheConstants.{MOST_KEPT}
 
 -- A line may be answered so by one who answers: the one before, the one after, the line and the

@@ -2,11 +2,9 @@
 ghost use Rattle.acdm_sessions.specs.Output.{Answers};
 
 use crate::answerer::Answerer;
-use crate::fault::Bad;
-use crate::head::request_of;
 use crate::loading::command_for;
-use crate::request::LineError;
 use acdm_board::{Desk, DeskError, Reply};
+use acdm_wire::{Bad, LineError, request_of};
 use bpf_helpers::Helpers;
 use std::alloc::Global;
 

@@ -9,13 +9,13 @@ ghost use Rattle.acdm_sessions.specs.Stream.{AnswersAll, AnswersPart, AnswersWho
 use crate::answer::Answer;
 use crate::answerer::Answerer;
 use crate::clock::{Clock, Gate};
-use crate::fault::Bad;
 use crate::locked::{Locked, Naming};
 use crate::order::{Order, order_in};
 use crate::session::{Caller, End, Seat, Served};
 use crate::stream::serve_lines;
 use acdm_board::DeskError;
 use acdm_lines::{Counted, RunError};
+use acdm_wire::Bad;
 use bpf_helpers::Helpers;
 use std::alloc::Global;
 use std::io::{Read, Write};

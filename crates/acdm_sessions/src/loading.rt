@@ -1,12 +1,11 @@
 //! From what a line asks for to a command.
 ghost use Rattle.std.specs.Prelude.{◌≡◌, true, false, IfOk};
 ghost use Rattle.acdm_board.specs.Desk.{is_foreign};
-ghost use Rattle.acdm_sessions.specs.Meant.{is_plain};
+ghost use Rattle.acdm_wire.specs.Meant.{is_plain};
 ghost use Rattle.acdm_sessions.specs.Output.{Completes};
 
-use crate::program::{ProgramError, read_program};
-use crate::request::Asked;
 use acdm_step::{Command, Load};
+use acdm_wire::{Asked, ProgramError, read_program};
 use bpf_helpers::Sigs;
 use std::alloc::Global;
 

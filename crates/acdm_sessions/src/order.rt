@@ -1,16 +1,12 @@
 //! What a line of a session asks to be done, and when.
-ghost use Rattle.std.specs.Prelude.{◌≡◌, ◌≤◌, ℕ, true, false, IfOk};
+ghost use Rattle.std.specs.Prelude.{◌≡◌, ◌≤◌, false, IfOk};
 ghost use Rattle.acdm_board.specs.Desk.{is_foreign};
-ghost use Rattle.acdm_sessions.specs.Meant.{Gives, is_plain};
-ghost use Rattle.acdm_sessions.specs.Orders.{asked_of, Orders};
+ghost use Rattle.acdm_sessions.specs.Orders.{Orders};
 
 use crate::clock::Clock;
-use crate::fault::{Bad, Fault};
-use crate::field::{command_in, json_in};
 use crate::loading::command_for;
-use crate::request::{Asked, LineError};
-use crate::stream::LONGEST_LINE;
 use acdm_step::Command;
+use acdm_wire::{Bad, LineError, asked_of};
 use bpf_helpers::Sigs;
 use std::alloc::Global;
 
@@ -19,19 +15,6 @@ use std::alloc::Global;
 pub(crate) struct Order {
     pub(crate) moment: u32,
     pub(crate) command: Command,
-}
-
-// What a line asks for, or its first fault.
-#[tactic(auto, unfolding(crate::specs::Orders::asked_of))]
-fn asked_in(alloc: Global, line: &[u8]) -> Result<Asked, LineError>
-    ensures reads { Gives result (asked_of line.now) }
-    ensures plain { IfOk result (λ asked. is_plain asked ≡ true) }
-{
-    if line.len() > LONGEST_LINE {
-        return Err(LineError::Fault(Fault::TooLong));
-    }
-    let value = json_in(alloc, line)?;
-    command_in(alloc, &value)
 }
 
 /// What a line asks to be done, at the minute that the clock tells, or the first fault in it. A
@@ -47,7 +30,7 @@ pub(crate) fn order_in<C: Clock>(
     ensures checked { IfOk result (λ order. is_foreign sigs.now order.command ≡ false) }
     ensures same { C.gives clock.new ≡ C.gives clock.old }
 {
-    let asked = match asked_in(alloc, line) {
+    let asked = match asked_of(alloc, line) {
         Ok(asked) => asked,
         Err(LineError::Memory) => return Err(Bad::NoMemory),
         Err(LineError::Fault(fault)) => return Err(Bad::Faulty(fault)),

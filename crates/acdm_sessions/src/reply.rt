@@ -1,93 +1,19 @@
 //! The reply to a line, as it is written.
 ghost use Rattle.std.specs.Prelude.{◌≡◌, false, OnOk};
-ghost use Rattle.std.specs.List.{flat_map};
-ghost use Rattle.acdm_sessions.specs.Reply.{Writes};
-ghost use Rattle.acdm_sessions.specs.Output.{next_text, list_text, entry_text, reply_text};
-ghost use Rattle.acdm_step.specs.declared.outcome.Outcome.TheVariants.{Listed};
+ghost use Rattle.acdm_wire.specs.Writes.{Writes};
+ghost use Rattle.acdm_sessions.specs.Output.{reply_text};
 
 use crate::answer::Answer;
-use crate::reply_text::{ReplyText, done, head, refused, rejected, shown};
-use acdm_board::Reply;
 use acdm_lines::{Counted, RunError};
-use acdm_step::{Alerted, Outcome};
+use acdm_wire::{write_entered, write_rejected};
 use std::io::Write;
-
-/// Writes all these bytes.
-fn write_whole<W: Write>(writer: &mut Counted<W>, bytes: &[u8]) -> Result<(), RunError>
-    ensures { Writes W.contents writer.old writer.new bytes.now result }
-{
-    let mut at = 0;
-    while at < bytes.len() {
-        match writer.write(&bytes[at..]) {
-            Ok(taken) if taken > 0 => at += taken,
-            _ => return Err(RunError::Write),
-        }
-    }
-    Ok(())
-}
-
-// Writes flights with their alerts after a first one.
-fn write_more<W: Write>(writer: &mut Counted<W>, flights: &[Alerted]) -> Result<(), RunError>
-    ensures { Writes W.contents writer.old writer.new (flat_map next_text flights.now) result }
-{
-    let mut text = ReplyText::new();
-    let mut rest = flights;
-    while let Some((flight, more)) = rest.split_first() {
-        text.put_next(flight);
-        write_whole(writer, text.as_slice())?;
-        rest = more;
-    }
-    Ok(())
-}
-
-// Writes flights with their alerts.
-fn write_flights<W: Write>(writer: &mut Counted<W>, flights: &[Alerted]) -> Result<(), RunError>
-    ensures { Writes W.contents writer.old writer.new (list_text flights.now) result }
-{
-    let Some((first, more)) = flights.split_first() else {
-        return write_whole(writer, b"-");
-    };
-    let mut text = ReplyText::new();
-    text.put_first(first);
-    write_whole(writer, text.as_slice())?;
-    write_more(writer, more)
-}
-
-// Writes the reply with flights and their alerts, in pieces.
-fn write_list<W: Write>(
-    writer: &mut Counted<W>,
-    number: u64,
-    flights: &[Alerted],
-) -> Result<(), RunError>
-    ensures { Writes W.contents writer.old writer.new
-        (entry_text number (Listed flights.now)) result }
-{
-    write_whole(writer, head(number).as_slice())?;
-    write_flights(writer, flights)?;
-    write_whole(writer, b"\n")
-}
-
-fn write_entered<W: Write>(writer: &mut Counted<W>, reply: &Reply) -> Result<(), RunError>
-    ensures { Writes W.contents writer.old writer.new
-        (entry_text reply.now.number reply.now.outcome) result }
-{
-    match &reply.outcome {
-        Outcome::Done => write_whole(writer, done(reply.number).as_slice()),
-        Outcome::Shown(record) => write_whole(writer, shown(reply.number, record).as_slice()),
-        Outcome::Listed(list) => write_list(writer, reply.number, list.as_slice()),
-        Outcome::Refused(refusal) => write_whole(
-            writer,
-            refused(reply.number, *refusal).as_slice(),
-        ),
-    }
-}
 
 fn write_answer<W: Write>(writer: &mut Counted<W>, answer: &Answer) -> Result<(), RunError>
     ensures { Writes W.contents writer.old writer.new (reply_text answer.now) result }
 {
     match answer {
-        Answer::Entered(reply) => write_entered(writer, reply),
-        Answer::Rejected(bad) => write_whole(writer, rejected(*bad).as_slice()),
+        Answer::Entered(reply) => write_entered(writer, reply.number, &reply.outcome),
+        Answer::Rejected(bad) => write_rejected(writer, *bad),
     }
 }
 

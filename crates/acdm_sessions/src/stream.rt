@@ -7,12 +7,10 @@ use crate::answerer::Answerer;
 use crate::reply::write_reply;
 use acdm_board::Desk;
 use acdm_lines::{Counted, Ending, Lines, RunError};
+use acdm_wire::LONGEST_LINE;
 use bpf_helpers::Helpers;
 use std::alloc::Global;
 use std::io::{Read, Write};
-
-/// How many bytes a line has at most (this project's profile).
-pub const LONGEST_LINE: usize = 70_000;
 
 // One byte more than the longest line has, so that a longer one is told by what is kept of it.
 const MOST_KEPT: usize = LONGEST_LINE + 1;

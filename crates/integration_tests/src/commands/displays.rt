@@ -1,7 +1,8 @@
 //! Displays, which are sent the journal while partners are served.
 use crate::commands::serve::{Morning, listening, talk};
 use acdm_board::Desk;
-use acdm_commands::{Displays, follow, serve_on};
+use acdm_commands::serve_on;
+use acdm_displays::{Displays, follow};
 use acdm_milestones::Role;
 use acdm_step::Command;
 use bpf_helpers::{Bank, Helpers};

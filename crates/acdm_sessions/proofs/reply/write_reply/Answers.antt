@@ -1,7 +1,7 @@
 use Rattle.std.proofs.Common.{length, true, refl, ap, ◌∙◌}
 use Rattle.acdm_lines.specs.Counted.{faults_after}
 use Rattle.acdm_sessions.specs.Output.{reply_text}
-use Rattle.acdm_sessions.proofs.Writing.{Appends-whole}
+use Rattle.acdm_wire.proofs.Writing.{Appends-whole}
 use Rattle.acdm_sessions.proofs.reply.write_reply.Goals as goal
 
 pub returns-in-Err-clause-writes : goal.returns-in-Err-clause-writes

@@ -1,7 +1,0 @@
-use denote.Exit.{no}
-use denote.Param.Send.{param_send, arg_send}
-use Rattle.acdm_commands.proofs.Crossing.{showing_send}
-use Rattle.acdm_commands.proofs.displays.Admission.admit_one.Goals as goal
-
-pub begin-started-requires-send-T : goal.begin-started-requires-send-T
-begin-started-requires-send-T g c κs within = param_send 1 _ (arg_send _ no _ showing_send)

@@ -1,0 +1,38 @@
+-- The tasks of displays may be sent to other threads.
+use denote.RattleType.{RattleType}
+use denote.Param.Send.{IsSend, sendable}
+use denote.Param.SendFields.{declared_send}
+use Rattle.std.proofs.Crossing.{crosses}
+use Rattle.acdm_row.proofs.Crossing.{row_send, row_sync}
+use Rattle.acdm_displays.proofs.displays.Shared.TheSendSync as shared
+use Rattle.acdm_displays.specs.contracts.displays.Admission as admission
+use Rattle.acdm_displays.specs.contracts.displays.Showing as showing
+
+pub showing_send : IsSend showing.the_row
+showing_send =
+    declared_send showing.the_type (
+      search sendable depth 8,
+      (
+        search (row_send, row_sync, sendable, crosses) depth 20,
+        (
+          search (shared.the_send, shared.the_sync, sendable, crosses) depth 20,
+          (search (sendable, crosses) depth 12, tt),
+        ),
+      ),
+    )
+
+pub admission_send : (K : RattleType) → IsSend K → IsSend (admission.the_row K)
+admission_send K k =
+    declared_send (admission.the_type K) (
+      search (k, sendable) depth 8,
+      (
+        search sendable depth 8,
+        (
+          search (row_send, row_sync, sendable, crosses) depth 20,
+          (
+            search (shared.the_send, shared.the_sync, sendable, crosses) depth 20,
+            (search (sendable, crosses) depth 12, tt),
+          ),
+        ),
+      ),
+    )

@@ -1,0 +1,13 @@
+//! The commands that judge what is in a file, a program or a journal, and the helpers that are known
+//! to them.
+#![tactic(auto)]
+
+mod auditing;
+mod explaining;
+mod helpers;
+mod verifying;
+
+pub use auditing::audit_on;
+pub use explaining::{explain_on, unread};
+pub use helpers::{bank_of, known_sigs, minutes_later, taxi_minutes, turn_round_minutes};
+pub use verifying::verify_on;

@@ -1,7 +1,0 @@
-use Rattle.acdm_sessions.proofs.OneReading.{answers_reading}
-use Rattle.acdm_sessions.proofs.program.read_program.Goals as goal
-
-pub returns-clause-only : goal.returns-clause-only
-returns-clause-only c =
-    λ reading p. answers_reading c.args.sigs.now c.args.bytes.now reading c.program_of.result
-    c.program_of.ensures p

@@ -1,0 +1,4 @@
+pub mod Json
+pub mod MeantRows
+pub mod OneReading
+pub mod Writing

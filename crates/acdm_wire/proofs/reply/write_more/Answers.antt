@@ -1,0 +1,30 @@
+use Rattle.std.proofs.Common.{◌++◌, ap, ◌∙◌}
+use Rattle.std.specs.List.{flat_map}
+use Rattle.std.proofs.lemmas.Result.{err_from_is_err_and}
+use Rattle.acdm_wire.specs.Replies.{next_text}
+use Rattle.acdm_wire.proofs.Writing.{wrote-both, piece-part, piece-whole}
+use Rattle.acdm_wire.proofs.reply.write_more.Goals as goal
+
+pub returns-in_err-write_whole : goal.returns-in_err-write_whole
+returns-in_err-write_whole g c =
+    let piece = c.as_slice.ensures ∙ c.put_next.ensures in
+    let left = ap (flat_map next_text) c.in-Some.ensures.cases.0 in
+    let p = err_from_is_err_and c.from_residual.result c.from_residual.ensures.1 in
+    rw (p.1, p.2)
+    (piece-part _ _ _ _ c.loop-flight.invariant.done (flat_map next_text c.loop-flight.rest.now)
+    (next_text c.in-Some.flight.now) (flat_map next_text c.in-Some.more.now) _ _
+    c.loop-flight.invariant.wrote c.loop-flight.invariant.whole left
+    (rw piece at c.in_err-write_whole.ensures))
+
+pub loop-flight-preserved : goal.loop-flight-preserved
+loop-flight-preserved g c =
+    let piece = c.as_slice.ensures ∙ c.put_next.ensures in
+    let left = ap (flat_map next_text) c.in-Some.ensures.cases.0 in
+    record {
+      done = c.loop-flight.invariant.done ++ next_text c.in-Some.flight.now;
+      wrote = wrote-both _ _ _ _ c.loop-flight.invariant.done (next_text c.in-Some.flight.now)
+          c.loop-flight.invariant.wrote (rw piece at c.in_ok-write_whole.ensures);
+      whole = piece-whole c.loop-flight.invariant.done (flat_map next_text c.loop-flight.rest.now)
+          (next_text c.in-Some.flight.now) (flat_map next_text c.in-Some.more.now) _
+          c.loop-flight.invariant.whole left;
+    }

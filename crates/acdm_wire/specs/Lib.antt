@@ -1,0 +1,5 @@
+pub mod Codes
+pub mod Meant
+pub mod Reading
+pub mod Replies
+pub mod Writes

@@ -1,0 +1,83 @@
+//! What can be wrong with a line.
+ghost use Rattle.std.specs.Prelude.{◌≡◌};
+ghost use Rattle.acdm_wire.specs.Codes.{fault_code, bad_code};
+
+use crate::program::ProgramError;
+
+/// Why a line asks for nothing: the first reason that applies, in the order of their tests, which
+/// is too long, prefix, JSON, command, and then the fields (this project's profile).
+#[derive(Clone, Copy, Debug, PartialEq, Eq)]
+pub enum Fault {
+    /// 100: the line does not begin with a session, a minute and a role, each before one space.
+    Prefix,
+    /// 101: what follows is no JSON.
+    NoJson,
+    /// 102: it is no object with a known `cmd`.
+    UnknownCommand,
+    /// 103: a field is missing or not of its kind.
+    Kind,
+    /// 104: a field is out of range.
+    Range,
+    /// 105: the line has more than 70,000 bytes.
+    TooLong,
+}
+
+impl Fault {
+    /// The number of the fault in a reply.
+    pub fn code(self) -> u16
+        ensures { result ≡ fault_code self }
+    {
+        match self {
+            Fault::Prefix => 100,
+            Fault::NoJson => 101,
+            Fault::UnknownCommand => 102,
+            Fault::Kind => 103,
+            Fault::Range => 104,
+            Fault::TooLong => 105,
+        }
+    }
+}
+
+/// Why a line makes no entry.
+#[derive(Clone, Copy, Debug, PartialEq, Eq)]
+pub enum Bad {
+    /// The line asks for nothing.
+    Faulty(Fault),
+    /// It asks to load a program, and its bytes encode none (RFC 9669) or one that is not accepted:
+    /// the number of their first fault, 301 to 315, and its slot, counted from 0.
+    Program { code: u16, slot: usize },
+    /// 106: the clock gave no minute.
+    NoMinute,
+    /// 501: there was no memory for the line that was read, or for its entry.
+    NoMemory,
+    /// 502: the journal is full.
+    FullJournal,
+}
+
+impl Bad {
+    /// The number after `bad` in a reply.
+    pub fn code(self) -> u16
+        ensures { result ≡ bad_code self }
+    {
+        match self {
+            Bad::Faulty(fault) => fault.code(),
+            Bad::Program { code, slot: _ } => code,
+            Bad::NoMinute => 106,
+            Bad::NoMemory => 501,
+            Bad::FullJournal => 502,
+        }
+    }
+}
+
+impl From<ProgramError> for Bad {
+    ghost use Rattle.acdm_wire.specs.Codes.{bad_of};
+
+    ghost from_gives = { λ error bad. bad ≡ bad_of error };
+
+    fn from(error: ProgramError) -> Bad {
+        match error {
+            ProgramError::Memory => Bad::NoMemory,
+            ProgramError::Refused { code, slot } => Bad::Program { code, slot },
+        }
+    }
+}

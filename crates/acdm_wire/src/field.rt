@@ -1,0 +1,308 @@
+//! The fields of a command.
+ghost use Rattle.std.specs.Prelude.{◌≡◌, ◌≤◌, true, false, IfOk, IsTrue};
+ghost use Rattle.acdm_step.specs.Facts.{has_its_plan, has_its_time};
+ghost use Rattle.acdm_step.specs.Commands.{is_load};
+ghost use Rattle.serde_json.specs.View.{view};
+ghost use Rattle.acdm_wire.specs.Meant.{Gives, GivesView, number_field, text_field, minute_of};
+ghost use Rattle.acdm_wire.specs.Meant.{time_field, time_or_null, time_for, plan_field};
+ghost use Rattle.acdm_wire.specs.Meant.{plan_for, milestone_of, milestone_field};
+ghost use Rattle.acdm_wire.specs.Meant.{schedule_field, report_field, show_field};
+ghost use Rattle.acdm_wire.specs.Meant.{kind_field, slot_field, program_field, load_field};
+ghost use Rattle.acdm_wire.specs.Meant.{unload_field, plain_named, command_of, is_plain};
+ghost use Rattle.acdm_wire.specs.Meant.{json_of};
+
+use crate::fault::Fault;
+use crate::program::ProgramBytes;
+use crate::request::{Asked, LineError, LoadRequest};
+use acdm_milestones::Milestone;
+use acdm_record::Text;
+use acdm_slots::Kind;
+use acdm_step::{
+    Command, FlightCommand, FlightNumber, MINUTES_OF_DAY, Plan, Report, Schedule, Unload,
+};
+use hex::FromHexError;
+use jiff::Timestamp;
+use serde_json::Value;
+use std::alloc::Global;
+
+#[tactic(auto, unfolding(crate::specs::Meant::number_field))]
+fn number_in(value: &Value, key: &str, low: u64, high: u64) -> Result<u64, Fault>
+    ensures reads { result ≡ number_field key.now low high (view value.now) }
+    ensures within { IfOk result (λ n. (low ≤ n) × (n ≤ high)) }
+{
+    let Some(number) = value.get(key).and_then(Value::as_u64) else {
+        return Err(Fault::Kind);
+    };
+    if low <= number && number <= high {
+        Ok(number)
+    } else {
+        Err(Fault::Range)
+    }
+}
+
+// The minute of a text that is an instant.
+#[tactic(auto, unfolding(crate::specs::Meant::time_field))]
+fn time_in(value: &Value, key: &str) -> Result<u32, Fault>
+    ensures reads { result ≡ time_field key.now (view value.now) }
+    ensures given { IfOk result (λ t. 1 ≤ t) }
+{
+    let Some(text) = value.get(key).and_then(Value::as_str) else {
+        return Err(Fault::Kind);
+    };
+    let Ok(instant) = text.parse::<Timestamp>() else {
+        return Err(Fault::Range);
+    };
+    minute_at(instant)
+}
+
+fn minute_at(instant: Timestamp) -> Result<u32, Fault>
+    ensures reads { result ≡ minute_of instant.nanosecond }
+    ensures given { IfOk result (λ t. 1 ≤ t) }
+{
+    let minute = instant.as_second() / 60;
+    if 1 <= minute && minute <= 4_294_967_295 {
+        Ok(minute as u32)
+    } else {
+        Err(Fault::Range)
+    }
+}
+
+#[tactic(auto, unfolding(crate::specs::Meant::text_field))]
+fn text_in<const N: usize>(value: &Value, key: &str) -> Result<Text<N>, Fault>
+    ensures { result ≡ text_field key.now N (view value.now) }
+{
+    let Some(text) = value.get(key).and_then(Value::as_str) else {
+        return Err(Fault::Kind);
+    };
+    let Some(kept) = Text::from_bytes(text.as_bytes()) else {
+        return Err(Fault::Range);
+    };
+    Ok(kept)
+}
+
+#[tactic(auto, unfolding(crate::specs::Meant::plan_field))]
+fn plan_in(value: &Value) -> Result<Plan, Fault>
+    ensures { result ≡ plan_field (view value.now) }
+{
+    let callsign = text_in(value, "callsign")?;
+    let aircraft = text_in(value, "type")?;
+    let registration = text_in(value, "reg")?;
+    let destination = text_in(value, "dest")?;
+    Ok(Plan {
+        callsign,
+        aircraft,
+        registration,
+        destination,
+    })
+}
+
+fn milestone_at(number: u64) -> Result<Milestone, Fault>
+    ensures { result ≡ milestone_of number }
+{
+    let Some(milestone) = Milestone::from_number(number) else {
+        return Err(Fault::Range);
+    };
+    Ok(milestone)
+}
+
+#[tactic(auto, unfolding(crate::specs::Meant::milestone_field))]
+fn milestone_in(value: &Value) -> Result<Milestone, Fault>
+    ensures { result ≡ milestone_field (view value.now) }
+{
+    let number = number_in(value, "milestone", 0, u64::MAX)?;
+    milestone_at(number)
+}
+
+// A time, or 0 for null.
+#[tactic(auto, unfolding(crate::specs::Meant::time_or_null))]
+fn time_or_null_in(value: &Value, key: &str) -> Result<u32, Fault>
+    ensures { result ≡ time_or_null key.now (view value.now) }
+{
+    if value.get(key).and_then(Value::as_null).is_some() {
+        return Ok(0);
+    }
+    time_in(value, key)
+}
+
+// The time of a report.
+fn time_of(value: &Value, milestone: Milestone) -> Result<u32, Fault>
+    ensures reads { result ≡ time_for milestone (view value.now) }
+    ensures timed { IfOk result (λ t. IsTrue (has_its_time milestone t)) }
+{
+    match milestone {
+        Milestone::TwoHoursBeforeEobt | Milestone::TobtUpdate => time_or_null_in(value, "time"),
+        _ => time_in(value, "time"),
+    }
+}
+
+#[tactic(auto, unfolding(crate::specs::Meant::schedule_field, crate::specs::Meant::number_field))]
+fn schedule_in(value: &Value) -> Result<Command, Fault>
+    ensures reads { result ≡ schedule_field (view value.now) }
+    ensures plain { IfOk result (λ command. is_load command ≡ false) }
+{
+    let flight = number_in(value, "flight", 1, u64::MAX)?;
+    let plan = plan_in(value)?;
+    let sobt = time_in(value, "sobt")?;
+    let mttt = number_in(value, "mttt", 0, MINUTES_OF_DAY)?;
+    let exit = number_in(value, "exit", 0, 255)?;
+    let exot = number_in(value, "exot", 0, MINUTES_OF_DAY)?;
+    let stand = number_in(value, "stand", 0, 65535)?;
+    Ok(Command::Flight(FlightCommand::Schedule(Schedule::new(
+        flight,
+        plan,
+        sobt,
+        mttt as u16,
+        exit as u8,
+        exot as u16,
+        stand as u16,
+    ))))
+}
+
+fn plan_of(value: &Value, milestone: Milestone) -> Result<Option<Plan>, Fault>
+    ensures reads { result ≡ plan_for milestone (view value.now) }
+    ensures with_first { IfOk result (λ p. IsTrue (has_its_plan milestone p)) }
+{
+    match milestone {
+        Milestone::FlightPlanActivated => Ok(Some(plan_in(value)?)),
+        _ => Ok(None),
+    }
+}
+
+#[tactic(auto, unfolding(crate::specs::Meant::report_field))]
+fn report_in(value: &Value) -> Result<Command, Fault>
+    ensures reads { result ≡ report_field (view value.now) }
+    ensures plain { IfOk result (λ command. is_load command ≡ false) }
+{
+    let flight = number_in(value, "flight", 1, u64::MAX)?;
+    let milestone = milestone_in(value)?;
+    let time = time_of(value, milestone)?;
+    let plan = plan_of(value, milestone)?;
+    Ok(Command::Flight(FlightCommand::Report(Report::new(flight, milestone, time, plan))))
+}
+
+#[tactic(auto, unfolding(crate::specs::Meant::show_field))]
+fn show_in(value: &Value) -> Result<Command, Fault>
+    ensures reads { result ≡ show_field (view value.now) }
+    ensures plain { IfOk result (λ command. is_load command ≡ false) }
+{
+    let flight = number_in(value, "flight", 1, u64::MAX)?;
+    Ok(Command::Show(FlightNumber::new(flight)))
+}
+
+#[tactic(auto, unfolding(crate::specs::Meant::kind_field))]
+fn kind_in(value: &Value) -> Result<Kind, Fault>
+    ensures { result ≡ kind_field (view value.now) }
+{
+    let Some(name) = value.get("kind").and_then(Value::as_str) else {
+        return Err(Fault::Kind);
+    };
+    let Some(kind) = Kind::from_name(name.as_bytes()) else {
+        return Err(Fault::Range);
+    };
+    Ok(kind)
+}
+
+// The slot of a program: its milestone and its kind.
+fn slot_in(value: &Value) -> Result<(Milestone, Kind), Fault>
+    ensures { result ≡ slot_field (view value.now) }
+{
+    let milestone = milestone_in(value)?;
+    let kind = kind_in(value)?;
+    Ok((milestone, kind))
+}
+
+// The bytes of hexadecimal text.
+#[tactic(auto, unfolding(crate::specs::Meant::program_field))]
+fn program_in(alloc: Global, value: &Value) -> Result<ProgramBytes, LineError>
+    ensures { Gives result (program_field (view value.now)) }
+{
+    let Some(digits) = value.get("program").and_then(Value::as_str) else {
+        return Err(LineError::Fault(Fault::Kind));
+    };
+    match hex::decode(alloc, digits) {
+        Ok(bytes) => Ok(ProgramBytes::from(bytes)),
+        Err(FromHexError::OutOfMemory) => Err(LineError::Memory),
+        Err(_) => Err(LineError::Fault(Fault::Range)),
+    }
+}
+
+#[tactic(auto, unfolding(crate::specs::Meant::load_field))]
+fn load_in(alloc: Global, value: &Value) -> Result<Asked, LineError>
+    ensures reads { Gives result (load_field (view value.now)) }
+    ensures plain { IfOk result (λ asked. is_plain asked ≡ true) }
+{
+    let (milestone, kind) = match slot_in(value) {
+        Ok(slot) => slot,
+        Err(fault) => return Err(LineError::Fault(fault)),
+    };
+    let program = program_in(alloc, value)?;
+    Ok(Asked::Load(LoadRequest {
+        milestone,
+        kind,
+        program,
+    }))
+}
+
+#[tactic(auto, unfolding(crate::specs::Meant::unload_field))]
+fn unload_in(value: &Value) -> Result<Command, Fault>
+    ensures reads { result ≡ unload_field (view value.now) }
+    ensures plain { IfOk result (λ command. is_load command ≡ false) }
+{
+    let (milestone, kind) = slot_in(value)?;
+    Ok(Command::Unload(Unload { milestone, kind }))
+}
+
+// The command of this name, where it is not a load.
+#[tactic(auto, unfolding(crate::specs::Meant::plain_named))]
+fn plain_in(value: &Value, name: &str) -> Result<Command, Fault>
+    ensures reads { result ≡ plain_named name.now (view value.now) }
+    ensures plain { IfOk result (λ command. is_load command ≡ false) }
+{
+    if name == "schedule" {
+        schedule_in(value)
+    } else if name == "report" {
+        report_in(value)
+    } else if name == "unload" {
+        unload_in(value)
+    } else if name == "tick" {
+        Ok(Command::Tick)
+    } else if name == "show" {
+        show_in(value)
+    } else if name == "alerts" {
+        Ok(Command::Alerts)
+    } else {
+        Err(Fault::UnknownCommand)
+    }
+}
+
+#[tactic(auto, unfolding(crate::specs::Meant::command_of, crate::specs::Meant::command_named))]
+pub(crate) fn command_in(alloc: Global, value: &Value) -> Result<Asked, LineError>
+    ensures reads { Gives result (command_of (view value.now)) }
+    ensures plain { IfOk result (λ asked. is_plain asked ≡ true) }
+{
+    let Some(name) = value.get("cmd").and_then(Value::as_str) else {
+        return Err(LineError::Fault(Fault::UnknownCommand));
+    };
+    if name == "load" {
+        return load_in(alloc, value);
+    }
+    match plain_in(value, name) {
+        Ok(command) => Ok(Asked::Plain(command)),
+        Err(fault) => Err(LineError::Fault(fault)),
+    }
+}
+
+pub(crate) fn json_in(alloc: Global, bytes: &[u8]) -> Result<Value, LineError>
+    ensures { GivesView view result (json_of bytes.now) }
+{
+    match Value::from_slice(alloc, bytes) {
+        Ok(value) => Ok(value),
+        Err(error) => {
+            if error.is_memory() {
+                Err(LineError::Memory)
+            } else {
+                Err(LineError::Fault(Fault::NoJson))
+            }
+        }
+    }
+}

@@ -1,0 +1,19 @@
+//! The wire of partners: what a line asks for, what the bytes of a program mean, and the text of a
+//! reply.
+#![tactic(auto)]
+
+mod asked;
+mod fault;
+mod field;
+mod head;
+mod program;
+mod reply;
+mod reply_text;
+mod request;
+
+pub use asked::asked_of;
+pub use fault::{Bad, Fault};
+pub use head::request_of;
+pub use program::{ProgramBytes, ProgramError, read_program};
+pub use reply::{write_entered, write_rejected};
+pub use request::{Asked, LONGEST_LINE, LineError, LoadRequest, Request};

@@ -1,0 +1,85 @@
+//! The bytes of a program, and what they mean.
+ghost use Rattle.std.specs.Prelude.{◌≡◌};
+ghost use Rattle.acdm_wire.specs.Reading.{Reading, IsReading, GivesReading, AnswersReading};
+
+use bpf_decode::{DecodeError, decode};
+use bpf_helpers::Sigs;
+use bpf_verifier::{Checked, VerifyError, verify};
+use std::alloc::Global;
+use std::marker::Model;
+
+/// The bytes of a program that is to be loaded, whether they encode one or not.
+#[derive(Drop)]
+pub struct ProgramBytes {
+    items: Vec<u8>,
+}
+
+impl Model for ProgramBytes {
+    ghost use Rattle.std.specs.Prelude.{ℕ, List};
+
+    ghost Value = { List ℕ };
+
+    ghost view = { λ p. p.items.items };
+}
+
+impl ProgramBytes {
+    /// The bytes.
+    pub fn as_slice(&self) -> &[u8]
+        ensures { result.now ≡ self.now }
+    {
+        self.items.as_slice()
+    }
+}
+
+impl From<Vec<u8>> for ProgramBytes {
+    ghost from_gives = { λ items bytes. bytes ≡ items.items };
+
+    fn from(items: Vec<u8>) -> ProgramBytes {
+        ProgramBytes { items }
+    }
+}
+
+/// Why bytes give no program that may be loaded.
+#[derive(Clone, Copy, Debug, PartialEq, Eq)]
+pub enum ProgramError {
+    /// There was no memory to read them.
+    Memory,
+    /// They encode no program (RFC 9669), or one that is not accepted: the number of their first
+    /// fault, 301 to 315, and its slot, counted from 0.
+    Refused { code: u16, slot: usize },
+}
+
+/// The program that the bytes encode, if no slot of it has a fault under these signatures, or else
+/// the first fault.
+pub fn read_program(alloc: Global, bytes: &[u8], sigs: &Sigs) -> Result<Checked, ProgramError>
+    ensures reads { GivesReading sigs.now bytes.now result }
+
+    // There is no other reading.
+    ensures only { (reading : Reading) → IsReading sigs.now bytes.now reading
+        → AnswersReading reading result }
+{
+    program_of(alloc, bytes, sigs)
+}
+
+fn program_of(alloc: Global, bytes: &[u8], sigs: &Sigs) -> Result<Checked, ProgramError>
+    ensures { GivesReading sigs.now bytes.now result }
+{
+    let program = match decode(alloc, bytes) {
+        Ok(program) => program,
+        Err(DecodeError::Refused { fault, slot }) => {
+            return Err(ProgramError::Refused {
+                code: fault.code(),
+                slot,
+            });
+        }
+        Err(DecodeError::Memory) => return Err(ProgramError::Memory),
+    };
+    match verify(alloc, program, sigs) {
+        Ok(checked) => Ok(checked),
+        Err(VerifyError::Refused { fault, slot }) => Err(ProgramError::Refused {
+            code: fault.code(),
+            slot,
+        }),
+        Err(VerifyError::Memory) => Err(ProgramError::Memory),
+    }
+}

@@ -1,0 +1,178 @@
+//! The texts of replies.
+ghost use Rattle.std.specs.Prelude.{◌≡◌, ◌+◌, ◌≤◌, ◌++◌, [], length};
+ghost use Rattle.std.specs.Fmt.{decimal};
+ghost use Rattle.hex.specs.Hex.{encode_lower};
+ghost use Rattle.acdm_record.specs.Fields.{bytes_of};
+ghost use Rattle.acdm_step.specs.declared.outcome.Outcome.TheVariants as outcomes;
+ghost use Rattle.acdm_wire.specs.Replies.{alerted_text, next_text, list_head, entry_text};
+ghost use Rattle.acdm_wire.specs.Replies.{bad_text};
+
+use crate::fault::Bad;
+use acdm_alerts::push_names;
+use acdm_milestones::Refusal;
+use acdm_record::Record;
+use acdm_step::Alerted;
+use arrayvec::ArrayVec;
+use itoa::Buffer;
+use std::marker::Model;
+
+/// A text on its way to a writer, so that it is one write: a reply, or a part of one. It takes no
+/// memory.
+#[derive(Drop)]
+pub(crate) struct ReplyText {
+    bytes: ArrayVec<u8, 320>,
+}
+
+impl Model for ReplyText {
+    ghost use Rattle.std.specs.Prelude.{ℕ, List};
+
+    ghost Value = { List ℕ };
+
+    ghost view = { λ t. t.bytes.items };
+}
+
+impl ReplyText {
+    /// No byte yet.
+    pub(crate) fn new() -> ReplyText
+        ensures { result ≡ [] }
+    {
+        ReplyText {
+            bytes: ArrayVec::new(),
+        }
+    }
+
+    fn push(&mut self, more: &[u8])
+        requires { length self.old + length more.now ≤ 320 }
+        ensures { self.new ≡ self.old ++ more.now }
+    {
+        if self.bytes.try_extend_from_slice(more).is_err() {
+            unreachable!();
+        }
+    }
+
+    fn push_number(&mut self, number: u64)
+        requires { length self.old + 20 ≤ 320 }
+        ensures text { self.new ≡ self.old ++ decimal number }
+        ensures short { length self.new ≤ length self.old + 20 }
+    {
+        let mut digits = Buffer::new();
+        self.push(digits.format(number).as_bytes());
+    }
+
+    fn push_record(&mut self, record: &Record)
+        requires { length self.old + 256 ≤ 320 }
+        ensures text { self.new ≡ self.old ++ encode_lower (bytes_of «record».now) }
+        ensures short { length self.new ≤ length self.old + 256 }
+    {
+        let bytes: &[u8] = record.bytes();
+        let mut digits = [0; 256];
+        if hex::encode_to_slice(bytes, &mut digits).is_err() {
+            unreachable!();
+        }
+        self.push(&digits);
+    }
+
+    // A flight's number, and its alerts.
+    fn push_alerted(&mut self, flight: &Alerted)
+        requires { length self.old + 238 ≤ 320 }
+        ensures { self.new ≡ self.old ++ alerted_text flight.now }
+    {
+        self.push_number(flight.flight);
+        self.push(b":");
+        push_names(flight.alerts, &mut self.bytes);
+    }
+
+    /// The first flight with its alerts, in place of what stands there.
+    pub(crate) fn put_first(&mut self, flight: &Alerted)
+        ensures { self.new ≡ alerted_text flight.now }
+    {
+        self.bytes.clear();
+        self.push_alerted(flight);
+    }
+
+    /// Another flight with its alerts, in place of what stands there.
+    pub(crate) fn put_next(&mut self, flight: &Alerted)
+        ensures { self.new ≡ next_text flight.now }
+    {
+        self.bytes.clear();
+        self.push(b";");
+        self.push_alerted(flight);
+    }
+
+    pub(crate) fn as_slice(&self) -> &[u8]
+        ensures { result.now ≡ self.now }
+    {
+        self.bytes.as_slice()
+    }
+}
+
+pub(crate) fn done(number: u64) -> ReplyText
+    ensures { result ≡ entry_text number outcomes.Done }
+{
+    let mut text = ReplyText::new();
+    text.push(b"ok ");
+    text.push_number(number);
+    text.push(b"\n");
+    text
+}
+
+pub(crate) fn refused(number: u64, refusal: Refusal) -> ReplyText
+    ensures { result ≡ entry_text number (outcomes.Refused refusal) }
+{
+    let mut text = ReplyText::new();
+    text.push(b"no ");
+    text.push_number(number);
+    text.push(b" ");
+    text.push_number(u64::from(refusal.code()));
+    text.push(b"\n");
+    text
+}
+
+pub(crate) fn shown(number: u64, record: &Record) -> ReplyText
+    ensures { result ≡ entry_text number (outcomes.Shown «record».now) }
+{
+    let mut text = ReplyText::new();
+    text.push(b"rec ");
+    text.push_number(number);
+    text.push(b" ");
+    text.push_record(record);
+    text.push(b"\n");
+    text
+}
+
+/// What stands before the flights with alerts.
+pub(crate) fn head(number: u64) -> ReplyText
+    ensures { result ≡ list_head number }
+{
+    let mut text = ReplyText::new();
+    text.push(b"alerts ");
+    text.push_number(number);
+    text.push(b" ");
+    text
+}
+
+// Why a program is not loaded, with the slot of its first fault.
+fn refused_program(code: u16, slot: usize) -> ReplyText
+    ensures { result ≡ bad_text (Bad.Program code slot) }
+{
+    let mut text = ReplyText::new();
+    text.push(b"bad ");
+    text.push_number(u64::from(code));
+    text.push(b" ");
+    text.push_number(slot as u64);
+    text.push(b"\n");
+    text
+}
+
+pub(crate) fn rejected(bad: Bad) -> ReplyText
+    ensures { result ≡ bad_text bad }
+{
+    if let Bad::Program { code, slot } = bad {
+        return refused_program(code, slot);
+    }
+    let mut text = ReplyText::new();
+    text.push(b"bad ");
+    text.push_number(u64::from(bad.code()));
+    text.push(b"\n");
+    text
+}

@@ -1,0 +1,48 @@
+//! What a line gives.
+use crate::fault::Fault;
+use crate::program::ProgramBytes;
+use acdm_milestones::{Milestone, Role};
+use acdm_slots::Kind;
+use acdm_step::Command;
+
+/// How many bytes a line has at most (this project's profile).
+pub const LONGEST_LINE: usize = 70_000;
+
+/// Why a line gave no request.
+#[derive(Clone, Copy, Debug, PartialEq, Eq)]
+pub enum LineError {
+    /// There was no memory to read it.
+    Memory,
+    /// It asks for nothing.
+    Fault(Fault),
+}
+
+/// To load the program of these bytes into a slot, in place of what stands there.
+#[derive(Drop)]
+pub struct LoadRequest {
+    pub milestone: Milestone,
+    pub kind: Kind,
+    pub program: ProgramBytes,
+}
+
+/// What a line asks for, before the bytes of a program are read.
+#[derive(Drop)]
+pub enum Asked {
+    /// This command, which is no load.
+    Plain(Command),
+    /// To load a program.
+    Load(LoadRequest),
+}
+
+/// What a line asks for, and who asks.
+#[derive(Drop)]
+pub struct Request {
+    /// The session, from 1 to 64.
+    pub session: u8,
+    /// The minute since 1970-01-01T00:00Z, from 1.
+    pub moment: u32,
+    /// The role that asks.
+    pub role: Role,
+    /// What it asks for.
+    pub asked: Asked,
+}
