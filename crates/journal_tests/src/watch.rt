@@ -205,15 +205,19 @@ fn led<H: Helpers + Drop>(table: &mut Table<H>) -> Result<bool, Fail> {
     Ok(table.later.advance_with(&table.row, &mut table.second)?)
 }
 
-// The same by what takes a pass or none.
-fn led_at_last<H: Helpers + Drop>(table: Table<H>) -> Result<bool, Fail> {
-    let Table {
-        mut second,
-        row,
-        mut later,
-        ..
-    } = table;
-    Ok(later.advance(&row, Some(&mut second))?)
+// Whether a watch takes one more entry by what takes a pass or none.
+fn leads(watch: &mut Watch, row: &Row, pass: &mut Pass) -> bool
+    requires row { row.now ≡ watch.old.row }
+    requires same { pass.old.row ≡ watch.old.row }
+    ensures row { watch.new.row ≡ watch.old.row }
+    ensures pass { pass.new ≡ pass.old }
+{
+    matches!(watch.advance(row, Some(pass)), Ok(true))
+}
+
+// The same as `led` by that.
+fn led_at_last<H: Helpers + Drop>(table: &mut Table<H>) -> bool {
+    leads(&mut table.later, &table.row, &mut table.second)
 }
 
 // The TOBT of flight 7 on the board of the watch.
@@ -253,6 +257,7 @@ fn counts<H: Helpers + Drop>(rt: &impl Abort, table: &mut Table<H>) {
 fn follows<H: Helpers + Drop>(rt: &impl Abort, table: &mut Table<H>) -> Result<(), Fail> {
     assert!(rt; led(table)?);
     assert!(rt; led(table)?);
+    assert!(rt; led_at_last(table));
     Ok(())
 }
 
@@ -265,11 +270,7 @@ fn looks<H: Helpers + Drop>(rt: &impl Abort, table: &mut Table<H>) -> Result<(),
 
 fn watches<H: Helpers + Drop>(rt: &impl Abort, alloc: Global, helpers: H) -> Result<(), Fail> {
     let mut table = opened(alloc, helpers, 5)?;
-    let looked = looks(rt, &mut table);
-    let led = led_at_last(table);
-    looked?;
-    assert!(rt; led?);
-    Ok(())
+    looks(rt, &mut table)
 }
 
 // A tick.
