@@ -8,6 +8,3 @@ mod names;
 pub use alert_set::AlertSet;
 pub use conditions::builtin;
 pub use names::{names_of, push_names, write_names};
-
-#[cfg(test)]
-mod tests;

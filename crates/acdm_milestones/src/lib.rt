@@ -12,6 +12,3 @@ pub use milestone::Milestone;
 pub use reached::{has_reached, mark_reached};
 pub use refusal::Refusal;
 pub use role::{Action, Role, owns};
-
-#[cfg(test)]
-mod tests;

@@ -11,6 +11,3 @@ pub use fault::RecordError;
 pub use field::{Field, TextField};
 pub use record::Record;
 pub use text::Text;
-
-#[cfg(test)]
-mod tests;

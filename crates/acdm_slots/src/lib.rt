@@ -10,6 +10,3 @@ mod slots;
 pub use error::SlotError;
 pub use kind::Kind;
 pub use slots::Slots;
-
-#[cfg(test)]
-mod tests;

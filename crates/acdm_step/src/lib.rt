@@ -20,8 +20,3 @@ pub use entry::{Answers, Entry, Verdict};
 pub use outcome::{AlertList, Alerted, Outcome};
 pub use prepare::{Change, Prepared};
 pub use state::Core;
-
-#[cfg(test)]
-mod board_tests;
-#[cfg(test)]
-mod tests;

@@ -6,6 +6,3 @@ mod size;
 
 pub use place::{Place, RECORD_BASE, STACK_BASE, STACK_LENGTH, place_at};
 pub use size::{byte_count, part_byte_count};
-
-#[cfg(test)]
-mod tests;

@@ -17,12 +17,3 @@ pub use checked::Checked;
 pub use explanation::{Explanation, explain};
 pub use fault::{Fault, VerifyError};
 pub use verifier::verify;
-
-#[cfg(test)]
-mod form_verdicts;
-#[cfg(test)]
-mod forms;
-#[cfg(test)]
-mod reference;
-#[cfg(test)]
-mod tests;

@@ -1,11 +1,21 @@
 //! What command lines ask for.
 use acdm_command_line::{Line, parse};
 use std::alloc::Global;
-use std::test::Fail;
+
+// Whether these words ask for this.
+fn asks_for(alloc: Global, words: &[&str], wanted: &Line<'_>) -> bool {
+    match parse(alloc, words) {
+        Ok(line) => line == *wanted,
+        Err(_) => false,
+    }
+}
+
+fn is_refused(alloc: Global, words: &[&str]) -> bool {
+    parse(alloc, words).is_err()
+}
 
 #[test]
-fn a_journal_is_read_or_the_usual_one(rt: HostRuntime) -> Result<(), Fail> {
-    let alloc = rt.alloc();
+fn a_journal_is_read_or_the_usual_one(rt: HostRuntime) {
     for (words, journal) in [
         (["acdm", "run"].as_slice(), 100_000),
         (["acdm", "run", "--journal", "1"].as_slice(), 1),
@@ -14,16 +24,12 @@ fn a_journal_is_read_or_the_usual_one(rt: HostRuntime) -> Result<(), Fail> {
         (["acdm", "run", "--journal", "999999"].as_slice(), 999_999),
         (["acdm", "run", "--journal=1000000"].as_slice(), 1_000_000),
     ] {
-        let line = parse(alloc, words).map_err(|_| "a command line is refused")?;
-        assert_eq!(rt;
-            line,
-            Line::Run {
-                journal,
-                save: None
-            }
-        );
+        let wanted = Line::Run {
+            journal,
+            save: None,
+        };
+        assert!(rt; asks_for(rt.alloc(), words, &wanted), "{words:?}");
     }
-    Ok(())
 }
 
 #[test]
@@ -40,60 +46,51 @@ fn other_words_are_refused(rt: HostRuntime) {
         ["acdm", "run", "--save"].as_slice(),
         ["acdm", "audit"].as_slice(),
     ] {
-        assert!(rt; parse(rt.alloc(), words).is_err(), "{words:?}");
+        assert!(rt; is_refused(rt.alloc(), words), "{words:?}");
     }
 }
 
 #[test]
-fn a_file_to_judge_is_taken_as_it_stands(rt: HostRuntime) -> Result<(), Fail> {
-    let words = ["acdm", "verify", "rules/tobt.bin"];
-    let line = parse(rt.alloc(), words.as_slice()).map_err(|_| "a command line is refused")?;
-    assert_eq!(rt;
-        line,
-        Line::Verify {
-            file: "rules/tobt.bin"
-        }
-    );
-    assert!(rt; parse(rt.alloc(), ["acdm", "verify"].as_slice()).is_err());
-    let words = ["acdm", "audit", "days/monday.txt"];
-    let line = parse(rt.alloc(), words.as_slice()).map_err(|_| "a command line is refused")?;
-    assert_eq!(rt;
-        line,
-        Line::Audit {
-            file: "days/monday.txt"
-        }
-    );
-    Ok(())
+fn a_file_to_judge_is_taken_as_it_stands(rt: HostRuntime) {
+    let alloc = rt.alloc();
+    let file = "rules/tobt.bin";
+    assert!(rt; asks_for(alloc, &["acdm", "verify", file], &Line::Verify { file }));
+    assert!(rt; is_refused(alloc, &["acdm", "verify"]));
+    let file = "days/monday.txt";
+    assert!(rt; asks_for(alloc, &["acdm", "audit", file], &Line::Audit { file }));
 }
 
 #[test]
-fn a_file_to_explain_is_taken_as_it_stands(rt: HostRuntime) -> Result<(), Fail> {
-    let words = ["acdm", "explain", "rules/slot.bin"];
-    let line = parse(rt.alloc(), words.as_slice()).map_err(|_| "a command line is refused")?;
-    assert_eq!(rt;
-        line,
-        Line::Explain {
-            file: "rules/slot.bin"
-        }
-    );
-    assert!(rt; parse(rt.alloc(), ["acdm", "explain"].as_slice()).is_err());
-    Ok(())
+fn a_file_to_explain_is_taken_as_it_stands(rt: HostRuntime) {
+    let alloc = rt.alloc();
+    let file = "rules/slot.bin";
+    assert!(rt; asks_for(alloc, &["acdm", "explain", file], &Line::Explain { file }));
+    assert!(rt; is_refused(alloc, &["acdm", "explain"]));
+}
+
+// Whether these words ask to serve, with such a file for the journal and such an address for
+// displays.
+fn asks_to_keep(
+    alloc: Global,
+    words: &[&str],
+    wanted_save: Option<&str>,
+    wanted_watch: Option<&str>,
+) -> bool {
+    match parse(alloc, words) {
+        Ok(Line::Serve { save, watch, .. }) => save == wanted_save && watch == wanted_watch,
+        _ => false,
+    }
 }
 
 #[test]
-fn a_journal_is_saved_where_it_is_said(rt: HostRuntime) -> Result<(), Fail> {
+fn a_journal_is_saved_where_it_is_said(rt: HostRuntime) {
     let alloc = rt.alloc();
     let words = ["acdm", "run", "--save", "day.txt"];
-    let line = parse(alloc, words.as_slice()).map_err(|_| "a command line is refused")?;
     let save = Some("day.txt");
     let journal = 100_000;
-    assert_eq!(rt; line, Line::Run { journal, save });
+    assert!(rt; asks_for(alloc, &words, &Line::Run { journal, save }));
     let words = ["acdm", "serve", "--save", "day.txt", "NM=127.0.0.1:0"];
-    match parse(alloc, words.as_slice()) {
-        Ok(Line::Serve { save, .. }) => assert_eq!(rt; save, Some("day.txt")),
-        _ => assert!(rt; false, "another command"),
-    }
-    Ok(())
+    assert!(rt; asks_to_keep(alloc, &words, save, None));
 }
 
 // Whether these words ask to serve these partners with such a journal.
@@ -116,33 +113,21 @@ fn asks_to_serve(alloc: Global, words: &[&str], wanted: usize, words_wanted: &[&
     }
 }
 
-fn is_refused(alloc: Global, words: &[&str]) -> bool {
-    parse(alloc, words).is_err()
-}
-
 #[test]
-fn words_of_serve_are_taken_as_they_stand(rt: HostRuntime) -> Result<(), Fail> {
+fn words_of_serve_are_taken_as_they_stand(rt: HostRuntime) {
     let alloc = rt.alloc();
     let words = ["acdm", "serve", "--journal", "5", "NM=one", "ATC=two"];
     assert!(rt; asks_to_serve(alloc, &words, 5, &["NM=one", "ATC=two"]));
     assert!(rt; asks_to_serve(alloc, &["acdm", "serve", "GH="], 100_000, &["GH="]));
     assert!(rt; is_refused(alloc, &["acdm", "serve"]));
     assert!(rt; is_refused(alloc, &["acdm", "serve", "--journal", "0", "NM=one"]));
-    Ok(())
 }
 
 #[test]
-fn a_board_is_watched_where_it_is_said(rt: HostRuntime) -> Result<(), Fail> {
+fn a_board_is_watched_where_it_is_said(rt: HostRuntime) {
     let alloc = rt.alloc();
     let words = ["acdm", "serve", "--watch", "[::1]:4000", "NM=127.0.0.1:0"];
-    match parse(alloc, words.as_slice()) {
-        Ok(Line::Serve { save, watch, .. }) => {
-            assert_eq!(rt; watch, Some("[::1]:4000"));
-            assert_eq!(rt; save, None);
-        }
-        _ => assert!(rt; false, "another command"),
-    }
+    assert!(rt; asks_to_keep(alloc, &words, None, Some("[::1]:4000")));
     assert!(rt; is_refused(alloc, &["acdm", "run", "--watch", "127.0.0.1:0"]));
     assert!(rt; is_refused(alloc, &["acdm", "serve", "--watch", "127.0.0.1:0"]));
-    Ok(())
 }

@@ -362,18 +362,27 @@ fn calls_keep_within_the_helpers_signatures(rt: HostRuntime) -> Result<(), Fail>
     says(&rt, alloc, &[helper_4, exit], 1, "refused 312 0\n")
 }
 
-#[test]
-fn verify_tells_what_failed(rt: HostRuntime) -> Result<(), Fail> {
-    let alloc = rt.alloc();
+// The status of `verify`, and what it tells on the errors' writer.
+fn verify_fails<R: Read + Drop, W: Write + Drop>(
+    alloc: Global,
+    reader: R,
+    writer: W,
+) -> (u8, Vec<u8>) {
     let mut errors = Vec::new(alloc);
-    let mut text = Vec::new(alloc);
-    assert_eq!(rt; verify_on(alloc, Broken, &mut text, &mut errors), 2);
+    let status = verify_on(alloc, reader, writer, &mut errors);
+    (status, errors)
+}
+
+#[test]
+fn verify_tells_what_failed(rt: HostRuntime) {
+    let alloc = rt.alloc();
+    let (status, errors) = verify_fails(alloc, Broken, Vec::new(alloc));
+    assert_eq!(rt; status, 2);
     assert_eq!(rt; errors.as_slice(), b"acdm: read failed\n".as_slice());
-    errors.clear();
     let exit = [0x95, 0, 0, 0, 0, 0, 0, 0];
-    assert_eq!(rt; verify_on(alloc, exit.as_slice(), Broken, &mut errors), 2);
+    let (status, errors) = verify_fails(alloc, exit.as_slice(), Broken);
+    assert_eq!(rt; status, 2);
     assert_eq!(rt; errors.as_slice(), b"acdm: write failed\n".as_slice());
-    Ok(())
 }
 
 /// Has no memory at each read.

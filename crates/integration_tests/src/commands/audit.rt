@@ -54,15 +54,21 @@ fn audits_to(
     Ok(())
 }
 
-#[test]
-fn a_day_is_saved_as_text(rt: HostRuntime) -> Result<(), Fail> {
-    let alloc = rt.alloc();
+// The status of a run over the lines, and what it saved.
+fn day_saved(alloc: Global) -> (u8, Vec<u8>) {
     let mut replies = Vec::new(alloc);
     let mut saved = Vec::new(alloc);
     let mut errors = Vec::new(alloc);
     let file = Some(&mut saved);
     let status = run_on(alloc, 10, LINES.as_bytes(), &mut replies, file, &mut errors);
+    (status, saved)
+}
+
+#[test]
+fn a_day_is_saved_as_text(rt: HostRuntime) -> Result<(), Fail> {
+    let alloc = rt.alloc();
     let expected = joined(alloc, &[LOADED, ENTERED, REPORTED, LISTED])?;
+    let (status, saved) = day_saved(alloc);
     assert_eq!(rt; status, 0);
     assert_eq!(rt; saved.as_slice(), expected.as_bytes());
     audits_to(&rt, alloc, &[expected.as_str()], (0, "legal 5\n"))
@@ -142,20 +148,36 @@ impl Write for Broken {
     }
 }
 
-#[test]
-fn what_fails_is_told(rt: HostRuntime) -> Result<(), Fail> {
-    let alloc = rt.alloc();
+// The status of an audit, and what it tells on the errors' writer.
+fn audit_fails<R: Read + Drop, W: Write + Drop>(
+    alloc: Global,
+    reader: R,
+    writer: W,
+) -> (u8, Vec<u8>) {
+    let mut errors = Vec::new(alloc);
+    let status = audit_on(alloc, reader, writer, &mut errors);
+    (status, errors)
+}
+
+// The same of a run over the lines whose journal can't be saved.
+fn saving_fails(alloc: Global) -> (u8, Vec<u8>) {
     let mut replies = Vec::new(alloc);
     let mut errors = Vec::new(alloc);
     let file = Some(Broken);
     let status = run_on(alloc, 10, LINES.as_bytes(), &mut replies, file, &mut errors);
+    (status, errors)
+}
+
+#[test]
+fn what_fails_is_told(rt: HostRuntime) {
+    let alloc = rt.alloc();
+    let (status, errors) = saving_fails(alloc);
     assert_eq!(rt; status, 2);
     assert_eq!(rt; errors.as_slice(), b"acdm: save failed\n".as_slice());
-    errors.clear();
-    assert_eq!(rt; audit_on(alloc, Broken, &mut replies, &mut errors), 2);
+    let (status, errors) = audit_fails(alloc, Broken, Vec::new(alloc));
+    assert_eq!(rt; status, 2);
     assert_eq!(rt; errors.as_slice(), b"acdm: read failed\n".as_slice());
-    errors.clear();
-    assert_eq!(rt; audit_on(alloc, b"".as_slice(), Broken, &mut errors), 2);
+    let (status, errors) = audit_fails(alloc, b"".as_slice(), Broken);
+    assert_eq!(rt; status, 2);
     assert_eq!(rt; errors.as_slice(), b"acdm: write failed\n".as_slice());
-    Ok(())
 }

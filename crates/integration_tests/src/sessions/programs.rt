@@ -74,6 +74,20 @@ fn has_answers<H: Helpers + Drop>(desk: &mut Desk<H>, number: u64, answers: &[u6
     }
 }
 
+fn is_led_to<H: Helpers + Drop>(
+    rt: &impl Abort,
+    alloc: Global,
+    desk: &mut Desk<H>,
+    parts: &[&str],
+    expected: &Expected<'_>,
+) -> Result<(), Fail> {
+    let replies = replies_of(alloc, parts, desk)?;
+    assert_eq!(rt; replies.as_str(), expected.replies);
+    assert_eq!(rt; tobt_on(desk), Some(expected.tobt));
+    assert!(rt; has_answers(desk, expected.entry, expected.answers));
+    Ok(())
+}
+
 fn leads_to<H: Helpers + Drop>(
     rt: &impl Abort,
     alloc: Global,
@@ -82,11 +96,7 @@ fn leads_to<H: Helpers + Drop>(
     expected: &Expected<'_>,
 ) -> Result<(), Fail> {
     let mut desk = Desk::new(alloc, helpers, 100)?;
-    let replies = replies_of(alloc, parts, &mut desk)?;
-    assert_eq!(rt; replies.as_str(), expected.replies);
-    assert_eq!(rt; tobt_on(&desk), Some(expected.tobt));
-    assert!(rt; has_answers(&mut desk, expected.entry, expected.answers));
-    Ok(())
+    is_led_to(rt, alloc, &mut desk, parts, expected)
 }
 
 #[test]

@@ -133,14 +133,22 @@ fn told_of(alloc: Global, left: Left) -> Result<String, Fail> {
     Ok(format!(in alloc; "{number} {calls} {end:?}: {replies}")?)
 }
 
-// A desk for so many entries, on which a flight was scheduled and planned.
-fn begun<H: Helpers + Drop>(alloc: Global, helpers: H, capacity: usize) -> Result<Desk<H>, Fail> {
-    let mut desk = Desk::new(alloc, helpers, capacity)?;
-    let replies = replies_of(alloc, &[START], &mut desk)?;
+// A flight is scheduled and planned.
+fn begin<H: Helpers + Drop>(alloc: Global, desk: &mut Desk<H>) -> Result<(), Fail> {
+    let replies = replies_of(alloc, &[START], desk)?;
     if replies.as_str() != "ok 0\nok 1\n" {
         return Err("the morning did not begin".into());
     }
-    Ok(desk)
+    Ok(())
+}
+
+// A desk for so many entries, on which a flight was scheduled and planned.
+fn begun<H: Helpers + Drop>(alloc: Global, helpers: H, capacity: usize) -> Result<Desk<H>, Fail> {
+    let mut desk = Desk::new(alloc, helpers, capacity)?;
+    match begin(alloc, &mut desk) {
+        Ok(()) => Ok(desk),
+        Err(error) => Err(error),
+    }
 }
 
 // What stands after these sessions.
@@ -240,14 +248,22 @@ fn have_set<H: Helpers + Drop>(rt: &impl Abort, desk: &mut Desk<H>) -> Result<()
     Ok(())
 }
 
+fn have_met<H: Helpers + Drop>(
+    rt: &impl Abort,
+    alloc: Global,
+    closed: &mut Stands<H>,
+) -> Result<(), Fail> {
+    are_told(rt, alloc, &mut closed.sessions)?;
+    have_set(rt, &mut closed.desk)
+}
+
 fn meet<H: Helpers + Drop + Send, Rt: Threads + Wait + Abort + Sync>(
     rt: &Rt,
     alloc: Global,
     helpers: H,
 ) -> Result<(), Fail> {
     let mut closed = both_meet(rt, alloc, helpers)?;
-    are_told(rt, alloc, &mut closed.sessions)?;
-    have_set(rt, &mut closed.desk)
+    have_met(rt, alloc, &mut closed)
 }
 
 #[test]

@@ -1,6 +1,10 @@
 //! Each milestone, admitted once and refused once for each reason, by the published table.
-use crate::{Action, Milestone, Refusal, Role, admit, has_reached, mark_reached, owns, set_time};
+use crate::fixture::{holds, same_at, same_number};
+use acdm_milestones::{
+    Action, Milestone, Refusal, Role, admit, has_reached, mark_reached, owns, set_time,
+};
 use acdm_record::{Field, Record};
+use std::process::Abort;
 
 const NM: Role = Role::NetworkManager;
 
@@ -11,6 +15,26 @@ const APT: Role = Role::AirportOperator;
 const AO: Role = Role::AircraftOperator;
 
 const GH: Role = Role::GroundHandler;
+
+const ROLES: [Role; 5] = [NM, ATC, APT, AO, GH];
+
+// The milestone of a number of the table.
+fn numbered(rt: &impl Abort, number: u64) -> Milestone {
+    Milestone::from_number(number).expect(rt, "a number of the table")
+}
+
+// A report of a milestone at a time is answered so.
+fn answers(
+    rt: &impl Abort,
+    record: &Record,
+    role: Role,
+    milestone: Milestone,
+    time: u32,
+    answer: Result<(), Refusal>,
+) {
+    let number = milestone.number();
+    assert_eq!(rt; admit(record, role, milestone, time), answer, "{number}");
+}
 
 // One row of the table: number, an owner, a role that is none, the milestones needed, whether TOBT
 // or TSAT is needed, and the milestone that bars it.
@@ -81,45 +105,47 @@ fn rows() -> [Row; 16] {
     ]
 }
 
+const TIME: u32 = 29_000_700;
+
+// It is refused before what it needs last was reached, and where the time that it needs is not set.
+fn refuses_early(rt: &impl Abort, row: &Row, milestone: Milestone) {
+    let [first, second, last] = row.needs;
+    if last != 0 {
+        let early = record_with([first, second].as_slice(), row.set);
+        let missing = Err(Refusal::MissingMilestone);
+        answers(rt, &early, row.owner, milestone, TIME, missing);
+    }
+    if row.set.is_some() {
+        let unset = record_with([first, second, last].as_slice(), None);
+        let not_set = Err(Refusal::NotSet);
+        answers(rt, &unset, row.owner, milestone, TIME, not_set);
+    }
+}
+
+// It is refused once the milestone that bars it was reached.
+fn refuses_late(rt: &impl Abort, row: &Row, milestone: Milestone, record: &mut Record) {
+    if row.bar <= 16 {
+        mark_reached(record, row.bar);
+    }
+    let barred = Err(Refusal::Barred);
+    answers(rt, record, row.owner, milestone, TIME, barred);
+}
+
+fn admits_and_refuses(rt: &impl Abort, row: &Row) {
+    let milestone = numbered(rt, row.number);
+    same_number(rt, u64::from(milestone.number()), row.number);
+    let mut record = record_with(row.needs.as_slice(), row.set);
+    answers(rt, &record, row.owner, milestone, TIME, Ok(()));
+    let not_owner = Err(Refusal::NotOwner);
+    answers(rt, &record, row.other, milestone, TIME, not_owner);
+    refuses_early(rt, row, milestone);
+    refuses_late(rt, row, milestone, &mut record);
+}
+
 #[test]
 fn each_milestone_is_admitted_and_refused(rt: HostRuntime) {
-    let time = 29_000_700;
     for row in rows() {
-        let milestone = Milestone::from_number(row.number).expect(&rt, "a number of the table");
-        assert_eq!(rt; u64::from(milestone.number()), row.number);
-        let [first, second, last] = row.needs;
-        let mut record = record_with([first, second, last].as_slice(), row.set);
-        assert_eq!(rt;
-            admit(&record, row.owner, milestone, time),
-            Ok(()),
-            "{}",
-            row.number
-        );
-        assert_eq!(rt;
-            admit(&record, row.other, milestone, time),
-            Err(Refusal::NotOwner)
-        );
-        if last != 0 {
-            let early = record_with([first, second].as_slice(), row.set);
-            assert_eq!(rt;
-                admit(&early, row.owner, milestone, time),
-                Err(Refusal::MissingMilestone)
-            );
-        }
-        if row.set.is_some() {
-            let unset = record_with([first, second, last].as_slice(), None);
-            assert_eq!(rt;
-                admit(&unset, row.owner, milestone, time),
-                Err(Refusal::NotSet)
-            );
-        }
-        if row.bar <= 16 {
-            mark_reached(&mut record, row.bar);
-        }
-        assert_eq!(rt;
-            admit(&record, row.owner, milestone, time),
-            Err(Refusal::Barred)
-        );
+        admits_and_refuses(&rt, &row);
     }
 }
 
@@ -157,12 +183,10 @@ fn times_stay_in_order(rt: HostRuntime) {
     for (milestone, role, needs, neighbor, is_earlier) in cases {
         let mut record = record_with(needs.as_slice(), Some(Field::Tsat));
         set_neighbor(&mut record, neighbor);
-        let wrong = if is_earlier { 29_000_699 } else { 29_000_701 };
-        assert_eq!(rt;
-            admit(&record, role, milestone, wrong),
-            Err(Refusal::TimeOrder)
-        );
-        assert_eq!(rt; admit(&record, role, milestone, 29_000_700), Ok(()));
+        let wrong = if is_earlier { TIME - 1 } else { TIME + 1 };
+        let order = Err(Refusal::TimeOrder);
+        answers(&rt, &record, role, milestone, wrong, order);
+        answers(&rt, &record, role, milestone, TIME, Ok(()));
     }
 }
 
@@ -180,54 +204,52 @@ fn set_neighbor(record: &mut Record, field: Field) {
 
 #[test]
 fn the_first_refusal_is_answered(rt: HostRuntime) {
+    let at = Milestone::StartUpRequest;
     let mut record = record_with([15].as_slice(), None);
-    assert_eq!(rt;
-        admit(&record, APT, Milestone::StartUpRequest, 1),
-        Err(Refusal::NotOwner)
-    );
-    assert_eq!(rt;
-        admit(&record, ATC, Milestone::StartUpRequest, 1),
-        Err(Refusal::MissingMilestone)
-    );
+    answers(&rt, &record, APT, at, 1, Err(Refusal::NotOwner));
+    answers(&rt, &record, ATC, at, 1, Err(Refusal::MissingMilestone));
     mark_reached(&mut record, 1);
     mark_reached(&mut record, 10);
-    assert_eq!(rt;
-        admit(&record, ATC, Milestone::StartUpRequest, 1),
-        Err(Refusal::Barred)
-    );
+    answers(&rt, &record, ATC, at, 1, Err(Refusal::Barred));
 }
 
 #[test]
 fn a_deleted_tobt_clears_tsat(rt: HostRuntime) {
     let mut record = record_with([1].as_slice(), Some(Field::Tsat));
     set_time(&mut record, Milestone::TobtUpdate, 29_000_700);
-    assert_eq!(rt; record.get(Field::Tobt), 29_000_700);
-    assert_eq!(rt; record.get(Field::Tsat), 29_000_760);
+    holds(&rt, &record, Field::Tobt, 29_000_700);
+    holds(&rt, &record, Field::Tsat, 29_000_760);
     set_time(&mut record, Milestone::TobtUpdate, 0);
-    assert_eq!(rt; record.get(Field::Tobt), 0);
-    assert_eq!(rt; record.get(Field::Tsat), 0);
+    holds(&rt, &record, Field::Tobt, 0);
+    holds(&rt, &record, Field::Tsat, 0);
+}
+
+// A role may do this, or may not.
+fn may(rt: &impl Abort, role: Role, action: Action, expected: bool) {
+    assert!(rt; owns(role, action) == expected);
 }
 
 #[test]
 fn questions_are_everyones_and_commands_the_airports(rt: HostRuntime) {
-    for role in [NM, ATC, APT, AO, GH] {
+    for role in ROLES {
         let is_airport = role == APT;
         for action in [Action::Schedule, Action::Load, Action::Unload, Action::Tick] {
-            assert_eq!(rt; owns(role, action), is_airport);
+            may(&rt, role, action, is_airport);
         }
-        assert!(rt; owns(role, Action::Show));
-        assert!(rt; owns(role, Action::Alerts));
+        may(&rt, role, Action::Show, true);
+        may(&rt, role, Action::Alerts, true);
     }
-    assert!(rt; owns(AO, Action::Report(Milestone::BoardingStarts)));
-    assert!(rt; owns(ATC, Action::Report(Milestone::OffBlock)));
+    may(&rt, AO, Action::Report(Milestone::BoardingStarts), true);
+    may(&rt, ATC, Action::Report(Milestone::OffBlock), true);
 }
 
 #[test]
 fn numbers_outside_the_table_are_no_milestones(rt: HostRuntime) {
-    assert!(rt; Milestone::from_number(0).is_none());
-    assert!(rt; Milestone::from_number(17).is_none());
+    for number in [0, 17] {
+        assert!(rt; Milestone::from_number(number).is_none());
+    }
     assert!(rt; !has_reached(&Record::new(7), 0));
-    assert_eq!(rt; Refusal::FullBoard.code(), 503);
+    same_number(&rt, u64::from(Refusal::FullBoard.code()), 503);
 }
 
 // Whether NM, ATC, APT, AO and GH report each milestone, from 1 on.
@@ -250,18 +272,28 @@ const REPORTERS: [[bool; 5]; 16] = [
     [false, true, false, false, false],
 ];
 
+// The roles report the milestone of this number, or do not, in the order of ROLES.
+fn has_reporters(rt: &impl Abort, number: u64, reporters: &[bool; 5]) {
+    let milestone = numbered(rt, number);
+    for i in 0..5 {
+        let reports = owns(ROLES[i], Action::Report(milestone));
+        same_at(rt, number, u64::from(reports), u64::from(reporters[i]));
+    }
+}
+
 #[test]
 fn each_milestone_has_its_reporters_and_no_others(rt: HostRuntime) {
     for (place, reporters) in REPORTERS.iter().enumerate() {
-        let number = place as u64 + 1;
-        let milestone = Milestone::from_number(number).expect(&rt, "a number of the table");
-        let [nm, atc, apt, ao, gh] = *reporters;
-        assert_eq!(rt; owns(NM, Action::Report(milestone)), nm, "{number}");
-        assert_eq!(rt; owns(ATC, Action::Report(milestone)), atc, "{number}");
-        assert_eq!(rt; owns(APT, Action::Report(milestone)), apt, "{number}");
-        assert_eq!(rt; owns(AO, Action::Report(milestone)), ao, "{number}");
-        assert_eq!(rt; owns(GH, Action::Report(milestone)), gh, "{number}");
+        has_reporters(&rt, place as u64 + 1, reporters);
     }
+}
+
+// The time of the milestone of this number is set in this field.
+fn sets(rt: &impl Abort, number: u64, field: Field) {
+    let milestone = numbered(rt, number);
+    let mut record = Record::new(7);
+    set_time(&mut record, milestone, 29_000_700);
+    same_at(rt, number, record.get(field), 29_000_700);
 }
 
 #[test]
@@ -285,10 +317,6 @@ fn each_time_is_set_in_its_field(rt: HostRuntime) {
         Field::Atot,
     ];
     for (place, field) in fields.iter().enumerate() {
-        let number = place as u64 + 1;
-        let milestone = Milestone::from_number(number).expect(&rt, "a number of the table");
-        let mut record = Record::new(7);
-        set_time(&mut record, milestone, 29_000_700);
-        assert_eq!(rt; record.get(*field), 29_000_700, "{number}");
+        sets(&rt, place as u64 + 1, *field);
     }
 }
