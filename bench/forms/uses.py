@@ -3,7 +3,7 @@
 
 A form is used by a run where its result comes from outside (bpf_tests: machine.rt, and form_vectors.rt, vectors.rt and
 forms.rt of machine/), and by a verdict where a program with it is accepted, or refused for a fault of its own slot
-(bpf_verifier: form_verdicts.rt and tests.rt). With --table it prints each form with its three counts.
+(bpf_tests: verifier.rt, and form_verdicts.rt of verifier/). With --table it prints each form with its three counts.
 """
 
 import collections
@@ -59,14 +59,14 @@ def runs():
 
 def verdicts():
     """The forms of accepted programs, and those of slots that are at fault."""
-    for opcode, _, offset, imm, fault in rows(source("bpf_verifier/src/form_verdicts.rt"), "VERDICTS"):
+    for opcode, _, offset, imm, fault in rows(source("bpf_tests/src/verifier/form_verdicts.rt"), "VERDICTS"):
         yield form_of(opcode, offset, imm), fault != 0
-    text = source("bpf_verifier/src/tests.rt")
+    text = source("bpf_tests/src/verifier.rt")
     program = r'"((?:[0-9a-f]{16})+)"'
-    accepted = text[text.index("fn programs_are_accepted") : text.index("fn programs_are_refused")]
+    accepted = text[text.index("static ACCEPTED") : text.index("static REFUSED")]
     for found in re.findall(program + r",\n", accepted):
         yield from ((form, False) for form in forms_of(bytes.fromhex(found)))
-    refused = text[text.index("fn programs_are_refused") :]
+    refused = text[text.index("static REFUSED") :]
     for found, _, slot in re.findall(program + r",\s*([0-9]+),\s*([0-9]+)", refused):
         here = dict(f.slots(bytes.fromhex(found))).get(int(slot))
         if here is not None:

@@ -1,7 +1,7 @@
 #!/usr/bin/env python3
-"""Writes crates/bpf_verifier/src/form_verdicts.rt: each form of instruction in programs that are accepted and refused.
+"""Writes crates/bpf_tests/src/verifier/form_verdicts.rt: each form of instruction in programs that are accepted and refused.
 
-    python3 verdicts.py > ../../crates/bpf_verifier/src/form_verdicts.rt && (cd ../../crates/bpf_verifier && rt fmt)
+    python3 verdicts.py > ../../crates/bpf_tests/src/verifier/form_verdicts.rt && (cd ../../crates/bpf_tests && rt fmt)
 
 A row has the fields of one slot and the fault that it has there, 0 for none. Before it r0 and r6 are set and eight bytes of
 the stack from r10 - 8 on are stored; behind it r0 is set, and then comes the exit. So the registers that are there are r0

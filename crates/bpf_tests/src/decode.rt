@@ -1,32 +1,94 @@
 //! Worked rows of the encoding and of the listing.
 
-use bpf_decode::{DecodeError, Fault, Register, decode, encode, line};
+ghost use Rattle.std.specs.Prelude.{◌<◌, length};
+
+use crate::programs::{EXIT, are_bytes, encodes_to, is_fault, is_shown, repeated};
+use bpf_decode::{DecodeError, Fault, Program, decode, line};
 use std::alloc::Global;
 use std::process::Abort;
 use std::test::Fail;
+
+/// The program has so many slots.
+fn has_slots(rt: &impl Abort, program: &Program, slots: usize, text: &str) {
+    assert_eq!(rt; program.slot_count(), slots, "{text}");
+}
+
+/// The line of a slot.
+fn line_of(alloc: Global, program: &Program, slot: usize) -> Result<Vec<u8>, Fail>
+    requires { slot < length program.now }
+{
+    let mut out = Vec::new(alloc);
+    line(program, slot, &mut out)?;
+    Ok(out)
+}
+
+/// The slot has this line.
+fn has_line(
+    rt: &impl Abort,
+    alloc: Global,
+    program: &Program,
+    slot: usize,
+    text: &str,
+) -> Result<(), Fail> {
+    assert!(rt; slot < program.slot_count());
+    let out = line_of(alloc, program, slot)?;
+    are_bytes(rt, &out, text.as_bytes(), text);
+    Ok(())
+}
+
+/// The program has these lines.
+fn has_lines(
+    rt: &impl Abort,
+    alloc: Global,
+    program: &Program,
+    text: &str,
+    lines: &[&str],
+) -> Result<(), Fail> {
+    has_slots(rt, program, lines.len(), text);
+    for (slot, text) in lines.iter().enumerate() {
+        has_line(rt, alloc, program, slot, text)?;
+    }
+    Ok(())
+}
 
 /// The bytes are a program with these lines, which encodes to them again.
 fn lists(rt: &impl Abort, alloc: Global, text: &str, lines: &[&str]) -> Result<(), Fail> {
     let bytes = hex::decode(alloc, text)?;
     let program = decode(alloc, &bytes)?;
-    let again = encode(alloc, &program)?;
-    assert_eq!(rt; again.as_slice(), bytes.as_slice(), "{text}");
-    assert_eq!(rt; program.slot_count(), lines.len(), "{text}");
-    for (slot, text) in lines.iter().enumerate() {
-        assert!(rt; slot < program.slot_count());
-        let mut out = Vec::new(alloc);
-        line(&program, slot, &mut out)?;
-        assert_eq!(rt; out.as_slice(), text.as_bytes(), "{text}");
+    encodes_to(rt, alloc, &program, &bytes, text)?;
+    has_lines(rt, alloc, &program, text, lines)
+}
+
+/// The bytes are programs of one line.
+fn list(rt: &impl Abort, alloc: Global, rows: &[(&str, &str)]) -> Result<(), Fail> {
+    for row in rows {
+        let (text, line) = *row;
+        lists(rt, alloc, text, &[line])?;
     }
     Ok(())
+}
+
+/// The number and the slot of the fault of these bytes, if they are no program.
+fn refusal(alloc: Global, bytes: &[u8]) -> Option<(u16, usize)> {
+    match decode(alloc, bytes) {
+        Ok(_) => None,
+        Err(error) => Some((error.code(), error.slot())),
+    }
 }
 
 /// The bytes are no program, by this number at this slot.
 fn refuses(rt: &impl Abort, alloc: Global, text: &str, code: u16, slot: usize) -> Result<(), Fail> {
     let bytes = hex::decode(alloc, text)?;
-    let error = decode(alloc, &bytes).err().ok_or("no program")?;
-    assert_eq!(rt; error.code(), code, "{text}");
-    assert_eq!(rt; error.slot(), slot, "{text}");
+    is_fault(rt, refusal(alloc, &bytes), Some((code, slot)), text);
+    Ok(())
+}
+
+/// The bytes are no programs, each by its number at its slot.
+fn are_refused(rt: &impl Abort, alloc: Global, rows: &[(&str, u16, usize)]) -> Result<(), Fail> {
+    for row in rows {
+        let (text, code, slot) = *row;
+        refuses(rt, alloc, text, code, slot)?;
+    }
     Ok(())
 }
 
@@ -59,10 +121,7 @@ fn arithmetic(rt: HostRuntime) -> Result<(), Fail> {
         ("dc01000020000000", "0: be32 r1"),
         ("d700000040000000", "0: swap64 r0"),
     ];
-    for (text, line) in rows {
-        lists(&rt, rt.alloc(), text, &[line])?;
-    }
-    Ok(())
+    list(&rt, rt.alloc(), &rows)
 }
 
 #[test]
@@ -88,10 +147,7 @@ fn jumps_and_calls(rt: HostRuntime) -> Result<(), Fail> {
         ("85000000ffffffff", "0: call 4294967295"),
         ("9500000000000000", "0: exit"),
     ];
-    for (text, line) in rows {
-        lists(&rt, rt.alloc(), text, &[line])?;
-    }
-    Ok(())
+    list(&rt, rt.alloc(), &rows)
 }
 
 #[test]
@@ -113,10 +169,7 @@ fn memory(rt: HostRuntime) -> Result<(), Fail> {
         ("731affff00000000", "0: stxb [r10-1], r1"),
         ("7b1af8ff00000000", "0: stxdw [r10-8], r1"),
     ];
-    for (text, line) in rows {
-        lists(&rt, rt.alloc(), text, &[line])?;
-    }
-    Ok(())
+    list(&rt, rt.alloc(), &rows)
 }
 
 #[test]
@@ -186,68 +239,81 @@ fn faults(rt: HostRuntime) -> Result<(), Fail> {
         ("ff0b010000000000", 303, 0),
         ("b70b010000000000", 304, 0),
     ];
-    for (text, code, slot) in rows {
-        refuses(&rt, rt.alloc(), text, code, slot)?;
-    }
+    are_refused(&rt, rt.alloc(), &rows)
+}
+
+/// The program has so many slots, and these bytes, and its copy has as many.
+fn has_length(
+    rt: &impl Abort,
+    alloc: Global,
+    program: &Program,
+    bytes: &[u8],
+    slots: usize,
+) -> Result<(), Fail> {
+    has_slots(rt, program, slots, "exits");
+    encodes_to(rt, alloc, program, bytes, "exits")?;
+    has_slots(rt, &program.copy()?, slots, "exits");
     Ok(())
 }
 
 /// So many exits are a program, which is encoded and copied; with one more opcode of 255 it is
 /// none, by its last slot.
 fn is_as_long(rt: &impl Abort, alloc: Global, slots: u16) -> Result<(), Fail> {
-    let mut bytes = Vec::new(alloc);
-    for _ in 0..slots {
-        bytes.extend_from_slice(&[0x95, 0, 0, 0, 0, 0, 0, 0])?;
-    }
-    let program = decode(alloc, &bytes)?;
-    assert_eq!(rt; program.slot_count(), slots as usize);
-    assert_eq!(rt; encode(alloc, &program)?.as_slice(), bytes.as_slice());
-    assert_eq!(rt; program.copy()?.slot_count(), slots as usize);
+    let mut bytes = repeated(alloc, &EXIT, slots)?;
+    has_length(rt, alloc, &decode(alloc, &bytes)?, &bytes, slots as usize)?;
     bytes.extend_from_slice(&[0xff, 0, 0, 0, 0, 0, 0, 0])?;
-    let error = decode(alloc, &bytes).err().ok_or("no program")?;
-    if slots < 4096 {
-        assert_eq!(rt; (error.code(), error.slot()), (303, slots as usize));
+    let fault = if slots < 4096 {
+        (303, slots as usize)
     } else {
-        assert_eq!(rt; (error.code(), error.slot()), (302, 0));
+        (302, 0)
+    };
+    assert_eq!(rt; refusal(alloc, &bytes), Some(fault));
+    Ok(())
+}
+
+/// Programs of these many exits.
+fn are_as_long(rt: &impl Abort, alloc: Global, lengths: &[u16]) -> Result<(), Fail> {
+    for slots in lengths {
+        is_as_long(rt, alloc, *slots)?;
     }
     Ok(())
 }
 
 #[test]
 fn lengths(rt: HostRuntime) -> Result<(), Fail> {
-    for slots in [1, 2, 3, 7, 64, 255, 256, 257, 1_000, 2_048, 4_095, 4_096] {
-        is_as_long(&rt, rt.alloc(), slots)?;
-    }
-    Ok(())
+    let lengths = [1, 2, 3, 7, 64, 255, 256, 257, 1_000, 2_048, 4_095, 4_096];
+    are_as_long(&rt, rt.alloc(), &lengths)
 }
 
 /// The text of a fault, and of its refusal at slot 2.
 fn has_text(rt: &impl Abort, alloc: Global, fault: Fault, text: &str) -> Result<(), Fail> {
-    assert_eq!(rt; format!(in alloc; "{fault}")?.as_str(), text);
+    is_shown(rt, alloc, &fault, text)?;
     let refused = DecodeError::Refused { fault, slot: 2 };
     let whole = format!(in alloc; "slot 2: {text}")?;
-    assert_eq!(rt; format!(in alloc; "{refused}")?.as_str(), whole.as_str());
+    is_shown(rt, alloc, &refused, whole.as_str())
+}
+
+/// Each fault has its text.
+fn have_texts(rt: &impl Abort, alloc: Global, rows: &[(Fault, &str)]) -> Result<(), Fail> {
+    for row in rows {
+        let (fault, text) = *row;
+        has_text(rt, alloc, fault, text)?;
+    }
     Ok(())
 }
 
 #[test]
 fn errors_have_texts(rt: HostRuntime) -> Result<(), Fail> {
-    let alloc = rt.alloc();
-    for (fault, text) in [
+    let rows = [
         (Fault::Length, "no whole slots of 8 bytes"),
         (Fault::TooLong, "more than 4096 slots"),
         (Fault::Opcode, "unknown opcode"),
         (Fault::Field, "field value that the opcode does not allow"),
         (Fault::Register, "register over 10"),
         (Fault::CutWide, "wide load without its second slot"),
-    ] {
-        has_text(&rt, alloc, fault, text)?;
-    }
-    assert_eq!(rt;
-        format!(in alloc; "{}", DecodeError::Memory)?.as_str(),
-        "no memory"
-    );
-    Ok(())
+    ];
+    have_texts(&rt, rt.alloc(), &rows)?;
+    is_shown(&rt, rt.alloc(), &DecodeError::Memory, "no memory")
 }
 
 /// The compiled rules of `examples/rules`.
@@ -299,15 +365,24 @@ fn compiled_rules(rt: HostRuntime) -> Result<(), Fail> {
     )
 }
 
+/// The copy is of four slots, which are those of the program.
+fn is_copied(
+    rt: &impl Abort,
+    alloc: Global,
+    program: &Program,
+    copy: &Program,
+    bytes: &[u8],
+) -> Result<(), Fail> {
+    has_slots(rt, copy, 4, "a copy");
+    assert!(rt; copy.ops() == program.ops());
+    encodes_to(rt, alloc, copy, bytes, "a copy")
+}
+
 #[test]
 fn a_copy_has_the_same_slots(rt: HostRuntime) -> Result<(), Fail> {
     let text = "69113c000000000057010000ff01000085000000020000009500000000000000";
     let bytes = hex::decode(rt.alloc(), text)?;
     let program = decode(rt.alloc(), &bytes)?;
     let copy = program.copy()?;
-    assert_eq!(rt; copy.slot_count(), 4);
-    assert!(rt; copy.ops() == program.ops());
-    let again = encode(rt.alloc(), &copy)?;
-    assert_eq!(rt; again.as_slice(), bytes.as_slice());
-    Ok(())
+    is_copied(&rt, rt.alloc(), &program, &copy, &bytes)
 }

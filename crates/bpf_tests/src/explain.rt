@@ -1,6 +1,6 @@
 //! The words, by hand: first programs that are accepted, then one for each fault.
 
-use bpf_explain::read;
+use bpf_explain::{Told, read};
 use bpf_helpers::{Range, Signature, Sigs};
 use std::alloc::Global;
 use std::process::Abort;
@@ -8,26 +8,58 @@ use std::test::Fail;
 
 const EXIT: u64 = 0x9500_0000_0000_0000;
 
+/// Adds a helper that takes and answers these ranges.
+fn add(
+    alloc: Global,
+    sigs: &mut Sigs,
+    number: u32,
+    args: &[Range],
+    answer: Range,
+) -> Result<(), Fail> {
+    match Signature::new(args.to_vec(alloc)?, answer, Vec::new(alloc)) {
+        Some(signature) => Ok(sigs.push(number, signature)?),
+        None => Err("no signature".into()),
+    }
+}
+
 /// Helper 2 takes a stand, helper 3 two numbers of minutes.
 fn signatures(alloc: Global) -> Result<Sigs, Fail> {
     let mut sigs = Sigs::new(alloc);
-    let stand = vec![in alloc; Range { lo: 0, hi: 999 }]?;
-    let taxi = Signature::new(stand, Range { lo: 1, hi: 60 }, Vec::new(alloc));
-    sigs.push(2, taxi.ok_or("no signature")?)?;
-    let minutes = vec![in alloc;
-        Range {
-            lo: 0,
-            hi: 4_294_967_295
-        },
-        Range { lo: 0, hi: 10_000 },
-    ]?;
+    let stand = Range { lo: 0, hi: 999 };
+    add(alloc, &mut sigs, 2, &[stand], Range { lo: 1, hi: 60 })?;
+    let moment = Range {
+        lo: 0,
+        hi: 4_294_967_295,
+    };
+    let minutes = Range { lo: 0, hi: 10_000 };
     let answer = Range {
         lo: 0,
         hi: 4_294_977_295,
     };
-    let sum = Signature::new(minutes, answer, Vec::new(alloc));
-    sigs.push(3, sum.ok_or("no signature")?)?;
+    add(alloc, &mut sigs, 3, &[moment, minutes], answer)?;
     Ok(sigs)
+}
+
+/// What is written of the bytes.
+fn written_of(alloc: Global, told: &Told, bytes: &[u8], sigs: &Sigs) -> Result<String, Fail> {
+    let mut written = Vec::new(alloc);
+    told.write(bytes, sigs, &mut written)?;
+    Ok(String::from_utf8(written).map_err(|_| "no text")?)
+}
+
+/// What is told of the bytes is this, and whether they are a program that is accepted.
+fn is_told(
+    rt: &impl Abort,
+    alloc: Global,
+    sigs: &Sigs,
+    bytes: &[u8],
+    accepted: bool,
+    text: &str,
+) -> Result<(), Fail> {
+    let told = read(alloc, bytes, sigs)?;
+    assert_eq!(rt; told.is_accepted(), accepted);
+    assert_eq!(rt; written_of(alloc, &told, bytes, sigs)?.as_str(), text);
+    Ok(())
 }
 
 /// This is written of the bytes, and whether they are a program that is accepted.
@@ -39,13 +71,7 @@ fn tells_of(
     text: &str,
 ) -> Result<(), Fail> {
     let sigs = signatures(alloc)?;
-    let told = read(alloc, bytes, &sigs)?;
-    assert_eq!(rt; told.is_accepted(), accepted);
-    let mut written = Vec::new(alloc);
-    told.write(bytes, &sigs, &mut written)?;
-    let written = String::from_utf8(written).map_err(|_| "no text")?;
-    assert_eq!(rt; written.as_str(), text);
-    Ok(())
+    is_told(rt, alloc, &sigs, bytes, accepted, text)
 }
 
 /// The same of a program of these slots, each with its bytes in their order.
@@ -396,11 +422,19 @@ refused 314 0
     )
 }
 
+/// The bytes are no program, by these texts.
+fn are_faulty(rt: &impl Abort, alloc: Global, rows: &[(&[u8], &str)]) -> Result<(), Fail> {
+    for row in rows {
+        let (bytes, text) = *row;
+        tells_of(rt, alloc, bytes, false, text)?;
+    }
+    Ok(())
+}
+
 #[test]
 fn bytes_that_encode_no_program_are_told(rt: HostRuntime) -> Result<(), Fail> {
-    let alloc = rt.alloc();
-    let over = vec![in alloc; 0u8; 32_769]?;
-    for (bytes, text) in [
+    let over = vec![in rt.alloc(); 0u8; 32_769]?;
+    let rows: [(&[u8], &str); 6] = [
         (
             [].as_slice(),
             r#"fault 301 at slot 0: no whole slots of 8 bytes
@@ -443,10 +477,8 @@ refused 305 0
 refused 315 0
 "#,
         ),
-    ] {
-        tells_of(&rt, alloc, bytes, false, text)?;
-    }
-    Ok(())
+    ];
+    are_faulty(&rt, rt.alloc(), &rows)
 }
 
 #[test]

@@ -1,19 +1,17 @@
 //! Worked runs.
 
-ghost use Rattle.std.specs.Prelude.{◌≡◌, IfOk};
-ghost use Rattle.bpf_helpers.specs.Known.{taxi, taxi_from};
-
 mod cross_check;
 mod form_vectors;
 mod forms;
 mod vectors;
 mod vm;
 
+use crate::fixtures::{no_sigs, taxi_sigs};
 use acdm_milestones::Milestone;
-use bpf_decode::decode;
-use bpf_helpers::{Bank, Code, Helper, Logged, Range, Signature, Sigs};
+use bpf_decode::{Program, decode};
+use bpf_helpers::{Logged, Sigs};
 use bpf_machine::{Ended, Trap, run, run_tested};
-use bpf_verifier::verify;
+use bpf_verifier::{Checked, verify};
 use std::alloc::Global;
 use std::process::Abort;
 use std::test::Fail;
@@ -30,6 +28,56 @@ pub(crate) fn planned() -> Result<[u8; 128], Fail> {
     Ok(record_bytes)
 }
 
+/// What a program comes to on a record in the machine with tests.
+fn tested(
+    sigs: &Sigs,
+    program: &Program,
+    record_bytes: &[u8; 128],
+    milestone: Milestone,
+    answers: &[u64],
+) -> Result<Ended, Trap> {
+    let mut oracle = Logged::new(sigs, answers);
+    run_tested(
+        program,
+        sigs,
+        record_bytes,
+        29_000_580,
+        milestone,
+        &mut oracle,
+    )
+}
+
+/// What it comes to in the machine without tests.
+fn untested(
+    checked: &Checked,
+    record_bytes: &[u8; 128],
+    milestone: Milestone,
+    answers: &[u64],
+) -> Result<Ended, Trap> {
+    let mut oracle = Logged::new(checked.sigs(), answers);
+    match run(checked, record_bytes, 29_000_580, milestone, &mut oracle) {
+        Ok(ended) => Ok(ended),
+        Err(_) => Err(Trap::Unanswered),
+    }
+}
+
+/// Whether an accepted program comes to the same in the machine without tests; a program that is
+/// not accepted does not come there.
+fn is_agreed(
+    alloc: Global,
+    sigs: &Sigs,
+    program: Program,
+    record_bytes: &[u8; 128],
+    milestone: Milestone,
+    answers: &[u64],
+    came: &Result<Ended, Trap>,
+) -> bool {
+    match verify(alloc, program, sigs) {
+        Ok(checked) => untested(&checked, record_bytes, milestone, answers) == *came,
+        Err(_) => true,
+    }
+}
+
 /// What a program comes to on that record, at 07:00 and with these answers. Where it is accepted,
 /// the machine without tests comes to the same.
 fn outcome(
@@ -41,23 +89,29 @@ fn outcome(
 ) -> Result<Result<Ended, Trap>, Fail> {
     let record_bytes = planned()?;
     let program = decode(alloc, &hex::decode(alloc, text)?)?;
-    let mut oracle = Logged::new(sigs, answers);
-    let came = run_tested(
-        &program,
+    let came = tested(sigs, &program, &record_bytes, milestone, answers);
+    if !is_agreed(
+        alloc,
         sigs,
+        program,
         &record_bytes,
-        29_000_580,
         milestone,
-        &mut oracle,
-    );
-    if let Ok(checked) = verify(alloc, program, sigs) {
-        let mut oracle = Logged::new(sigs, answers);
-        let untested = run(&checked, &record_bytes, 29_000_580, milestone, &mut oracle);
-        if untested.map_err(|_| Trap::Unanswered) != came {
-            return Err("the machine without tests comes to something else".into());
-        }
+        answers,
+        &came,
+    ) {
+        return Err("the machine without tests comes to something else".into());
     }
     Ok(came)
+}
+
+/// A program comes to this.
+fn is_outcome(
+    rt: &impl Abort,
+    came: &Result<Ended, Trap>,
+    wanted: &Result<Ended, Trap>,
+    text: &str,
+) {
+    assert_eq!(rt; *came, *wanted, "{text}");
 }
 
 /// The program ends with r0 in so many steps.
@@ -69,27 +123,45 @@ fn ends(
     r0: u64,
     steps: u64,
 ) -> Result<(), Fail> {
-    let sigs = Bank::new(alloc)?.sigs()?;
+    let sigs = no_sigs(alloc)?;
     let came = outcome(alloc, &sigs, text, milestone, &[])?;
-    assert_eq!(rt; came, Ok(Ended { r0, steps }), "{text}");
+    is_outcome(rt, &came, &Ok(Ended { r0, steps }), text);
     Ok(())
 }
 
 /// The program comes to a state without a step.
 fn is_stuck(rt: &impl Abort, alloc: Global, text: &str, milestone: Milestone) -> Result<(), Fail> {
-    let sigs = Bank::new(alloc)?.sigs()?;
+    let sigs = no_sigs(alloc)?;
     let came = outcome(alloc, &sigs, text, milestone, &[])?;
-    assert_eq!(rt; came, Err(Trap::Stuck), "{text}");
+    is_outcome(rt, &came, &Err(Trap::Stuck), text);
     Ok(())
 }
 
-/// The signature of helper 2, the taxi time from a stand.
-fn taxi_signature(alloc: Global) -> Result<Signature, Fail>
-    ensures { IfOk result (λ signature. signature ≡ taxi) }
-{
-    let args = vec![in alloc; Range { lo: 0, hi: 999 }]?;
-    let table = vec![in alloc; (12, 10), (120, 15), (900, 20)]?;
-    Ok(Signature::new(args, Range { lo: 1, hi: 60 }, table).ok_or("no signature")?)
+/// Each program ends with this r0 in so many steps.
+fn end(
+    rt: &impl Abort,
+    alloc: Global,
+    milestone: Milestone,
+    rows: &[(&str, u64, u64)],
+) -> Result<(), Fail> {
+    for row in rows {
+        let (text, r0, steps) = *row;
+        ends(rt, alloc, text, milestone, r0, steps)?;
+    }
+    Ok(())
+}
+
+/// Each program comes to a state without a step.
+fn are_stuck(
+    rt: &impl Abort,
+    alloc: Global,
+    milestone: Milestone,
+    texts: &[&str],
+) -> Result<(), Fail> {
+    for text in texts {
+        is_stuck(rt, alloc, text, milestone)?;
+    }
+    Ok(())
 }
 
 #[test]
@@ -159,36 +231,26 @@ fn programs_end(rt: HostRuntime) -> Result<(), Fail> {
             6,
         ),
     ];
-    for (text, r0, steps) in rows {
-        ends(&rt, rt.alloc(), text, Milestone::InBlock, r0, steps)?;
-    }
-    let first = Milestone::FlightPlanActivated;
-    ends(
-        &rt,
-        rt.alloc(),
-        "b7000000090000001504010001000000b7000000050000009500000000000000",
-        first,
-        9,
-        3,
-    )?;
-    ends(
-        &rt,
-        rt.alloc(),
-        "7b1af8ff0000000015040100010000007b1af8ff0000000079a1f8ff0000000071103f00000000009500000000000000",
-        first,
-        5,
-        5,
-    )?;
-    // From the record, where milestone 1 jumps over the change of r1.
-    ends(
-        &rt,
-        rt.alloc(),
-        "1504020001000000bfa100000000000007010000f8ffffff71100000000000009500000000000000",
-        first,
-        7,
-        3,
-    )?;
-    Ok(())
+    end(&rt, rt.alloc(), Milestone::InBlock, &rows)?;
+    let first = [
+        (
+            "b7000000090000001504010001000000b7000000050000009500000000000000",
+            9,
+            3,
+        ),
+        (
+            "7b1af8ff0000000015040100010000007b1af8ff0000000079a1f8ff0000000071103f00000000009500000000000000",
+            5,
+            5,
+        ),
+        // From the record, where milestone 1 jumps over the change of r1.
+        (
+            "1504020001000000bfa100000000000007010000f8ffffff71100000000000009500000000000000",
+            7,
+            3,
+        ),
+    ];
+    end(&rt, rt.alloc(), Milestone::FlightPlanActivated, &first)
 }
 
 #[test]
@@ -207,9 +269,7 @@ fn programs_trap(rt: HostRuntime) -> Result<(), Fail> {
         "85000000020000009500000000000000",
         "b7000000000000000500010000000000180100000000000000000000000000009500000000000000",
     ];
-    for text in rows {
-        is_stuck(&rt, rt.alloc(), text, Milestone::InBlock)?;
-    }
+    are_stuck(&rt, rt.alloc(), Milestone::InBlock, &rows)?;
     is_stuck(
         &rt,
         rt.alloc(),
@@ -218,27 +278,23 @@ fn programs_trap(rt: HostRuntime) -> Result<(), Fail> {
     )
 }
 
+/// The programs come to this with these answers of the helper.
+fn come_to(
+    rt: &impl Abort,
+    alloc: Global,
+    sigs: &Sigs,
+    rows: &[(&str, &[u64], Result<Ended, Trap>)],
+) -> Result<(), Fail> {
+    for (text, answers, wanted) in rows {
+        let came = outcome(alloc, sigs, text, Milestone::InBlock, answers)?;
+        is_outcome(rt, &came, wanted, text);
+    }
+    Ok(())
+}
+
 #[test]
 fn helpers_answer_within_their_promise(rt: HostRuntime) -> Result<(), Fail> {
-    let alloc = rt.alloc();
-    let code: Code = Box::new(
-        alloc,
-        |stand: u64, _b: u64, _c: u64, _d: u64, _e: u64| -> u64
-            ensures { result ≡ taxi_from stand }
-        {
-            if stand < 100 {
-                10
-            } else if stand < 500 {
-                15
-            } else {
-                20
-            }
-        },
-    )?;
-    let mut bank = Bank::new(alloc)?;
-    bank.add(Helper::new(2, taxi_signature(alloc)?, code))
-        .map_err(|refused| refused.fault)?;
-    let sigs = bank.sigs()?;
+    let sigs = taxi_sigs(rt.alloc())?;
     let stand_5 = "b70100000500000085000000020000009500000000000000";
     let stand_12 = "b70100000c00000085000000020000009500000000000000";
     let of_record = "69113c000000000057010000ff01000085000000020000009500000000000000";
@@ -261,9 +317,5 @@ fn helpers_answer_within_their_promise(rt: HostRuntime) -> Result<(), Fail> {
         ),
         ("b7010000050000008500000002000000", &[10], Err(Trap::Stuck)),
     ];
-    for (text, answers, wanted) in rows {
-        let came = outcome(alloc, &sigs, text, Milestone::InBlock, answers)?;
-        assert_eq!(rt; came, wanted, "{text}");
-    }
-    Ok(())
+    come_to(&rt, rt.alloc(), &sigs, &rows)
 }

@@ -1,20 +1,16 @@
 //! The embeddable machine with the three helpers of this project.
 
-ghost use Rattle.std.specs.Prelude.{◌≡◌, ◌+◌, ◌<◌, ◌^◌, IfOk};
-ghost use Rattle.bpf_helpers.specs.Known.{sum, taxi, taxi_from, turn_round, turn_round_of};
-
+use crate::fixtures::{
+    minutes_later, sum_signature, taxi_minutes, taxi_signature, turn_round_minutes,
+    turn_round_signature,
+};
 use crate::machine::planned;
 use acdm_milestones::Milestone;
-use bpf_helpers::{Code, Helper, Range, Signature};
+use bpf_helpers::{Code, Helper};
 use bpf_machine::{EbpfVmRaw, Ended};
 use std::alloc::Global;
+use std::process::Abort;
 use std::test::Fail;
-
-const A320: u64 = 808_596_289;
-
-const B738: u64 = 942_880_578;
-
-const A388: u64 = 943_207_233;
 
 /// The aircraft category, and 0 where it is over 124.
 const CATEGORY: &str =
@@ -22,64 +18,6 @@ const CATEGORY: &str =
 
 /// The moment of the run, five minutes later.
 const FIVE_LATER: &str = "bf31000000000000b70200000500000085000000030000009500000000000000";
-
-fn range(lo: u64, hi: u64) -> Range
-    ensures { result ≡ record { lo = lo; hi = hi } }
-{
-    Range { lo, hi }
-}
-
-fn turn_round_signature(alloc: Global) -> Result<Signature, Fail>
-    ensures { IfOk result (λ signature. signature ≡ turn_round) }
-{
-    let args = vec![in alloc; range(0, 4_294_967_295)]?;
-    let table = vec![in alloc; (A320, 45), (B738, 45), (A388, 120)]?;
-    Ok(Signature::new(args, range(1, 1440), table).ok_or("helper 1")?)
-}
-
-fn taxi_signature(alloc: Global) -> Result<Signature, Fail>
-    ensures { IfOk result (λ signature. signature ≡ taxi) }
-{
-    let args = vec![in alloc; range(0, 999)]?;
-    let table = vec![in alloc; (12, 10), (120, 15), (900, 20)]?;
-    Ok(Signature::new(args, range(1, 60), table).ok_or("helper 2")?)
-}
-
-fn sum_signature(alloc: Global) -> Result<Signature, Fail>
-    ensures { IfOk result (λ signature. signature ≡ sum) }
-{
-    let args = vec![in alloc; range(0, 4_294_967_295), range(0, 10_000)]?;
-    Ok(Signature::new(args, range(0, 4_294_977_295), Vec::new(alloc)).ok_or("helper 3")?)
-}
-
-fn turn_round_minutes(kind: u64, _b: u64, _c: u64, _d: u64, _e: u64) -> u64
-    ensures { result ≡ turn_round_of kind }
-{
-    match kind {
-        A320 | B738 => 45,
-        A388 => 120,
-        _ => 60,
-    }
-}
-
-fn taxi_minutes(stand: u64, _b: u64, _c: u64, _d: u64, _e: u64) -> u64
-    ensures { result ≡ taxi_from stand }
-{
-    if stand < 100 {
-        10
-    } else if stand < 500 {
-        15
-    } else {
-        20
-    }
-}
-
-fn minutes_later(moment: u64, minutes: u64, _c: u64, _d: u64, _e: u64) -> u64
-    requires { moment + minutes < 2 ^ 64 }
-    ensures { result ≡ moment + minutes }
-{
-    moment + minutes
-}
 
 /// Registers a helper. Where it is refused: the fault's number, and that of the helper that came
 /// back.
@@ -128,33 +66,47 @@ fn outcome(vm: &mut EbpfVmRaw, moment: u32) -> Result<Result<Ended, u16>, Fail> 
     }
 }
 
+/// The three helpers are registered, and a machine without a program runs none.
+fn registers(rt: &impl Abort, alloc: Global, vm: &mut EbpfVmRaw) -> Result<(), Fail> {
+    assert_eq!(rt; with_turn_round(alloc, vm)?, None);
+    assert_eq!(rt; with_taxi(alloc, vm)?, None);
+    assert_eq!(rt; with_sum(alloc, vm)?, None);
+    assert_eq!(rt; outcome(vm, 29_000_580)?, Err(334));
+    Ok(())
+}
+
+/// A program stays until another is accepted.
+fn stays(rt: &impl Abort, alloc: Global, vm: &mut EbpfVmRaw) -> Result<(), Fail> {
+    assert_eq!(rt; fault(alloc, vm, CATEGORY)?, None);
+    let wanted = Ok(Ended { r0: 0, steps: 5 });
+    assert_eq!(rt; outcome(vm, 29_000_580)?, wanted);
+    assert_eq!(rt; fault(alloc, vm, "9500000000000000")?, Some((308, 0)));
+    assert_eq!(rt; fault(alloc, vm, "1800000001000000")?, Some((315, 0)));
+    assert_eq!(rt; outcome(vm, 29_000_580)?, wanted);
+    assert_eq!(rt; with_taxi(alloc, vm)?, Some((333, 2)));
+    Ok(())
+}
+
 #[test]
 fn a_program_stays_until_another_is_accepted(rt: HostRuntime) -> Result<(), Fail> {
-    let alloc = rt.alloc();
-    let mut vm = EbpfVmRaw::new(alloc)?;
-    assert_eq!(rt; with_turn_round(alloc, &mut vm)?, None);
-    assert_eq!(rt; with_taxi(alloc, &mut vm)?, None);
-    assert_eq!(rt; with_sum(alloc, &mut vm)?, None);
-    assert_eq!(rt; outcome(&mut vm, 29_000_580)?, Err(334));
-    assert_eq!(rt; fault(alloc, &mut vm, CATEGORY)?, None);
-    let wanted = Ok(Ended { r0: 0, steps: 5 });
-    assert_eq!(rt; outcome(&mut vm, 29_000_580)?, wanted);
-    assert_eq!(rt; fault(alloc, &mut vm, "9500000000000000")?, Some((308, 0)));
-    assert_eq!(rt; fault(alloc, &mut vm, "1800000001000000")?, Some((315, 0)));
-    assert_eq!(rt; outcome(&mut vm, 29_000_580)?, wanted);
-    assert_eq!(rt; with_taxi(alloc, &mut vm)?, Some((333, 2)));
+    let mut vm = EbpfVmRaw::new(rt.alloc())?;
+    registers(&rt, rt.alloc(), &mut vm)?;
+    stays(&rt, rt.alloc(), &mut vm)
+}
+
+/// Helper 3 is called once it is registered.
+fn calls_sum(rt: &impl Abort, alloc: Global, vm: &mut EbpfVmRaw) -> Result<(), Fail> {
+    assert_eq!(rt; fault(alloc, vm, FIVE_LATER)?, Some((312, 2)));
+    assert_eq!(rt; with_sum(alloc, vm)?, None);
+    assert_eq!(rt; with_sum(alloc, vm)?, Some((331, 3)));
+    assert_eq!(rt; fault(alloc, vm, FIVE_LATER)?, None);
+    let wanted = Ok(Ended { r0: 12, steps: 4 });
+    assert_eq!(rt; outcome(vm, 7)?, wanted);
     Ok(())
 }
 
 #[test]
 fn helpers_are_called(rt: HostRuntime) -> Result<(), Fail> {
-    let alloc = rt.alloc();
-    let mut vm = EbpfVmRaw::new(alloc)?;
-    assert_eq!(rt; fault(alloc, &mut vm, FIVE_LATER)?, Some((312, 2)));
-    assert_eq!(rt; with_sum(alloc, &mut vm)?, None);
-    assert_eq!(rt; with_sum(alloc, &mut vm)?, Some((331, 3)));
-    assert_eq!(rt; fault(alloc, &mut vm, FIVE_LATER)?, None);
-    let wanted = Ok(Ended { r0: 12, steps: 4 });
-    assert_eq!(rt; outcome(&mut vm, 7)?, wanted);
-    Ok(())
+    let mut vm = EbpfVmRaw::new(rt.alloc())?;
+    calls_sum(&rt, rt.alloc(), &mut vm)
 }
