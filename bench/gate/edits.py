@@ -1,7 +1,7 @@
 #!/usr/bin/env python3
 """Tries must-fail edits of one crate, and each pair of lines of an edit by itself where the edit asks for that.
 
-usage: bench/gate/edits.py CRATE [EDIT..]      as bench/gate/edits.py acdm_step commands_tell_other_numbers
+usage: bench/gate/edits.py CRATE [EDIT..]      as bench/gate/edits.py acdm_step command-commands_tell_other_numbers
 
 With no EDIT, all edits of the crate are tried. Each is tried as the gate tries it, by the gate's own code, over a copy
 of what the crate's last check kept (crates/CRATE/out/incremental), so that only what the edit changed is proved again;
@@ -17,7 +17,7 @@ import sys
 import tempfile
 import time
 
-from kit import crates, gate
+from kit import crates, gate, is_refusal
 
 MARK = "each pair alone"
 FLAGS = ["--jobs", "1"]
@@ -72,7 +72,7 @@ def try_all(rt, crate, edits, room):
             if told:
                 print(f"         {told}", flush=True)
             number += 1
-            if came_to not in (rt.REFUSED, rt.AT_LIMIT):
+            if not is_refusal(rt, came_to):
                 bad.append(file.stem)
     print(f"{number - len(bad)} of {number} were refused{': not ' if bad else ''}{', '.join(bad)}")
     return len(bad)

@@ -25,3 +25,18 @@ def gate():
 def crates(rt):
     """Returns the repository's crates, as the gate sees them, by their names."""
     return {it.name: it for it in rt.rtlib.crates_below(str(TOP))}
+
+
+def runs_anew(rt):
+    """Returns the words that have this kit's gate prove and try everything, whatever an earlier run passed."""
+    return ["rt", "ci", "--anew"] if "--anew" in rt.__doc__ else ["rt", "ci"]
+
+
+def tries_apart(rt):
+    """Returns whether this kit's gate tries each edit over a copy of the crate as it stands, and not one after the other."""
+    return hasattr(rt, "REFUSED")
+
+
+def is_refusal(rt, came_to):
+    """Returns whether what must_fail of this kit's gate answered first says that an edit was refused."""
+    return came_to in (rt.REFUSED, rt.AT_LIMIT) if tries_apart(rt) else came_to is True

@@ -5,8 +5,9 @@ usage: bench/gate/plan.py PROCESSORS LOG..      as bench/gate/plan.py 4 first.lo
 
 The logs are those that bench/gate/times.py writes with --log; of a part that stands in several, the last counts. So a
 change can be judged by a run of the gate over the crates that it touched, where whole runs take an hour. The parts are
-started in the gate's order, each with one job: those that have the longest chain of others behind them first, edits and
-the checks that they begin with where nothing else is ready. Memory is taken to be enough, and what runs at the same time
+started in the order of this kit's gate, each with one job: those that have the longest chain of others behind them
+first, edits and the checks that they begin with where nothing else is ready. Some kits try the edits of a crate one
+after the other, in one part. Memory is taken to be enough, and what runs at the same time
 to slow nothing down. Parts that no log has are counted and left out. The longest chain of proofs is printed too: no
 number of processors goes below it.
 """
@@ -15,7 +16,7 @@ import heapq
 import pathlib
 import sys
 
-from kit import crates, gate
+from kit import crates, gate, tries_apart
 
 Task = collections.namedtuple("Task", "waits lines seconds")
 
@@ -50,29 +51,34 @@ def tasks_of(rt, every, times):
         if crate.has_tests():
             tasks[name, "tests"] = Task(below, lines, took(name, "tests"))
         own = [it for it in ((name, "proof"), (name, "tests")) if it in tasks]
+        tried = {it: took(name, "edits", it) for it in edits}
+        if not tries_apart(rt):
+            around = took(name, "base") if len(edits) > 1 else 0.0
+            tasks[name, "edits"] = Task(own, lines * bool(edits), sum(tried.values()) + around)
+            continue
         if len(edits) > 1:
             tasks[name, "seed"] = Task(below, 0, took(name, "base"))
             own.append((name, "seed"))
         for edit in edits:
-            tasks[name, "edits", edit] = Task(own, lines, took(name, "edits", edit))
+            tasks[name, "edits", edit] = Task(own, lines, tried[edit])
         if len(edits) > 1:
             tasks[name, "sound"] = Task([(name, "edits", it) for it in edits], 0, took(name, "base", at=1))
     return tasks, lacking
 
 
-def order_of(tasks):
-    """Returns the tasks in the order in which the gate looks for one that is ready."""
+def order_of(tasks, are_last):
+    """Returns the tasks in the order in which the gate looks for one that is ready, where edits may come after all else."""
     behind = dict.fromkeys(tasks, 0)
     for name in reversed([*tasks]):
         behind[name] += tasks[name].lines
         for it in tasks[name].waits:
             behind[it] = max(behind[it], behind[name])
-    return sorted(tasks, key=lambda it: (it[1] in ("edits", "seed"), -behind[it]))
+    return sorted(tasks, key=lambda it: (are_last and it[1] in ("edits", "seed"), -behind[it]))
 
 
-def minutes_on(processors, tasks):
+def minutes_on(processors, tasks, are_last):
     """Returns when the last task ends, in minutes from the start."""
-    left, running, done, now = order_of(tasks), [], set(), 0.0
+    left, running, done, now = order_of(tasks, are_last), [], set(), 0.0
     while left or running:
         ready = [it for it in left if done.issuperset(tasks[it].waits)]
         for name in ready[: processors - len(running)]:
@@ -101,7 +107,7 @@ def main():
     every, times = crates(rt), measured(words[1:])
     tasks, lacking = tasks_of(rt, every, times)
     whole = sum(it.seconds for it in tasks.values()) / 60
-    print(f"{whole:.0f} processor minutes, {minutes_on(int(words[0]), tasks):.0f} minutes on {words[0]} processors")
+    print(f"{whole:.0f} processor minutes, {minutes_on(int(words[0]), tasks, tries_apart(rt)):.0f} minutes on {words[0]} processors")
     print(f"{longest(every, times):.0f} minutes are the longest chain of proofs")
     if lacking:
         print(f"not measured: {len(lacking)}, as {', '.join(lacking[:5])}")

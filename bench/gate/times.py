@@ -1,11 +1,11 @@
 #!/usr/bin/env python3
 """Runs the gate, or a part of it, and says where its time went.
 
-usage: bench/gate/times.py [--log FILE] [COMMAND..]      as bench/gate/times.py rt ci acdm_lines; with no command: rt ci --anew
+usage: bench/gate/times.py [--log FILE] [COMMAND..]      as bench/gate/times.py rt ci acdm_lines; with no command the whole gate, from nothing
 
 The command runs at the top of the repository, and its output is passed on. Each run of the prover below it is seen in
-/proc, with its crate and what it was for: the proofs of a crate (or its build), those of its tests, the check of the
-crate as it stands that its edits begin with (and the one after the last of them), or an edit of must-fail/. At the end
+/proc, with its crate and what it was for: the proofs of a crate (or its build), those of its tests, a check of the
+crate as it stands that its edits begin or end with, or an edit of must-fail/. At the end
 a table says for each crate the processor seconds of each kind, and when it began and ended, in seconds from the start;
 below it stand the dearest edits. With --log each run is written to that file as it ends, so that a run of the gate that
 is cut off leaves what it measured. It reads /proc, so it needs Linux.
@@ -16,7 +16,7 @@ import subprocess
 import sys
 import time
 
-from kit import TOP, crates, gate
+from kit import TOP, crates, gate, runs_anew
 
 EVERY = 0.2
 TICKS = os.sysconf("SC_CLK_TCK")
@@ -174,7 +174,7 @@ def main():
     log = None
     if words[:1] == ["--log"] and len(words) > 1:
         log, words = open(words[1], "w", encoding="utf-8"), words[2:]
-    status, whole, runs = watched(words or ["rt", "ci", "--anew"], log)
+    status, whole, runs = watched(words or runs_anew(gate()), log)
     report(runs, whole)
     return status
 
