@@ -1,5 +1,5 @@
 //! The audit of a whole journal, line by line.
-ghost use Rattle.std.specs.Prelude.{◌≡◌, ◌<◌, ◌-◌, ◌^◌, length};
+ghost use Rattle.std.specs.Prelude.{◌≡◌, ◌<◌, ◌-◌, ◌^◌, [], length};
 ghost use Rattle.acdm_lines.specs.Lines.{weight};
 ghost use Rattle.acdm_step.specs.Commands.{History};
 ghost use Rattle.acdm_step.specs.History.{IsLegal, replay};
@@ -63,6 +63,35 @@ fn judge_entry(
     }
 }
 
+// Judges the rest of a journal, line by line, from the board and the lines that an audit begins
+// with.
+fn audit_lines<R: Read>(
+    alloc: Global,
+    reader: &mut Counted<R>,
+    sigs: &Sigs,
+    core: &mut Core,
+    lines: &mut Lines<MOST_KEPT>,
+) -> Result<u64, Fault>
+    requires reads { reader.old.faults < 2 ^ 64 - 1 }
+    requires board { core.old ≡ replay sigs.now [] }
+    requires window { lines.old.window ≡ [] }
+    requires left { lines.old.reads_left ≡ 1099511627776 }
+    ensures audits { Audits sigs.now R.remaining reader.old reader.new result }
+{
+    let mut entry = 0;
+    while let Ending::LineFeed = next_line(lines, reader)? {
+        judge_entry(alloc, core, sigs, entry, lines.line.as_slice())?;
+        entry += 1;
+    }
+    if lines.line.as_slice().is_empty() {
+        return Ok(entry);
+    }
+    Err(Fault::Faulty {
+        entry,
+        clause: Clause::Unreadable,
+    })
+}
+
 /// Judges a journal, which is the text of its entries one after the other, against these
 /// signatures (this project's profile). Answers how many entries it has where they are those of a
 /// legal history.
@@ -85,16 +114,5 @@ pub fn audit<R: Read>(alloc: Global, reader: &mut Counted<R>, sigs: &Sigs) -> Re
     let Ok(mut lines) = Lines::new(alloc) else {
         return Err(Fault::Memory);
     };
-    let mut entry = 0;
-    while let Ending::LineFeed = next_line(&mut lines, reader)? {
-        judge_entry(alloc, &mut core, sigs, entry, lines.line.as_slice())?;
-        entry += 1;
-    }
-    if lines.line.as_slice().is_empty() {
-        return Ok(entry);
-    }
-    Err(Fault::Faulty {
-        entry,
-        clause: Clause::Unreadable,
-    })
+    audit_lines(alloc, reader, sigs, &mut core, &mut lines)
 }

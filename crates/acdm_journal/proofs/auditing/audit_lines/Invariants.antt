@@ -1,10 +1,10 @@
 use Rattle.std.proofs.Common.{◌≡◌, ◌+◌, ◌≤◌}
 use Rattle.acdm_lines.specs.Lines.{weight}
 use Rattle.acdm_journal.proofs.Sofar.{Sofar}
-use Rattle.acdm_journal.proofs.auditing.audit.Given as goal
+use Rattle.acdm_journal.proofs.auditing.audit_lines.Given as goal
 
-abbrev pub invariant-loop-lines : goal.invariant-loop-lines
-invariant-loop-lines g l = record {
+abbrev pub invariant-loop-core : goal.invariant-loop-core
+invariant-loop-core g l = record {
   sofar : Sofar l.fn.sigs
       (g.R.Read.remaining l.initial.reader.inner) (g.R.Read.remaining l.reader.inner)
       l.lines.window l.lines.reads_left l.entry l.core;
@@ -13,5 +13,5 @@ invariant-loop-lines g l = record {
   bound : l.entry + weight l.lines.reads_left l.lines.window ≤ 72058693549555712;
 }
 
-abbrev pub decreases-loop-lines : goal.decreases-loop-lines
-decreases-loop-lines g l = weight l.lines.reads_left l.lines.window
+abbrev pub decreases-loop-core : goal.decreases-loop-core
+decreases-loop-core g l = weight l.lines.reads_left l.lines.window
