@@ -58,8 +58,11 @@ abbrev required : App → App
 required a = record a { top = record a.top { subcommand_required = true } }
 
 -- the program, of which one subcommand is wanted
+abbrev pub bare_app : App
+bare_app = required (new_app (codes "acdm"))
+
 abbrev pub running_app : App
-running_app = with_subcommand (required (new_app (codes "acdm"))) (keeping_app (codes "run")).top
+running_app = with_subcommand bare_app (keeping_app (codes "run")).top
 
 abbrev pub serving_app : App
 serving_app = with_subcommand running_app serve_app.top

@@ -6,8 +6,8 @@ ghost use Rattle.clap.specs.Values.{kind_of};
 ghost use Rattle.clap.specs.Words.{app_of, rule_of, subcommand_rows_of, with_subcommand};
 ghost use Rattle.clap.specs.declared.builder.Command.TheViews.{out-Command as fields_of};
 ghost use Rattle.acdm_command_line.specs.CommandLine.{program as the_program, file_app, keeping_app};
-ghost use Rattle.acdm_command_line.specs.CommandLine.{running_app, serve_app, serve_options_app};
-ghost use Rattle.acdm_command_line.specs.CommandLine.{serving_app};
+ghost use Rattle.acdm_command_line.specs.CommandLine.{bare_app, running_app, serve_app};
+ghost use Rattle.acdm_command_line.specs.CommandLine.{serve_options_app, serving_app};
 ghost use Rattle.acdm_command_line.specs.CommandLine.{journal_rule, save_rule, value_in, watch_rule};
 ghost use Rattle.acdm_command_line.specs.CommandLine.{number_of, IsJournal, AsksFor, Refuses};
 ghost use Rattle.acdm_command_line.specs.CommandLine.{Answers, AnswersJournal};
@@ -134,6 +134,16 @@ fn on_file<'a>(
     Command::new(alloc, name).about(about).arg(file)
 }
 
+// The program before it has subcommands, of which one is wanted.
+fn bare_program<'a>(alloc: Global) -> Command<'a>
+    ensures shape { app_of result ≡ bare_app }
+    ensures local { (fields_of result).has_globals ≡ false }
+{
+    Command::new(alloc, "acdm")
+        .about("The shared board of an A-CDM airport")
+        .subcommand_required(true)
+}
+
 // The program with the subcommand `run` alone.
 fn run_program<'a>(alloc: Global) -> Result<Command<'a>, AllocError>
     ensures shape { IfOk result (λ c. app_of c ≡ running_app) }
@@ -141,10 +151,7 @@ fn run_program<'a>(alloc: Global) -> Result<Command<'a>, AllocError>
 {
     let about = "Answers the lines of standard input on standard output";
     let run = keeping(alloc, "run", about)?;
-    Command::new(alloc, "acdm")
-        .about("The shared board of an A-CDM airport")
-        .subcommand_required(true)
-        .subcommand(run)
+    bare_program(alloc).subcommand(run)
 }
 
 // The program with the two subcommands that keep a journal.
