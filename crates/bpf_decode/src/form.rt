@@ -11,14 +11,14 @@ ghost use Rattle.bpf_decode.specs.declared.form.Form.{Form};
 use crate::op::{Code, Condition, Order, Part, Size, Width};
 
 /// Where the second operand comes from: bit 3 of the opcode.
-#[derive(Clone, Copy, PartialEq, Eq, Debug)]
+#[derive(Clone, Copy)]
 pub(crate) enum Source {
     Immediate,
     Register,
 }
 
 /// A row of the table of forms, as far as the opcode tells it.
-#[derive(Clone, Copy, PartialEq, Eq, Debug)]
+#[derive(Clone, Copy)]
 pub(crate) enum Form {
     Arith(Width, Code, Source),
     Negate(Width),

@@ -141,7 +141,7 @@ impl fmt::Display for Part {
 }
 
 /// The bits of a part.
-#[derive(Clone, Copy, Debug)]
+#[derive(Clone, Copy)]
 struct Bits(Part);
 
 impl fmt::Display for Bits {
@@ -157,7 +157,7 @@ impl fmt::Display for Bits {
 }
 
 /// The mark of a jump on the low 32 bits.
-#[derive(Clone, Copy, Debug)]
+#[derive(Clone, Copy)]
 struct JumpWidth(Width);
 
 impl fmt::Display for JumpWidth {
@@ -172,7 +172,7 @@ impl fmt::Display for JumpWidth {
 }
 
 /// What a store of this value is called.
-#[derive(Clone, Copy, Debug)]
+#[derive(Clone, Copy)]
 struct StoreName(Operand);
 
 impl fmt::Display for StoreName {
@@ -187,7 +187,7 @@ impl fmt::Display for StoreName {
 }
 
 /// An offset, with its sign.
-#[derive(Clone, Copy, Debug)]
+#[derive(Clone, Copy)]
 struct Offset(i32);
 
 impl fmt::Display for Offset {
@@ -204,7 +204,7 @@ impl fmt::Display for Offset {
 }
 
 /// The address of a load or a store.
-#[derive(Clone, Copy, Debug)]
+#[derive(Clone, Copy)]
 struct Address(Register, i16);
 
 impl fmt::Display for Address {
@@ -218,7 +218,7 @@ impl fmt::Display for Address {
 }
 
 /// Sixteen hexadecimal digits.
-#[derive(Clone, Copy, Debug)]
+#[derive(Clone, Copy)]
 struct Hex(u64);
 
 impl fmt::Display for Hex {

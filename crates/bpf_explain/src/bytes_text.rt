@@ -4,7 +4,7 @@ use bpf_decode::Fault;
 use std::io::{self, Write};
 
 /// A file of another kind than the bytes of a program. None is accepted.
-#[derive(Clone, Copy, PartialEq, Eq, Debug)]
+#[derive(Clone, Copy)]
 enum Kind {
     /// As a compiler writes it. Its first bytes (System V ABI, ELF header) are no instruction.
     Object,

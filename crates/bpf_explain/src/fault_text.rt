@@ -220,7 +220,7 @@ fn write_unset<W: Write>(state: &State, op: &Op, writer: &mut W) -> io::Result<(
 }
 
 /// The bytes that a load or a store touches.
-#[derive(Clone, Copy, Debug)]
+#[derive(Clone, Copy)]
 struct Access {
     base: Register,
     offset: i16,

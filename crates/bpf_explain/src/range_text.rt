@@ -14,7 +14,7 @@ const YEAR_2000: u64 = 15_778_080;
 const YEAR_2100: u64 = 68_374_080;
 
 /// A number with its sign.
-#[derive(Clone, Copy, Debug)]
+#[derive(Clone, Copy)]
 pub(crate) struct Signed(pub i64);
 
 impl fmt::Display for Signed {
@@ -29,7 +29,7 @@ impl fmt::Display for Signed {
 }
 
 /// A number, or an address by the region that it is told from.
-#[derive(Clone, Copy, PartialEq, Eq, Debug)]
+#[derive(Clone, Copy, PartialEq, Eq)]
 pub(crate) enum Bound {
     Number(u64),
     /// So many bytes behind the first address of the record.
@@ -55,7 +55,7 @@ impl fmt::Display for Bound {
 }
 
 /// From the first to the last.
-#[derive(Clone, Copy, Debug)]
+#[derive(Clone, Copy)]
 pub(crate) struct Span {
     pub first: Bound,
     pub last: Bound,
@@ -115,7 +115,7 @@ fn span_of(range: Range) -> Span {
 }
 
 /// A minute since 1970-01-01T00:00Z as an instant.
-#[derive(Clone, Copy, PartialEq, Eq, Debug)]
+#[derive(Clone, Copy, PartialEq, Eq)]
 struct Minute(u64);
 
 impl Minute {
@@ -138,7 +138,7 @@ impl fmt::Display for Minute {
 
 /// The words of a range. Where all of them are minutes of the years 2000 to 2099, they are also
 /// told as times.
-#[derive(Clone, Copy, Debug)]
+#[derive(Clone, Copy)]
 pub(crate) struct Words(pub Range);
 
 impl fmt::Display for Words {
