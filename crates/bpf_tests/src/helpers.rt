@@ -274,14 +274,29 @@ fn are_none(rt: &impl Abort, alloc: Global, sigs: &Sigs) {
     assert!(rt; sigs.is_same(&Sigs::new(alloc)));
 }
 
+/// Adds the signatures of helpers 1 and 3.
+fn push_two(alloc: Global, sigs: &mut Sigs) -> Result<(), Fail> {
+    sigs.push(1, turn_round_signature(alloc)?)?;
+    sigs.push(3, sum_signature(alloc)?)?;
+    Ok(())
+}
+
+/// A copy of two signatures equals its source.
+fn are_copied(rt: &impl Abort, alloc: Global, sigs: &mut Sigs) -> Result<(), Fail> {
+    push_two(alloc, sigs)?;
+    let copy = sigs.copy()?;
+    are_the_same(rt, alloc, sigs, &copy)?;
+    has_taxi(rt, sigs)
+}
+
 #[test]
 fn copies_equal_their_source(rt: HostRuntime) -> Result<(), Fail> {
     let mut sigs = Sigs::new(rt.alloc());
-    sigs.push(1, turn_round_signature(rt.alloc())?)?;
-    sigs.push(3, sum_signature(rt.alloc())?)?;
-    let copy = sigs.copy()?;
-    are_the_same(&rt, rt.alloc(), &mut sigs, &copy)?;
-    has_taxi(&rt, &sigs)?;
+    are_copied(&rt, rt.alloc(), &mut sigs)
+}
+
+#[test]
+fn a_bank_without_helpers_has_no_signatures(rt: HostRuntime) -> Result<(), Fail> {
     are_none(&rt, rt.alloc(), &no_sigs(rt.alloc())?);
     Ok(())
 }

@@ -533,14 +533,18 @@ fn known_of(alloc: Global, told: &Explanation) -> Result<Vec<bool>, Fail> {
     )
 }
 
+/// Slot 2 is faulty, and slot 1 has no state.
+fn is_told(rt: &impl Abort, alloc: Global, told: &Explanation) -> Result<(), Fail> {
+    assert_eq!(rt; told.fault, Some((Fault::StackByte, 2)));
+    let known = known_of(alloc, told)?;
+    assert_eq!(rt; known.as_slice(), [true, false, true].as_slice());
+    Ok(())
+}
+
 #[test]
 fn states_are_told_up_to_the_first_fault(rt: HostRuntime) -> Result<(), Fail> {
     let sigs = no_sigs(rt.alloc())?;
     // Slot 1 is jumped over, and slot 2 loads a byte of the stack that is not stored.
     let text = "0500010000000000b70000000100000071a0ffff000000009500000000000000";
-    let told = told_of(rt.alloc(), &sigs, text)?;
-    assert_eq!(rt; told.fault, Some((Fault::StackByte, 2)));
-    let known = known_of(rt.alloc(), &told)?;
-    assert_eq!(rt; known.as_slice(), [true, false, true].as_slice());
-    Ok(())
+    is_told(&rt, rt.alloc(), &told_of(rt.alloc(), &sigs, text)?)
 }

@@ -66,24 +66,51 @@ fn outcome(vm: &mut EbpfVmRaw, moment: u32) -> Result<Result<Ended, u16>, Fail> 
     }
 }
 
+/// Such a program is set, or refused so.
+fn sets(
+    rt: &impl Abort,
+    alloc: Global,
+    vm: &mut EbpfVmRaw,
+    text: &str,
+    wanted: Option<(u16, usize)>,
+) -> Result<(), Fail> {
+    assert_eq!(rt; fault(alloc, vm, text)?, wanted);
+    Ok(())
+}
+
+/// The machine's program comes to this, or to the error of this number.
+fn comes_to(
+    rt: &impl Abort,
+    vm: &mut EbpfVmRaw,
+    moment: u32,
+    wanted: Result<Ended, u16>,
+) -> Result<(), Fail> {
+    assert_eq!(rt; outcome(vm, moment)?, wanted);
+    Ok(())
+}
+
+/// A helper is registered, or refused so.
+fn is_added(rt: &impl Abort, refused: Option<(u16, u32)>, wanted: Option<(u16, u32)>) {
+    assert_eq!(rt; refused, wanted);
+}
+
 /// The three helpers are registered, and a machine without a program runs none.
 fn registers(rt: &impl Abort, alloc: Global, vm: &mut EbpfVmRaw) -> Result<(), Fail> {
-    assert_eq!(rt; with_turn_round(alloc, vm)?, None);
-    assert_eq!(rt; with_taxi(alloc, vm)?, None);
-    assert_eq!(rt; with_sum(alloc, vm)?, None);
-    assert_eq!(rt; outcome(vm, 29_000_580)?, Err(334));
-    Ok(())
+    is_added(rt, with_turn_round(alloc, vm)?, None);
+    is_added(rt, with_taxi(alloc, vm)?, None);
+    is_added(rt, with_sum(alloc, vm)?, None);
+    comes_to(rt, vm, 29_000_580, Err(334))
 }
 
 /// A program stays until another is accepted.
 fn stays(rt: &impl Abort, alloc: Global, vm: &mut EbpfVmRaw) -> Result<(), Fail> {
-    assert_eq!(rt; fault(alloc, vm, CATEGORY)?, None);
+    sets(rt, alloc, vm, CATEGORY, None)?;
     let wanted = Ok(Ended { r0: 0, steps: 5 });
-    assert_eq!(rt; outcome(vm, 29_000_580)?, wanted);
-    assert_eq!(rt; fault(alloc, vm, "9500000000000000")?, Some((308, 0)));
-    assert_eq!(rt; fault(alloc, vm, "1800000001000000")?, Some((315, 0)));
-    assert_eq!(rt; outcome(vm, 29_000_580)?, wanted);
-    assert_eq!(rt; with_taxi(alloc, vm)?, Some((333, 2)));
+    comes_to(rt, vm, 29_000_580, wanted)?;
+    sets(rt, alloc, vm, "9500000000000000", Some((308, 0)))?;
+    sets(rt, alloc, vm, "1800000001000000", Some((315, 0)))?;
+    comes_to(rt, vm, 29_000_580, wanted)?;
+    is_added(rt, with_taxi(alloc, vm)?, Some((333, 2)));
     Ok(())
 }
 
@@ -96,13 +123,11 @@ fn a_program_stays_until_another_is_accepted(rt: HostRuntime) -> Result<(), Fail
 
 /// Helper 3 is called once it is registered.
 fn calls_sum(rt: &impl Abort, alloc: Global, vm: &mut EbpfVmRaw) -> Result<(), Fail> {
-    assert_eq!(rt; fault(alloc, vm, FIVE_LATER)?, Some((312, 2)));
-    assert_eq!(rt; with_sum(alloc, vm)?, None);
-    assert_eq!(rt; with_sum(alloc, vm)?, Some((331, 3)));
-    assert_eq!(rt; fault(alloc, vm, FIVE_LATER)?, None);
-    let wanted = Ok(Ended { r0: 12, steps: 4 });
-    assert_eq!(rt; outcome(vm, 7)?, wanted);
-    Ok(())
+    sets(rt, alloc, vm, FIVE_LATER, Some((312, 2)))?;
+    is_added(rt, with_sum(alloc, vm)?, None);
+    is_added(rt, with_sum(alloc, vm)?, Some((331, 3)));
+    sets(rt, alloc, vm, FIVE_LATER, None)?;
+    comes_to(rt, vm, 7, Ok(Ended { r0: 12, steps: 4 }))
 }
 
 #[test]

@@ -99,72 +99,66 @@ fn leads_to<H: Helpers + Drop>(
     is_led_to(rt, alloc, &mut desk, parts, expected)
 }
 
-#[test]
-fn a_past_target_is_rejected(rt: HostRuntime) -> Result<(), Fail> {
-    let alloc = rt.alloc();
-    leads_to(
-        &rt,
-        alloc,
-        Bank::new(alloc)?,
-        &[PAST_TARGET, ARRIVAL, IN_BLOCK],
-        &Expected {
+/// Lines, and what they lead to.
+struct Target {
+    lines: [&'static str; 5],
+    expected: Expected<'static>,
+}
+
+// A past target is rejected, a present one taken; the latest is a day ahead, and a later one
+// rejected.
+static TARGETS: [Target; 4] = [
+    Target {
+        lines: [PAST_TARGET, ARRIVAL, IN_BLOCK, "", ""],
+        expected: Expected {
             replies: "ok 0\nok 1\nok 2\nok 3\nok 4\nalerts 5 7:CDM14\n",
             tobt: 0,
             entry: 4,
             answers: &[],
         },
-    )
-}
-
-#[test]
-fn a_present_target_is_taken(rt: HostRuntime) -> Result<(), Fail> {
-    let alloc = rt.alloc();
-    leads_to(
-        &rt,
-        alloc,
-        Bank::new(alloc)?,
-        &[PAST_TARGET, ARRIVAL, IN_BLOCK, PRESENT_TARGET, IN_BLOCK],
-        &Expected {
+    },
+    Target {
+        lines: [PAST_TARGET, ARRIVAL, IN_BLOCK, PRESENT_TARGET, IN_BLOCK],
+        expected: Expected {
             replies: "ok 0\nok 1\nok 2\nok 3\nok 4\nalerts 5 7:CDM14\nok 6\nok 7\nalerts 8 7:CDM08,CDM09,CDM07a\n",
             tobt: 29_000_700,
             entry: 7,
             answers: &[],
         },
-    )
-}
-
-#[test]
-fn the_latest_target_is_a_day_ahead(rt: HostRuntime) -> Result<(), Fail> {
-    let alloc = rt.alloc();
-    leads_to(
-        &rt,
-        alloc,
-        Bank::new(alloc)?,
-        &[LATEST_TARGET, ARRIVAL, IN_BLOCK],
-        &Expected {
+    },
+    Target {
+        lines: [LATEST_TARGET, ARRIVAL, IN_BLOCK, "", ""],
+        expected: Expected {
             replies: "ok 0\nok 1\nok 2\nok 3\nok 4\nalerts 5 7:CDM08\n",
             tobt: 29_002_140,
             entry: 4,
             answers: &[],
         },
-    )
-}
-
-#[test]
-fn a_later_target_is_rejected(rt: HostRuntime) -> Result<(), Fail> {
-    let alloc = rt.alloc();
-    leads_to(
-        &rt,
-        alloc,
-        Bank::new(alloc)?,
-        &[LATER_TARGET, ARRIVAL, IN_BLOCK],
-        &Expected {
+    },
+    Target {
+        lines: [LATER_TARGET, ARRIVAL, IN_BLOCK, "", ""],
+        expected: Expected {
             replies: "ok 0\nok 1\nok 2\nok 3\nok 4\nalerts 5 7:CDM14\n",
             tobt: 0,
             entry: 4,
             answers: &[],
         },
-    )
+    },
+];
+
+#[test]
+fn targets_are_taken_up_to_a_day_ahead(rt: HostRuntime) -> Result<(), Fail> {
+    let alloc = rt.alloc();
+    for target in &TARGETS {
+        leads_to(
+            &rt,
+            alloc,
+            Bank::new(alloc)?,
+            &target.lines,
+            &target.expected,
+        )?;
+    }
+    Ok(())
 }
 
 fn sum_signature(alloc: Global) -> Result<Signature, Fail>
