@@ -57,7 +57,7 @@ file_app name = with_rule (new_app name) file_rule
 abbrev required : App → App
 required a = record a { top = record a.top { subcommand_required = true } }
 
--- the program, of which one subcommand is wanted
+-- the program before it has subcommands, of which one is wanted; then with `run`; with `serve`; all
 abbrev pub bare_app : App
 bare_app = required (new_app (codes "acdm"))
 
