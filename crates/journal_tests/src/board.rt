@@ -1,33 +1,34 @@
 //! A helper that is asked through the desk, and what its entry keeps.
-ghost use Rattle.std.specs.Prelude.{◌≡◌, ◌+◌, ◌<◌, ◌≤◌, ◌^◌, IfOk};
+ghost use Rattle.std.specs.Prelude.{◌≡◌, ◌+◌, ◌<◌, ◌≤◌, ◌^◌};
 ghost use Rattle.bpf_helpers.specs.Known.{sum};
 
+use crate::fixture::{planned, reported, same_number, scheduled};
 use acdm_board::{Desk, DeskError, Reply};
 use acdm_milestones::{Milestone, Role};
-use acdm_record::{Field, Text};
+use acdm_record::Field;
 use acdm_slots::Kind;
-use acdm_step::{Command, FlightCommand, Load, Plan, Report, Schedule, Verdict};
+use acdm_step::{Command, Load, Verdict};
 use bpf_decode::decode;
 use bpf_helpers::{Bank, Code, Helper, Helpers, Range, Signature, Sigs};
 use bpf_verifier::verify;
 use std::alloc::Global;
 use std::process::Abort;
 use std::sync::Arc;
-use std::test::Fail;
 
-// 2025-02-20T09:00Z and 10:00Z.
+// 2025-02-20T09:00Z.
 const NINE: u32 = 29_000_700;
 
-const TEN: u32 = 29_000_760;
-
 // r1 = the moment, r2 = 5, helper 3, exit.
-const FIVE_LATER: [u8; 32] = [
+static FIVE_LATER: [u8; 32] = [
     0xbf, 0x31, 0, 0, 0, 0, 0, 0, 0xb7, 0x02, 0, 0, 5, 0, 0, 0, 0x85, 0, 0, 0, 3, 0, 0, 0, 0x95, 0,
     0, 0, 0, 0, 0, 0,
 ];
 
-fn sum_signature(alloc: Global) -> Result<Signature, Fail>
-    ensures { IfOk result (λ signature. signature ≡ sum) }
+// r0 = 0, exit.
+static NOTHING: [u8; 16] = [0xb7, 0, 0, 0, 0, 0, 0, 0, 0x95, 0, 0, 0, 0, 0, 0, 0];
+
+fn sum_signature(rt: &impl Abort, alloc: Global) -> Signature
+    ensures { result ≡ sum }
 {
     let args = vec![in alloc;
         Range {
@@ -35,170 +36,111 @@ fn sum_signature(alloc: Global) -> Result<Signature, Fail>
             hi: 4_294_967_295
         },
         Range { lo: 0, hi: 10_000 },
-    ]?;
+    ]
+    .expect(rt, "arguments");
     let answer = Range {
         lo: 0,
         hi: 4_294_977_295,
     };
-    Ok(Signature::new(args, answer, Vec::new(alloc)).unwrap())
-}
-
-fn plan() -> Result<Plan, Fail> {
-    Ok(Plan {
-        callsign: Text::from_bytes(b"DLH7").ok_or("a callsign")?,
-        aircraft: Text::from_bytes(b"A320").ok_or("a type")?,
-        registration: Text::from_bytes(b"DAIBC").ok_or("a registration")?,
-        destination: Text::from_bytes(b"EDDM").ok_or("a destination")?,
-    })
-}
-
-fn scheduled() -> Result<Command, Fail> {
-    Ok(Command::Flight(FlightCommand::Schedule(Schedule::new(7, plan()?, TEN, 40, 5, 10, 12))))
-}
-
-fn planned() -> Result<Command, Fail> {
-    Ok(Command::Flight(FlightCommand::Report(Report::new(
-        7,
-        Milestone::FlightPlanActivated,
-        TEN,
-        Some(plan()?),
-    ))))
-}
-
-fn at_nine(milestone: Milestone) -> Result<Command, Fail> {
-    if matches!(milestone, Milestone::FlightPlanActivated) {
-        return Err("no plan".into());
-    }
-    Ok(Command::Flight(FlightCommand::Report(Report::new(7, milestone, NINE, None))))
+    Signature::new(args, answer, Vec::new(alloc)).expect(rt, "a signature")
 }
 
 // A load of these bytes, checked against these signatures.
-fn loaded(alloc: Global, bytes: &[u8], sigs: &Sigs) -> Result<Command, Fail> {
-    let program = decode(alloc, bytes).map_err(|_| "no program")?;
-    let program = verify(alloc, program, sigs).map_err(|_| "not accepted")?;
-    Ok(Command::Load(Load {
+fn loaded(rt: &impl Abort, alloc: Global, bytes: &[u8], sigs: &Sigs) -> Command {
+    let program = decode(alloc, bytes).expect(rt, "a program");
+    Command::Load(Load {
         milestone: Milestone::InBlock,
         kind: Kind::Tobt,
-        program,
-    }))
+        program: verify(alloc, program, sigs).expect(rt, "an accepted program"),
+    })
 }
 
-fn no_sigs(alloc: Global) -> Result<Sigs, Fail> {
-    let bank = Bank::new(alloc)?;
-    Ok(bank.sigs()?)
+fn no_sigs(rt: &impl Abort, alloc: Global) -> Sigs {
+    let bank = Bank::new(alloc).expect(rt, "a bank");
+    bank.sigs().expect(rt, "signatures")
 }
 
 // A call that makes an entry.
 fn entered<H: Helpers + Drop>(
+    rt: &impl Abort,
     desk: &mut Desk<H>,
     session: u8,
     role: Role,
     command: Command,
-) -> Result<Reply, Fail>
+) -> Reply
     requires session_given { 1 ≤ session }
     requires few_sessions { session ≤ 64 }
 {
-    Ok(
-        desk.call_for(session, role, NINE, command)
-            .map_err(|_| "refused")?,
-    )
+    desk.call_for(session, role, NINE, command)
+        .expect(rt, "a reply")
 }
 
-// A call of session 1 that makes none.
-fn refused<H: Helpers + Drop>(desk: &mut Desk<H>, command: Command) -> Option<DeskError> {
-    desk.call_for(1, Role::AirportOperator, NINE, command).err()
+// A call of session 1 that makes none, for this reason.
+fn refused<H: Helpers + Drop>(
+    rt: &impl Abort,
+    desk: &mut Desk<H>,
+    command: Command,
+    wanted: DeskError,
+) {
+    let found = desk.call_for(1, Role::AirportOperator, NINE, command).err();
+    assert!(rt; found == Some(wanted));
 }
 
-// The TOBT of flight 7.
-fn tobt_on<H: Helpers + Drop>(desk: &Desk<H>) -> Option<u64> {
-    Some(desk.core().record_of(7)?.get(Field::Tobt))
+// The TOBT of flight 7 is five minutes after its in-block report.
+fn has_target<H: Helpers + Drop>(rt: &impl Abort, desk: &Desk<H>) {
+    let flight = desk.core().record_of(7).expect(rt, "flight 7");
+    same_number(rt, flight.get(Field::Tobt), 29_000_705);
 }
 
-// Whether an entry has this number and this one answer.
-fn has_answer<H: Helpers + Drop>(desk: &mut Desk<H>, number: u64, answer: u64) -> bool {
-    let Ok(row) = Arc::try_clone(desk.row()) else {
-        return false;
-    };
-    match desk.entry(&row, number) {
-        Some(entry) => entry.number == number && entry.answers.as_slice() == [answer].as_slice(),
-        None => false,
-    }
-}
-
-// Whether there is an entry of this number.
-fn has_entry<H: Helpers + Drop>(desk: &mut Desk<H>, number: u64) -> bool {
-    let Ok(row) = Arc::try_clone(desk.row()) else {
-        return false;
-    };
-    desk.entry(&row, number).is_some()
+// An entry has this number and this one answer, and is the last.
+fn has_answer<H: Helpers + Drop>(rt: &impl Abort, desk: &mut Desk<H>, number: u64, answer: u64) {
+    let row = Arc::try_clone(desk.row()).expect(rt, "the row");
+    let entry = desk.entry(&row, number).expect(rt, "an entry");
+    same_number(rt, entry.number, number);
+    assert!(rt; entry.answers.as_slice() == [answer].as_slice());
+    assert!(rt; desk.entry(&row, number.saturating_add(1)).is_none());
 }
 
 // The in-block report of flight 7, after all that has to come before it.
-fn in_block<H: Helpers + Drop>(desk: &mut Desk<H>) -> Result<Reply, Fail> {
-    entered(desk, 1, Role::AirportOperator, scheduled()?)?;
-    entered(desk, 2, Role::NetworkManager, planned()?)?;
-    entered(
-        desk,
-        3,
-        Role::AirTrafficControl,
-        at_nine(Milestone::Landed)?,
-    )?;
-    entered(desk, 1, Role::AirportOperator, at_nine(Milestone::InBlock)?)
+fn in_block<H: Helpers + Drop>(rt: &impl Abort, desk: &mut Desk<H>) -> Reply {
+    let landed = reported(rt, Milestone::Landed, NINE);
+    let in_block = reported(rt, Milestone::InBlock, NINE);
+    entered(rt, desk, 1, Role::AirportOperator, scheduled(rt));
+    entered(rt, desk, 2, Role::NetworkManager, planned(rt));
+    entered(rt, desk, 3, Role::AirTrafficControl, landed);
+    entered(rt, desk, 1, Role::AirportOperator, in_block)
 }
 
 // The TOBT of flight 7 is five minutes after its in-block report, as helper 3 says it.
-fn asks<H: Helpers + Drop>(rt: &impl Abort, alloc: Global, desk: &mut Desk<H>) -> Result<(), Fail> {
-    let load = loaded(alloc, &FIVE_LATER, desk.sigs())?;
-    entered(desk, 1, Role::AirportOperator, load)?;
-    let reply = in_block(desk)?;
-    assert_eq!(rt; reply.number, 4);
-    assert_eq!(rt; reply.outcome.verdict(), Verdict::Accepted);
-    Ok(())
-}
-
-fn stands<H: Helpers + Drop>(rt: &impl Abort, desk: &mut Desk<H>) {
-    assert_eq!(rt; tobt_on(desk), Some(29_000_705));
-    assert_eq!(rt; desk.len(), 5);
-    assert!(rt; has_answer(desk, 4, 29_000_705));
-    assert!(rt; !has_entry(desk, 5));
+fn asks<H: Helpers + Drop>(rt: &impl Abort, alloc: Global, desk: &mut Desk<H>) {
+    let load = loaded(rt, alloc, &FIVE_LATER, desk.sigs());
+    entered(rt, desk, 1, Role::AirportOperator, load);
+    let reply = in_block(rt, desk);
+    same_number(rt, reply.number, 4);
+    assert!(rt; reply.outcome.verdict() == Verdict::Accepted);
+    has_target(rt, desk);
+    same_number(rt, desk.len(), 5);
+    has_answer(rt, desk, 4, 29_000_705);
 }
 
 // A program that was checked against other signatures, and then a full journal.
-fn refuses<H: Helpers + Drop>(
-    rt: &impl Abort,
-    alloc: Global,
-    desk: &mut Desk<H>,
-) -> Result<(), Fail> {
-    let empty = no_sigs(alloc)?;
-    let foreign = loaded(alloc, &NOTHING, &empty)?;
-    assert_eq!(rt; refused(desk, foreign), Some(DeskError::OtherSignatures));
-    assert_eq!(rt; desk.len(), 5);
-    entered(desk, 1, Role::AirportOperator, Command::Tick)?;
-    assert_eq!(rt; refused(desk, Command::Tick), Some(DeskError::Full));
-    Ok(())
+fn refuses<H: Helpers + Drop>(rt: &impl Abort, alloc: Global, desk: &mut Desk<H>) {
+    let foreign = loaded(rt, alloc, &NOTHING, &no_sigs(rt, alloc));
+    refused(rt, desk, foreign, DeskError::OtherSignatures);
+    same_number(rt, desk.len(), 5);
+    entered(rt, desk, 1, Role::AirportOperator, Command::Tick);
+    refused(rt, desk, Command::Tick, DeskError::Full);
 }
 
-fn asks_and_refuses<H: Helpers + Drop>(
-    rt: &impl Abort,
-    alloc: Global,
-    desk: &mut Desk<H>,
-) -> Result<(), Fail> {
-    asks(rt, alloc, desk)?;
-    stands(rt, desk);
-    refuses(rt, alloc, desk)
-}
-
-fn five_minutes_later<H: Helpers + Drop>(
-    rt: &impl Abort,
-    alloc: Global,
-    helpers: H,
-) -> Result<(), Fail> {
-    let mut desk = Desk::new(alloc, helpers, 6)?;
-    asks_and_refuses(rt, alloc, &mut desk)
+fn five_minutes_later<H: Helpers + Drop>(rt: &impl Abort, alloc: Global, helpers: H) {
+    let mut desk = Desk::new(alloc, helpers, 6).expect(rt, "a desk");
+    asks(rt, alloc, &mut desk);
+    refuses(rt, alloc, &mut desk);
+    drop(desk);
 }
 
 #[test]
-fn a_helper_is_asked_through_the_desk(rt: HostRuntime) -> Result<(), Fail> {
+fn a_helper_is_asked_through_the_desk(rt: HostRuntime) {
     let alloc = rt.alloc();
     let minutes: Code = Box::new(
         alloc,
@@ -206,16 +148,12 @@ fn a_helper_is_asked_through_the_desk(rt: HostRuntime) -> Result<(), Fail> {
             requires { a + b < 2 ^ 64 }
             ensures { result ≡ a + b }
         { a + b },
-    )?;
-    let mut bank = Bank::new(alloc)?;
-    if bank
-        .add(Helper::new(3, sum_signature(alloc)?, minutes))
-        .is_err()
-    {
-        return Err("not added".into());
+    )
+    .expect(&rt, "code");
+    let helper = Helper::new(3, sum_signature(&rt, alloc), minutes);
+    let mut bank = Bank::new(alloc).expect(&rt, "a bank");
+    if bank.add(helper).is_err() {
+        panic!(rt; "not added");
     }
-    five_minutes_later(&rt, alloc, bank)
+    five_minutes_later(&rt, alloc, bank);
 }
-
-// r0 = 0, exit.
-const NOTHING: [u8; 16] = [0xb7, 0, 0, 0, 0, 0, 0, 0, 0x95, 0, 0, 0, 0, 0, 0, 0];

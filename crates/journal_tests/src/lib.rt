@@ -6,6 +6,8 @@
 #[cfg(test)]
 mod board;
 #[cfg(test)]
+mod fixture;
+#[cfg(test)]
 mod journal;
 #[cfg(test)]
 mod watch;

@@ -1,0 +1,44 @@
+//! Commands on flight 7, and what tests compare by.
+//!
+//! Minute 29000580 is 2025-02-20T07:00Z, and 29000760 is 10:00Z of that day.
+use acdm_milestones::Milestone;
+use acdm_record::Text;
+use acdm_step::{Command, FlightCommand, Plan, Report, Schedule};
+use std::process::Abort;
+
+pub(crate) const SEVEN: u32 = 29_000_580;
+
+pub(crate) const TEN: u32 = 29_000_760;
+
+pub(crate) fn same_number(rt: &impl Abort, found: u64, wanted: u64) {
+    assert_eq!(rt; found, wanted);
+}
+
+fn text<const N: usize>(rt: &impl Abort, letters: &str) -> Text<N> {
+    Text::from_bytes(letters.as_bytes()).expect(rt, "a text")
+}
+
+fn plan(rt: &impl Abort) -> Plan {
+    Plan {
+        callsign: text(rt, "DLH7"),
+        aircraft: text(rt, "A320"),
+        registration: text(rt, "DAIBC"),
+        destination: text(rt, "EDDM"),
+    }
+}
+
+pub(crate) fn scheduled(rt: &impl Abort) -> Command {
+    let schedule = Schedule::new(7, plan(rt), TEN, 40, 5, 10, 12);
+    Command::Flight(FlightCommand::Schedule(schedule))
+}
+
+pub(crate) fn planned(rt: &impl Abort) -> Command {
+    let report = Report::new(7, Milestone::FlightPlanActivated, TEN, Some(plan(rt)));
+    Command::Flight(FlightCommand::Report(report))
+}
+
+/// A report of a milestone after the flight plan.
+pub(crate) fn reported(rt: &impl Abort, milestone: Milestone, time: u32) -> Command {
+    assert!(rt; milestone != Milestone::FlightPlanActivated && time > 0);
+    Command::Flight(FlightCommand::Report(Report::new(7, milestone, time, None)))
+}
