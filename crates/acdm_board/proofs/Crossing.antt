@@ -22,7 +22,7 @@ fields_send H g h =
     declared_send (inside.the_type H g) (
       search (h, sendable) depth 8,
       (
-        as_row_send book.the_field book_send,
+        search (book_send, sendable, crosses) depth 20,
         (as_row_send passes.the_field passes_send, tt),
       ),
     )

@@ -108,7 +108,8 @@ impl Book {
 
     /// How many entries there are.
     pub(crate) fn len(&self) -> usize
-        ensures { result ≡ length self.now.history }
+        ensures value { result ≡ length self.now.history }
+        ensures fits { result ≤ self.now.capacity }
     {
         self.journal.len()
     }
@@ -160,6 +161,13 @@ impl Book {
         ensures checked { result ≡ false → IsChecked self.now.sigs command.now }
     {
         is_foreign(command, self.sigs())
+    }
+
+    /// How many answers the programs of a command may ask helpers for.
+    pub(crate) fn answers_room(&self, command: &Command) -> u64
+        ensures { result ≡ answers_room self.now.history command.now }
+    {
+        self.core.answers_room(command)
     }
 
     /// Makes the next entry of a command, whose programs ask this oracle, which has room for all of

@@ -30,7 +30,7 @@ pub struct Reply {
 #[derive(Drop)]
 pub struct Desk<H: Helpers + Drop> {
     helpers: H,
-    book: Book,
+    book: Box<Book>,
     passes: Passes,
 }
 
@@ -40,9 +40,10 @@ impl<H: Helpers + Drop> Model for Desk<H> {
 
     ghost Value = { DeskView };
 
-    ghost view = { λ d. d.book };
+    ghost view = { λ d. d.book.value };
 
-    ghost invariant = { λ d. (d.book.sigs ≡ H.entries d.helpers) × (d.passes ≡ row_of d.book) };
+    ghost invariant = { λ d. (d.book.value.sigs ≡ H.entries d.helpers)
+        × (d.passes ≡ row_of d.book.value) };
 }
 
 impl<H: Helpers + Drop> Desk<H> {
@@ -53,7 +54,7 @@ impl<H: Helpers + Drop> Desk<H> {
         ensures sigs { IfOk result (λ desk. desk.sigs ≡ H.entries helpers) }
     {
         let sigs = helpers.sigs()?;
-        let book = Book::new(alloc, sigs, capacity)?;
+        let book = Box::new(alloc, Book::new(alloc, sigs, capacity)?)?;
         let passes = Passes::new(alloc, Arc::try_clone(book.row())?);
         Ok(Desk {
             helpers,
@@ -145,6 +146,7 @@ impl<H: Helpers + Drop> Desk<H> {
             ((length self.now.history ≢ self.now.capacity)
             × (is_foreign self.now.sigs command.now ≡ true)) }
         ensures memory { result ≢ Some DeskError.Memory }
+        ensures place { result ≡ None → length self.now.history < self.now.capacity }
         ensures checked { result ≡ None → IsChecked self.now.sigs command.now }
     {
         if self.book.len() == self.book.capacity() {
@@ -189,7 +191,7 @@ impl<H: Helpers + Drop> Desk<H> {
         if let Some(error) = self.refusal(&command) {
             return Err(error);
         }
-        let room = self.book.core().answers_room(&command);
+        let room = self.book.answers_room(&command);
         let live = Live::new(self.book.alloc(), &self.helpers, room)?;
         let outcome = self.book.enter(live, pass, moment, command)?;
         Ok(Reply {
