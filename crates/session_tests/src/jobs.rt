@@ -3,7 +3,6 @@ ghost use Rattle.std.specs.Prelude.{◌≡◌};
 
 use acdm_jobs::{Crew, Job};
 use std::sync::atomic::{AtomicU64, Ordering};
-use std::test::Fail;
 
 /// Gives its own number.
 #[derive(Drop)]
@@ -18,21 +17,19 @@ impl Job<u64> for Named {
 }
 
 #[test]
-fn results_come_in_the_order_of_jobs(rt: HostRuntime) -> Result<(), Fail> {
-    let mut crew = Crew::new(rt.alloc(), 3)?;
+fn results_come_in_the_order_of_jobs(rt: HostRuntime) {
+    let mut crew = Crew::new(rt.alloc(), 3).expect(&rt, "a crew");
     crew.add(Named(7));
     crew.add(Named(5));
     crew.add(Named(9));
     let given = crew.run(&rt);
-    assert_eq!(rt; given.as_slice(), [7, 5, 9].as_slice());
-    Ok(())
+    assert!(rt; given.as_slice() == [7, 5, 9].as_slice());
 }
 
 #[test]
-fn no_jobs_give_nothing(rt: HostRuntime) -> Result<(), Fail> {
-    let crew: Crew<Named, u64> = Crew::new(rt.alloc(), 0)?;
+fn no_jobs_give_nothing(rt: HostRuntime) {
+    let crew: Crew<Named, u64> = Crew::new(rt.alloc(), 0).expect(&rt, "a crew");
     assert!(rt; crew.run(&rt).is_empty());
-    Ok(())
 }
 
 /// Says that it is there, and waits until the other one is, for so many turns at most.
@@ -60,10 +57,10 @@ impl Job<bool> for Meeting<'_> {
 }
 
 #[test]
-fn jobs_are_done_at_once(rt: HostRuntime) -> Result<(), Fail> {
+fn jobs_are_done_at_once(rt: HostRuntime) {
     let first = AtomicU64::new(0);
     let second = AtomicU64::new(0);
-    let mut crew = Crew::new(rt.alloc(), 2)?;
+    let mut crew = Crew::new(rt.alloc(), 2).expect(&rt, "a crew");
     crew.add(Meeting {
         mine: &first,
         other: &second,
@@ -73,6 +70,5 @@ fn jobs_are_done_at_once(rt: HostRuntime) -> Result<(), Fail> {
         other: &first,
     });
     let met = crew.run(&rt);
-    assert_eq!(rt; met.as_slice(), [true, true].as_slice());
-    Ok(())
+    assert!(rt; met.as_slice() == [true, true].as_slice());
 }

@@ -12,7 +12,6 @@ use std::alloc::Global;
 use std::cell::Cell;
 use std::io::{self, Read, Write};
 use std::process::Abort;
-use std::test::Fail;
 
 // Minute 29000700 is 2025-02-20T09:00Z.
 const TURN_ROUND: &str =
@@ -30,158 +29,183 @@ const LANDED: &str =
     r#"3 29000700 ATC {"cmd":"report","flight":7,"milestone":6,"time":"2025-02-20T09:00:00Z"}
 "#;
 
+/// These parts, one after the other.
+fn joined(rt: &impl Abort, alloc: Global, parts: &[&str]) -> Vec<u8> {
+    let mut text = Vec::new(alloc);
+    for part in parts {
+        text.extend_from_slice(part.as_bytes())
+            .expect(rt, "room for a part");
+    }
+    text
+}
+
 /// The replies of a desk to these lines.
 pub(crate) fn replies_of<H: Helpers + Drop>(
+    rt: &impl Abort,
     alloc: Global,
     parts: &[&str],
     desk: &mut Desk<H>,
-) -> Result<String, Fail> {
-    let mut text = Vec::new(alloc);
-    for part in parts {
-        text.extend_from_slice(part.as_bytes())?;
-    }
+) -> String {
+    let text = joined(rt, alloc, parts);
     let mut reader = Counted::new(text.as_slice());
     let mut writer = Counted::new(Vec::new(alloc));
-    run(alloc, &mut reader, &mut writer, desk)?;
-    Ok(String::from_utf8(writer.into_inner()).map_err(|_| "replies are no text")?)
+    run(alloc, &mut reader, &mut writer, desk).expect(rt, "a run");
+    String::from_utf8(writer.into_inner())
+        .ok()
+        .expect(rt, "replies")
 }
 
 fn replies_with<H: Helpers + Drop>(
+    rt: &impl Abort,
     alloc: Global,
     helpers: H,
     parts: &[&str],
     capacity: usize,
-) -> Result<String, Fail> {
-    let mut desk = Desk::new(alloc, helpers, capacity)?;
-    replies_of(alloc, parts, &mut desk)
+) -> String {
+    let mut desk = Desk::new(alloc, helpers, capacity).expect(rt, "a desk");
+    let replies = replies_of(rt, alloc, parts, &mut desk);
+    drop(desk);
+    replies
 }
 
-/// The replies of a desk without helpers to these lines.
-pub(crate) fn replies_to(
-    rt: &HostRuntime,
+/// A desk without helpers answers these lines so; what that shows is told where it does not.
+pub(crate) fn are_answered(
+    rt: &impl Abort,
+    alloc: Global,
+    shows: &str,
     parts: &[&str],
     capacity: usize,
-) -> Result<String, Fail> {
-    let alloc = rt.alloc();
-    replies_with(alloc, Bank::new(alloc)?, parts, capacity)
+    replies: &str,
+) {
+    let bank = Bank::new(alloc).expect(rt, "a bank");
+    let found = replies_with(rt, alloc, bank, parts, capacity);
+    assert_eq!(rt; found.as_str(), replies, "for {shows}");
 }
 
 #[test]
-fn empty_input_gives_no_reply(rt: HostRuntime) -> Result<(), Fail> {
-    assert_eq!(rt; replies_to(&rt, &[], 10)?.as_str(), "");
-    Ok(())
+fn empty_input_gives_no_reply(rt: HostRuntime) {
+    are_answered(&rt, rt.alloc(), "no line", &[], 10, "");
 }
 
 #[test]
-fn lines_are_answered_in_order(rt: HostRuntime) -> Result<(), Fail> {
-    let turn_round = replies_to(&rt, &[TURN_ROUND, IN_BLOCK], 10)?;
-    assert_eq!(rt; turn_round.as_str(), "ok 0\nok 1\nok 2\nno 3 206\nok 4\n");
-    let barred = replies_to(&rt, &[TURN_ROUND, IN_BLOCK, LANDED], 10)?;
-    assert_eq!(rt;
-        barred.as_str(),
-        "ok 0\nok 1\nok 2\nno 3 206\nok 4\nno 5 204\n"
+fn lines_are_answered_in_order(rt: HostRuntime) {
+    are_answered(
+        &rt,
+        rt.alloc(),
+        "a turn-round",
+        &[TURN_ROUND, IN_BLOCK],
+        10,
+        "ok 0\nok 1\nok 2\nno 3 206\nok 4\n",
     );
-    let landed = replies_to(&rt, &[TURN_ROUND, LANDED], 10)?;
-    assert_eq!(rt; landed.as_str(), "ok 0\nok 1\nok 2\nno 3 206\nok 4\n");
-    Ok(())
+    are_answered(
+        &rt,
+        rt.alloc(),
+        "a landing after the block",
+        &[TURN_ROUND, IN_BLOCK, LANDED],
+        10,
+        "ok 0\nok 1\nok 2\nno 3 206\nok 4\nno 5 204\n",
+    );
+    are_answered(
+        &rt,
+        rt.alloc(),
+        "a second landing",
+        &[TURN_ROUND, LANDED],
+        10,
+        "ok 0\nok 1\nok 2\nno 3 206\nok 4\n",
+    );
 }
 
 #[test]
-fn a_full_journal_is_told(rt: HostRuntime) -> Result<(), Fail> {
+fn a_full_journal_is_told(rt: HostRuntime) {
     let start =
         r#"1 29000580 APT {"cmd":"schedule","flight":7,"callsign":"DLH7","type":"A320","reg":"DAIBC","dest":"EDDM","sobt":"2025-02-20T10:00:00Z","mttt":40,"exit":5,"exot":10,"stand":12}
 2 29000580 NM {"cmd":"report","flight":7,"milestone":1,"time":"2025-02-20T10:00:00Z","callsign":"DLH7","type":"A320","reg":"DAIBC","dest":"EDDM"}
 "#;
-    assert_eq!(rt; replies_to(&rt, &[start], 1)?.as_str(), "ok 0\nbad 502\n");
-    Ok(())
+    are_answered(&rt, rt.alloc(), "one entry", &[start], 1, "ok 0\nbad 502\n");
 }
 
+// Lines that make no entry, and what they are answered.
+static FAULTY_LINES: [(&str, &str); 23] = [
+    ("\n", "bad 100\n"),
+    ("65 29000580 APT {\"cmd\":\"alerts\"}\n", "bad 100\n"),
+    ("1  29000580 APT {}\n", "bad 100\n"),
+    ("1 029000580 APT {}\n", "bad 100\n"),
+    ("1 4294967296 APT {}\n", "bad 100\n"),
+    ("1 29000580 APT", "bad 100\n"),
+    ("1 29000580 APT ", "bad 101\n"),
+    ("1 29000580 APT {\"cmd\":\"tick\"", "bad 101\n"),
+    ("1 29000580 APT {\"cmd\":\"tack\"}\r\n", "bad 102\n"),
+    ("1 29000580 APT []\n", "bad 102\n"),
+    ("1 29000580 APT  {\"cmd\":6}\n", "bad 102\n"),
+    ("1 29000580 APT {\"cmd\":\"report\"}\n", "bad 103\n"),
+    (
+        "1 29000580 APT {\"cmd\":\"report\",\"flight\":\"7\"}\n",
+        "bad 103\n",
+    ),
+    (
+        "1 29000580 APT {\"cmd\":\"report\",\"flight\":-7}\n",
+        "bad 103\n",
+    ),
+    (
+        "1 29000580 APT {\"cmd\":\"report\",\"flight\":0}\n",
+        "bad 104\n",
+    ),
+    (
+        "1 29000580 ATC {\"cmd\":\"report\",\"flight\":7,\"milestone\":17,\"time\":\"2025-02-20T10:00:00Z\"}\n",
+        "bad 104\n",
+    ),
+    (
+        "1 29000580 ATC {\"cmd\":\"report\",\"flight\":7,\"milestone\":6,\"time\":null}\n",
+        "bad 103\n",
+    ),
+    (
+        "1 29000580 ATC {\"cmd\":\"report\",\"flight\":7,\"milestone\":9}\n",
+        "bad 103\n",
+    ),
+    (
+        "1 29000580 APT {\"cmd\":\"show\",\"flight\":\"7\"}\n",
+        "bad 103\n",
+    ),
+    (
+        "1 29000580 APT {\"cmd\":\"show\",\"flight\":-7}\n",
+        "bad 103\n",
+    ),
+    (
+        "1 29000580 APT {\"cmd\":\"show\",\"flight\":0}\n",
+        "bad 104\n",
+    ),
+    ("1 29000580 APT {\"cmd\":\"unload\"}\n", "bad 103\n"),
+    (
+        "1 29000580 ATC {\"cmd\":\"report\",\"flight\":7,\"milestone\":6,\"time\":\"10:00\"}\n",
+        "bad 104\n",
+    ),
+];
+
 #[test]
-fn faulty_lines_make_no_entry(rt: HostRuntime) -> Result<(), Fail> {
-    for (line, reply) in [
-        ("\n", "bad 100\n"),
-        ("65 29000580 APT {\"cmd\":\"alerts\"}\n", "bad 100\n"),
-        ("1  29000580 APT {}\n", "bad 100\n"),
-        ("1 029000580 APT {}\n", "bad 100\n"),
-        ("1 4294967296 APT {}\n", "bad 100\n"),
-        ("1 29000580 APT", "bad 100\n"),
-        ("1 29000580 APT ", "bad 101\n"),
-        ("1 29000580 APT {\"cmd\":\"tick\"", "bad 101\n"),
-        ("1 29000580 APT {\"cmd\":\"tack\"}\r\n", "bad 102\n"),
-        ("1 29000580 APT []\n", "bad 102\n"),
-        ("1 29000580 APT  {\"cmd\":6}\n", "bad 102\n"),
-        ("1 29000580 APT {\"cmd\":\"report\"}\n", "bad 103\n"),
-        (
-            "1 29000580 APT {\"cmd\":\"report\",\"flight\":\"7\"}\n",
-            "bad 103\n",
-        ),
-        (
-            "1 29000580 APT {\"cmd\":\"report\",\"flight\":-7}\n",
-            "bad 103\n",
-        ),
-        (
-            "1 29000580 APT {\"cmd\":\"report\",\"flight\":0}\n",
-            "bad 104\n",
-        ),
-        (
-            "1 29000580 ATC {\"cmd\":\"report\",\"flight\":7,\"milestone\":17,\"time\":\"2025-02-20T10:00:00Z\"}\n",
-            "bad 104\n",
-        ),
-        (
-            "1 29000580 ATC {\"cmd\":\"report\",\"flight\":7,\"milestone\":6,\"time\":null}\n",
-            "bad 103\n",
-        ),
-        (
-            "1 29000580 ATC {\"cmd\":\"report\",\"flight\":7,\"milestone\":9}\n",
-            "bad 103\n",
-        ),
-        (
-            "1 29000580 APT {\"cmd\":\"show\",\"flight\":\"7\"}\n",
-            "bad 103\n",
-        ),
-        (
-            "1 29000580 APT {\"cmd\":\"show\",\"flight\":-7}\n",
-            "bad 103\n",
-        ),
-        (
-            "1 29000580 APT {\"cmd\":\"show\",\"flight\":0}\n",
-            "bad 104\n",
-        ),
-        ("1 29000580 APT {\"cmd\":\"unload\"}\n", "bad 103\n"),
-        (
-            "1 29000580 ATC {\"cmd\":\"report\",\"flight\":7,\"milestone\":6,\"time\":\"10:00\"}\n",
-            "bad 104\n",
-        ),
-    ] {
-        assert_eq!(rt; replies_to(&rt, &[line], 1)?.as_str(), reply, "for {line}");
+fn faulty_lines_make_no_entry(rt: HostRuntime) {
+    for (line, reply) in &FAULTY_LINES {
+        are_answered(&rt, rt.alloc(), *line, &[*line], 1, *reply);
     }
-    Ok(())
 }
 
-fn replies_to_padded(rt: &HostRuntime, line: &str, length: usize) -> Result<String, Fail> {
-    let mut text = Vec::new(rt.alloc());
-    text.extend_from_slice(line.as_bytes())?;
-    text.resize(length, b' ')?;
-    let padded = String::from_utf8(text).map_err(|_| "a line is no text")?;
-    replies_to(rt, &[padded.as_str(), "\n", IN_BLOCK], 10)
+// The line, and spaces up to so many bytes.
+fn padded(rt: &impl Abort, alloc: Global, line: &str, length: usize) -> String {
+    let mut text = joined(rt, alloc, &[line]);
+    text.resize(length, b' ').expect(rt, "room for spaces");
+    String::from_utf8(text).ok().expect(rt, "a line")
+}
+
+fn are_answered_padded(rt: &impl Abort, alloc: Global, length: usize, replies: &str) {
+    let line = padded(rt, alloc, "1 29000580 APT {\"cmd\":\"tack\"}", length);
+    let parts = [line.as_str(), "\n", IN_BLOCK];
+    are_answered(rt, alloc, "a padded line", &parts, 10, replies);
 }
 
 #[test]
-fn lines_of_up_to_70000_bytes_are_read(rt: HostRuntime) -> Result<(), Fail> {
-    let tick = "1 29000580 APT {\"cmd\":\"tack\"}";
-    assert_eq!(rt;
-        replies_to_padded(&rt, tick, 70_000)?.as_str(),
-        "bad 102\nno 0 202\n"
-    );
-    assert_eq!(rt;
-        replies_to_padded(&rt, tick, 70_001)?.as_str(),
-        "bad 105\nno 0 202\n"
-    );
-    assert_eq!(rt;
-        replies_to_padded(&rt, tick, 300_000)?.as_str(),
-        "bad 105\nno 0 202\n"
-    );
-    Ok(())
+fn lines_of_up_to_70000_bytes_are_read(rt: HostRuntime) {
+    are_answered_padded(&rt, rt.alloc(), 70_000, "bad 102\nno 0 202\n");
+    are_answered_padded(&rt, rt.alloc(), 70_001, "bad 105\nno 0 202\n");
+    are_answered_padded(&rt, rt.alloc(), 300_000, "bad 105\nno 0 202\n");
 }
 
 /// Gives one line in pieces of seven bytes, and then fails.
@@ -202,30 +226,23 @@ impl Read for Failing<'_> {
     }
 }
 
-fn ends_by_the_reader<H: Helpers + Drop>(
-    rt: &impl Abort,
-    alloc: Global,
-    helpers: H,
-) -> Result<(), Fail> {
+fn ends_by_the_reader<H: Helpers + Drop>(rt: &impl Abort, alloc: Global, helpers: H) {
     let text = TURN_ROUND.as_bytes();
     let mut reader = Counted::new(Failing { text });
     let mut writer = Counted::new(Vec::new(alloc));
-    let mut desk = Desk::new(alloc, helpers, 10)?;
+    let mut desk = Desk::new(alloc, helpers, 10).expect(rt, "a desk");
     let ended = run(alloc, &mut reader, &mut writer, &mut desk);
-    assert_eq!(rt; ended, Err(RunError::Read));
-    assert_eq!(rt; reader.faults(), 1);
-    assert_eq!(rt; writer.faults(), 0);
-    assert_eq!(rt;
-        writer.into_inner().as_slice(),
-        b"ok 0\nok 1\nok 2\nno 3 206\n".as_slice()
-    );
-    Ok(())
+    drop(desk);
+    assert!(rt; ended == Err(RunError::Read));
+    assert!(rt; reader.faults() == 1 && writer.faults() == 0);
+    let written = writer.into_inner();
+    assert!(rt; written.as_slice() == b"ok 0\nok 1\nok 2\nno 3 206\n".as_slice());
 }
 
 #[test]
-fn a_reader_that_fails_ends_the_run(rt: HostRuntime) -> Result<(), Fail> {
+fn a_reader_that_fails_ends_the_run(rt: HostRuntime) {
     let alloc = rt.alloc();
-    ends_by_the_reader(&rt, alloc, Bank::new(alloc)?)
+    ends_by_the_reader(&rt, alloc, Bank::new(alloc).expect(&rt, "a bank"));
 }
 
 /// Takes so many bytes, and then fails.
@@ -248,32 +265,25 @@ impl Write for Narrow {
     }
 }
 
-fn ends_by_the_writer<H: Helpers + Drop>(
-    rt: &impl Abort,
-    alloc: Global,
-    helpers: H,
-) -> Result<(), Fail> {
+fn ends_by_the_writer<H: Helpers + Drop>(rt: &impl Abort, alloc: Global, helpers: H) {
     let mut reader = Counted::new(TURN_ROUND.as_bytes());
     let mut writer = Counted::new(Narrow {
         taken: Vec::new(alloc),
         room: 8,
     });
-    let mut desk = Desk::new(alloc, helpers, 10)?;
+    let mut desk = Desk::new(alloc, helpers, 10).expect(rt, "a desk");
     let ended = run(alloc, &mut reader, &mut writer, &mut desk);
-    assert_eq!(rt; ended, Err(RunError::Write));
-    assert_eq!(rt; writer.faults(), 1);
-    assert_eq!(rt; reader.faults(), 0);
-    assert_eq!(rt;
-        writer.into_inner().taken.as_slice(),
-        b"ok 0\nok ".as_slice()
-    );
-    Ok(())
+    drop(desk);
+    assert!(rt; ended == Err(RunError::Write));
+    assert!(rt; writer.faults() == 1 && reader.faults() == 0);
+    let narrow = writer.into_inner();
+    assert!(rt; narrow.taken.as_slice() == b"ok 0\nok ".as_slice());
 }
 
 #[test]
-fn a_writer_that_fails_ends_the_run(rt: HostRuntime) -> Result<(), Fail> {
+fn a_writer_that_fails_ends_the_run(rt: HostRuntime) {
     let alloc = rt.alloc();
-    ends_by_the_writer(&rt, alloc, Bank::new(alloc)?)
+    ends_by_the_writer(&rt, alloc, Bank::new(alloc).expect(&rt, "a bank"));
 }
 
 /// Gives a line for each read, and asks that the earlier ones were answered by then.
@@ -316,11 +326,7 @@ impl Write for Prompt<'_> {
     }
 }
 
-fn answers_promptly<H: Helpers + Drop>(
-    rt: &impl Abort,
-    alloc: Global,
-    helpers: H,
-) -> Result<(), Fail> {
+fn answers_promptly<H: Helpers + Drop>(rt: &impl Abort, alloc: Global, helpers: H) {
     let answered = Cell::new(0);
     let lines = [LANDED, "1 1 APT {}\n", LANDED, "\n", IN_BLOCK];
     let mut reader = Counted::new(Patient {
@@ -332,16 +338,16 @@ fn answers_promptly<H: Helpers + Drop>(
     let mut writer = Counted::new(Prompt {
         answered: &answered,
     });
-    let mut desk = Desk::new(alloc, helpers, 10)?;
-    run(alloc, &mut reader, &mut writer, &mut desk)?;
-    assert_eq!(rt; answered.get(), 5);
+    let mut desk = Desk::new(alloc, helpers, 10).expect(rt, "a desk");
+    run(alloc, &mut reader, &mut writer, &mut desk).expect(rt, "a run");
+    drop(desk);
+    assert!(rt; answered.get() == 5);
     assert!(rt; !writer.waits());
     assert!(rt; reader.into_inner().waits);
-    Ok(())
 }
 
 #[test]
-fn each_reply_comes_before_the_next_line_is_waited_for(rt: HostRuntime) -> Result<(), Fail> {
+fn each_reply_comes_before_the_next_line_is_waited_for(rt: HostRuntime) {
     let alloc = rt.alloc();
-    answers_promptly(&rt, alloc, Bank::new(alloc)?)
+    answers_promptly(&rt, alloc, Bank::new(alloc).expect(&rt, "a bank"));
 }

@@ -2,8 +2,7 @@
 //! each function of a test is proved.
 //!
 //! Minute 29000580 is 2025-02-20T07:00Z, and 29000760 is 10:00Z of that day.
-use crate::sessions::replies_to;
-use std::test::Fail;
+use crate::sessions::are_answered;
 
 // Flight 7 with a schedule and a flight plan.
 const START: &str =
@@ -157,10 +156,9 @@ alerts 2 9:CDM13;7:CDM01
 ];
 
 #[test]
-fn partners_see_the_board(rt: HostRuntime) -> Result<(), Fail> {
+fn partners_see_the_board(rt: HostRuntime) {
     for talk in &TALKS {
-        let replies = replies_to(&rt, &[talk.first, talk.lines], 100)?;
-        assert_eq!(rt; replies.as_str(), talk.replies, "{}", talk.shows);
+        let parts = [talk.first, talk.lines];
+        are_answered(&rt, rt.alloc(), talk.shows, &parts, 100, talk.replies);
     }
-    Ok(())
 }

@@ -1,17 +1,16 @@
 //! Programs on the board, by the profile's worked examples.
 //!
 //! Minute 29000580 is 2025-02-20T07:00Z, 29000700 is 09:00Z, and 29000760 is 10:00Z of that day.
-ghost use Rattle.std.specs.Prelude.{◌≡◌, ◌+◌, ◌^◌, ◌<◌, IfOk};
+ghost use Rattle.std.specs.Prelude.{◌≡◌, ◌+◌, ◌^◌, ◌<◌};
 ghost use Rattle.bpf_helpers.specs.Known.{sum, taxi, taxi_from};
 
-use crate::sessions::{replies_of, replies_to};
+use crate::sessions::{are_answered, replies_of};
 use acdm_board::Desk;
 use acdm_record::Field;
 use bpf_helpers::{Bank, Code, Helper, Helpers, Range, Signature};
 use std::alloc::Global;
 use std::process::Abort;
 use std::sync::Arc;
-use std::test::Fail;
 
 // Suggests the minute before the moment.
 const PAST_TARGET: &str =
@@ -59,9 +58,9 @@ struct Expected<'a> {
     answers: &'a [u64],
 }
 
-fn tobt_on<H: Helpers + Drop>(desk: &Desk<H>) -> Option<u64> {
-    let record = desk.core().record_of(7)?;
-    Some(record.get(Field::Tobt))
+fn tobt_on<H: Helpers + Drop>(rt: &impl Abort, desk: &Desk<H>) -> u64 {
+    let record = desk.core().record_of(7).expect(rt, "flight 7");
+    record.get(Field::Tobt)
 }
 
 fn has_answers<H: Helpers + Drop>(desk: &mut Desk<H>, number: u64, answers: &[u64]) -> bool {
@@ -80,12 +79,11 @@ fn is_led_to<H: Helpers + Drop>(
     desk: &mut Desk<H>,
     parts: &[&str],
     expected: &Expected<'_>,
-) -> Result<(), Fail> {
-    let replies = replies_of(alloc, parts, desk)?;
+) {
+    let replies = replies_of(rt, alloc, parts, desk);
     assert_eq!(rt; replies.as_str(), expected.replies);
-    assert_eq!(rt; tobt_on(desk), Some(expected.tobt));
+    assert_eq!(rt; tobt_on(rt, desk), expected.tobt);
     assert!(rt; has_answers(desk, expected.entry, expected.answers));
-    Ok(())
 }
 
 fn leads_to<H: Helpers + Drop>(
@@ -94,9 +92,10 @@ fn leads_to<H: Helpers + Drop>(
     helpers: H,
     parts: &[&str],
     expected: &Expected<'_>,
-) -> Result<(), Fail> {
-    let mut desk = Desk::new(alloc, helpers, 100)?;
-    is_led_to(rt, alloc, &mut desk, parts, expected)
+) {
+    let mut desk = Desk::new(alloc, helpers, 100).expect(rt, "a desk");
+    is_led_to(rt, alloc, &mut desk, parts, expected);
+    drop(desk);
 }
 
 /// Lines, and what they lead to.
@@ -147,22 +146,16 @@ static TARGETS: [Target; 4] = [
 ];
 
 #[test]
-fn targets_are_taken_up_to_a_day_ahead(rt: HostRuntime) -> Result<(), Fail> {
+fn targets_are_taken_up_to_a_day_ahead(rt: HostRuntime) {
     let alloc = rt.alloc();
     for target in &TARGETS {
-        leads_to(
-            &rt,
-            alloc,
-            Bank::new(alloc)?,
-            &target.lines,
-            &target.expected,
-        )?;
+        let bank = Bank::new(alloc).expect(&rt, "a bank");
+        leads_to(&rt, alloc, bank, &target.lines, &target.expected);
     }
-    Ok(())
 }
 
-fn sum_signature(alloc: Global) -> Result<Signature, Fail>
-    ensures { IfOk result (λ signature. signature ≡ sum) }
+fn sum_signature(rt: &impl Abort, alloc: Global) -> Signature
+    ensures { result ≡ sum }
 {
     let args = vec![in alloc;
         Range {
@@ -170,16 +163,17 @@ fn sum_signature(alloc: Global) -> Result<Signature, Fail>
             hi: 4_294_967_295
         },
         Range { lo: 0, hi: 10_000 },
-    ]?;
+    ]
+    .expect(rt, "ranges");
     let answer = Range {
         lo: 0,
         hi: 4_294_977_295,
     };
-    Ok(Signature::new(args, answer, Vec::new(alloc)).ok_or("helper 3")?)
+    Signature::new(args, answer, Vec::new(alloc)).expect(rt, "helper 3")
 }
 
 #[test]
-fn a_helper_adds_up_a_target(rt: HostRuntime) -> Result<(), Fail> {
+fn a_helper_adds_up_a_target(rt: HostRuntime) {
     let alloc = rt.alloc();
     let code: Code = Box::new(
         alloc,
@@ -187,10 +181,12 @@ fn a_helper_adds_up_a_target(rt: HostRuntime) -> Result<(), Fail> {
             requires { a + b < 2 ^ 64 }
             ensures { result ≡ a + b }
         { a + b },
-    )?;
-    let mut bank = Bank::new(alloc)?;
-    bank.add(Helper::new(3, sum_signature(alloc)?, code))
-        .map_err(|refused| refused.fault)?;
+    )
+    .expect(&rt, "code");
+    let mut bank = Bank::new(alloc).expect(&rt, "a bank");
+    bank.add(Helper::new(3, sum_signature(&rt, alloc), code))
+        .map_err(|refused| refused.fault)
+        .expect(&rt, "a place for helper 3");
     leads_to(
         &rt,
         alloc,
@@ -202,15 +198,15 @@ fn a_helper_adds_up_a_target(rt: HostRuntime) -> Result<(), Fail> {
             entry: 4,
             answers: &[29_000_705],
         },
-    )
+    );
 }
 
-fn taxi_signature(alloc: Global) -> Result<Signature, Fail>
-    ensures { IfOk result (λ signature. signature ≡ taxi) }
+fn taxi_signature(rt: &impl Abort, alloc: Global) -> Signature
+    ensures { result ≡ taxi }
 {
-    let args = vec![in alloc; Range { lo: 0, hi: 999 }]?;
-    let table = vec![in alloc; (12, 10), (120, 15), (900, 20)]?;
-    Ok(Signature::new(args, Range { lo: 1, hi: 60 }, table).ok_or("helper 2")?)
+    let args = vec![in alloc; Range { lo: 0, hi: 999 }].expect(rt, "a range");
+    let table = vec![in alloc; (12, 10), (120, 15), (900, 20)].expect(rt, "a table");
+    Signature::new(args, Range { lo: 1, hi: 60 }, table).expect(rt, "helper 2")
 }
 
 // The local alerts of a target are the taxi time from the stand, which helper 2 knows.
@@ -226,7 +222,7 @@ const TAXI_ALERTS: &str =
 "#;
 
 #[test]
-fn local_alerts_stay_when_their_program_is_gone(rt: HostRuntime) -> Result<(), Fail> {
+fn local_alerts_stay_when_their_program_is_gone(rt: HostRuntime) {
     let alloc = rt.alloc();
     let code: Code = Box::new(
         alloc,
@@ -241,10 +237,12 @@ fn local_alerts_stay_when_their_program_is_gone(rt: HostRuntime) -> Result<(), F
                 20
             }
         },
-    )?;
-    let mut bank = Bank::new(alloc)?;
-    bank.add(Helper::new(2, taxi_signature(alloc)?, code))
-        .map_err(|refused| refused.fault)?;
+    )
+    .expect(&rt, "code");
+    let mut bank = Bank::new(alloc).expect(&rt, "a bank");
+    bank.add(Helper::new(2, taxi_signature(&rt, alloc), code))
+        .map_err(|refused| refused.fault)
+        .expect(&rt, "a place for helper 2");
     leads_to(
         &rt,
         alloc,
@@ -256,45 +254,49 @@ fn local_alerts_stay_when_their_program_is_gone(rt: HostRuntime) -> Result<(), F
             entry: 3,
             answers: &[10],
         },
-    )
+    );
 }
 
 #[test]
-fn an_empty_slot_is_told(rt: HostRuntime) -> Result<(), Fail> {
+fn an_empty_slot_is_told(rt: HostRuntime) {
     let unload = r#"1 29000580 APT {"cmd":"unload","milestone":9,"kind":"alert"}
 "#;
-    assert_eq!(rt; replies_to(&rt, &[unload], 10)?.as_str(), "no 0 321\n");
-    Ok(())
+    are_answered(
+        &rt,
+        rt.alloc(),
+        "an empty slot",
+        &[unload],
+        10,
+        "no 0 321\n",
+    );
 }
 
+// Programs that are refused, as JSON, and what their load is answered.
+static REFUSED_PROGRAMS: [(&str, &str); 11] = [
+    ("\"9500000000000000\"", "bad 308 0\n"),
+    ("\"\"", "bad 301 0\n"),
+    ("\"950000000000000095000000\"", "bad 301 0\n"),
+    ("\"0500FFFF000000009500000000000000\"", "bad 306 0\n"),
+    (
+        "\"1504010001000000b7000000050000009500000000000000\"",
+        "bad 308 2\n",
+    ),
+    ("\"1800000001000000\"", "bad 315 0\n"),
+    ("\"9500010000000000\"", "bad 304 0\n"),
+    ("\"85000000020000009500000000000000\"", "bad 312 0\n"),
+    ("\"zz\"", "bad 104\n"),
+    ("\"950\"", "bad 104\n"),
+    ("95", "bad 103\n"),
+];
+
 #[test]
-fn programs_that_are_refused_make_no_entry(rt: HostRuntime) -> Result<(), Fail> {
-    for (program, reply) in [
-        ("\"9500000000000000\"", "bad 308 0\n"),
-        ("\"\"", "bad 301 0\n"),
-        ("\"950000000000000095000000\"", "bad 301 0\n"),
-        ("\"0500FFFF000000009500000000000000\"", "bad 306 0\n"),
-        (
-            "\"1504010001000000b7000000050000009500000000000000\"",
-            "bad 308 2\n",
-        ),
-        ("\"1800000001000000\"", "bad 315 0\n"),
-        ("\"9500010000000000\"", "bad 304 0\n"),
-        ("\"85000000020000009500000000000000\"", "bad 312 0\n"),
-        ("\"zz\"", "bad 104\n"),
-        ("\"950\"", "bad 104\n"),
-        ("95", "bad 103\n"),
-    ] {
-        let replies = replies_to(
-            &rt,
-            &[
-                "1 29000580 APT {\"cmd\":\"load\",\"milestone\":7,\"kind\":\"tobt\",\"program\":",
-                program,
-                "}\n",
-            ],
-            1,
-        )?;
-        assert_eq!(rt; replies.as_str(), reply, "for {program}");
+fn programs_that_are_refused_make_no_entry(rt: HostRuntime) {
+    for (program, reply) in &REFUSED_PROGRAMS {
+        let parts = [
+            "1 29000580 APT {\"cmd\":\"load\",\"milestone\":7,\"kind\":\"tobt\",\"program\":",
+            *program,
+            "}\n",
+        ];
+        are_answered(&rt, rt.alloc(), *program, &parts, 1, *reply);
     }
-    Ok(())
 }

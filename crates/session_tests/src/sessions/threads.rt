@@ -10,7 +10,6 @@ use std::io::{self, Cursor, Read, Write};
 use std::process::Abort;
 use std::sync::atomic::{AtomicU64, Ordering};
 use std::sync::{Arc, Wait};
-use std::test::Fail;
 use std::thread::{Threads, yield_now};
 
 // Minute 29000580 is 2025-02-20T07:00Z.
@@ -109,19 +108,21 @@ type Left = Ended<Cursor<Vec<u8>>, Vec<u8>, Fixed>;
 type Stands<H> = Closed<H, Cursor<Vec<u8>>, Vec<u8>, Fixed>;
 
 // A session that reads this text, with a clock that tells this minute.
-fn opened(alloc: Global, role: Role, text: &str, minute: Option<u32>) -> Result<Opened, Fail> {
+fn opened(rt: &impl Abort, alloc: Global, role: Role, text: &str, minute: Option<u32>) -> Opened {
     let mut bytes = Vec::new(alloc);
-    bytes.extend_from_slice(text.as_bytes())?;
-    Ok(Session {
+    bytes
+        .extend_from_slice(text.as_bytes())
+        .expect(rt, "room for a text");
+    Session {
         role,
         reader: Counted::new(Cursor::new(bytes)),
         writer: Counted::new(Vec::new(alloc)),
         clock: Fixed(minute),
-    })
+    }
 }
 
 // What a session was answered, after its number, calls and end.
-fn told_of(alloc: Global, left: Left) -> Result<String, Fail> {
+fn told_of(rt: &impl Abort, alloc: Global, left: Left) -> String {
     let Ended {
         number,
         writer,
@@ -129,219 +130,231 @@ fn told_of(alloc: Global, left: Left) -> Result<String, Fail> {
         end,
         ..
     } = left;
-    let replies = String::from_utf8(writer.into_inner()).map_err(|_| "replies are no text")?;
-    Ok(format!(in alloc; "{number} {calls} {end:?}: {replies}")?)
+    let replies = String::from_utf8(writer.into_inner())
+        .ok()
+        .expect(rt, "replies");
+    format!(in alloc; "{number} {calls} {end:?}: {replies}").expect(rt, "a text")
 }
 
 // A flight is scheduled and planned.
-fn begin<H: Helpers + Drop>(alloc: Global, desk: &mut Desk<H>) -> Result<(), Fail> {
-    let replies = replies_of(alloc, &[START], desk)?;
-    if replies.as_str() != "ok 0\nok 1\n" {
-        return Err("the morning did not begin".into());
-    }
-    Ok(())
+fn begin<H: Helpers + Drop>(rt: &impl Abort, alloc: Global, desk: &mut Desk<H>) {
+    let replies = replies_of(rt, alloc, &[START], desk);
+    assert!(rt; replies.as_str() == "ok 0\nok 1\n");
 }
 
 // A desk for so many entries, on which a flight was scheduled and planned.
-fn begun<H: Helpers + Drop>(alloc: Global, helpers: H, capacity: usize) -> Result<Desk<H>, Fail> {
-    let mut desk = Desk::new(alloc, helpers, capacity)?;
-    match begin(alloc, &mut desk) {
-        Ok(()) => Ok(desk),
-        Err(error) => Err(error),
-    }
+fn begun<H: Helpers + Drop>(
+    rt: &impl Abort,
+    alloc: Global,
+    helpers: H,
+    capacity: usize,
+) -> Desk<H> {
+    let mut desk = Desk::new(alloc, helpers, capacity).expect(rt, "a desk");
+    begin(rt, alloc, &mut desk);
+    desk
 }
 
 // What stands after these sessions.
-fn closed_by<H: Helpers + Drop + Send, R, W, G: Gate + Sync, Rt: Threads + Wait + Sync>(
+fn closed_by<H: Helpers + Drop + Send, R, W, G: Gate + Sync, Rt: Threads + Wait + Abort + Sync>(
     rt: &Rt,
     alloc: Global,
     desk: Desk<H>,
     sessions: Vec<Session<R, W, Fixed>>,
     gate: &G,
-) -> Result<Closed<H, R, W, Fixed>, Fail>
+) -> Closed<H, R, W, Fixed>
 where
     R: Read + Drop + Send,
     W: Write + Drop + Send,
 {
-    if sessions.len() > 64 {
-        return Err("too many sessions".into());
-    }
-    run_sessions(rt, alloc, desk, sessions, gate).map_err(|_| Fail::from("no memory"))
+    assert!(rt; sessions.len() <= 64);
+    run_sessions(rt, alloc, desk, sessions, gate)
+        .ok()
+        .expect(rt, "memory for the sessions")
 }
 
 // The session and the minute of an entry.
-fn stamp_of<H: Helpers + Drop>(desk: &mut Desk<H>, number: u64) -> Result<(u8, u32), Fail> {
-    let row = Arc::try_clone(desk.row())?;
-    let entry = desk.entry(&row, number).ok_or("an entry is lost")?;
-    Ok((entry.session, entry.moment))
+fn stamp_of<H: Helpers + Drop>(rt: &impl Abort, desk: &mut Desk<H>, number: u64) -> (u8, u32) {
+    let row = Arc::try_clone(desk.row()).expect(rt, "the row");
+    let entry = desk.entry(&row, number).expect(rt, "an entry");
+    (entry.session, entry.moment)
 }
 
 // The TOBT of the flight.
-fn target_of<H: Helpers + Drop>(desk: &Desk<H>) -> Result<u64, Fail> {
-    let flight = desk.core().record_of(7).ok_or("the flight is gone")?;
-    Ok(flight.get(Field::Tobt))
+fn target_of<H: Helpers + Drop>(rt: &impl Abort, desk: &Desk<H>) -> u64 {
+    let flight = desk.core().record_of(7).expect(rt, "the flight");
+    flight.get(Field::Tobt)
+}
+
+fn push(rt: &impl Abort, sessions: &mut Vec<Opened>, session: Opened) {
+    let is_pushed = sessions.push(session).is_ok();
+    assert!(rt; is_pushed);
 }
 
 // Two sessions that set a target each.
-fn both(alloc: Global) -> Result<Vec<Opened>, Fail> {
+fn both(rt: &impl Abort, alloc: Global) -> Vec<Opened> {
     let mut sessions = Vec::new(alloc);
-    let first = opened(
-        alloc,
-        Role::AircraftOperator,
-        TARGET_AT_FIVE_PAST,
-        Some(29_000_590),
-    )?;
-    push(&mut sessions, first)?;
-    let second = opened(
-        alloc,
-        Role::GroundHandler,
-        TARGET_AT_QUARTER_PAST,
-        Some(29_000_585),
-    )?;
-    push(&mut sessions, second)?;
-    Ok(sessions)
-}
-
-fn push(sessions: &mut Vec<Opened>, session: Opened) -> Result<(), Fail> {
-    if sessions.push(session).is_err() {
-        return Err("no memory".into());
-    }
-    Ok(())
+    let role = Role::AircraftOperator;
+    let first = opened(rt, alloc, role, TARGET_AT_FIVE_PAST, Some(29_000_590));
+    push(rt, &mut sessions, first);
+    let role = Role::GroundHandler;
+    let second = opened(rt, alloc, role, TARGET_AT_QUARTER_PAST, Some(29_000_585));
+    push(rt, &mut sessions, second);
+    sessions
 }
 
 // What the last of them was told.
-fn last_of(alloc: Global, sessions: &mut Vec<Left>) -> Result<String, Fail> {
-    told_of(alloc, sessions.pop().ok_or("a session is lost")?)
+fn last_of(rt: &impl Abort, alloc: Global, sessions: &mut Vec<Left>) -> String {
+    let last = sessions.pop().expect(rt, "a session");
+    told_of(rt, alloc, last)
 }
 
 // What stands after two sessions that meet.
-fn both_meet<H: Helpers + Drop + Send, Rt: Threads + Wait + Sync>(
+fn both_meet<H: Helpers + Drop + Send, Rt: Threads + Wait + Abort + Sync>(
     rt: &Rt,
     alloc: Global,
     helpers: H,
-) -> Result<Stands<H>, Fail> {
-    let sessions = both(alloc)?;
-    let desk = begun(alloc, helpers, 10)?;
+) -> Stands<H> {
+    let sessions = both(rt, alloc);
+    let desk = begun(rt, alloc, helpers, 10);
     closed_by(rt, alloc, desk, sessions, &Meeting::new())
 }
 
 // Session 2 was answered first, and session 1 after it.
-fn in_their_order<H: Helpers + Drop>(desk: &mut Desk<H>) -> Result<bool, Fail> {
-    let third = stamp_of(desk, 2)?;
-    let fourth = stamp_of(desk, 3)?;
-    Ok(third == (2, 29_000_585) && fourth == (1, 29_000_590))
+fn in_their_order<H: Helpers + Drop>(rt: &impl Abort, desk: &mut Desk<H>) -> bool {
+    let third = stamp_of(rt, desk, 2);
+    let fourth = stamp_of(rt, desk, 3);
+    third == (2, 29_000_585) && fourth == (1, 29_000_590)
 }
 
 // Each was told of its entry.
-fn are_told(rt: &impl Abort, alloc: Global, sessions: &mut Vec<Left>) -> Result<(), Fail> {
-    let second = last_of(alloc, sessions)?;
-    assert_eq!(rt; second.as_str(), "2 1 End: ok 2\n");
-    let first = last_of(alloc, sessions)?;
-    assert_eq!(rt; first.as_str(), "1 1 End: ok 3\n");
-    Ok(())
+fn are_told(rt: &impl Abort, alloc: Global, sessions: &mut Vec<Left>) {
+    let second = last_of(rt, alloc, sessions);
+    assert!(rt; second.as_str() == "2 1 End: ok 2\n");
+    let first = last_of(rt, alloc, sessions);
+    assert!(rt; first.as_str() == "1 1 End: ok 3\n");
 }
 
 // Both entries stand in the journal, and the later target on the board.
-fn have_set<H: Helpers + Drop>(rt: &impl Abort, desk: &mut Desk<H>) -> Result<(), Fail> {
-    assert!(rt; desk.len() == 4 && in_their_order(desk)?);
-    assert_eq!(rt; target_of(desk)?, 29_000_765);
-    Ok(())
-}
-
-fn have_met<H: Helpers + Drop>(
-    rt: &impl Abort,
-    alloc: Global,
-    closed: &mut Stands<H>,
-) -> Result<(), Fail> {
-    are_told(rt, alloc, &mut closed.sessions)?;
-    have_set(rt, &mut closed.desk)
+fn have_set<H: Helpers + Drop>(rt: &impl Abort, desk: &mut Desk<H>) {
+    assert!(rt; desk.len() == 4);
+    assert!(rt; in_their_order(rt, desk));
+    assert!(rt; target_of(rt, desk) == 29_000_765);
 }
 
 fn meet<H: Helpers + Drop + Send, Rt: Threads + Wait + Abort + Sync>(
     rt: &Rt,
     alloc: Global,
     helpers: H,
-) -> Result<(), Fail> {
-    let mut closed = both_meet(rt, alloc, helpers)?;
-    have_met(rt, alloc, &mut closed)
+) {
+    let mut closed = both_meet(rt, alloc, helpers);
+    are_told(rt, alloc, &mut closed.sessions);
+    have_set(rt, &mut closed.desk);
+    drop(closed);
 }
 
 #[test]
-fn two_sessions_call_one_desk(rt: HostRuntime) -> Result<(), Fail> {
+fn two_sessions_call_one_desk(rt: HostRuntime) {
     let alloc = rt.alloc();
-    meet(&rt, alloc, Bank::new(alloc)?)
+    meet(&rt, alloc, Bank::new(alloc).expect(&rt, "a bank"));
 }
 
 // What stands after one session at a desk for so many entries, on which a flight was scheduled and
 // planned.
-fn one_served<H: Helpers + Drop + Send, Rt: Threads + Wait + Sync>(
+fn one_served<H: Helpers + Drop + Send, Rt: Threads + Wait + Abort + Sync>(
     rt: &Rt,
     alloc: Global,
     helpers: H,
     capacity: usize,
     session: Opened,
-) -> Result<Stands<H>, Fail> {
+) -> Stands<H> {
     let mut sessions = Vec::new(alloc);
-    push(&mut sessions, session)?;
-    let desk = begun(alloc, helpers, capacity)?;
+    push(rt, &mut sessions, session);
+    let desk = begun(rt, alloc, helpers, capacity);
     closed_by(rt, alloc, desk, sessions, &Open)
 }
 
-// What the last session was told, and the journal's length.
-fn last_told<H: Helpers + Drop>(alloc: Global, closed: &mut Stands<H>) -> Result<String, Fail> {
-    let told = last_of(alloc, &mut closed.sessions)?;
-    Ok(format!(in alloc; "{told}{}", closed.desk.len())?)
-}
-
 // What one session is told at such a desk, and the journal's length then.
-fn serves_one<H: Helpers + Drop + Send, Rt: Threads + Wait + Sync>(
+fn serves_one<H: Helpers + Drop + Send, Rt: Threads + Wait + Abort + Sync>(
     rt: &Rt,
     alloc: Global,
     helpers: H,
     capacity: usize,
     session: Opened,
-) -> Result<String, Fail> {
-    let mut closed = one_served(rt, alloc, helpers, capacity, session)?;
-    last_told(alloc, &mut closed)
+) -> (String, u64) {
+    let mut closed = one_served(rt, alloc, helpers, capacity, session);
+    let told = last_of(rt, alloc, &mut closed.sessions);
+    let length = closed.desk.len();
+    drop(closed);
+    (told, length)
+}
+
+/// What one session sends to a desk with room for so many entries, what it is told, and the
+/// journal's length then.
+struct Alone {
+    shows: &'static str,
+    role: Role,
+    text: &'static str,
+    minute: Option<u32>,
+    capacity: usize,
+    told: &'static str,
+    length: u64,
+}
+
+const FAULTY_LINES: &str =
+    "tick\n{\"cmd\":\"tack\"}\n{\"cmd\":\"show\"}\n{\"cmd\":\"show\",\"flight\":0}\n{\"cmd\":\"load\",\"milestone\":7,\"kind\":\"tobt\",\"program\":\"95\"}\n{\"cmd\":\"ti";
+
+static ALONE: [Alone; 4] = [
+    Alone {
+        shows: "a clock without a minute makes no entry",
+        role: Role::AirportOperator,
+        text: TICK,
+        minute: None,
+        capacity: 10,
+        told: "1 0 End: bad 106\n",
+        length: 2,
+    },
+    Alone {
+        shows: "faults come in their order without a minute",
+        role: Role::AirportOperator,
+        text: FAULTY_LINES,
+        minute: None,
+        capacity: 10,
+        told: "1 0 End: bad 101\nbad 102\nbad 103\nbad 104\nbad 106\nbad 101\n",
+        length: 2,
+    },
+    Alone {
+        shows: "faults come in their order",
+        role: Role::AirportOperator,
+        text: FAULTY_LINES,
+        minute: Some(29_000_590),
+        capacity: 10,
+        told: "1 0 End: bad 101\nbad 102\nbad 103\nbad 104\nbad 301 0\nbad 101\n",
+        length: 2,
+    },
+    Alone {
+        shows: "a call that makes no entry is not counted",
+        role: Role::NetworkManager,
+        text: "{\"cmd\":\"tick\"}\n{\"cmd\":\"show\",\"flight\":8}\n{\"cmd\":\"tick\"}",
+        minute: Some(29_000_590),
+        capacity: 4,
+        told: "1 2 End: no 2 201\nno 3 202\nbad 502\n",
+        length: 4,
+    },
+];
+
+fn is_served<Rt: Threads + Wait + Abort + Sync>(rt: &Rt, alloc: Global, alone: &Alone) {
+    let session = opened(rt, alloc, alone.role, alone.text, alone.minute);
+    let bank = Bank::new(alloc).expect(rt, "a bank");
+    let (told, length) = serves_one(rt, alloc, bank, alone.capacity, session);
+    assert_eq!(rt; told.as_str(), alone.told, "{}", alone.shows);
+    assert!(rt; length == alone.length, "{}", alone.shows);
 }
 
 #[test]
-fn a_clock_without_a_minute_makes_no_entry(rt: HostRuntime) -> Result<(), Fail> {
-    let alloc = rt.alloc();
-    let session = opened(alloc, Role::AirportOperator, TICK, None)?;
-    let told = serves_one(&rt, alloc, Bank::new(alloc)?, 10, session)?;
-    assert_eq!(rt; told.as_str(), "1 0 End: bad 106\n2");
-    Ok(())
-}
-
-#[test]
-fn faults_come_in_their_order(rt: HostRuntime) -> Result<(), Fail> {
-    let alloc = rt.alloc();
-    let text =
-        "tick\n{\"cmd\":\"tack\"}\n{\"cmd\":\"show\"}\n{\"cmd\":\"show\",\"flight\":0}\n{\"cmd\":\"load\",\"milestone\":7,\"kind\":\"tobt\",\"program\":\"95\"}\n{\"cmd\":\"ti";
-    let session = opened(alloc, Role::AirportOperator, text, None)?;
-    let told = serves_one(&rt, alloc, Bank::new(alloc)?, 10, session)?;
-    assert_eq!(rt;
-        told.as_str(),
-        "1 0 End: bad 101\nbad 102\nbad 103\nbad 104\nbad 106\nbad 101\n2"
-    );
-    let session = opened(alloc, Role::AirportOperator, text, Some(29_000_590))?;
-    let told = serves_one(&rt, alloc, Bank::new(alloc)?, 10, session)?;
-    assert_eq!(rt;
-        told.as_str(),
-        "1 0 End: bad 101\nbad 102\nbad 103\nbad 104\nbad 301 0\nbad 101\n2"
-    );
-    Ok(())
-}
-
-#[test]
-fn a_call_that_makes_no_entry_is_not_counted(rt: HostRuntime) -> Result<(), Fail> {
-    let alloc = rt.alloc();
-    let text = "{\"cmd\":\"tick\"}\n{\"cmd\":\"show\",\"flight\":8}\n{\"cmd\":\"tick\"}";
-    let session = opened(alloc, Role::NetworkManager, text, Some(29_000_590))?;
-    let told = serves_one(&rt, alloc, Bank::new(alloc)?, 4, session)?;
-    assert_eq!(rt; told.as_str(), "1 2 End: no 2 201\nno 3 202\nbad 502\n4");
-    Ok(())
+fn a_session_alone_is_told_what_came_of_its_lines(rt: HostRuntime) {
+    for alone in &ALONE {
+        is_served(&rt, rt.alloc(), alone);
+    }
 }
 
 /// Fails at each read and write.
@@ -366,10 +379,11 @@ impl Write for Broken {
 
 // A session with this reader and writer.
 fn session_over<R: Read + Drop, W: Write + Drop>(
+    rt: &impl Abort,
     alloc: Global,
     reader: R,
     writer: W,
-) -> Result<Vec<Session<R, W, Fixed>>, Fail> {
+) -> Vec<Session<R, W, Fixed>> {
     let mut sessions = Vec::new(alloc);
     let session = Session {
         role: Role::AirportOperator,
@@ -377,10 +391,9 @@ fn session_over<R: Read + Drop, W: Write + Drop>(
         writer: Counted::new(writer),
         clock: Fixed(Some(29_000_590)),
     };
-    if sessions.push(session).is_err() {
-        return Err("no memory".into());
-    }
-    Ok(sessions)
+    let is_pushed = sessions.push(session).is_ok();
+    assert!(rt; is_pushed);
+    sessions
 }
 
 // What stands after sessions at an empty desk.
@@ -388,23 +401,24 @@ fn served<
     H: Helpers + Drop + Send,
     R: Read + Drop + Send,
     W: Write + Drop + Send,
-    Rt: Threads + Wait + Sync,
+    Rt: Threads + Wait + Abort + Sync,
 >(
     rt: &Rt,
     alloc: Global,
     helpers: H,
     sessions: Vec<Session<R, W, Fixed>>,
-) -> Result<Closed<H, R, W, Fixed>, Fail> {
-    let desk = Desk::new(alloc, helpers, 20_000)?;
+) -> Closed<H, R, W, Fixed> {
+    let desk = Desk::new(alloc, helpers, 20_000).expect(rt, "a desk");
     closed_by(rt, alloc, desk, sessions, &Open)
 }
 
 // How the first session ended, its calls, and the journal's length.
 fn end_of<H: Helpers + Drop, R: Drop, W: Drop>(
+    rt: &impl Abort,
     closed: &Closed<H, R, W, Fixed>,
-) -> Result<(End, u64, u64), Fail> {
-    let left = closed.sessions.first().ok_or("a session is lost")?;
-    Ok((left.end, left.calls, closed.desk.len()))
+) -> (End, u64, u64) {
+    let left = closed.sessions.first().expect(rt, "a session");
+    (left.end, left.calls, closed.desk.len())
 }
 
 // How a session with this reader and writer ends, its calls, and the journal's length then.
@@ -412,46 +426,45 @@ fn ends_as<
     H: Helpers + Drop + Send,
     R: Read + Drop + Send,
     W: Write + Drop + Send,
-    Rt: Threads + Wait + Sync,
->(rt: &Rt, alloc: Global, helpers: H, reader: R, writer: W) -> Result<(End, u64, u64), Fail> {
-    let sessions = session_over(alloc, reader, writer)?;
-    let closed = served(rt, alloc, helpers, sessions)?;
-    end_of(&closed)
+    Rt: Threads + Wait + Abort + Sync,
+>(rt: &Rt, alloc: Global, helpers: H, reader: R, writer: W) -> (End, u64, u64) {
+    let sessions = session_over(rt, alloc, reader, writer);
+    let closed = served(rt, alloc, helpers, sessions);
+    let end = end_of(rt, &closed);
+    drop(closed);
+    end
 }
 
 #[test]
-fn a_session_ends_with_its_reader_or_writer(rt: HostRuntime) -> Result<(), Fail> {
+fn a_session_ends_with_its_reader_or_writer(rt: HostRuntime) {
     let alloc = rt.alloc();
-    let read = ends_as(&rt, alloc, Bank::new(alloc)?, Broken, Vec::new(alloc))?;
+    let bank = Bank::new(alloc).expect(&rt, "a bank");
+    let read = ends_as(&rt, alloc, bank, Broken, Vec::new(alloc));
     assert!(rt; read == (End::Read, 0, 0));
-    let write = ends_as(&rt, alloc, Bank::new(alloc)?, TICK.as_bytes(), Broken)?;
+    let bank = Bank::new(alloc).expect(&rt, "a bank");
+    let write = ends_as(&rt, alloc, bank, TICK.as_bytes(), Broken);
     assert!(rt; write == (End::Write, 1, 1));
-    Ok(())
 }
 
 // So many ticks.
-fn ticks(alloc: Global, count: usize) -> Result<String, Fail> {
+fn ticks(rt: &impl Abort, alloc: Global, count: usize) -> String {
     let mut text = String::new(alloc);
     for _ in 0..count {
-        text.push_str(TICK)?;
+        text.push_str(TICK).expect(rt, "room for a tick");
     }
-    Ok(text)
+    text
 }
 
 // The sessions of a full house, with so many lines each.
-fn full_house(alloc: Global, lines: usize) -> Result<Vec<Opened>, Fail> {
-    let text = ticks(alloc, lines)?;
+fn full_house(rt: &impl Abort, alloc: Global, lines: usize) -> Vec<Opened> {
+    let text = ticks(rt, alloc, lines);
     let mut sessions = Vec::new(alloc);
     for _ in 0..64 {
-        let session = opened(
-            alloc,
-            Role::AirportOperator,
-            text.as_str(),
-            Some(29_000_590),
-        )?;
-        push(&mut sessions, session)?;
+        let role = Role::AirportOperator;
+        let session = opened(rt, alloc, role, text.as_str(), Some(29_000_590));
+        push(rt, &mut sessions, session);
     }
-    Ok(sessions)
+    sessions
 }
 
 // Whether the entry of a number is a session's.
@@ -485,15 +498,19 @@ fn is_shown(left: &Left) -> bool {
         && left.pass.len() as u64 >= left.calls
 }
 
-// Each of 64 sessions made 200 entries, and each of these stands in the journal.
+// A session made 200 entries, and each of these stands in the journal.
+fn stands<H: Helpers + Drop>(rt: &impl Abort, desk: &mut Desk<H>, left: &Left) {
+    assert!(rt; left.end == End::End);
+    assert!(rt; left.calls == 200);
+    assert!(rt; entries_of(desk, left.number) == 200);
+    assert!(rt; is_shown(left));
+}
+
+// Each of 64 sessions did.
 fn all_stand<H: Helpers + Drop>(rt: &impl Abort, closed: &mut Stands<H>) {
-    assert_eq!(rt; closed.desk.len(), 12_800);
-    assert_eq!(rt; closed.sessions.len(), 64);
+    assert!(rt; closed.desk.len() == 12_800 && closed.sessions.len() == 64);
     for left in &closed.sessions {
-        assert!(rt; left.end == End::End);
-        assert_eq!(rt; left.calls, 200);
-        assert_eq!(rt; entries_of(&mut closed.desk, left.number), 200);
-        assert!(rt; is_shown(left));
+        stands(rt, &mut closed.desk, left);
     }
 }
 
@@ -501,15 +518,15 @@ fn serves_all<H: Helpers + Drop + Send, Rt: Threads + Wait + Abort + Sync>(
     rt: &Rt,
     alloc: Global,
     helpers: H,
-) -> Result<(), Fail> {
-    let sessions = full_house(alloc, 200)?;
-    let mut closed = served(rt, alloc, helpers, sessions)?;
+) {
+    let sessions = full_house(rt, alloc, 200);
+    let mut closed = served(rt, alloc, helpers, sessions);
     all_stand(rt, &mut closed);
-    Ok(())
+    drop(closed);
 }
 
 #[test]
-fn as_many_sessions_as_there_may_be(rt: HostRuntime) -> Result<(), Fail> {
+fn as_many_sessions_as_there_may_be(rt: HostRuntime) {
     let alloc = rt.alloc();
-    serves_all(&rt, alloc, Bank::new(alloc)?)
+    serves_all(&rt, alloc, Bank::new(alloc).expect(&rt, "a bank"));
 }
