@@ -7,6 +7,8 @@ ghost use Rattle.bpf_decode.specs.Listing.{condition_name, size_name, part_name,
 ghost use Rattle.bpf_decode.specs.Listing.{bytes_text, part_text, offset_text, address_text};
 ghost use Rattle.bpf_decode.specs.Listing.{hex_text, jump_width_text, store_name, op_text};
 ghost use Rattle.bpf_decode.specs.Listing.{line_text};
+ghost use Rattle.bpf_decode.specs.declared.op.Op.TheVariants.{Arith, Extend, Jump, Load};
+ghost use Rattle.bpf_decode.specs.declared.op.Op.TheVariants.{LoadSigned, Store};
 
 use crate::op::{Bytes, Code, Condition, Op, Operand, Order, Part, Register, Size, Width};
 use crate::program::Program;
@@ -230,6 +232,88 @@ impl fmt::Display for Hex {
     }
 }
 
+/// An operation on two words.
+#[derive(Clone, Copy)]
+struct ArithText(Width, Code, Register, Operand);
+
+impl fmt::Display for ArithText {
+    ghost output = { λ op. Some (op_text (Arith op.0 op.1 op.2 op.3)) };
+
+    fn fmt<W: fmt::Write>(&self, f: &mut fmt::Formatter<W>) -> fmt::Result {
+        let ArithText(width, code, dst, operand) = *self;
+        write!(f, "{code}{width} {dst}, {operand}")
+    }
+}
+
+/// A move with the sign of a part.
+#[derive(Clone, Copy)]
+struct ExtendText(Width, Part, Register, Register);
+
+impl fmt::Display for ExtendText {
+    ghost output = { λ op. Some (op_text (Extend op.0 op.1 op.2 op.3)) };
+
+    fn fmt<W: fmt::Write>(&self, f: &mut fmt::Formatter<W>) -> fmt::Result {
+        let ExtendText(width, part, dst, src) = *self;
+        let bits = Bits(part);
+        write!(f, "movsx{bits}_{width} {dst}, {src}")
+    }
+}
+
+/// A conditional jump.
+#[derive(Clone, Copy)]
+struct JumpText(Width, Condition, Register, Operand, i16);
+
+impl fmt::Display for JumpText {
+    ghost output = { λ op. Some (op_text (Jump op.0 op.1 op.2 op.3 op.4)) };
+
+    fn fmt<W: fmt::Write>(&self, f: &mut fmt::Formatter<W>) -> fmt::Result {
+        let JumpText(width, condition, dst, operand, offset) = *self;
+        let mark = JumpWidth(width);
+        let offset = Offset(offset as i32);
+        write!(f, "{condition}{mark} {dst}, {operand}, {offset}")
+    }
+}
+
+/// A load.
+#[derive(Clone, Copy)]
+struct LoadText(Size, Register, Address);
+
+impl fmt::Display for LoadText {
+    ghost output = { λ op. Some (op_text (Load op.0 op.1 op.2.0 op.2.1)) };
+
+    fn fmt<W: fmt::Write>(&self, f: &mut fmt::Formatter<W>) -> fmt::Result {
+        let LoadText(size, dst, address) = *self;
+        write!(f, "ldx{size} {dst}, {address}")
+    }
+}
+
+/// A load with the sign of a part.
+#[derive(Clone, Copy)]
+struct LoadSignedText(Part, Register, Address);
+
+impl fmt::Display for LoadSignedText {
+    ghost output = { λ op. Some (op_text (LoadSigned op.0 op.1 op.2.0 op.2.1)) };
+
+    fn fmt<W: fmt::Write>(&self, f: &mut fmt::Formatter<W>) -> fmt::Result {
+        let LoadSignedText(part, dst, address) = *self;
+        write!(f, "ldxs{part} {dst}, {address}")
+    }
+}
+
+/// A store.
+#[derive(Clone, Copy)]
+struct StoreText(Size, Address, Operand);
+
+impl fmt::Display for StoreText {
+    ghost output = { λ op. Some (op_text (Store op.0 op.1.0 op.1.1 op.2)) };
+
+    fn fmt<W: fmt::Write>(&self, f: &mut fmt::Formatter<W>) -> fmt::Result {
+        let StoreText(size, address, value) = *self;
+        let name = StoreName(value);
+        write!(f, "{name}{size} {address}, {value}")
+    }
+}
+
 impl fmt::Display for Op {
     ghost output = { λ op. Some (op_text op) };
 
@@ -240,7 +324,10 @@ impl fmt::Display for Op {
                 code,
                 dst,
                 operand,
-            } => write!(f, "{code}{width} {dst}, {operand}"),
+            } => {
+                let text = ArithText(width, code, dst, operand);
+                write!(f, "{text}")
+            }
             Op::Negate { width, dst } => write!(f, "neg{width} {dst}"),
             Op::Extend {
                 width,
@@ -248,8 +335,8 @@ impl fmt::Display for Op {
                 dst,
                 src,
             } => {
-                let bits = Bits(part);
-                write!(f, "movsx{bits}_{width} {dst}, {src}")
+                let text = ExtendText(width, part, dst, src);
+                write!(f, "{text}")
             }
             Op::End { order, bytes, dst } => write!(f, "{order}{bytes} {dst}"),
             Op::Ja { offset } => {
@@ -267,9 +354,8 @@ impl fmt::Display for Op {
                 operand,
                 offset,
             } => {
-                let mark = JumpWidth(width);
-                let offset = Offset(offset as i32);
-                write!(f, "{condition}{mark} {dst}, {operand}, {offset}")
+                let text = JumpText(width, condition, dst, operand, offset);
+                write!(f, "{text}")
             }
             Op::Call { helper } => write!(f, "call {helper}"),
             Op::Exit => write!(f, "exit"),
@@ -279,8 +365,8 @@ impl fmt::Display for Op {
                 base,
                 offset,
             } => {
-                let address = Address(base, offset);
-                write!(f, "ldx{size} {dst}, {address}")
+                let text = LoadText(size, dst, Address(base, offset));
+                write!(f, "{text}")
             }
             Op::LoadSigned {
                 part,
@@ -288,8 +374,8 @@ impl fmt::Display for Op {
                 base,
                 offset,
             } => {
-                let address = Address(base, offset);
-                write!(f, "ldxs{part} {dst}, {address}")
+                let text = LoadSignedText(part, dst, Address(base, offset));
+                write!(f, "{text}")
             }
             Op::Store {
                 size,
@@ -297,9 +383,8 @@ impl fmt::Display for Op {
                 offset,
                 value,
             } => {
-                let name = StoreName(value);
-                let address = Address(base, offset);
-                write!(f, "{name}{size} {address}, {value}")
+                let text = StoreText(size, Address(base, offset), value);
+                write!(f, "{text}")
             }
             Op::Wide { dst, value } => {
                 let value = Hex(value);
