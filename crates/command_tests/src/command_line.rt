@@ -14,39 +14,44 @@ fn is_refused(alloc: Global, words: &[&str]) -> bool {
     parse(alloc, words).is_err()
 }
 
+// Words of `run`, and how many entries its journal takes.
+static JOURNALS: [(&[&str], usize); 6] = [
+    (&["acdm", "run"], 100_000),
+    (&["acdm", "run", "--journal", "1"], 1),
+    (&["acdm", "run", "--journal", "2"], 2),
+    (&["acdm", "run", "--journal", "70000"], 70_000),
+    (&["acdm", "run", "--journal", "999999"], 999_999),
+    (&["acdm", "run", "--journal=1000000"], 1_000_000),
+];
+
 #[test]
 fn a_journal_is_read_or_the_usual_one(rt: HostRuntime) {
-    for (words, journal) in [
-        (["acdm", "run"].as_slice(), 100_000),
-        (["acdm", "run", "--journal", "1"].as_slice(), 1),
-        (["acdm", "run", "--journal", "2"].as_slice(), 2),
-        (["acdm", "run", "--journal", "70000"].as_slice(), 70_000),
-        (["acdm", "run", "--journal", "999999"].as_slice(), 999_999),
-        (["acdm", "run", "--journal=1000000"].as_slice(), 1_000_000),
-    ] {
+    for (words, journal) in &JOURNALS {
         let wanted = Line::Run {
-            journal,
+            journal: *journal,
             save: None,
         };
-        assert!(rt; asks_for(rt.alloc(), words, &wanted), "{words:?}");
+        assert!(rt; asks_for(rt.alloc(), *words, &wanted), "{journal}");
     }
 }
 
+static OTHER_WORDS: [&[&str]; 10] = [
+    &["acdm"],
+    &["acdm", "walk"],
+    &["acdm", "--help"],
+    &["acdm", "run", "now"],
+    &["acdm", "run", "--journal"],
+    &["acdm", "run", "--journal", "0"],
+    &["acdm", "run", "--journal", "1000001"],
+    &["acdm", "run", "--journal", "many"],
+    &["acdm", "run", "--save"],
+    &["acdm", "audit"],
+];
+
 #[test]
 fn other_words_are_refused(rt: HostRuntime) {
-    for words in [
-        ["acdm"].as_slice(),
-        ["acdm", "walk"].as_slice(),
-        ["acdm", "--help"].as_slice(),
-        ["acdm", "run", "now"].as_slice(),
-        ["acdm", "run", "--journal"].as_slice(),
-        ["acdm", "run", "--journal", "0"].as_slice(),
-        ["acdm", "run", "--journal", "1000001"].as_slice(),
-        ["acdm", "run", "--journal", "many"].as_slice(),
-        ["acdm", "run", "--save"].as_slice(),
-        ["acdm", "audit"].as_slice(),
-    ] {
-        assert!(rt; is_refused(rt.alloc(), words), "{words:?}");
+    for words in &OTHER_WORDS {
+        assert!(rt; is_refused(rt.alloc(), *words), "{words:?}");
     }
 }
 

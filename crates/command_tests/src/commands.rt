@@ -14,7 +14,6 @@ use std::io::{self, Read, Write};
 use std::net::{Net, TcpListener, TcpStream};
 use std::process::Abort;
 use std::sync::Wait;
-use std::test::Fail;
 use std::thread::Threads;
 use std::time::Clock;
 
@@ -48,30 +47,30 @@ impl Write for Broken {
     }
 }
 
-#[test]
-fn a_run_ends_with_its_status(rt: HostRuntime) -> Result<(), Fail> {
-    let alloc = rt.alloc();
-    let mut replies = Vec::new(alloc);
+// A run from this reader to this writer, with room for ten entries, ends with this status and
+// complaint.
+fn run_ends<R: Read + Drop, W: Write + Drop>(
+    rt: &impl Abort,
+    alloc: Global,
+    reader: R,
+    writer: W,
+    expected: (u8, &str),
+) {
     let mut errors = Vec::new(alloc);
-    let status = run_on(
-        alloc,
-        10,
-        SCHEDULE.as_bytes(),
-        &mut replies,
-        NO_FILE,
-        &mut errors,
-    );
-    assert_eq!(rt; status, 0);
-    assert_eq!(rt; replies.as_slice(), b"ok 0\n".as_slice());
-    assert_eq!(rt; errors.as_slice(), b"".as_slice());
-    let status = run_on(alloc, 10, Broken, &mut replies, NO_FILE, &mut errors);
-    assert_eq!(rt; status, 2);
-    assert_eq!(rt; errors.as_slice(), b"acdm: read failed\n".as_slice());
-    errors.clear();
-    let status = run_on(alloc, 10, SCHEDULE.as_bytes(), Broken, NO_FILE, &mut errors);
-    assert_eq!(rt; status, 2);
-    assert_eq!(rt; errors.as_slice(), b"acdm: write failed\n".as_slice());
-    Ok(())
+    let status = run_on(alloc, 10, reader, writer, NO_FILE, &mut errors);
+    let (wanted, complaint) = expected;
+    assert!(rt; status == wanted);
+    assert!(rt; errors.as_slice() == complaint.as_bytes());
+}
+
+#[test]
+fn a_run_ends_with_its_status(rt: HostRuntime) {
+    let alloc = rt.alloc();
+    runs_to(&rt, alloc, SCHEDULE, "ok 0\n");
+    let replies = Vec::new(alloc);
+    run_ends(&rt, alloc, Broken, replies, (2, "acdm: read failed\n"));
+    let lines = SCHEDULE.as_bytes();
+    run_ends(&rt, alloc, lines, Broken, (2, "acdm: write failed\n"));
 }
 
 // No journal is to be saved.
@@ -92,73 +91,47 @@ pub(crate) fn completes<
         + Send
         + Sync
         + 'static,
->(
-    rt: &Rt,
-    alloc: Global,
-    words: &[&str],
-    input: &str,
-    expected: (u8, &str, &str),
-) -> Result<(), Fail> {
+>(rt: &Rt, alloc: Global, words: &[&str], input: &str, expected: (u8, &str, &str)) {
     let mut output = Vec::new(alloc);
     let mut errors = Vec::new(alloc);
     let status = complete(alloc, rt, words, input.as_bytes(), &mut output, &mut errors);
     let (wanted, replies, complaint) = expected;
-    assert_eq!(rt; status, wanted);
-    assert_eq!(rt; output.as_slice(), replies.as_bytes());
-    assert_eq!(rt; errors.as_slice(), complaint.as_bytes());
-    Ok(())
+    assert!(rt; status == wanted);
+    assert!(rt; output.as_slice() == replies.as_bytes());
+    assert!(rt; errors.as_slice() == complaint.as_bytes());
 }
 
-#[test]
-fn a_journal_takes_just_as_many_entries_as_it_says(rt: HostRuntime) -> Result<(), Fail> {
-    let alloc = rt.alloc();
-    let mut ticks = String::new(alloc);
-    for _ in 0..5 {
-        ticks.push_str(TICK)?;
+// So many ticks.
+fn ticks(rt: &impl Abort, alloc: Global, count: usize) -> String {
+    let mut text = String::new(alloc);
+    for _ in 0..count {
+        text.push_str(TICK).expect(rt, "room for a tick");
     }
-    completes(
-        &rt,
-        rt.alloc(),
-        &["acdm", "run", "--journal", "4"],
-        ticks.as_str(),
-        (0, "ok 0\nok 1\nok 2\nok 3\nbad 502\n", ""),
-    )?;
-    completes(
-        &rt,
-        rt.alloc(),
-        &["acdm", "run"],
-        ticks.as_str(),
-        (0, "ok 0\nok 1\nok 2\nok 3\nok 4\n", ""),
-    )
+    text
 }
 
 #[test]
-fn words_and_files_that_fail_are_told_as_errors(rt: HostRuntime) -> Result<(), Fail> {
-    completes(
-        &rt,
-        rt.alloc(),
-        &["acdm", "verify", "no-such-folder/no-such-file"],
-        TICK,
-        (2, "", "acdm: read failed\n"),
-    )?;
+fn a_journal_takes_just_as_many_entries_as_it_says(rt: HostRuntime) {
+    let lines = ticks(&rt, rt.alloc(), 5);
+    let full = (0, "ok 0\nok 1\nok 2\nok 3\nbad 502\n", "");
+    let words = ["acdm", "run", "--journal", "4"];
+    completes(&rt, rt.alloc(), &words, lines.as_str(), full);
+    let all = (0, "ok 0\nok 1\nok 2\nok 3\nok 4\n", "");
+    completes(&rt, rt.alloc(), &["acdm", "run"], lines.as_str(), all);
+}
+
+#[test]
+fn words_and_files_that_fail_are_told_as_errors(rt: HostRuntime) {
     let alloc = rt.alloc();
+    let words = ["acdm", "verify", "no-such-folder/no-such-file"];
+    completes(&rt, alloc, &words, TICK, (2, "", "acdm: read failed\n"));
     let mut output = Vec::new(alloc);
     let mut errors = Vec::new(alloc);
     let words = ["acdm", "walk"];
-    let status = complete(
-        alloc,
-        &rt,
-        words.as_slice(),
-        TICK.as_bytes(),
-        &mut output,
-        &mut errors,
-    );
-    assert_eq!(rt; status, 2);
-    assert!(rt; output.is_empty());
-    assert!(rt; !errors.is_empty());
-    let status = complete(alloc, &rt, words.as_slice(), Broken, Broken, Broken);
-    assert_eq!(rt; status, 2);
-    Ok(())
+    let lines = TICK.as_bytes();
+    let status = complete(alloc, &rt, &words, lines, &mut output, &mut errors);
+    assert!(rt; status == 2 && output.is_empty() && !errors.is_empty());
+    assert!(rt; complete(alloc, &rt, &words, Broken, Broken, Broken) == 2);
 }
 
 // Whether these lines are answered so.
@@ -191,22 +164,30 @@ fn has_same_flight<H: Helpers + Drop>(one: &Desk<H>, other: &Desk<H>) -> bool {
 fn takes_the_schedule_alone<H: Helpers + Drop>(
     rt: &impl Abort,
     alloc: Global,
-    some: H,
-    others: H,
-) -> Result<(), Fail> {
-    let mut one = Desk::new(alloc, some, 1)?;
-    assert!(rt; is_answered(alloc, SCHEDULE, &mut one, "ok 0\n"));
-    assert!(rt; is_answered(alloc, FLIGHT_PLAN, &mut one, "bad 502\n"));
-    let mut expected = Desk::new(alloc, others, 10)?;
-    assert!(rt; is_answered(alloc, SCHEDULE, &mut expected, "ok 0\n"));
-    assert!(rt; has_same_flight(&one, &expected));
-    Ok(())
+    one: &mut Desk<H>,
+    other: &mut Desk<H>,
+) {
+    assert!(rt; is_answered(alloc, SCHEDULE, one, "ok 0\n"));
+    assert!(rt; is_answered(alloc, FLIGHT_PLAN, one, "bad 502\n"));
+    assert!(rt; is_answered(alloc, SCHEDULE, other, "ok 0\n"));
+    assert!(rt; has_same_flight(one, other));
+}
+
+// The first desk has room for one entry, and the second for both.
+fn room_is_for_one<H: Helpers + Drop>(rt: &impl Abort, alloc: Global, some: H, others: H) {
+    let mut one = Desk::new(alloc, some, 1).expect(rt, "a desk");
+    let mut other = Desk::new(alloc, others, 10).expect(rt, "a desk");
+    takes_the_schedule_alone(rt, alloc, &mut one, &mut other);
+    drop(one);
+    drop(other);
 }
 
 #[test]
-fn a_full_journal_leaves_the_flight_as_it_was(rt: HostRuntime) -> Result<(), Fail> {
+fn a_full_journal_leaves_the_flight_as_it_was(rt: HostRuntime) {
     let alloc = rt.alloc();
-    takes_the_schedule_alone(&rt, alloc, Bank::new(alloc)?, Bank::new(alloc)?)
+    let some = Bank::new(alloc).expect(&rt, "a bank");
+    let others = Bank::new(alloc).expect(&rt, "a bank");
+    room_is_for_one(&rt, alloc, some, others);
 }
 
 // Flight 7 comes in-block at 09:00, and its TOBT is five minutes later, as helper 3 says it.
@@ -229,160 +210,186 @@ const TAXI_TIME: &str =
 1 29000580 APT {"cmd":"load","milestone":9,"kind":"alert","program":"9500000000000000"}
 "#;
 
-fn runs_to(rt: &impl Abort, alloc: Global, text: &str, expected: &str) -> Result<(), Fail> {
+// A run over these lines writes these replies, and no complaint.
+fn runs_to(rt: &impl Abort, alloc: Global, lines: &str, expected: &str) {
     let mut replies = Vec::new(alloc);
-    let mut errors = Vec::new(alloc);
-    let status = run_on(
-        alloc,
-        10,
-        text.as_bytes(),
-        &mut replies,
-        NO_FILE,
-        &mut errors,
-    );
-    assert_eq!(rt; status, 0);
-    assert_eq!(rt; replies.as_slice(), expected.as_bytes());
-    Ok(())
+    run_ends(rt, alloc, lines.as_bytes(), &mut replies, (0, ""));
+    assert!(rt; replies.as_slice() == expected.as_bytes());
 }
 
 #[test]
-fn programs_ask_the_known_helpers(rt: HostRuntime) -> Result<(), Fail> {
+fn programs_ask_the_known_helpers(rt: HostRuntime) {
     let alloc = rt.alloc();
     let summed = "ok 0\nok 1\nok 2\nok 3\nok 4\nalerts 5 7:CDM08,CDM09,CDM07a\n";
-    runs_to(&rt, alloc, SUMMED_TARGET, summed)?;
+    runs_to(&rt, alloc, SUMMED_TARGET, summed);
     let taxi = "ok 0\nok 1\nok 2\nok 3\nalerts 4 7:LOC01,LOC03\nbad 308 0\n";
-    runs_to(&rt, alloc, TAXI_TIME, taxi)
+    runs_to(&rt, alloc, TAXI_TIME, taxi);
 }
 
-fn verdict_of(alloc: Global, bytes: &[u8]) -> Result<(u8, String), Fail> {
-    let mut text = Vec::new(alloc);
+// Of these bytes `verify` writes this, with this status, and no complaint.
+fn is_judged(rt: &impl Abort, alloc: Global, bytes: &[u8], status: u8, text: &str) {
+    let mut written = Vec::new(alloc);
     let mut errors = Vec::new(alloc);
-    let status = verify_on(alloc, bytes, &mut text, &mut errors);
-    if !errors.is_empty() {
-        return Err(Fail::from("a line on the errors' writer"));
-    }
-    Ok((
-        status,
-        String::from_utf8(text).map_err(|_| "a verdict is no text")?,
-    ))
+    let ended = verify_on(alloc, bytes, &mut written, &mut errors);
+    assert!(rt; ended == status, "{text}");
+    assert!(rt; written.as_slice() == text.as_bytes(), "{text}");
+    assert!(rt; errors.is_empty(), "{text}");
 }
 
 #[test]
-fn a_program_is_listed(rt: HostRuntime) -> Result<(), Fail> {
+fn a_program_is_listed(rt: HostRuntime) {
     let bytes = [0xb7, 0, 0, 0, 0, 0, 0, 0, 0x95, 0, 0, 0, 0, 0, 0, 0];
-    let (status, text) = verdict_of(rt.alloc(), bytes.as_slice())?;
-    assert_eq!(rt; status, 0);
-    assert_eq!(rt; text.as_str(), "0: mov64 r0, 0\n1: exit\naccepted 2\n");
-    Ok(())
+    let listing = "0: mov64 r0, 0\n1: exit\naccepted 2\n";
+    is_judged(&rt, rt.alloc(), &bytes, 0, listing);
+}
+
+// Faulty programs, and what `verify` tells of them.
+static FAULTY_PROGRAMS: [(&[u8], &str); 6] = [
+    (&[0x95, 0, 1, 0, 0, 0, 0, 0], "refused 304 0\n"),
+    (&[0x18, 0, 0, 0, 1, 0, 0, 0], "refused 315 0\n"),
+    (&[0, 0, 0, 0, 0, 0, 0, 0, 0, 0, 0, 0], "refused 301 0\n"),
+    (&[], "refused 301 0\n"),
+    (&[0x95, 0, 0, 0, 0, 0, 0, 0], "refused 308 0\n"),
+    (&[0xb7, 0, 0, 0, 0, 0, 0, 0], "refused 307 0\n"),
+];
+
+#[test]
+fn a_faulty_program_is_refused(rt: HostRuntime) {
+    for (bytes, text) in &FAULTY_PROGRAMS {
+        is_judged(&rt, rt.alloc(), *bytes, 1, *text);
+    }
+}
+
+fn zeros_are_refused(rt: &impl Abort, alloc: Global, count: usize) {
+    let zeros = vec![in alloc; 0u8; count].expect(rt, "zeros");
+    is_judged(rt, alloc, zeros.as_slice(), 1, "refused 302 0\n");
 }
 
 #[test]
-fn a_faulty_program_is_refused(rt: HostRuntime) -> Result<(), Fail> {
-    let many = vec![in rt.alloc(); 0u8; 65_536]?;
-    let more = vec![in rt.alloc(); 0u8; 100_000]?;
-    for (bytes, text) in [
-        ([0x95, 0, 1, 0, 0, 0, 0, 0].as_slice(), "refused 304 0\n"),
-        ([0x18, 0, 0, 0, 1, 0, 0, 0].as_slice(), "refused 315 0\n"),
-        ([0u8; 12].as_slice(), "refused 301 0\n"),
-        ([].as_slice(), "refused 301 0\n"),
-        ([0x95, 0, 0, 0, 0, 0, 0, 0].as_slice(), "refused 308 0\n"),
-        ([0xb7, 0, 0, 0, 0, 0, 0, 0].as_slice(), "refused 307 0\n"),
-        (many.as_slice(), "refused 302 0\n"),
-        (more.as_slice(), "refused 302 0\n"),
-    ] {
-        let (status, written) = verdict_of(rt.alloc(), bytes)?;
-        assert_eq!(rt; status, 1);
-        assert_eq!(rt; written.as_str(), text);
-    }
-    Ok(())
+fn a_program_of_too_many_slots_is_refused(rt: HostRuntime) {
+    zeros_are_refused(&rt, rt.alloc(), 65_536);
+    zeros_are_refused(&rt, rt.alloc(), 100_000);
 }
 
-/// Of a program of these slots `verify` writes this, with this status.
-fn says(rt: &impl Abort, alloc: Global, slots: &[u64], status: u8, text: &str) -> Result<(), Fail> {
+const EXIT: u64 = 0x9500_0000_0000_0000;
+
+const HELPER_1: u64 = 0x8500_0000_0100_0000;
+
+const HELPER_2: u64 = 0x8500_0000_0200_0000;
+
+const HELPER_3: u64 = 0x8500_0000_0300_0000;
+
+const HELPER_4: u64 = 0x8500_0000_0400_0000;
+
+// Words of the record: the scheduled type, of four bytes, and the stand, of two.
+const TYPE_IN_R1: u64 = 0x6111_1000_0000_0000;
+
+const STAND_IN_R1: u64 = 0x6911_3c00_0000_0000;
+
+const LOW_NINE_BITS: u64 = 0x5701_0000_ff01_0000;
+
+const NOW_IN_R1: u64 = 0xbf31_0000_0000_0000;
+
+const R2_IS_10000: u64 = 0xb702_0000_1027_0000;
+
+const R2_IS_10001: u64 = 0xb702_0000_1127_0000;
+
+/// The slots of a program, and what `verify` writes of it, with which status.
+struct Calling {
+    slots: [u64; 4],
+    count: usize,
+    status: u8,
+    text: &'static str,
+}
+
+static CALLS: [Calling; 8] = [
+    Calling {
+        slots: [TYPE_IN_R1, HELPER_1, EXIT, 0],
+        count: 3,
+        status: 0,
+        text: "0: ldxw r1, [r1+16]\n1: call 1\n2: exit\naccepted 3\n",
+    },
+    Calling {
+        slots: [HELPER_1, EXIT, 0, 0],
+        count: 2,
+        status: 1,
+        text: "refused 313 0\n",
+    },
+    Calling {
+        slots: [STAND_IN_R1, LOW_NINE_BITS, HELPER_2, EXIT],
+        count: 4,
+        status: 0,
+        text: "0: ldxh r1, [r1+60]\n1: and64 r1, 511\n2: call 2\n3: exit\naccepted 4\n",
+    },
+    Calling {
+        slots: [STAND_IN_R1, HELPER_2, EXIT, 0],
+        count: 3,
+        status: 1,
+        text: "refused 313 1\n",
+    },
+    Calling {
+        slots: [NOW_IN_R1, R2_IS_10000, HELPER_3, EXIT],
+        count: 4,
+        status: 0,
+        text: "0: mov64 r1, r3\n1: mov64 r2, 10000\n2: call 3\n3: exit\naccepted 4\n",
+    },
+    Calling {
+        slots: [NOW_IN_R1, R2_IS_10001, HELPER_3, EXIT],
+        count: 4,
+        status: 1,
+        text: "refused 313 2\n",
+    },
+    Calling {
+        slots: [HELPER_3, EXIT, 0, 0],
+        count: 2,
+        status: 1,
+        text: "refused 313 0\n",
+    },
+    Calling {
+        slots: [HELPER_4, EXIT, 0, 0],
+        count: 2,
+        status: 1,
+        text: "refused 312 0\n",
+    },
+];
+
+fn says(rt: &impl Abort, alloc: Global, calling: &Calling) {
     let mut bytes = Vec::new(alloc);
-    for slot in slots {
-        bytes.extend_from_slice(&slot.to_be_bytes())?;
+    for slot in calling.slots.iter().take(calling.count) {
+        bytes
+            .extend_from_slice(&slot.to_be_bytes())
+            .expect(rt, "room for a slot");
     }
-    let (ended, written) = verdict_of(alloc, bytes.as_slice())?;
-    assert_eq!(rt; written.as_str(), text);
-    assert_eq!(rt; ended, status);
-    Ok(())
+    is_judged(rt, alloc, bytes.as_slice(), calling.status, calling.text);
 }
 
 #[test]
-fn calls_keep_within_the_helpers_signatures(rt: HostRuntime) -> Result<(), Fail> {
-    let alloc = rt.alloc();
-    let exit = 0x9500_0000_0000_0000;
-    let helper_1 = 0x8500_0000_0100_0000;
-    let helper_2 = 0x8500_0000_0200_0000;
-    let helper_3 = 0x8500_0000_0300_0000;
-    let helper_4 = 0x8500_0000_0400_0000;
-    // Words of the record: the scheduled type, of four bytes, and the stand, of two.
-    let type_in_r1 = 0x6111_1000_0000_0000;
-    let stand_in_r1 = 0x6911_3c00_0000_0000;
-    let low_nine_bits = 0x5701_0000_ff01_0000;
-    let now_in_r1 = 0xbf31_0000_0000_0000;
-    says(
-        &rt,
-        alloc,
-        &[type_in_r1, helper_1, exit],
-        0,
-        "0: ldxw r1, [r1+16]\n1: call 1\n2: exit\naccepted 3\n",
-    )?;
-    says(&rt, alloc, &[helper_1, exit], 1, "refused 313 0\n")?;
-    says(
-        &rt,
-        alloc,
-        &[stand_in_r1, low_nine_bits, helper_2, exit],
-        0,
-        "0: ldxh r1, [r1+60]\n1: and64 r1, 511\n2: call 2\n3: exit\naccepted 4\n",
-    )?;
-    says(
-        &rt,
-        alloc,
-        &[stand_in_r1, helper_2, exit],
-        1,
-        "refused 313 1\n",
-    )?;
-    says(
-        &rt,
-        alloc,
-        &[now_in_r1, 0xb702_0000_1027_0000, helper_3, exit],
-        0,
-        "0: mov64 r1, r3\n1: mov64 r2, 10000\n2: call 3\n3: exit\naccepted 4\n",
-    )?;
-    says(
-        &rt,
-        alloc,
-        &[now_in_r1, 0xb702_0000_1127_0000, helper_3, exit],
-        1,
-        "refused 313 2\n",
-    )?;
-    says(&rt, alloc, &[helper_3, exit], 1, "refused 313 0\n")?;
-    says(&rt, alloc, &[helper_4, exit], 1, "refused 312 0\n")
+fn calls_keep_within_the_helpers_signatures(rt: HostRuntime) {
+    for calling in &CALLS {
+        says(&rt, rt.alloc(), calling);
+    }
 }
 
-// The status of `verify`, and what it tells on the errors' writer.
+// `verify` from this reader to this writer ends with the status 2 and this complaint.
 fn verify_fails<R: Read + Drop, W: Write + Drop>(
+    rt: &impl Abort,
     alloc: Global,
     reader: R,
     writer: W,
-) -> (u8, Vec<u8>) {
+    complaint: &str,
+) {
     let mut errors = Vec::new(alloc);
     let status = verify_on(alloc, reader, writer, &mut errors);
-    (status, errors)
+    assert!(rt; status == 2);
+    assert!(rt; errors.as_slice() == complaint.as_bytes());
 }
 
 #[test]
 fn verify_tells_what_failed(rt: HostRuntime) {
     let alloc = rt.alloc();
-    let (status, errors) = verify_fails(alloc, Broken, Vec::new(alloc));
-    assert_eq!(rt; status, 2);
-    assert_eq!(rt; errors.as_slice(), b"acdm: read failed\n".as_slice());
+    verify_fails(&rt, alloc, Broken, Vec::new(alloc), "acdm: read failed\n");
     let exit = [0x95, 0, 0, 0, 0, 0, 0, 0];
-    let (status, errors) = verify_fails(alloc, exit.as_slice(), Broken);
-    assert_eq!(rt; status, 2);
-    assert_eq!(rt; errors.as_slice(), b"acdm: write failed\n".as_slice());
+    verify_fails(&rt, alloc, exit.as_slice(), Broken, "acdm: write failed\n");
 }
 
 /// Has no memory at each read.
@@ -396,12 +403,9 @@ impl Read for Short {
 }
 
 #[test]
-fn want_of_memory_is_no_verdict(rt: HostRuntime) -> Result<(), Fail> {
+fn want_of_memory_is_no_verdict(rt: HostRuntime) {
     let alloc = rt.alloc();
-    let mut errors = Vec::new(alloc);
     let mut text = Vec::new(alloc);
-    assert_eq!(rt; verify_on(alloc, Short, &mut text, &mut errors), 2);
+    verify_fails(&rt, alloc, Short, &mut text, "acdm: no memory\n");
     assert!(rt; text.is_empty());
-    assert_eq!(rt; errors.as_slice(), b"acdm: no memory\n".as_slice());
-    Ok(())
 }

@@ -3,7 +3,6 @@ use acdm_commands::{audit_on, run_on};
 use std::alloc::Global;
 use std::io::{self, Read, Write};
 use std::process::Abort;
-use std::test::Fail;
 
 // A program for milestone 9 asks for the taxi time from the stand, and its answer is the local
 // alerts.
@@ -29,29 +28,22 @@ const LISTED: &str = "4 1 29000580 APT 0 0 alerts\n";
 const PLANNED: &str =
     "0 1 29000580 APT 0 0 schedule 7 DLH7 A320 DAIBC EDDM 29000760 40 5 10 12\n1 2 29000580 NM 0 0 report 7 1 29000760 DLH7 A320 DAIBC EDDM\n";
 
-fn joined(alloc: Global, parts: &[&str]) -> Result<String, Fail> {
+fn joined(rt: &impl Abort, alloc: Global, parts: &[&str]) -> String {
     let mut text = String::new(alloc);
     for part in parts {
-        text.push_str(part)?;
+        text.push_str(part).expect(rt, "room for a part");
     }
-    Ok(text)
+    text
 }
 
-fn audits_to(
-    rt: &impl Abort,
-    alloc: Global,
-    parts: &[&str],
-    expected: (u8, &str),
-) -> Result<(), Fail> {
-    let journal = joined(alloc, parts)?;
+fn audits_to(rt: &impl Abort, alloc: Global, parts: &[&str], status: u8, told: &str) {
+    let journal = joined(rt, alloc, parts);
     let mut output = Vec::new(alloc);
     let mut errors = Vec::new(alloc);
-    let status = audit_on(alloc, journal.as_bytes(), &mut output, &mut errors);
-    let (wanted, told) = expected;
-    assert_eq!(rt; status, wanted);
-    assert_eq!(rt; output.as_slice(), told.as_bytes());
-    assert!(rt; errors.is_empty());
-    Ok(())
+    let ended = audit_on(alloc, journal.as_bytes(), &mut output, &mut errors);
+    assert!(rt; ended == status, "{told}");
+    assert!(rt; output.as_slice() == told.as_bytes(), "{told}");
+    assert!(rt; errors.is_empty(), "{told}");
 }
 
 // The status of a run over the lines, and what it saved.
@@ -65,67 +57,69 @@ fn day_saved(alloc: Global) -> (u8, Vec<u8>) {
 }
 
 #[test]
-fn a_day_is_saved_as_text(rt: HostRuntime) -> Result<(), Fail> {
+fn a_day_is_saved_as_text(rt: HostRuntime) {
     let alloc = rt.alloc();
-    let expected = joined(alloc, &[LOADED, ENTERED, REPORTED, LISTED])?;
+    let expected = joined(&rt, alloc, &[LOADED, ENTERED, REPORTED, LISTED]);
     let (status, saved) = day_saved(alloc);
-    assert_eq!(rt; status, 0);
-    assert_eq!(rt; saved.as_slice(), expected.as_bytes());
-    audits_to(&rt, alloc, &[expected.as_str()], (0, "legal 5\n"))
+    assert!(rt; status == 0);
+    assert!(rt; saved.as_slice() == expected.as_bytes());
+    audits_to(&rt, alloc, &[expected.as_str()], 0, "legal 5\n");
 }
 
+// Other entries in the place of the fourth.
+static OTHER_ANSWERS: [&str; 4] = [
+    "3 5 29000580 GH 0 1 11 report 7 9 29000760\n",
+    "3 5 29000580 GH 0 0 report 7 9 29000760\n",
+    "3 5 29000580 GH 0 2 10 10 report 7 9 29000760\n",
+    "3 5 29000580 GH 599 0 report 7 9 29000760\n",
+];
+
 #[test]
-fn an_entry_with_other_answers_is_told(rt: HostRuntime) -> Result<(), Fail> {
-    let alloc = rt.alloc();
-    for fourth in [
-        "3 5 29000580 GH 0 1 11 report 7 9 29000760\n",
-        "3 5 29000580 GH 0 0 report 7 9 29000760\n",
-        "3 5 29000580 GH 0 2 10 10 report 7 9 29000760\n",
-        "3 5 29000580 GH 599 0 report 7 9 29000760\n",
-    ] {
-        let parts = [LOADED, ENTERED, fourth, LISTED];
-        audits_to(&rt, alloc, parts.as_slice(), (1, "entry 3 404\n"))?;
+fn an_entry_with_other_answers_is_told(rt: HostRuntime) {
+    for fourth in &OTHER_ANSWERS {
+        let parts = [LOADED, ENTERED, *fourth, LISTED];
+        audits_to(&rt, rt.alloc(), &parts, 1, "entry 3 404\n");
     }
-    Ok(())
 }
 
 #[test]
-fn an_entry_that_is_none_is_told(rt: HostRuntime) -> Result<(), Fail> {
+fn an_entry_that_is_none_is_told(rt: HostRuntime) {
     let alloc = rt.alloc();
     let zero = "3 5 29000580 GH 0 1 10 report 07 9 29000760\n";
-    audits_to(&rt, alloc, &[LOADED, ENTERED, zero], (1, "entry 3 401\n"))?;
+    audits_to(&rt, alloc, &[LOADED, ENTERED, zero], 1, "entry 3 401\n");
     let exit = "0 1 29000580 APT 0 0 load 9 alert 9500000000000000\n";
-    audits_to(&rt, alloc, &[exit, ENTERED], (1, "entry 0 403\n"))?;
+    audits_to(&rt, alloc, &[exit, ENTERED], 1, "entry 0 403\n");
     let cut = "4 1 29000580 APT 0 0 alerts";
     let parts = [LOADED, ENTERED, REPORTED, cut];
-    audits_to(&rt, alloc, parts.as_slice(), (1, "entry 4 401\n"))?;
-    audits_to(&rt, alloc, &["\n"], (1, "entry 0 401\n"))?;
-    audits_to(&rt, alloc, &[], (0, "legal 0\n"))
+    audits_to(&rt, alloc, &parts, 1, "entry 4 401\n");
+    audits_to(&rt, alloc, &["\n"], 1, "entry 0 401\n");
+    audits_to(&rt, alloc, &[], 0, "legal 0\n");
 }
 
+// Third entries of a journal, with the status and what is told of each.
+static OUTCOMES: [(&str, u8, &str); 3] = [
+    (
+        "2 3 29000580 ATC 205 0 report 7 10 29000760\n",
+        0,
+        "legal 3\n",
+    ),
+    (
+        "2 3 29000580 ATC 0 0 report 7 10 29000760\n",
+        1,
+        "entry 2 405\n",
+    ),
+    (
+        "3 3 29000580 ATC 205 0 report 7 10 29000760\n",
+        1,
+        "entry 2 402\n",
+    ),
+];
+
 #[test]
-fn an_entry_with_another_outcome_is_told(rt: HostRuntime) -> Result<(), Fail> {
-    let alloc = rt.alloc();
-    for (third, status, told) in [
-        (
-            "2 3 29000580 ATC 205 0 report 7 10 29000760\n",
-            0,
-            "legal 3\n",
-        ),
-        (
-            "2 3 29000580 ATC 0 0 report 7 10 29000760\n",
-            1,
-            "entry 2 405\n",
-        ),
-        (
-            "3 3 29000580 ATC 205 0 report 7 10 29000760\n",
-            1,
-            "entry 2 402\n",
-        ),
-    ] {
-        audits_to(&rt, alloc, &[PLANNED, third], (status, told))?;
+fn an_entry_with_another_outcome_is_told(rt: HostRuntime) {
+    for (third, status, told) in &OUTCOMES {
+        audits_to(&rt, rt.alloc(), &[PLANNED, *third], *status, *told);
     }
-    Ok(())
 }
 
 /// Fails at each read and write.
@@ -148,36 +142,34 @@ impl Write for Broken {
     }
 }
 
-// The status of an audit, and what it tells on the errors' writer.
+// An audit from this reader to this writer ends with the status 2 and this complaint.
 fn audit_fails<R: Read + Drop, W: Write + Drop>(
+    rt: &impl Abort,
     alloc: Global,
     reader: R,
     writer: W,
-) -> (u8, Vec<u8>) {
+    complaint: &str,
+) {
     let mut errors = Vec::new(alloc);
     let status = audit_on(alloc, reader, writer, &mut errors);
-    (status, errors)
+    assert!(rt; status == 2);
+    assert!(rt; errors.as_slice() == complaint.as_bytes());
 }
 
-// The same of a run over the lines whose journal can't be saved.
-fn saving_fails(alloc: Global) -> (u8, Vec<u8>) {
+// So does a run over the lines whose journal can't be saved.
+fn saving_fails(rt: &impl Abort, alloc: Global, complaint: &str) {
     let mut replies = Vec::new(alloc);
     let mut errors = Vec::new(alloc);
     let file = Some(Broken);
     let status = run_on(alloc, 10, LINES.as_bytes(), &mut replies, file, &mut errors);
-    (status, errors)
+    assert!(rt; status == 2);
+    assert!(rt; errors.as_slice() == complaint.as_bytes());
 }
 
 #[test]
 fn what_fails_is_told(rt: HostRuntime) {
     let alloc = rt.alloc();
-    let (status, errors) = saving_fails(alloc);
-    assert_eq!(rt; status, 2);
-    assert_eq!(rt; errors.as_slice(), b"acdm: save failed\n".as_slice());
-    let (status, errors) = audit_fails(alloc, Broken, Vec::new(alloc));
-    assert_eq!(rt; status, 2);
-    assert_eq!(rt; errors.as_slice(), b"acdm: read failed\n".as_slice());
-    let (status, errors) = audit_fails(alloc, b"".as_slice(), Broken);
-    assert_eq!(rt; status, 2);
-    assert_eq!(rt; errors.as_slice(), b"acdm: write failed\n".as_slice());
+    saving_fails(&rt, alloc, "acdm: save failed\n");
+    audit_fails(&rt, alloc, Broken, Vec::new(alloc), "acdm: read failed\n");
+    audit_fails(&rt, alloc, b"".as_slice(), Broken, "acdm: write failed\n");
 }

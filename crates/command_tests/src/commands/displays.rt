@@ -1,17 +1,17 @@
 //! Displays, which are sent the journal while partners are served.
-use crate::commands::serve::{Morning, listening, talk};
+use crate::commands::serve::{Morning, Partner, listening, served_at, talk};
 use acdm_board::Desk;
-use acdm_commands::serve_on;
 use acdm_displays::{Displays, follow};
 use acdm_milestones::Role;
+use acdm_row::Row;
 use acdm_step::Command;
 use bpf_helpers::{Bank, Helpers};
 use std::alloc::Global;
 use std::io::Read;
 use std::net::{TcpListener, TcpStream};
-use std::sync::Wait;
+use std::process::Abort;
 use std::sync::atomic::AtomicBool;
-use std::test::Fail;
+use std::sync::{Arc, Wait};
 use std::thread;
 use std::thread::Threads;
 use std::time::Clock as SystemClock;
@@ -38,95 +38,86 @@ fn is_sent(stream: TcpStream, wanted: &str) -> bool {
     }
 }
 
+fn started<Rt: SystemClock + Threads + Abort + Clone + Drop + Send + 'static>(
+    rt: &Rt,
+    alloc: Global,
+    listener: TcpListener,
+    row: &Arc<Row>,
+) -> Displays {
+    Displays::start(rt, alloc, listener, row)
+        .ok()
+        .expect(rt, "displays")
+}
+
 // Serves two partners, while displays that a listener accepts are sent the journal.
 fn serve_and_show<
     H: Helpers + Drop + Send,
-    Rt: SystemClock + Threads + Wait + Clone + Drop + Send + Sync + 'static,
->(
-    rt: &Rt,
-    alloc: Global,
-    helpers: H,
-    first: (Role, TcpListener, Morning),
-    second: (Role, TcpListener, Morning),
-    displays: TcpListener,
-) -> Result<(), Fail> {
-    let desk = Desk::new(alloc, helpers, 10)?;
-    let Ok(displays) = Displays::start(rt, alloc, displays, desk.row()) else {
-        return Err(Fail::from("no displays"));
-    };
-    let mut partners = Vec::with_capacity(alloc, 2)?;
-    partners.push_reserved(first);
-    partners.push_reserved(second);
-    let mut output = Vec::new(alloc);
-    let is_served = serve_on(rt, alloc, partners, desk, &mut output).is_ok();
+    Rt: SystemClock + Threads + Wait + Abort + Clone + Drop + Send + Sync + 'static,
+>(rt: &Rt, alloc: Global, helpers: H, first: Partner, second: Partner, displays: TcpListener) {
+    let desk = Desk::new(alloc, helpers, 10).expect(rt, "a desk");
+    let displays = started(rt, alloc, displays, desk.row());
+    let told = served_at(rt, alloc, desk, first, second);
     displays.close(rt);
-    if is_served {
-        Ok(())
-    } else {
-        Err(Fail::from("the partners were not served"))
-    }
+    drop(told);
 }
 
 #[test]
-fn a_display_is_sent_the_journal(rt: HostRuntime) -> Result<(), Fail> {
+fn a_display_is_sent_the_journal(rt: HostRuntime) {
     let alloc = rt.alloc();
-    let (manager, to_manager) = listening(&rt)?;
-    let (tower, to_tower) = listening(&rt)?;
-    let (displays, to_displays) = listening(&rt)?;
-    let Ok(shown) = thread::spawn(&rt, move || is_sent(to_displays, JOURNAL)) else {
-        return Err(Fail::from("no thread"));
-    };
-    let Ok(talking) = thread::spawn(&rt, move || talk(to_manager, to_tower)) else {
-        return Err(Fail::from("no thread"));
-    };
-    serve_and_show(
-        &rt,
-        alloc,
-        Bank::new(alloc)?,
-        (Role::NetworkManager, manager, Morning),
-        (Role::AirTrafficControl, tower, Morning),
-        displays,
-    )?;
+    let (manager, to_manager) = listening(&rt);
+    let (tower, to_tower) = listening(&rt);
+    let (displays, to_displays) = listening(&rt);
+    let shown = thread::spawn(&rt, move || is_sent(to_displays, JOURNAL))
+        .ok()
+        .expect(&rt, "a thread");
+    let talking = thread::spawn(&rt, move || talk(to_manager, to_tower))
+        .ok()
+        .expect(&rt, "a thread");
+    let manager = (Role::NetworkManager, manager, Morning);
+    let tower = (Role::AirTrafficControl, tower, Morning);
+    let bank = Bank::new(alloc).expect(&rt, "a bank");
+    serve_and_show(&rt, alloc, bank, manager, tower, displays);
     assert!(rt; talking.join(&rt));
     assert!(rt; shown.join(&rt));
-    Ok(())
 }
 
 // A tick of this minute, by session 1.
-fn tick<H: Helpers + Drop>(desk: &mut Desk<H>, moment: u32) -> Result<(), Fail> {
-    if moment < 1 {
-        return Err(Fail::from("no minute"));
-    }
-    match desk.call_for(1, Role::AirportOperator, moment, Command::Tick) {
-        Ok(_) => Ok(()),
-        Err(_) => Err(Fail::from("no entry")),
-    }
+fn tick<H: Helpers + Drop>(rt: &impl Abort, desk: &mut Desk<H>, moment: u32) {
+    assert!(rt; moment >= 1);
+    let role = Role::AirportOperator;
+    let is_entered = desk.call_for(1, role, moment, Command::Tick).is_ok();
+    assert!(rt; is_entered);
 }
 
-// What is sent of a journal with these ticks to one who has left.
-fn sent<H: Helpers + Drop>(alloc: Global, helpers: H, ticks: &[u32]) -> Result<String, Fail> {
-    let mut desk = Desk::new(alloc, helpers, 10)?;
-    for moment in ticks {
-        tick(&mut desk, *moment)?;
-    }
+// What is sent of the journal to one who has left.
+fn followed<H: Helpers + Drop>(rt: &impl Abort, alloc: Global, desk: &Desk<H>) -> String {
     let closing = AtomicBool::new(false);
     let mut output = Vec::new(alloc);
     let mut nobody = "".as_bytes();
-    if follow(alloc, desk.row(), &closing, &mut nobody, &mut output).is_err() {
-        return Err(Fail::from("nothing was sent"));
+    let is_sent = follow(alloc, desk.row(), &closing, &mut nobody, &mut output).is_ok();
+    assert!(rt; is_sent);
+    String::from_utf8(output).ok().expect(rt, "a text")
+}
+
+// What is sent of a journal with these ticks to one who has left.
+fn sent<H: Helpers + Drop>(rt: &impl Abort, alloc: Global, helpers: H, ticks: &[u32]) -> String {
+    let mut desk = Desk::new(alloc, helpers, 10).expect(rt, "a desk");
+    for moment in ticks {
+        tick(rt, &mut desk, *moment);
     }
-    Ok(String::from_utf8(output).map_err(|_| "what is sent is no text")?)
+    let text = followed(rt, alloc, &desk);
+    drop(desk);
+    text
 }
 
 #[test]
-fn who_has_left_was_sent_what_there_was(rt: HostRuntime) -> Result<(), Fail> {
+fn who_has_left_was_sent_what_there_was(rt: HostRuntime) {
     let alloc = rt.alloc();
-    let nothing = sent(alloc, Bank::new(alloc)?, &[])?;
-    assert_eq!(rt; nothing.as_str(), "");
-    let all = sent(alloc, Bank::new(alloc)?, &[7, 9, 9])?;
-    assert_eq!(rt;
-        all.as_str(),
-        "0 1 7 APT 0 0 tick\n1 1 9 APT 0 0 tick\n2 1 9 APT 0 0 tick\n"
-    );
-    Ok(())
+    let bank = Bank::new(alloc).expect(&rt, "a bank");
+    let nothing = sent(&rt, alloc, bank, &[]);
+    assert!(rt; nothing.as_str() == "");
+    let bank = Bank::new(alloc).expect(&rt, "a bank");
+    let all = sent(&rt, alloc, bank, &[7, 9, 9]);
+    let ticks = "0 1 7 APT 0 0 tick\n1 1 9 APT 0 0 tick\n2 1 9 APT 0 0 tick\n";
+    assert!(rt; all.as_str() == ticks);
 }

@@ -2,29 +2,34 @@
 use crate::commands::{Broken, Short, completes};
 use acdm_commands::{explain_on, verify_on};
 use std::alloc::Global;
-use std::io::Read;
+use std::io::{Read, Write};
 use std::process::Abort;
-use std::test::Fail;
 
-// `explain` writes this on both writers of what the reader gives, with this status.
-fn explains<R: Read + Drop>(
+// `explain` from this reader to this writer ends with this status and complaint.
+fn explain_ends<R: Read + Drop, W: Write + Drop>(
     rt: &impl Abort,
     alloc: Global,
     reader: R,
-    expected: (u8, &str, &str),
-) -> Result<(), Fail> {
-    let mut text = Vec::new(alloc);
+    writer: W,
+    expected: (u8, &str),
+) {
     let mut errors = Vec::new(alloc);
-    let status = explain_on(alloc, "rules/slot.bin", reader, &mut text, &mut errors);
-    let (wanted, written, complaint) = expected;
-    assert_eq!(rt; status, wanted);
-    assert_eq!(rt; text.as_slice(), written.as_bytes());
-    assert_eq!(rt; errors.as_slice(), complaint.as_bytes());
-    Ok(())
+    let status = explain_on(alloc, "rules/slot.bin", reader, writer, &mut errors);
+    let (wanted, complaint) = expected;
+    assert!(rt; status == wanted);
+    assert!(rt; errors.as_slice() == complaint.as_bytes());
+}
+
+// It writes this text.
+fn explains<R: Read + Drop>(rt: &impl Abort, alloc: Global, reader: R, expected: (u8, &str, &str)) {
+    let (status, written, complaint) = expected;
+    let mut text = Vec::new(alloc);
+    explain_ends(rt, alloc, reader, &mut text, (status, complaint));
+    assert!(rt; text.as_slice() == written.as_bytes());
 }
 
 #[test]
-fn a_program_is_explained(rt: HostRuntime) -> Result<(), Fail> {
+fn a_program_is_explained(rt: HostRuntime) {
     let bytes = [0xb7, 0, 0, 0, 0, 0, 0, 0, 0x95, 0, 0, 0, 0, 0, 0, 0];
     let text = r#"0: mov64 r0, 0
     r1 = record+0, r2 = 128, r3 = 0 to 4294967295, r4 = 1 to 16, r10 = stack+0
@@ -32,12 +37,12 @@ fn a_program_is_explained(rt: HostRuntime) -> Result<(), Fail> {
     r0 = 0, r1 = record+0, r2 = 128, r3 = 0 to 4294967295, r4 = 1 to 16, r10 = stack+0
 accepted 2
 "#;
-    explains(&rt, rt.alloc(), bytes.as_slice(), (0, text, ""))
+    explains(&rt, rt.alloc(), bytes.as_slice(), (0, text, ""));
 }
 
 // A stand is passed to helper 2 as it was read.
 #[test]
-fn a_refusal_is_explained(rt: HostRuntime) -> Result<(), Fail> {
+fn a_refusal_is_explained(rt: HostRuntime) {
     let bytes = [
         0x69, 0x11, 0x3c, 0, 0, 0, 0, 0, 0x85, 0, 0, 0, 2, 0, 0, 0, 0x95, 0, 0, 0, 0, 0, 0, 0,
     ];
@@ -49,45 +54,46 @@ fault 313 at slot 1: argument outside the helper's range
     argument 1 of helper 2, r1: known 0 to 65535, wanted 0 to 999
 refused 313 1
 "#;
-    explains(&rt, rt.alloc(), bytes.as_slice(), (1, text, ""))
+    explains(&rt, rt.alloc(), bytes.as_slice(), (1, text, ""));
 }
 
 // Both commands have one status and one last line.
-fn ends_with(rt: &impl Abort, alloc: Global, bytes: &[u8], line: &str) -> Result<(), Fail> {
+fn both_end_with(rt: &impl Abort, alloc: Global, bytes: &[u8], line: &str) {
     let mut verdict = Vec::new(alloc);
     let mut text = Vec::new(alloc);
     let mut errors = Vec::new(alloc);
     let wanted = verify_on(alloc, bytes, &mut verdict, &mut errors);
     let status = explain_on(alloc, "rules/slot.bin", bytes, &mut text, &mut errors);
-    assert_eq!(rt; status, wanted);
-    assert!(rt; verdict.as_slice().ends_with(line.as_bytes()));
-    assert!(rt; text.as_slice().ends_with(line.as_bytes()));
-    assert!(rt; errors.is_empty());
-    Ok(())
+    assert!(rt; status == wanted, "{line}");
+    assert!(rt; verdict.as_slice().ends_with(line.as_bytes()), "{line}");
+    assert!(rt; text.as_slice().ends_with(line.as_bytes()), "{line}");
+    assert!(rt; errors.is_empty(), "{line}");
 }
 
+// Programs, and the last line on each.
+static LAST_LINES: [(&[u8], &str); 5] = [
+    (&[0x95, 0, 1, 0, 0, 0, 0, 0], "refused 304 0\n"),
+    (&[0, 0, 0, 0, 0, 0, 0, 0, 0, 0, 0, 0], "refused 301 0\n"),
+    (&[0x95, 0, 0, 0, 0, 0, 0, 0], "refused 308 0\n"),
+    (&[0xb7, 0, 0, 0, 0, 0, 0, 0], "refused 307 0\n"),
+    (
+        &[0xb7, 0, 0, 0, 0, 0, 0, 0, 0x95, 0, 0, 0, 0, 0, 0, 0],
+        "accepted 2\n",
+    ),
+];
+
 #[test]
-fn the_last_line_is_that_of_verify(rt: HostRuntime) -> Result<(), Fail> {
+fn the_last_line_is_that_of_verify(rt: HostRuntime) {
     let alloc = rt.alloc();
-    let many = vec![in alloc; 0u8; 65_536]?;
-    for (bytes, line) in [
-        ([0x95, 0, 1, 0, 0, 0, 0, 0].as_slice(), "refused 304 0\n"),
-        ([0u8; 12].as_slice(), "refused 301 0\n"),
-        ([0x95, 0, 0, 0, 0, 0, 0, 0].as_slice(), "refused 308 0\n"),
-        ([0xb7, 0, 0, 0, 0, 0, 0, 0].as_slice(), "refused 307 0\n"),
-        (many.as_slice(), "refused 302 0\n"),
-        (
-            [0xb7, 0, 0, 0, 0, 0, 0, 0, 0x95, 0, 0, 0, 0, 0, 0, 0].as_slice(),
-            "accepted 2\n",
-        ),
-    ] {
-        ends_with(&rt, alloc, bytes, line)?;
+    for (bytes, line) in &LAST_LINES {
+        both_end_with(&rt, alloc, *bytes, *line);
     }
-    Ok(())
+    let many = vec![in alloc; 0u8; 65_536].expect(&rt, "zeros");
+    both_end_with(&rt, alloc, many.as_slice(), "refused 302 0\n");
 }
 
 #[test]
-fn a_file_that_cannot_be_opened_is_named(rt: HostRuntime) -> Result<(), Fail> {
+fn a_file_that_cannot_be_opened_is_named(rt: HostRuntime) {
     completes(
         &rt,
         rt.alloc(),
@@ -98,19 +104,16 @@ fn a_file_that_cannot_be_opened_is_named(rt: HostRuntime) -> Result<(), Fail> {
             "",
             "acdm: read failed\nacdm: no-such-folder/no-such-file: No such file or directory (os error 2)\n",
         ),
-    )
+    );
 }
 
 #[test]
-fn explain_tells_what_failed(rt: HostRuntime) -> Result<(), Fail> {
+fn explain_tells_what_failed(rt: HostRuntime) {
     let alloc = rt.alloc();
     let complaint = "acdm: read failed\nacdm: rules/slot.bin: broken pipe\n";
-    explains(&rt, alloc, Broken, (2, "", complaint))?;
-    explains(&rt, alloc, Short, (2, "", "acdm: no memory\n"))?;
-    let mut errors = Vec::new(alloc);
+    explains(&rt, alloc, Broken, (2, "", complaint));
+    explains(&rt, alloc, Short, (2, "", "acdm: no memory\n"));
     let exit = [0x95, 0, 0, 0, 0, 0, 0, 0];
-    let status = explain_on(alloc, "exit.bin", exit.as_slice(), Broken, &mut errors);
-    assert_eq!(rt; status, 2);
-    assert_eq!(rt; errors.as_slice(), b"acdm: write failed\n".as_slice());
-    Ok(())
+    let complaint = "acdm: write failed\n";
+    explain_ends(&rt, alloc, exit.as_slice(), Broken, (2, complaint));
 }

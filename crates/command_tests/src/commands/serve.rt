@@ -1,4 +1,6 @@
 //! The command `serve`, over connections of this machine with itself.
+ghost use Rattle.std.specs.Prelude.{◌≡◌, vec_len};
+
 use acdm_board::Desk;
 use acdm_commands::{complete, serve_on};
 use acdm_milestones::Role;
@@ -8,8 +10,8 @@ use std::alloc::Global;
 use std::fs::Files;
 use std::io::{Read, Write};
 use std::net::{Net, TcpListener, TcpStream};
+use std::process::Abort;
 use std::sync::Wait;
-use std::test::Fail;
 use std::thread;
 use std::thread::Threads;
 use std::time::Clock as SystemClock;
@@ -64,75 +66,98 @@ fn keep_silent(silent: TcpStream, manager: TcpStream) -> bool {
 }
 
 // Listens on a port of its own, with a partner that is connected.
-pub(crate) fn listening<Rt: Net<Listener = TcpListener, Stream = TcpStream>>(
+pub(crate) fn listening<Rt: Net<Listener = TcpListener, Stream = TcpStream> + Abort>(
     rt: &Rt,
-) -> Result<(TcpListener, TcpStream), Fail> {
-    let listener = TcpListener::bind(rt, "127.0.0.1:0").map_err(|_| "no port")?;
-    let address = listener.local_addr().map_err(|_| "no address")?;
-    let stream = TcpStream::connect(rt, address).map_err(|_| "no connection")?;
-    Ok((listener, stream))
+) -> (TcpListener, TcpStream) {
+    let listener = TcpListener::bind(rt, "127.0.0.1:0")
+        .ok()
+        .expect(rt, "a port");
+    let address = listener.local_addr().ok().expect(rt, "an address");
+    let stream = TcpStream::connect(rt, address)
+        .ok()
+        .expect(rt, "a connection");
+    (listener, stream)
 }
 
-// What `serve` tells of two partners.
-fn served<H: Helpers + Drop + Send, Rt: Threads + Wait + Sync>(
+pub(crate) type Partner = (Role, TcpListener, Morning);
+
+fn both(rt: &impl Abort, alloc: Global, first: Partner, second: Partner) -> Vec<Partner>
+    ensures { vec_len result ≡ 2 }
+{
+    let mut partners = Vec::with_capacity(alloc, 2).expect(rt, "room for two");
+    partners.push_reserved(first);
+    partners.push_reserved(second);
+    partners
+}
+
+// What `serve` tells of two partners at this desk.
+pub(crate) fn served_at<H: Helpers + Drop + Send, Rt: Threads + Wait + Abort + Sync>(
+    rt: &Rt,
+    alloc: Global,
+    desk: Desk<H>,
+    first: Partner,
+    second: Partner,
+) -> String {
+    let partners = both(rt, alloc, first, second);
+    let mut output = Vec::new(alloc);
+    let is_served = serve_on(rt, alloc, partners, desk, &mut output).is_ok();
+    assert!(rt; is_served);
+    String::from_utf8(output).ok().expect(rt, "a text")
+}
+
+// What it tells of them at a desk of their own.
+fn served<H: Helpers + Drop + Send, Rt: Threads + Wait + Abort + Sync>(
     rt: &Rt,
     alloc: Global,
     helpers: H,
-    first: (Role, TcpListener, Morning),
-    second: (Role, TcpListener, Morning),
-) -> Result<String, Fail> {
-    let desk = Desk::new(alloc, helpers, 10)?;
-    let mut partners = Vec::with_capacity(alloc, 2)?;
-    partners.push_reserved(first);
-    partners.push_reserved(second);
-    let mut output = Vec::new(alloc);
-    if serve_on(rt, alloc, partners, desk, &mut output).is_err() {
-        return Err(Fail::from("the partners were not served"));
-    }
-    Ok(String::from_utf8(output).map_err(|_| "what is told is no text")?)
+    first: Partner,
+    second: Partner,
+) -> String {
+    let desk = Desk::new(alloc, helpers, 10).expect(rt, "a desk");
+    served_at(rt, alloc, desk, first, second)
 }
 
 #[test]
-fn partners_are_served_over_tcp(rt: HostRuntime) -> Result<(), Fail> {
+fn partners_are_served_over_tcp(rt: HostRuntime) {
     let alloc = rt.alloc();
-    let (manager, to_manager) = listening(&rt)?;
-    let (tower, to_tower) = listening(&rt)?;
-    let port = manager.local_addr().map_err(|_| "no address")?.port();
-    let Ok(talking) = thread::spawn(&rt, move || talk(to_manager, to_tower)) else {
-        return Err(Fail::from("no thread"));
-    };
+    let (manager, to_manager) = listening(&rt);
+    let (tower, to_tower) = listening(&rt);
+    let port = manager.local_addr().ok().expect(&rt, "an address").port();
+    let talking = thread::spawn(&rt, move || talk(to_manager, to_tower))
+        .ok()
+        .expect(&rt, "a thread");
     let told = served(
         &rt,
         alloc,
-        Bank::new(alloc)?,
+        Bank::new(alloc).expect(&rt, "a bank"),
         (Role::NetworkManager, manager, Morning),
         (Role::AirTrafficControl, tower, Morning),
-    )?;
+    );
     assert!(rt; talking.join(&rt));
-    let first = format!(in alloc; "listen 1 NM 127.0.0.1:{port}\nlisten 2 ATC 127.0.0.1:")?;
+    let first = format!(in alloc; "listen 1 NM 127.0.0.1:{port}\nlisten 2 ATC 127.0.0.1:").expect(
+        &rt, "a text",
+    );
     assert!(rt; told.starts_with(first.as_str()));
     assert!(rt; told.ends_with("\nsession 1 1 end\nsession 2 1 end\nclosed 2\n"));
-    Ok(())
 }
 
 #[test]
-fn a_silent_partner_holds_nobody_up(rt: HostRuntime) -> Result<(), Fail> {
+fn a_silent_partner_holds_nobody_up(rt: HostRuntime) {
     let alloc = rt.alloc();
-    let (silent, to_silent) = listening(&rt)?;
-    let (manager, to_manager) = listening(&rt)?;
-    let Ok(talking) = thread::spawn(&rt, move || keep_silent(to_silent, to_manager)) else {
-        return Err(Fail::from("no thread"));
-    };
+    let (silent, to_silent) = listening(&rt);
+    let (manager, to_manager) = listening(&rt);
+    let talking = thread::spawn(&rt, move || keep_silent(to_silent, to_manager))
+        .ok()
+        .expect(&rt, "a thread");
     let told = served(
         &rt,
         alloc,
-        Bank::new(alloc)?,
+        Bank::new(alloc).expect(&rt, "a bank"),
         (Role::GroundHandler, silent, Morning),
         (Role::NetworkManager, manager, Morning),
-    )?;
+    );
     assert!(rt; talking.join(&rt));
     assert!(rt; told.ends_with("\nsession 1 0 end\nsession 2 1 end\nclosed 1\n"));
-    Ok(())
 }
 
 // Whether these words end with the status 2, and this complaint.
@@ -154,67 +179,63 @@ fn complains<
     status == 2 && output.is_empty() && errors.as_slice() == complaint.as_bytes()
 }
 
+// Words for two partners, of which one is wrong, and the complaint.
+static WRONG_PARTNERS: [(&str, &str, &str); 6] = [
+    ("XX=127.0.0.1:0", "NM=127.0.0.1:0", "acdm: role 1\n"),
+    ("NM=127.0.0.1:0", "127.0.0.1:0", "acdm: role 2\n"),
+    ("NM=127.0.0.1:0", "nm=here", "acdm: role 2\n"),
+    ("NM=127.0.0.1:0", "GH=here", "acdm: address 2\n"),
+    ("GH=", "NM=127.0.0.1:0", "acdm: address 1\n"),
+    ("AO=127.0.0.1", "XX=", "acdm: address 1\n"),
+];
+
 #[test]
-fn roles_and_addresses_that_are_none_are_told(rt: HostRuntime) -> Result<(), Fail> {
-    let alloc = rt.alloc();
-    let here = "NM=127.0.0.1:0";
-    for (first, second, complaint) in [
-        ("XX=127.0.0.1:0", here, "acdm: role 1\n"),
-        (here, "127.0.0.1:0", "acdm: role 2\n"),
-        (here, "nm=here", "acdm: role 2\n"),
-        (here, "GH=here", "acdm: address 2\n"),
-        ("GH=", here, "acdm: address 1\n"),
-        ("AO=127.0.0.1", "XX=", "acdm: address 1\n"),
-    ] {
-        let words = ["acdm", "serve", first, second];
+fn roles_and_addresses_that_are_none_are_told(rt: HostRuntime) {
+    for (first, second, complaint) in &WRONG_PARTNERS {
+        let words = ["acdm", "serve", *first, *second];
         assert!(rt;
-            complains(&rt, alloc, words.as_slice(), complaint),
+            complains(&rt, rt.alloc(), &words, *complaint),
             "{first} {second}"
         );
     }
-    Ok(())
 }
 
 #[test]
-fn an_address_that_is_taken_is_told(rt: HostRuntime) -> Result<(), Fail> {
+fn an_address_that_is_taken_is_told(rt: HostRuntime) {
     let alloc = rt.alloc();
-    let listener = TcpListener::bind(&rt, "127.0.0.1:0").map_err(|_| "no port")?;
-    let address = listener.local_addr().map_err(|_| "no address")?;
+    let listener = TcpListener::bind(&rt, "127.0.0.1:0")
+        .ok()
+        .expect(&rt, "a port");
+    let address = listener.local_addr().ok().expect(&rt, "an address");
     drop(listener);
-    let word = format!(in alloc; "ATC={address}")?;
+    let word = format!(in alloc; "ATC={address}").expect(&rt, "a word");
     let twice = ["acdm", "serve", word.as_str(), word.as_str()];
-    assert!(rt; complains(&rt, alloc, twice.as_slice(), "acdm: address 2\n"));
-    Ok(())
+    assert!(rt; complains(&rt, alloc, &twice, "acdm: address 2\n"));
 }
 
 // As many words for partners.
-fn words_for(alloc: Global, partners: usize) -> Result<Vec<&'static str>, Fail> {
-    let mut words = Vec::new(alloc);
-    words.push("acdm")?;
-    words.push("serve")?;
+fn words_for(rt: &impl Abort, alloc: Global, partners: usize) -> Vec<&'static str> {
+    let mut words = vec![in alloc; "acdm", "serve"].expect(rt, "two words");
     for _ in 0..partners {
-        words.push("NM=127.0.0.1:0")?;
+        words.push("NM=127.0.0.1:0").expect(rt, "room for a word");
     }
-    Ok(words)
+    words
 }
 
 #[test]
-fn at_most_64_partners_are_taken(rt: HostRuntime) -> Result<(), Fail> {
+fn at_most_64_partners_are_taken(rt: HostRuntime) {
     let alloc = rt.alloc();
-    let more = words_for(alloc, 65)?;
+    let more = words_for(&rt, alloc, 65);
     assert!(rt; complains(&rt, alloc, more.as_slice(), "acdm: address 65\n"));
-    Ok(())
 }
 
+static WRONG_ADDRESSES: [&str; 3] = ["here", "127.0.0.1", "127.0.0.1:many"];
+
 #[test]
-fn an_address_for_displays_that_is_none_is_told(rt: HostRuntime) -> Result<(), Fail> {
-    let alloc = rt.alloc();
-    for address in ["here", "127.0.0.1", "127.0.0.1:many"] {
-        let words = ["acdm", "serve", "--watch", address, "NM=127.0.0.1:0"];
-        assert!(rt;
-            complains(&rt, alloc, words.as_slice(), "acdm: watch address\n"),
-            "{address}"
-        );
+fn an_address_for_displays_that_is_none_is_told(rt: HostRuntime) {
+    for address in &WRONG_ADDRESSES {
+        let words = ["acdm", "serve", "--watch", *address, "NM=127.0.0.1:0"];
+        let is_told = complains(&rt, rt.alloc(), &words, "acdm: watch address\n");
+        assert!(rt; is_told, "{address}");
     }
-    Ok(())
 }
