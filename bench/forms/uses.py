@@ -49,8 +49,8 @@ def runs():
         yield from (form_of(store), form_of(read))
     for opcode, offset, imm, *_ in rows(source("bpf_tests/src/machine/vectors.rt"), "VECTORS"):
         yield form_of(opcode, offset, imm)
-    for opcode in re.findall(r"slot\((0x0[56]),", source("bpf_tests/src/machine/forms.rt")):
-        yield form_of(int(opcode, 0))
+    for opcode, *_ in rows(source("bpf_tests/src/machine/forms.rt"), "JUMPS_ALWAYS"):
+        yield form_of(opcode)
     yield from ("lddw", "exit")
     # A call's answer comes from the table of helpers.
     for text in re.findall(r'"((?:[0-9a-f]{16})+)"', source("bpf_tests/src/machine.rt")):

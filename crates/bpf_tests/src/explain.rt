@@ -1,124 +1,108 @@
 //! The words, by hand: first programs that are accepted, then one for each fault.
 
+use crate::programs::same_text;
 use bpf_explain::{Told, read};
 use bpf_helpers::{Range, Signature, Sigs};
 use std::alloc::Global;
 use std::process::Abort;
-use std::test::Fail;
 
 const EXIT: u64 = 0x9500_0000_0000_0000;
 
 /// Adds a helper that takes and answers these ranges.
 fn add(
+    rt: &impl Abort,
     alloc: Global,
     sigs: &mut Sigs,
     number: u32,
     args: &[Range],
     answer: Range,
-) -> Result<(), Fail> {
-    match Signature::new(args.to_vec(alloc)?, answer, Vec::new(alloc)) {
-        Some(signature) => Ok(sigs.push(number, signature)?),
-        None => Err("no signature".into()),
-    }
+) {
+    let args = args.to_vec(alloc).expect(rt, "arguments");
+    let signature = Signature::new(args, answer, Vec::new(alloc)).expect(rt, "a signature");
+    sigs.push(number, signature).expect(rt, "signatures");
 }
 
-/// Helper 2 takes a stand, helper 3 two numbers of minutes.
-fn signatures(alloc: Global) -> Result<Sigs, Fail> {
-    let mut sigs = Sigs::new(alloc);
-    let stand = Range { lo: 0, hi: 999 };
-    add(alloc, &mut sigs, 2, &[stand], Range { lo: 1, hi: 60 })?;
-    let moment = Range {
+/// What helper 2 takes, a stand.
+static STAND: [Range; 1] = [Range { lo: 0, hi: 999 }];
+
+/// What helper 3 takes, a moment and minutes.
+static LATER: [Range; 2] = [
+    Range {
         lo: 0,
         hi: 4_294_967_295,
-    };
-    let minutes = Range { lo: 0, hi: 10_000 };
+    },
+    Range { lo: 0, hi: 10_000 },
+];
+
+/// The signatures of both helpers.
+fn signatures(rt: &impl Abort, alloc: Global) -> Sigs {
+    let mut sigs = Sigs::new(alloc);
+    add(rt, alloc, &mut sigs, 2, &STAND, Range { lo: 1, hi: 60 });
     let answer = Range {
         lo: 0,
         hi: 4_294_977_295,
     };
-    add(alloc, &mut sigs, 3, &[moment, minutes], answer)?;
-    Ok(sigs)
+    add(rt, alloc, &mut sigs, 3, &LATER, answer);
+    sigs
 }
 
-/// What is written of the bytes.
-fn written_of(alloc: Global, told: &Told, bytes: &[u8], sigs: &Sigs) -> Result<String, Fail> {
-    let mut written = Vec::new(alloc);
-    told.write(bytes, sigs, &mut written)?;
-    Ok(String::from_utf8(written).map_err(|_| "no text")?)
-}
-
-/// What is told of the bytes is this, and whether they are a program that is accepted.
-fn is_told(
+/// What is written of the bytes is this text.
+fn is_written(
     rt: &impl Abort,
     alloc: Global,
+    shows: &str,
+    told: &Told,
     sigs: &Sigs,
     bytes: &[u8],
-    accepted: bool,
     text: &str,
-) -> Result<(), Fail> {
-    let told = read(alloc, bytes, sigs)?;
-    assert_eq!(rt; told.is_accepted(), accepted);
-    assert_eq!(rt; written_of(alloc, &told, bytes, sigs)?.as_str(), text);
-    Ok(())
+) {
+    let mut written = Vec::new(alloc);
+    told.write(bytes, sigs, &mut written).expect(rt, shows);
+    let written = String::from_utf8(written).ok().expect(rt, shows);
+    same_text(rt, written.as_str(), text);
 }
 
 /// This is written of the bytes, and whether they are a program that is accepted.
-fn tells_of(
-    rt: &impl Abort,
-    alloc: Global,
-    bytes: &[u8],
-    accepted: bool,
-    text: &str,
-) -> Result<(), Fail> {
-    let sigs = signatures(alloc)?;
-    is_told(rt, alloc, &sigs, bytes, accepted, text)
+fn tells(rt: &impl Abort, alloc: Global, shows: &str, bytes: &[u8], is_accepted: bool, text: &str) {
+    let sigs = signatures(rt, alloc);
+    let told = read(alloc, bytes, &sigs).expect(rt, shows);
+    assert!(rt; told.is_accepted() == is_accepted, "{shows}");
+    is_written(rt, alloc, shows, &told, &sigs, bytes, text);
+    drop(told);
+    drop(sigs);
 }
 
-/// The same of a program of these slots, each with its bytes in their order.
-fn tells(
-    rt: &impl Abort,
-    alloc: Global,
-    slots: &[u64],
-    accepted: bool,
-    text: &str,
-) -> Result<(), Fail> {
-    let mut bytes = Vec::new(alloc);
-    for slot in slots {
-        bytes.extend_from_slice(&slot.to_be_bytes())?;
-    }
-    tells_of(rt, alloc, bytes.as_slice(), accepted, text)
+/// What is told of a program of these slots, each with its bytes in their order.
+struct Listing {
+    shows: &'static str,
+    slots: &'static [u64],
+    is_accepted: bool,
+    text: &'static str,
 }
 
-#[test]
-fn each_slot_has_its_state(rt: HostRuntime) -> Result<(), Fail> {
-    tells(
-        &rt,
-        rt.alloc(),
-        &[0xb700_0000_0000_0000, EXIT],
-        true,
-        r#"0: mov64 r0, 0
+static LISTINGS: [Listing; 16] = [
+    Listing {
+        shows: "each slot has its state",
+        slots: &[0xb700_0000_0000_0000, EXIT],
+        is_accepted: true,
+        text: r#"0: mov64 r0, 0
     r1 = record+0, r2 = 128, r3 = 0 to 4294967295, r4 = 1 to 16, r10 = stack+0
 1: exit
     r0 = 0, r1 = record+0, r2 = 128, r3 = 0 to 4294967295, r4 = 1 to 16, r10 = stack+0
 accepted 2
 "#,
-    )
-}
-
-#[test]
-fn a_slot_to_which_nothing_leads_has_none(rt: HostRuntime) -> Result<(), Fail> {
-    tells(
-        &rt,
-        rt.alloc(),
-        &[
+    },
+    Listing {
+        shows: "a slot to which nothing leads has none",
+        slots: &[
             0x1800_0000_0700_0000,
             0,
             0x0500_0100_0000_0000,
             0xb700_0000_0100_0000,
             EXIT,
         ],
-        true,
-        r#"0: lddw r0, 0x0000000000000007
+        is_accepted: true,
+        text: r#"0: lddw r0, 0x0000000000000007
     r1 = record+0, r2 = 128, r3 = 0 to 4294967295, r4 = 1 to 16, r10 = stack+0
 1: -
 2: ja +1
@@ -129,17 +113,12 @@ fn a_slot_to_which_nothing_leads_has_none(rt: HostRuntime) -> Result<(), Fail> {
     r0 = 7, r1 = record+0, r2 = 128, r3 = 0 to 4294967295, r4 = 1 to 16, r10 = stack+0
 accepted 5
 "#,
-    )
-}
-
-// A moment from 2025-02-20T09:00Z to 24 hours later goes to the stack and comes back, beside the
-// address of the record.
-#[test]
-fn times_and_words_of_the_stack_are_told(rt: HostRuntime) -> Result<(), Fail> {
-    tells(
-        &rt,
-        rt.alloc(),
-        &[
+    },
+    // A moment from 2025-02-20T09:00Z to 24 hours later goes to the stack and comes back, beside the
+    // address of the record.
+    Listing {
+        shows: "times and words of the stack are told",
+        slots: &[
             0xb700_0000_0000_0000,
             0xa503_0400_fc83_ba01,
             0x2503_0300_9c89_ba01,
@@ -148,8 +127,8 @@ fn times_and_words_of_the_stack_are_told(rt: HostRuntime) -> Result<(), Fail> {
             0x79a0_f8ff_0000_0000,
             EXIT,
         ],
-        true,
-        r#"0: mov64 r0, 0
+        is_accepted: true,
+        text: r#"0: mov64 r0, 0
     r1 = record+0, r2 = 128, r3 = 0 to 4294967295, r4 = 1 to 16, r10 = stack+0
 1: jlt r3, 29000700, +4
     r0 = 0, r1 = record+0, r2 = 128, r3 = 0 to 4294967295, r4 = 1 to 16, r10 = stack+0
@@ -169,102 +148,72 @@ fn times_and_words_of_the_stack_are_told(rt: HostRuntime) -> Result<(), Fail> {
     r0 = 0 to 29002140, r1 = record+0, r2 = 128, r3 = 0 to 4294967295, r4 = 1 to 16, r10 = stack+0
 accepted 7
 "#,
-    )
-}
-
-#[test]
-fn a_jump_backward_has_its_target(rt: HostRuntime) -> Result<(), Fail> {
-    tells(
-        &rt,
-        rt.alloc(),
-        &[0x0500_feff_0000_0000, EXIT],
-        false,
-        r#"0: ja -2
+    },
+    Listing {
+        shows: "a jump backward has its target",
+        slots: &[0x0500_feff_0000_0000, EXIT],
+        is_accepted: false,
+        text: r#"0: ja -2
     r1 = record+0, r2 = 128, r3 = 0 to 4294967295, r4 = 1 to 16, r10 = stack+0
 fault 306 at slot 0: jump backward, outside or into a wide load
     target: known slot -1 (not later), wanted the slot of a later instruction
 refused 306 0
 "#,
-    )
-}
-
-#[test]
-fn a_jump_outside_has_its_target(rt: HostRuntime) -> Result<(), Fail> {
-    tells(
-        &rt,
-        rt.alloc(),
-        &[0x1504_0100_0100_0000, EXIT],
-        false,
-        r#"0: jeq r4, 1, +1
+    },
+    Listing {
+        shows: "a jump outside has its target",
+        slots: &[0x1504_0100_0100_0000, EXIT],
+        is_accepted: false,
+        text: r#"0: jeq r4, 1, +1
     r1 = record+0, r2 = 128, r3 = 0 to 4294967295, r4 = 1 to 16, r10 = stack+0
 fault 306 at slot 0: jump backward, outside or into a wide load
     target: known slot 2 (behind the last), wanted the slot of a later instruction
 refused 306 0
 "#,
-    )
-}
-
-#[test]
-fn a_jump_into_a_wide_load_has_its_target(rt: HostRuntime) -> Result<(), Fail> {
-    tells(
-        &rt,
-        rt.alloc(),
-        &[0x0600_0000_0100_0000, 0x1800_0000_0000_0000, 0, EXIT],
-        false,
-        r#"0: ja32 +1
+    },
+    Listing {
+        shows: "a jump into a wide load has its target",
+        slots: &[0x0600_0000_0100_0000, 0x1800_0000_0000_0000, 0, EXIT],
+        is_accepted: false,
+        text: r#"0: ja32 +1
     r1 = record+0, r2 = 128, r3 = 0 to 4294967295, r4 = 1 to 16, r10 = stack+0
 fault 306 at slot 0: jump backward, outside or into a wide load
     target: known slot 2 (the second of a wide load), wanted the slot of a later instruction
 refused 306 0
 "#,
-    )
-}
-
-#[test]
-fn a_missing_exit_is_told(rt: HostRuntime) -> Result<(), Fail> {
-    tells(
-        &rt,
-        rt.alloc(),
-        &[0xb700_0000_0000_0000],
-        false,
-        r#"0: mov64 r0, 0
+    },
+    Listing {
+        shows: "a missing exit is told",
+        slots: &[0xb700_0000_0000_0000],
+        is_accepted: false,
+        text: r#"0: mov64 r0, 0
     r1 = record+0, r2 = 128, r3 = 0 to 4294967295, r4 = 1 to 16, r10 = stack+0
 fault 307 at slot 0: end of the program without an exit
     next: known no slot, wanted an exit as the last instruction
 refused 307 0
 "#,
-    )
-}
-
-#[test]
-fn an_uninitialised_register_is_told(rt: HostRuntime) -> Result<(), Fail> {
-    tells(
-        &rt,
-        rt.alloc(),
-        &[0x0f51_0000_0000_0000, EXIT],
-        false,
-        r#"0: add64 r1, r5
+    },
+    Listing {
+        shows: "an uninitialised register is told",
+        slots: &[0x0f51_0000_0000_0000, EXIT],
+        is_accepted: false,
+        text: r#"0: add64 r1, r5
     r1 = record+0, r2 = 128, r3 = 0 to 4294967295, r4 = 1 to 16, r10 = stack+0
 fault 308 at slot 0: uninitialised register
     r5: known nothing, wanted a value on every way here
 refused 308 0
 "#,
-    )
-}
-
-#[test]
-fn an_uninitialised_argument_is_told(rt: HostRuntime) -> Result<(), Fail> {
-    tells(
-        &rt,
-        rt.alloc(),
-        &[
+    },
+    Listing {
+        shows: "an uninitialised argument is told",
+        slots: &[
             0xb701_0000_0500_0000,
             0x8500_0000_0200_0000,
             0x8500_0000_0200_0000,
             EXIT,
         ],
-        false,
-        r#"0: mov64 r1, 5
+        is_accepted: false,
+        text: r#"0: mov64 r1, 5
     r1 = record+0, r2 = 128, r3 = 0 to 4294967295, r4 = 1 to 16, r10 = stack+0
 1: call 2
     r1 = 5, r2 = 128, r3 = 0 to 4294967295, r4 = 1 to 16, r10 = stack+0
@@ -274,22 +223,17 @@ fault 308 at slot 2: uninitialised register
     argument 1 of helper 2, r1: known nothing, wanted 0 to 999
 refused 308 2
 "#,
-    )
-}
-
-#[test]
-fn an_address_is_told_with_its_regions(rt: HostRuntime) -> Result<(), Fail> {
-    tells(
-        &rt,
-        rt.alloc(),
-        &[
+    },
+    Listing {
+        shows: "an address is told with its regions",
+        slots: &[
             0x6915_3c00_0000_0000,
             0x0f15_0000_0000_0000,
             0x6950_0400_0000_0000,
             EXIT,
         ],
-        false,
-        r#"0: ldxh r5, [r1+60]
+        is_accepted: false,
+        text: r#"0: ldxh r5, [r1+60]
     r1 = record+0, r2 = 128, r3 = 0 to 4294967295, r4 = 1 to 16, r10 = stack+0
 1: add64 r5, r1
     r1 = record+0, r2 = 128, r3 = 0 to 4294967295, r4 = 1 to 16, r5 = 0 to 65535, r10 = stack+0
@@ -299,23 +243,18 @@ fault 309 at slot 2: address outside the record and the stack
     r5 in [r5+4], size 2: known record+0 to record+65535, wanted record-4 to record+122 or stack-516 to stack-6
 refused 309 2
 "#,
-    )
-}
-
-#[test]
-fn an_address_in_either_region_is_told(rt: HostRuntime) -> Result<(), Fail> {
-    tells(
-        &rt,
-        rt.alloc(),
-        &[
+    },
+    Listing {
+        shows: "an address in either region is told",
+        slots: &[
             0x1504_0200_0100_0000,
             0xbfa1_0000_0000_0000,
             0x0701_0000_f8ff_ffff,
             0x7110_0000_0000_0000,
             EXIT,
         ],
-        false,
-        r#"0: jeq r4, 1, +2
+        is_accepted: false,
+        text: r#"0: jeq r4, 1, +2
     r1 = record+0, r2 = 128, r3 = 0 to 4294967295, r4 = 1 to 16, r10 = stack+0
 1: mov64 r1, r10
     r1 = record+0, r2 = 128, r3 = 0 to 4294967295, r4 = 2 to 16, r10 = stack+0
@@ -327,17 +266,12 @@ fault 309 at slot 3: address outside the record and the stack
     r1 in [r1+0], size 1: known record+0 to stack-8, wanted record+0 to record+127 or stack-512 to stack-1
 refused 309 3
 "#,
-    )
-}
-
-#[test]
-fn uninitialised_bytes_are_told(rt: HostRuntime) -> Result<(), Fail> {
-    tells(
-        &rt,
-        rt.alloc(),
-        &[0x620a_f8ff_0500_0000, 0x79a0_f8ff_0000_0000, EXIT],
-        false,
-        r#"0: stw [r10-8], 5
+    },
+    Listing {
+        shows: "uninitialised bytes are told",
+        slots: &[0x620a_f8ff_0500_0000, 0x79a0_f8ff_0000_0000, EXIT],
+        is_accepted: false,
+        text: r#"0: stw [r10-8], 5
     r1 = record+0, r2 = 128, r3 = 0 to 4294967295, r4 = 1 to 16, r10 = stack+0
 1: ldxdw r0, [r10-8]
     r1 = record+0, r2 = 128, r3 = 0 to 4294967295, r4 = 1 to 16, r10 = stack+0
@@ -346,54 +280,39 @@ fault 310 at slot 1: uninitialised byte of the stack
     bytes at [r10-8]: known as stored stack-8 to stack-5, wanted stack-8 to stack-1
 refused 310 1
 "#,
-    )
-}
-
-#[test]
-fn a_store_to_the_record_is_told(rt: HostRuntime) -> Result<(), Fail> {
-    tells(
-        &rt,
-        rt.alloc(),
-        &[0x6201_6000_0000_0000, EXIT],
-        false,
-        r#"0: stw [r1+96], 0
+    },
+    Listing {
+        shows: "a store to the record is told",
+        slots: &[0x6201_6000_0000_0000, EXIT],
+        is_accepted: false,
+        text: r#"0: stw [r1+96], 0
     r1 = record+0, r2 = 128, r3 = 0 to 4294967295, r4 = 1 to 16, r10 = stack+0
 fault 311 at slot 0: store to the record
     r1 in [r1+96], size 4: known record+0, wanted stack-608 to stack-100
 refused 311 0
 "#,
-    )
-}
-
-#[test]
-fn an_unknown_helper_is_told(rt: HostRuntime) -> Result<(), Fail> {
-    tells(
-        &rt,
-        rt.alloc(),
-        &[0x8500_0000_0900_0000, EXIT],
-        false,
-        r#"0: call 9
+    },
+    Listing {
+        shows: "an unknown helper is told",
+        slots: &[0x8500_0000_0900_0000, EXIT],
+        is_accepted: false,
+        text: r#"0: call 9
     r1 = record+0, r2 = 128, r3 = 0 to 4294967295, r4 = 1 to 16, r10 = stack+0
 fault 312 at slot 0: unknown helper
     helper: known 9, wanted one of 2, 3
 refused 312 0
 "#,
-    )
-}
-
-#[test]
-fn an_argument_out_of_range_is_told(rt: HostRuntime) -> Result<(), Fail> {
-    tells(
-        &rt,
-        rt.alloc(),
-        &[
+    },
+    Listing {
+        shows: "an argument out of range is told",
+        slots: &[
             0xbf31_0000_0000_0000,
             0xb702_0000_1127_0000,
             0x8500_0000_0300_0000,
             EXIT,
         ],
-        false,
-        r#"0: mov64 r1, r3
+        is_accepted: false,
+        text: r#"0: mov64 r1, r3
     r1 = record+0, r2 = 128, r3 = 0 to 4294967295, r4 = 1 to 16, r10 = stack+0
 1: mov64 r2, 10001
     r1 = 0 to 4294967295, r2 = 128, r3 = 0 to 4294967295, r4 = 1 to 16, r10 = stack+0
@@ -403,105 +322,133 @@ fault 313 at slot 2: argument outside the helper's range
     argument 2 of helper 3, r2: known 10001, wanted 0 to 10000
 refused 313 2
 "#,
-    )
-}
-
-#[test]
-fn a_write_to_r10_is_told(rt: HostRuntime) -> Result<(), Fail> {
-    tells(
-        &rt,
-        rt.alloc(),
-        &[0x070a_0000_f8ff_ffff, EXIT],
-        false,
-        r#"0: add64 r10, -8
+    },
+    Listing {
+        shows: "a write to r10 is told",
+        slots: &[0x070a_0000_f8ff_ffff, EXIT],
+        is_accepted: false,
+        text: r#"0: add64 r10, -8
     r1 = record+0, r2 = 128, r3 = 0 to 4294967295, r4 = 1 to 16, r10 = stack+0
 fault 314 at slot 0: write to r10
     destination: known r10, wanted r0 to r9
 refused 314 0
 "#,
-    )
+    },
+];
+
+/// The bytes of these slots.
+fn bytes_of(rt: &impl Abort, alloc: Global, slots: &[u64]) -> Vec<u8> {
+    let mut bytes = Vec::new(alloc);
+    for slot in slots {
+        bytes
+            .extend_from_slice(&slot.to_be_bytes())
+            .expect(rt, "bytes");
+    }
+    bytes
 }
 
-/// The bytes are no program, by these texts.
-fn are_faulty(rt: &impl Abort, alloc: Global, rows: &[(&[u8], &str)]) -> Result<(), Fail> {
-    for row in rows {
-        let (bytes, text) = *row;
-        tells_of(rt, alloc, bytes, false, text)?;
-    }
-    Ok(())
+/// That is told of the program.
+fn is_listed(rt: &impl Abort, alloc: Global, listing: &Listing) {
+    let Listing {
+        shows,
+        slots,
+        is_accepted,
+        text,
+    } = listing;
+    let bytes = bytes_of(rt, alloc, slots);
+    tells(rt, alloc, shows, bytes.as_slice(), *is_accepted, text);
 }
 
 #[test]
-fn bytes_that_encode_no_program_are_told(rt: HostRuntime) -> Result<(), Fail> {
-    let over = vec![in rt.alloc(); 0u8; 32_769]?;
-    let rows: [(&[u8], &str); 6] = [
-        (
-            [].as_slice(),
-            r#"fault 301 at slot 0: no whole slots of 8 bytes
+fn programs_are_told(rt: HostRuntime) {
+    for listing in &LISTINGS {
+        is_listed(&rt, rt.alloc(), listing);
+    }
+}
+
+/// Bytes that encode no program, and what is told of them.
+static NO_PROGRAMS: [(&str, &[u8], &str); 5] = [
+    (
+        "no bytes",
+        &[],
+        r#"fault 301 at slot 0: no whole slots of 8 bytes
     bytes: known 0, wanted 8 for each slot
 refused 301 0
 "#,
-        ),
-        (
-            over.as_slice(),
-            r#"fault 302 at slot 0: more than 4096 slots
-    bytes: known over 32768, wanted 32768 at most
-refused 302 0
-"#,
-        ),
-        (
-            [0xff, 1, 2, 3, 4, 5, 6, 7].as_slice(),
-            r#"fault 303 at slot 0: unknown opcode
+    ),
+    (
+        "an unknown opcode",
+        &[0xff, 1, 2, 3, 4, 5, 6, 7],
+        r#"fault 303 at slot 0: unknown opcode
     bytes of the slot: known ff 01 02 03 04 05 06 07, wanted an opcode that programs may have
 refused 303 0
 "#,
-        ),
-        (
-            [0x95, 0, 1, 0, 0, 0, 0, 0].as_slice(),
-            r#"fault 304 at slot 0: field value that the opcode does not allow
+    ),
+    (
+        "a field that is not 0",
+        &[0x95, 0, 1, 0, 0, 0, 0, 0],
+        r#"fault 304 at slot 0: field value that the opcode does not allow
     bytes of the slot: known 95 00 01 00 00 00 00 00, wanted values that its opcode allows
 refused 304 0
 "#,
-        ),
-        (
-            [0xb7, 11, 0, 0, 0, 0, 0, 0].as_slice(),
-            r#"fault 305 at slot 0: register over 10
+    ),
+    (
+        "a register over 10",
+        &[0xb7, 11, 0, 0, 0, 0, 0, 0],
+        r#"fault 305 at slot 0: register over 10
     bytes of the slot: known b7 0b 00 00 00 00 00 00, wanted registers up to 10
 refused 305 0
 "#,
-        ),
-        (
-            [0x18, 0, 0, 0, 1, 0, 0, 0].as_slice(),
-            r#"fault 315 at slot 0: wide load without its second slot
+    ),
+    (
+        "a cut wide load",
+        &[0x18, 0, 0, 0, 1, 0, 0, 0],
+        r#"fault 315 at slot 0: wide load without its second slot
     bytes of the slot: known 18 00 00 00 01 00 00 00, wanted a second slot behind it
 refused 315 0
 "#,
-        ),
-    ];
-    are_faulty(&rt, rt.alloc(), &rows)
-}
+    ),
+];
+
+/// What is told of more bytes than a program may have.
+const TOO_LONG: &str = r#"fault 302 at slot 0: more than 4096 slots
+    bytes: known over 32768, wanted 32768 at most
+refused 302 0
+"#;
 
 #[test]
-fn files_of_other_kinds_are_told(rt: HostRuntime) -> Result<(), Fail> {
-    let alloc = rt.alloc();
-    tells_of(
+fn bytes_that_encode_no_program_are_told(rt: HostRuntime) {
+    for row in &NO_PROGRAMS {
+        let (shows, bytes, text) = *row;
+        tells(&rt, rt.alloc(), shows, bytes, false, text);
+    }
+    let over = vec![in rt.alloc(); 0u8; 32_769].expect(&rt, "bytes");
+    tells(
         &rt,
-        alloc,
-        &[0x7f, 0x45, 0x4c, 0x46, 2, 1, 1, 0],
+        rt.alloc(),
+        "too many bytes",
+        over.as_slice(),
         false,
-        r#"fault 304 at slot 0: field value that the opcode does not allow
+        TOO_LONG,
+    );
+}
+
+/// What is told of an object file.
+const ELF: &str = r#"fault 304 at slot 0: field value that the opcode does not allow
     file: known an object file (ELF), wanted one section (llvm-objcopy -O binary)
 refused 304 0
-"#,
-    )?;
-    tells_of(
-        &rt,
-        alloc,
-        "9500000000000000\n".as_bytes(),
-        false,
-        r#"fault 301 at slot 0: no whole slots of 8 bytes
+"#;
+
+/// What is told of a program in digits.
+const DIGITS: &str = r#"fault 301 at slot 0: no whole slots of 8 bytes
     file: known hexadecimal text, wanted the bytes that it tells (xxd -r -p)
 refused 301 0
-"#,
-    )
+"#;
+
+#[test]
+fn files_of_other_kinds_are_told(rt: HostRuntime) {
+    let elf = [0x7f, 0x45, 0x4c, 0x46, 2, 1, 1, 0];
+    tells(&rt, rt.alloc(), "an object file", &elf, false, ELF);
+    let digits = "9500000000000000\n".as_bytes();
+    tells(&rt, rt.alloc(), "digits", digits, false, DIGITS);
 }

@@ -1,11 +1,11 @@
 //! What several of the tests use.
 
-ghost use Rattle.std.specs.Prelude.{◌≡◌, ◌+◌, ◌<◌, ◌^◌, IfOk};
+ghost use Rattle.std.specs.Prelude.{◌≡◌, ◌+◌, ◌<◌, ◌^◌};
 ghost use Rattle.bpf_helpers.specs.Known.{sum, taxi, taxi_from, turn_round, turn_round_of};
 
 use bpf_helpers::{Bank, Code, Helper, Range, Signature, Sigs};
 use std::alloc::Global;
-use std::test::Fail;
+use std::process::Abort;
 
 pub(crate) const A320: u64 = 808_596_289;
 
@@ -14,8 +14,9 @@ pub(crate) const B738: u64 = 942_880_578;
 pub(crate) const A388: u64 = 943_207_233;
 
 /// The signatures of no helper.
-pub(crate) fn no_sigs(alloc: Global) -> Result<Sigs, Fail> {
-    Ok(Bank::new(alloc)?.sigs()?)
+pub(crate) fn no_sigs(rt: &impl Abort, alloc: Global) -> Sigs {
+    let bank = Bank::new(alloc).expect(rt, "a bank");
+    bank.sigs().expect(rt, "signatures")
 }
 
 pub(crate) fn range(lo: u64, hi: u64) -> Range
@@ -25,29 +26,29 @@ pub(crate) fn range(lo: u64, hi: u64) -> Range
 }
 
 /// The signature of helper 1, the time on the ground of an aircraft of this type.
-pub(crate) fn turn_round_signature(alloc: Global) -> Result<Signature, Fail>
-    ensures { IfOk result (λ signature. signature ≡ turn_round) }
+pub(crate) fn turn_round_signature(rt: &impl Abort, alloc: Global) -> Signature
+    ensures { result ≡ turn_round }
 {
-    let args = vec![in alloc; range(0, 4_294_967_295)]?;
-    let table = vec![in alloc; (A320, 45), (B738, 45), (A388, 120)]?;
-    Ok(Signature::new(args, range(1, 1440), table).ok_or("helper 1")?)
+    let args = vec![in alloc; range(0, 4_294_967_295)].expect(rt, "arguments");
+    let table = vec![in alloc; (A320, 45), (B738, 45), (A388, 120)].expect(rt, "a table");
+    Signature::new(args, range(1, 1440), table).expect(rt, "a signature")
 }
 
 /// The signature of helper 2, the taxi time from a stand.
-pub(crate) fn taxi_signature(alloc: Global) -> Result<Signature, Fail>
-    ensures { IfOk result (λ signature. signature ≡ taxi) }
+pub(crate) fn taxi_signature(rt: &impl Abort, alloc: Global) -> Signature
+    ensures { result ≡ taxi }
 {
-    let args = vec![in alloc; range(0, 999)]?;
-    let table = vec![in alloc; (12, 10), (120, 15), (900, 20)]?;
-    Ok(Signature::new(args, range(1, 60), table).ok_or("helper 2")?)
+    let args = vec![in alloc; range(0, 999)].expect(rt, "arguments");
+    let table = vec![in alloc; (12, 10), (120, 15), (900, 20)].expect(rt, "a table");
+    Signature::new(args, range(1, 60), table).expect(rt, "a signature")
 }
 
 /// The signature of helper 3, the sum of two numbers.
-pub(crate) fn sum_signature(alloc: Global) -> Result<Signature, Fail>
-    ensures { IfOk result (λ signature. signature ≡ sum) }
+pub(crate) fn sum_signature(rt: &impl Abort, alloc: Global) -> Signature
+    ensures { result ≡ sum }
 {
-    let args = vec![in alloc; range(0, 4_294_967_295), range(0, 10_000)]?;
-    Ok(Signature::new(args, range(0, 4_294_977_295), Vec::new(alloc)).ok_or("helper 3")?)
+    let args = vec![in alloc; range(0, 4_294_967_295), range(0, 10_000)].expect(rt, "arguments");
+    Signature::new(args, range(0, 4_294_977_295), Vec::new(alloc)).expect(rt, "a signature")
 }
 
 /// The minutes that helper 1 answers.
@@ -82,11 +83,17 @@ pub(crate) fn minutes_later(moment: u64, minutes: u64, _c: u64, _d: u64, _e: u64
     moment + minutes
 }
 
+/// Helper 2.
+pub(crate) fn taxi_helper(rt: &impl Abort, alloc: Global) -> Helper {
+    let code: Code = Box::new(alloc, taxi_minutes).expect(rt, "code");
+    Helper::new(2, taxi_signature(rt, alloc), code)
+}
+
 /// The signatures of helper 2 alone.
-pub(crate) fn taxi_sigs(alloc: Global) -> Result<Sigs, Fail> {
-    let code: Code = Box::new(alloc, taxi_minutes)?;
-    let mut bank = Bank::new(alloc)?;
-    bank.add(Helper::new(2, taxi_signature(alloc)?, code))
-        .map_err(|refused| refused.fault)?;
-    Ok(bank.sigs()?)
+pub(crate) fn taxi_sigs(rt: &impl Abort, alloc: Global) -> Sigs {
+    let mut bank = Bank::new(alloc).expect(rt, "a bank");
+    if bank.add(taxi_helper(rt, alloc)).is_err() {
+        panic!(rt; "helper 2 is not added");
+    }
+    bank.sigs().expect(rt, "signatures")
 }

@@ -1,10 +1,9 @@
 //! The bytes of programs, and what the tests of several crates assert.
 
-use bpf_decode::{Program, encode};
-use std::alloc::{AllocError, Global};
+use bpf_decode::{Program, decode, encode};
+use std::alloc::Global;
 use std::fmt::Display;
 use std::process::Abort;
-use std::test::Fail;
 
 /// The exit.
 pub(crate) const EXIT: [u8; 8] = [0x95, 0, 0, 0, 0, 0, 0, 0];
@@ -25,38 +24,48 @@ pub(crate) fn wide(register: u8, value: u64) -> [u8; 16] {
 }
 
 /// These bytes, one after the other.
-pub(crate) fn joined(alloc: Global, parts: &[&[u8]]) -> Result<Vec<u8>, AllocError> {
+pub(crate) fn joined(rt: &impl Abort, alloc: Global, parts: &[&[u8]]) -> Vec<u8> {
     let mut bytes = Vec::new(alloc);
     for part in parts {
-        bytes.extend_from_slice(part)?;
+        bytes.extend_from_slice(part).expect(rt, "bytes");
     }
-    Ok(bytes)
+    bytes
 }
 
 /// A slot so many times.
-pub(crate) fn repeated(alloc: Global, slot: &[u8; 8], times: u16) -> Result<Vec<u8>, AllocError> {
+pub(crate) fn repeated(rt: &impl Abort, alloc: Global, slot: &[u8; 8], times: u16) -> Vec<u8> {
     let mut bytes = Vec::new(alloc);
     for _ in 0..times {
-        bytes.extend_from_slice(slot)?;
+        bytes.extend_from_slice(slot).expect(rt, "bytes");
     }
-    Ok(bytes)
+    bytes
 }
 
 /// A slot so many times, and an exit.
-pub(crate) fn exited(alloc: Global, slot: &[u8; 8], times: u16) -> Result<Vec<u8>, AllocError> {
-    let mut bytes = repeated(alloc, slot, times)?;
-    bytes.extend_from_slice(&EXIT)?;
-    Ok(bytes)
+pub(crate) fn exited(rt: &impl Abort, alloc: Global, slot: &[u8; 8], times: u16) -> Vec<u8> {
+    let mut bytes = repeated(rt, alloc, slot, times);
+    bytes.extend_from_slice(&EXIT).expect(rt, "bytes");
+    bytes
 }
 
-/// The bytes of a program.
-fn encoded(alloc: Global, program: &Program) -> Result<Vec<u8>, Fail> {
-    Ok(encode(alloc, program)?)
+/// The bytes of these digits.
+pub(crate) fn bytes_of(rt: &impl Abort, alloc: Global, text: &str) -> Vec<u8> {
+    hex::decode(alloc, text).expect(rt, "bytes")
 }
 
-/// The bytes are these.
-pub(crate) fn are_bytes(rt: &impl Abort, came: &[u8], wanted: &[u8], text: &str) {
-    assert_eq!(rt; came, wanted, "{text}");
+/// The program of these bytes.
+pub(crate) fn program_of(rt: &impl Abort, alloc: Global, bytes: &[u8]) -> Program {
+    decode(alloc, bytes).expect(rt, "a program")
+}
+
+/// There are so many.
+pub(crate) fn same_count(rt: &impl Abort, found: usize, wanted: usize, text: &str) {
+    assert_eq!(rt; found, wanted, "{text}");
+}
+
+/// A text is this one.
+pub(crate) fn same_text(rt: &impl Abort, found: &str, wanted: &str) {
+    assert_eq!(rt; found, wanted);
 }
 
 /// The program has these bytes.
@@ -66,30 +75,28 @@ pub(crate) fn encodes_to(
     program: &Program,
     bytes: &[u8],
     text: &str,
-) -> Result<(), Fail> {
-    let again = encoded(alloc, program)?;
-    are_bytes(rt, &again, bytes, text);
-    Ok(())
+) {
+    let again = encode(alloc, program).expect(rt, "an encoded program");
+    assert!(rt; again.as_slice() == bytes, "{text}");
 }
 
-/// The number and the slot of a fault are these.
+/// A fault has this number and this slot.
 pub(crate) fn is_fault(
     rt: &impl Abort,
     came: Option<(u16, usize)>,
-    wanted: Option<(u16, usize)>,
+    code: u16,
+    slot: usize,
     text: &str,
 ) {
-    assert_eq!(rt; came, wanted, "{text}");
+    let (came_code, came_slot) = came.expect(rt, text);
+    assert!(rt;
+        came_code == code && came_slot == slot,
+        "{came_code} {came_slot}: {text}"
+    );
 }
 
 /// A value is shown by this text.
-pub(crate) fn is_shown<T: Display>(
-    rt: &impl Abort,
-    alloc: Global,
-    value: &T,
-    text: &str,
-) -> Result<(), Fail> {
-    let shown = format!(in alloc; "{value}")?;
-    assert_eq!(rt; shown.as_str(), text);
-    Ok(())
+pub(crate) fn is_shown<T: Display>(rt: &impl Abort, alloc: Global, value: &T, text: &str) {
+    let shown = format!(in alloc; "{value}").expect(rt, "a text");
+    same_text(rt, shown.as_str(), text);
 }

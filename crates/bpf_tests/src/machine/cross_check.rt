@@ -1,17 +1,15 @@
 //! Arithmetic of the machine against results that were computed outside it, by vectors/vectors.py.
 use crate::fixtures::no_sigs;
+use crate::machine::ended;
 use crate::machine::vectors::{VECTORS, Vector};
 use crate::programs::{EXIT, exited, joined, slot, wide};
-use acdm_milestones::Milestone;
-use bpf_decode::decode;
-use bpf_helpers::{Logged, Sigs};
-use bpf_machine::{Ended, run_tested};
-use std::alloc::{AllocError, Global};
+use bpf_helpers::Sigs;
+use bpf_machine::Ended;
+use std::alloc::Global;
 use std::process::Abort;
-use std::test::Fail;
 
 /// Two wide loads of r0 and r1, the instruction on them, and an exit.
-fn program_of(alloc: Global, vector: Vector) -> Result<Vec<u8>, AllocError> {
+fn bytes_of(rt: &impl Abort, alloc: Global, vector: Vector) -> Vec<u8> {
     let (opcode, offset, immediate, destination, source, _) = vector;
     // Negation and byte order have no second register.
     let registers = if matches!(opcode >> 4, 0x8 | 0xd) {
@@ -20,6 +18,7 @@ fn program_of(alloc: Global, vector: Vector) -> Result<Vec<u8>, AllocError> {
         0x10
     };
     joined(
+        rt,
         alloc,
         &[
             &wide(0, destination),
@@ -30,53 +29,26 @@ fn program_of(alloc: Global, vector: Vector) -> Result<Vec<u8>, AllocError> {
     )
 }
 
-/// What the program comes to on a record of zeros.
-fn ended(alloc: Global, sigs: &Sigs, bytes: &[u8]) -> Result<Ended, Fail> {
-    let program = decode(alloc, bytes)?;
-    let mut oracle = Logged::new(sigs, &[]);
-    let milestone = Milestone::Landed;
-    match run_tested(&program, sigs, &[0; 128], 1, milestone, &mut oracle) {
-        Ok(ended) => Ok(ended),
-        Err(trap) => Err(trap.into()),
-    }
-}
-
-/// The vector has its result, in four steps.
-fn agrees(rt: &impl Abort, alloc: Global, sigs: &Sigs, vector: Vector) -> Result<(), Fail> {
-    let bytes = program_of(alloc, vector)?;
-    let ended = ended(alloc, sigs, &bytes)?;
-    let (opcode, offset, immediate, destination, source, result) = vector;
-    assert_eq!(rt;
-        ended.r0,
-        result,
-        "{opcode} {offset} {immediate}: {destination}, {source}"
-    );
-    assert_eq!(rt; ended.steps, 4);
-    Ok(())
-}
-
-/// Each vector has its result.
-fn agree(rt: &impl Abort, alloc: Global, sigs: &Sigs, vectors: &[Vector]) -> Result<(), Fail> {
-    for vector in vectors {
-        agrees(rt, alloc, sigs, *vector)?;
-    }
-    Ok(())
+/// The program ends with r0 on a record of zeros, in so many steps.
+fn ends(rt: &impl Abort, alloc: Global, sigs: &Sigs, bytes: &[u8], r0: u64, steps: u64) {
+    let ended = ended(rt, alloc, sigs, &[0; 128], bytes);
+    assert!(rt; ended == (Ended { r0, steps }), "{r0}: {bytes:?}");
 }
 
 #[test]
-fn arithmetic_agrees_with_outside_results(rt: HostRuntime) -> Result<(), Fail> {
-    let sigs = no_sigs(rt.alloc())?;
-    agree(&rt, rt.alloc(), &sigs, &VECTORS)
+fn arithmetic_agrees_with_outside_results(rt: HostRuntime) {
+    let sigs = no_sigs(&rt, rt.alloc());
+    for vector in &VECTORS {
+        let bytes = bytes_of(&rt, rt.alloc(), *vector);
+        ends(&rt, rt.alloc(), &sigs, bytes.as_slice(), vector.5, 4);
+    }
+    drop(sigs);
 }
 
 #[test]
-fn the_longest_program_ends(rt: HostRuntime) -> Result<(), Fail> {
-    let sigs = no_sigs(rt.alloc())?;
-    let bytes = exited(rt.alloc(), &slot(0xb7, 0, 0, 0), 4_095)?;
-    let wanted = Ended {
-        r0: 0,
-        steps: 4_096,
-    };
-    assert_eq!(rt; ended(rt.alloc(), &sigs, &bytes)?, wanted);
-    Ok(())
+fn the_longest_program_ends(rt: HostRuntime) {
+    let sigs = no_sigs(&rt, rt.alloc());
+    let bytes = exited(&rt, rt.alloc(), &slot(0xb7, 0, 0, 0), 4_095);
+    ends(&rt, rt.alloc(), &sigs, bytes.as_slice(), 0, 4_096);
+    drop(sigs);
 }

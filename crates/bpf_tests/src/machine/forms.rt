@@ -1,15 +1,12 @@
 //! Each form of instruction against results from outside, by bench/forms/generate.py, which says of
 //! what programs the rows are.
 use crate::fixtures::no_sigs;
+use crate::machine::ended;
 use crate::machine::form_vectors::{ARITHMETIC, JUMPS, LOADS, STORES};
 use crate::programs::{EXIT, joined, slot, wide};
-use acdm_milestones::Milestone;
-use bpf_decode::decode;
-use bpf_helpers::{Logged, Sigs};
-use bpf_machine::run_tested;
-use std::alloc::{AllocError, Global};
+use bpf_helpers::Sigs;
+use std::alloc::Global;
 use std::process::Abort;
-use std::test::Fail;
 
 /// A record of which byte k is 37 k + 129 modulo 256.
 fn counted() -> [u8; 128] {
@@ -22,31 +19,14 @@ fn counted() -> [u8; 128] {
     record_bytes
 }
 
-/// The r0 with which the program ends on that record.
-fn answer(alloc: Global, sigs: &Sigs, bytes: &[u8]) -> Result<u64, Fail> {
-    let program = decode(alloc, bytes)?;
-    let mut oracle = Logged::new(sigs, &[]);
-    let milestone = Milestone::Landed;
-    match run_tested(&program, sigs, &counted(), 1, milestone, &mut oracle) {
-        Ok(ended) => Ok(ended.r0),
-        Err(trap) => Err(trap.into()),
-    }
-}
-
 /// The program ends with r0 on that record.
-fn answers(rt: &impl Abort, alloc: Global, sigs: &Sigs, bytes: &[u8], r0: u64) -> Result<(), Fail> {
-    assert_eq!(rt; answer(alloc, sigs, bytes)?, r0, "{bytes:?}");
-    Ok(())
-}
-
-/// The program ends with r0 on that record, without helpers.
-fn ends(rt: &impl Abort, alloc: Global, bytes: &[u8], r0: u64) -> Result<(), Fail> {
-    let sigs = no_sigs(alloc)?;
-    answers(rt, alloc, &sigs, bytes, r0)
+fn ends(rt: &impl Abort, alloc: Global, sigs: &Sigs, bytes: &[u8], r0: u64) {
+    let ended = ended(rt, alloc, sigs, &counted(), bytes);
+    assert!(rt; ended.r0 == r0, "{r0}: {bytes:?}");
 }
 
 /// An operation on r0, with r1 or an immediate.
-fn arithmetic(alloc: Global, row: (u8, i16, i32, u64, u64, u64)) -> Result<Vec<u8>, AllocError> {
+fn arithmetic(rt: &impl Abort, alloc: Global, row: (u8, i16, i32, u64, u64, u64)) -> Vec<u8> {
     let (opcode, offset, immediate, a, b, _) = row;
     // Only operations with a register on two words have a second one.
     let registers = if opcode & 8 == 0 || matches!(opcode >> 4, 0x8 | 0xd) {
@@ -55,6 +35,7 @@ fn arithmetic(alloc: Global, row: (u8, i16, i32, u64, u64, u64)) -> Result<Vec<u
         0x10
     };
     joined(
+        rt,
         alloc,
         &[
             &wide(0, a),
@@ -66,10 +47,11 @@ fn arithmetic(alloc: Global, row: (u8, i16, i32, u64, u64, u64)) -> Result<Vec<u
 }
 
 /// r0 is 1 where the jump of r1, with r2 or an immediate, is taken, and else 0.
-fn compare(alloc: Global, row: (u8, i32, u64, u64, u64)) -> Result<Vec<u8>, AllocError> {
+fn compare(rt: &impl Abort, alloc: Global, row: (u8, i32, u64, u64, u64)) -> Vec<u8> {
     let (opcode, immediate, a, b, _) = row;
     let registers = if opcode & 8 == 0 { 1 } else { 0x21 };
     joined(
+        rt,
         alloc,
         &[
             &wide(1, a),
@@ -83,17 +65,18 @@ fn compare(alloc: Global, row: (u8, i32, u64, u64, u64)) -> Result<Vec<u8>, Allo
 }
 
 /// A load from the record.
-fn load(alloc: Global, row: (u8, i16, u64)) -> Result<Vec<u8>, AllocError> {
+fn load(rt: &impl Abort, alloc: Global, row: (u8, i16, u64)) -> Vec<u8> {
     let (opcode, offset, _) = row;
-    joined(alloc, &[&slot(opcode, 0x10, offset, 0), &EXIT])
+    joined(rt, alloc, &[&slot(opcode, 0x10, offset, 0), &EXIT])
 }
 
 /// A store to the stack, of r6 or an immediate, and a load from there; the last 16 bytes were all
 /// ones.
-fn keep(alloc: Global, row: (u8, u8, i16, i32, u64, u64)) -> Result<Vec<u8>, AllocError> {
+fn keep(rt: &impl Abort, alloc: Global, row: (u8, u8, i16, i32, u64, u64)) -> Vec<u8> {
     let (store, read, offset, immediate, value, _) = row;
     let registers = if store & 7 == 3 { 0x6a } else { 0x0a };
     joined(
+        rt,
         alloc,
         &[
             &slot(0x7a, 0x0a, -8, -1),
@@ -107,69 +90,97 @@ fn keep(alloc: Global, row: (u8, u8, i16, i32, u64, u64)) -> Result<Vec<u8>, All
 }
 
 #[test]
-fn arithmetic_agrees_with_c(rt: HostRuntime) -> Result<(), Fail> {
+fn arithmetic_agrees_with_c(rt: HostRuntime) {
+    let sigs = no_sigs(&rt, rt.alloc());
     for row in &ARITHMETIC {
-        let (_, _, _, _, _, result) = *row;
-        ends(&rt, rt.alloc(), &arithmetic(rt.alloc(), *row)?, result)?;
+        let bytes = arithmetic(&rt, rt.alloc(), *row);
+        ends(&rt, rt.alloc(), &sigs, bytes.as_slice(), row.5);
     }
-    Ok(())
+    drop(sigs);
 }
 
 #[test]
-fn jumps_agree_with_c(rt: HostRuntime) -> Result<(), Fail> {
+fn jumps_agree_with_c(rt: HostRuntime) {
+    let sigs = no_sigs(&rt, rt.alloc());
     for row in &JUMPS {
-        let (_, _, _, _, taken) = *row;
-        ends(&rt, rt.alloc(), &compare(rt.alloc(), *row)?, taken)?;
+        let bytes = compare(&rt, rt.alloc(), *row);
+        ends(&rt, rt.alloc(), &sigs, bytes.as_slice(), row.4);
     }
-    Ok(())
+    drop(sigs);
 }
 
 #[test]
-fn loads_agree_with_c(rt: HostRuntime) -> Result<(), Fail> {
+fn loads_agree_with_c(rt: HostRuntime) {
+    let sigs = no_sigs(&rt, rt.alloc());
     for row in &LOADS {
-        let (_, _, result) = *row;
-        ends(&rt, rt.alloc(), &load(rt.alloc(), *row)?, result)?;
+        let bytes = load(&rt, rt.alloc(), *row);
+        ends(&rt, rt.alloc(), &sigs, bytes.as_slice(), row.2);
     }
-    Ok(())
+    drop(sigs);
 }
 
 #[test]
-fn stores_agree_with_c(rt: HostRuntime) -> Result<(), Fail> {
+fn stores_agree_with_c(rt: HostRuntime) {
+    let sigs = no_sigs(&rt, rt.alloc());
     for row in &STORES {
-        let (_, _, _, _, _, result) = *row;
-        ends(&rt, rt.alloc(), &keep(rt.alloc(), *row)?, result)?;
+        let bytes = keep(&rt, rt.alloc(), *row);
+        ends(&rt, rt.alloc(), &sigs, bytes.as_slice(), row.5);
     }
-    Ok(())
+    drop(sigs);
 }
 
-/// A program of these parts ends with r0.
-fn ends_of(rt: &impl Abort, alloc: Global, parts: &[&[u8]], r0: u64) -> Result<(), Fail> {
-    let bytes = joined(alloc, parts)?;
-    ends(rt, alloc, &bytes, r0)
+/// A slot that sets r0 to 2, and a wide load that does.
+const SETS_2: [u8; 8] = [0xb7, 0, 0, 0, 2, 0, 0, 0];
+
+const WIDE_2: [u8; 16] = [0x18, 0, 0, 0, 2, 0, 0, 0, 0, 0, 0, 0, 0, 0, 0, 0];
+
+/// Opcode, offset and immediate of a jump without a condition, what comes behind it, and r0 at the
+/// end, which is 1 where it jumps over that.
+static JUMPS_ALWAYS: [(u8, i16, i32, &[u8], u64); 6] = [
+    (0x05, 0, 0, &SETS_2, 2),
+    (0x06, 0, 0, &SETS_2, 2),
+    (0x05, 1, 0, &SETS_2, 1),
+    (0x06, 0, 1, &SETS_2, 1),
+    (0x05, 2, 0, &WIDE_2, 1),
+    (0x06, 0, 2, &WIDE_2, 1),
+];
+
+/// A slot that sets r0 to 1, the jump, and what comes behind it.
+fn jump(rt: &impl Abort, alloc: Global, row: (u8, i16, i32, &[u8], u64)) -> Vec<u8> {
+    let (opcode, offset, immediate, behind, _) = row;
+    joined(
+        rt,
+        alloc,
+        &[
+            &slot(0xb7, 0, 0, 1),
+            &slot(opcode, 0, offset, immediate),
+            behind,
+            &EXIT,
+        ],
+    )
 }
+
+/// Words of wide loads.
+static WORDS: [u64; 5] = [
+    0,
+    0x8000_0000,
+    0xffff_ffff,
+    0x8000_0000_0000_0000,
+    0x0123_4567_89ab_cdef,
+];
 
 /// Programs without a condition: jumps of both forms over nothing, an instruction and a wide load,
 /// and a wide load alone.
 #[test]
-fn ways_without_a_condition(rt: HostRuntime) -> Result<(), Fail> {
-    let mov_1 = slot(0xb7, 0, 0, 1);
-    let mov_2 = slot(0xb7, 0, 0, 2);
-    for (offset, r0) in [(0i16, 2), (1, 1)] {
-        for jump in [slot(0x05, 0, offset, 0), slot(0x06, 0, 0, offset as i32)] {
-            ends_of(&rt, rt.alloc(), &[&mov_1, &jump, &mov_2, &EXIT], r0)?;
-        }
+fn ways_without_a_condition(rt: HostRuntime) {
+    let sigs = no_sigs(&rt, rt.alloc());
+    for row in &JUMPS_ALWAYS {
+        let bytes = jump(&rt, rt.alloc(), *row);
+        ends(&rt, rt.alloc(), &sigs, bytes.as_slice(), row.4);
     }
-    for jump in [slot(0x05, 0, 2, 0), slot(0x06, 0, 0, 2)] {
-        ends_of(&rt, rt.alloc(), &[&mov_1, &jump, &wide(0, 2), &EXIT], 1)?;
+    for word in &WORDS {
+        let bytes = joined(&rt, rt.alloc(), &[&wide(0, *word), &EXIT]);
+        ends(&rt, rt.alloc(), &sigs, bytes.as_slice(), *word);
     }
-    for value in [
-        0,
-        0x8000_0000,
-        0xffff_ffff,
-        0x8000_0000_0000_0000,
-        0x0123_4567_89ab_cdef,
-    ] {
-        ends_of(&rt, rt.alloc(), &[&wide(0, value), &EXIT], value)?;
-    }
-    Ok(())
+    drop(sigs);
 }

@@ -2,55 +2,55 @@
 //! chance.
 
 use crate::fixtures::no_sigs;
+use crate::programs::{EXIT, program_of};
 use crate::verifier::faults::{fault_at, next_slot, target};
 use crate::verifier::refusal;
-use bpf_decode::{Op, decode};
+use bpf_decode::Op;
 use bpf_helpers::Sigs;
 use bpf_regstate::State;
 use std::alloc::Global;
 use std::process::Abort;
-use std::test::Fail;
 
 /// For each slot the state that all edges so far bring to it.
 type Table = Vec<Option<Box<State>>>;
 
 /// Joins a state into what a row has.
-fn meet(alloc: Global, row: &mut Option<Box<State>>, state: State) -> Result<(), Fail> {
+fn meet(rt: &impl Abort, alloc: Global, row: &mut Option<Box<State>>, state: State) {
     match row {
         Some(both) => both.join(&state),
-        None => *row = Some(Box::new(alloc, state)?),
+        None => *row = Some(Box::new(alloc, state).expect(rt, "a state")),
     }
-    Ok(())
 }
 
 /// Joins an edge into what the table has at its end.
 fn arrive(
+    rt: &impl Abort,
     alloc: Global,
     table: &mut Table,
     to: Option<usize>,
     state: Option<State>,
-) -> Result<(), Fail> {
-    let (Some(to), Some(state)) = (to, state) else {
-        return Ok(());
-    };
-    match table.get_mut(to) {
-        Some(row) => meet(alloc, row, state),
-        None => Err("an edge out of the program".into()),
+) {
+    if let (Some(to), Some(state)) = (to, state) {
+        let row = table.get_mut(to).expect(rt, "an edge out of the program");
+        meet(rt, alloc, row, state);
     }
 }
 
 /// Sends the edges of a slot.
 fn depart(
+    rt: &impl Abort,
     alloc: Global,
     table: &mut Table,
     sigs: &Sigs,
     slot: usize,
     op: &Op,
     state: &State,
-) -> Result<(), Fail> {
+) {
     match op {
-        Op::Ja { .. } => arrive(alloc, table, target(slot, op), Some(state.copy()?)),
-        Op::Ja32 { .. } => arrive(alloc, table, target(slot, op), Some(state.copy()?)),
+        Op::Ja { .. } | Op::Ja32 { .. } => {
+            let taken = state.copy().expect(rt, "a state");
+            arrive(rt, alloc, table, target(slot, op), Some(taken));
+        }
         Op::Jump {
             width,
             condition,
@@ -58,80 +58,81 @@ fn depart(
             operand,
             ..
         } => {
-            let other = state.refine(*width, *condition, *dst, *operand, false)?;
-            arrive(alloc, table, next_slot(slot, op), other)?;
-            let taken = state.refine(*width, *condition, *dst, *operand, true)?;
-            arrive(alloc, table, target(slot, op), taken)
+            let other = state
+                .refine(*width, *condition, *dst, *operand, false)
+                .expect(rt, "a state");
+            arrive(rt, alloc, table, next_slot(slot, op), other);
+            let taken = state
+                .refine(*width, *condition, *dst, *operand, true)
+                .expect(rt, "a state");
+            arrive(rt, alloc, table, target(slot, op), taken);
         }
-        Op::Exit => Ok(()),
-        Op::Tail => Ok(()),
-        _ => arrive(
-            alloc,
-            table,
-            next_slot(slot, op),
-            Some(state.transfer(*op, sigs)?),
-        ),
+        Op::Exit | Op::Tail => {}
+        _ => {
+            let after = state.transfer(*op, sigs).expect(rt, "a state");
+            arrive(rt, alloc, table, next_slot(slot, op), Some(after));
+        }
     }
 }
 
 /// The table before the first slot: the start, and nothing for each other slot.
-fn start(alloc: Global, slots: usize) -> Result<Table, Fail> {
+fn start(rt: &impl Abort, alloc: Global, slots: usize) -> Table {
     let mut table = Vec::new(alloc);
-    table.push(Some(Box::new(alloc, State::start(alloc))?))?;
-    for _ in 1..slots {
-        table.push(None)?;
+    for _ in 0..slots {
+        table.push(None).expect(rt, "rows");
     }
-    Ok(table)
+    arrive(rt, alloc, &mut table, Some(0), Some(State::start(alloc)));
+    table
 }
 
 /// What the table has at a slot.
-fn state_at(table: &Table, slot: usize) -> Result<Option<State>, Fail> {
+fn state_at(rt: &impl Abort, table: &Table, slot: usize) -> Option<State> {
     match table.get(slot) {
-        Some(Some(state)) => Ok(Some(state.copy()?)),
-        _ => Ok(None),
+        Some(Some(state)) => Some(state.copy().expect(rt, "a state")),
+        _ => None,
     }
 }
 
 /// The number of the fault of a slot; its edges are sent where it has none.
 fn pass(
+    rt: &impl Abort,
     alloc: Global,
     table: &mut Table,
     sigs: &Sigs,
     ops: &[Op],
     slot: usize,
     op: &Op,
-) -> Result<Option<u16>, Fail> {
-    let state = state_at(table, slot)?;
+) -> Option<u16> {
+    let state = state_at(rt, table, slot);
     let fault = fault_at(ops, slot, op, state.as_ref());
-    if fault.is_some() {
-        return Ok(fault);
+    if let (None, Some(state)) = (fault, &state) {
+        depart(rt, alloc, table, sigs, slot, op, state);
     }
-    if let Some(state) = &state {
-        depart(alloc, table, sigs, slot, op, state)?;
-    }
-    Ok(None)
+    drop(state);
+    fault
 }
 
 /// The number and the slot of the first fault, by a table.
 fn first_fault(
+    rt: &impl Abort,
     alloc: Global,
     table: &mut Table,
     sigs: &Sigs,
     ops: &[Op],
-) -> Result<Option<(u16, usize)>, Fail> {
+) -> Option<(u16, usize)> {
     for (slot, op) in ops.iter().enumerate() {
-        if let Some(code) = pass(alloc, table, sigs, ops, slot, op)? {
-            return Ok(Some((code, slot)));
+        if let Some(code) = pass(rt, alloc, table, sigs, ops, slot, op) {
+            return Some((code, slot));
         }
     }
-    Ok(None)
+    None
 }
 
 /// The verdict on a program by a table.
-fn verdict(alloc: Global, sigs: &Sigs, bytes: &[u8]) -> Result<Option<(u16, usize)>, Fail> {
-    let program = decode(alloc, bytes)?;
-    let mut table = start(alloc, program.slot_count())?;
-    first_fault(alloc, &mut table, sigs, program.ops())
+fn verdict(rt: &impl Abort, alloc: Global, sigs: &Sigs, bytes: &[u8]) -> Option<(u16, usize)> {
+    let program = program_of(rt, alloc, bytes);
+    let mut table = start(rt, alloc, program.slot_count());
+    first_fault(rt, alloc, &mut table, sigs, program.ops())
 }
 
 /// Numbers by chance, always the same.
@@ -201,43 +202,46 @@ impl Draws {
     }
 
     /// The bytes of a program of so many instructions and an exit.
-    fn program(&mut self, alloc: Global, instructions: u8) -> Result<Vec<u8>, Fail> {
+    fn program(&mut self, rt: &impl Abort, alloc: Global, instructions: u8) -> Vec<u8> {
         let mut bytes = Vec::new(alloc);
-        bytes.extend_from_slice(&[0xb7, 0, 0, 0, 0, 0, 0, 0])?;
+        bytes
+            .extend_from_slice(&[0xb7, 0, 0, 0, 0, 0, 0, 0])
+            .expect(rt, "bytes");
         for _ in 0..instructions {
-            let slot = self.instruction();
-            bytes.extend_from_slice(&slot)?;
+            bytes
+                .extend_from_slice(&self.instruction())
+                .expect(rt, "bytes");
         }
-        bytes.extend_from_slice(&[0x95, 0, 0, 0, 0, 0, 0, 0])?;
-        Ok(bytes)
+        bytes.extend_from_slice(&EXIT).expect(rt, "bytes");
+        bytes
     }
 }
 
 /// The verdict of `verify` is that of the table; whether it is that the program is accepted.
-fn agrees(rt: &impl Abort, alloc: Global, sigs: &Sigs, bytes: &[u8]) -> Result<bool, Fail> {
-    let owed = verdict(alloc, sigs, bytes)?;
-    let told = refusal(alloc, sigs, bytes)?;
-    assert_eq!(rt; told, owed);
-    Ok(told.is_none())
+fn agrees(rt: &impl Abort, alloc: Global, sigs: &Sigs, bytes: &[u8]) -> bool {
+    let owed = verdict(rt, alloc, sigs, bytes);
+    let told = refusal(rt, alloc, sigs, bytes);
+    assert!(rt; told == owed, "{bytes:?}");
+    told.is_none()
 }
 
 /// How many of these programs by chance are accepted.
-fn count_accepted(rt: &impl Abort, alloc: Global, sigs: &Sigs, programs: u32) -> Result<u32, Fail> {
+fn count_accepted(rt: &impl Abort, alloc: Global, sigs: &Sigs, programs: u32) -> u32 {
     let mut draws = Draws { seed: 18 };
     let mut accepted = 0u32;
     for turn in 0..programs {
-        let bytes = draws.program(alloc, (turn % 12) as u8 + 1)?;
-        if agrees(rt, alloc, sigs, &bytes)? {
+        let bytes = draws.program(rt, alloc, (turn % 12) as u8 + 1);
+        if agrees(rt, alloc, sigs, bytes.as_slice()) {
             accepted = accepted.saturating_add(1);
         }
     }
-    Ok(accepted)
+    accepted
 }
 
 #[test]
-fn programs_by_chance_have_the_verdict_of_a_whole_table(rt: HostRuntime) -> Result<(), Fail> {
-    let sigs = no_sigs(rt.alloc())?;
-    let accepted = count_accepted(&rt, rt.alloc(), &sigs, 600)?;
+fn programs_by_chance_have_the_verdict_of_a_whole_table(rt: HostRuntime) {
+    let sigs = no_sigs(&rt, rt.alloc());
+    let accepted = count_accepted(&rt, rt.alloc(), &sigs, 600);
     assert!(rt; 100 < accepted && accepted < 500, "{accepted}");
-    Ok(())
+    drop(sigs);
 }
