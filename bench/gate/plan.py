@@ -10,7 +10,7 @@ first, edits and the checks that they begin with where nothing else is ready. So
 after the other, in one part. The memory is what is free at the start. This kit's gate reckons what a check takes by the
 lines of its crate and of those below, starts none that does not fit, and no edit while a proof waits for memory; what
 that costs is told. What runs at the same time is taken to slow nothing down. Parts that no log has are counted and
-left out. The longest chain of proofs is printed too: no number of processors goes below it.
+left out. The longest chain of proofs is printed too: with one job each, no number of processors goes below it.
 """
 import collections
 import heapq
