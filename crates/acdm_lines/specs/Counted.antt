@@ -1,13 +1,25 @@
--- What callers see of a reader or a writer that counts its faults.
+-- What callers see of a reader and of a writer that count their faults and keep a log.
 use Rattle.std.specs.Prelude.{ℕ, ◌+◌, ◌-◌, ◌^◌, Bool, true, false, ◌&&◌, ◌||◌, ◌==◌, nat_lt}
 use Rattle.std.specs.Prelude.{if◌then◌else◌}
-use Rattle.std.specs.Prelude.{List, length, Result, Ok, Err}
+use Rattle.std.specs.Prelude.{List, [], length, take, Option, Result, Ok, Err}
 
--- the reader or writer itself, how often it failed, and whether bytes that it took wait for a flush
-pub record Watched (T : Type 0) : Type 0 where
-  pub inner : T
+-- a reader: itself, what was known at first of what it would give, how often it failed, all bytes that
+-- its reads gave since then, and whether its last read told the end
+pub record SourceView (R : Type 0) : Type 0 where
+  pub inner : R
+  pub first : Option (List ℕ)
+  pub faults : ℕ
+  pub log : List ℕ
+  pub ended : Bool
+
+-- a writer: itself, what was known at first of what it held, how often it failed, whether bytes that it
+-- took wait for a flush, and all bytes that its writes took since then
+pub record SinkView (W : Type 0) : Type 0 where
+  pub inner : W
+  pub first : Option (List ℕ)
   pub faults : ℕ
   pub waits : Bool
+  pub log : List ℕ
 
 -- the count's greatest value, at which it stops
 abbrev pub most_faults : ℕ
@@ -31,3 +43,13 @@ waits_after (Ok n) waits = waits || nat_lt 0 n
 abbrev pub waits_flushed : {T E : Type 0} → Result T E → Bool → Bool
 waits_flushed (Err e) waits = waits
 waits_flushed (Ok x) waits = false
+
+-- the bytes that one call moved: of the buffer the first so many, none on an error
+abbrev pub moved : {E : Type 0} → Result ℕ E → List ℕ → List ℕ
+moved (Err e) buf = []
+moved (Ok n) buf = take n buf
+
+-- a read told the end: it gave none, and there was room
+abbrev pub tells_end : {E : Type 0} → Result ℕ E → List ℕ → Bool
+tells_end (Err e) buf = false
+tells_end (Ok n) buf = n == 0 && nat_lt 0 (length buf)

@@ -1,66 +1,63 @@
 -- The taking of one line from what is held of a reader's bytes and from what it gives.
-use Rattle.std.specs.Prelude.{ℕ, ◌+◌, ◌^◌, ◌≤◌, ◌≡◌, ◌⊎◌, true, List, [], ◌∷◌, ◌++◌, length, Option}
+use Rattle.std.specs.Prelude.{ℕ, ◌+◌, ◌^◌, ◌≤◌, ◌≡◌, ◌⊎◌, true, List, [], ◌∷◌, ◌++◌, length}
 use Rattle.std.specs.Prelude.{Result, Ok, Err}
-use Rattle.std.specs.Io.KnownBytes.{Consumes, IsAtEnd, Keeps}
 use Rattle.acdm_lines.specs.declared.lines.Ending.{Ending}
 use Rattle.acdm_lines.specs.declared.lines.Ending.TheVariants.{LineFeed, Input}
 use Rattle.acdm_lines.specs.declared.lines.Lines.{Lines}
 use Rattle.acdm_lines.specs.declared.run_error.RunError.{RunError}
 use Rattle.acdm_lines.specs.declared.run_error.RunError.TheVariants.{Read}
-use Rattle.acdm_lines.specs.Counted.{Watched, faults_after}
+use Rattle.acdm_lines.specs.Counted.{SourceView, faults_after}
 use Rattle.acdm_lines.specs.Lines.{IsLine, kept}
 
 -- a read brought these bytes, none only at the end
-pub record Filled {R : Type 0} (remaining : R → Option (List ℕ)) (old new : Watched R)
-    (bytes : List ℕ) : Type 0 where
-  pub consumed : Consumes (remaining old.inner) (remaining new.inner) bytes
-  pub ended : bytes ≡ [] → IsAtEnd (remaining new.inner)
+pub record Filled {R : Type 0} (old new : SourceView R) (bytes : List ℕ) : Type 0 where
+  pub gave : new.log ≡ old.log ++ bytes
+  pub ended : bytes ≡ [] → new.ended ≡ true
   pub well : new.faults ≡ old.faults
 
 -- a read failed, and brought none
-pub record FailedToFill {R : Type 0} (remaining : R → Option (List ℕ)) (old new : Watched R)
-    (bytes : List ℕ) (error : RunError) : Type 0 where
-  pub keeps : Keeps (remaining old.inner) (remaining new.inner)
+pub record FailedToFill {R : Type 0} (old new : SourceView R) (bytes : List ℕ) (error : RunError)
+    : Type 0 where
+  pub gave : new.log ≡ old.log
   pub none : bytes ≡ []
   pub fault : new.faults ≡ faults_after true old.faults
   pub kind : error ≡ Read
 
 -- what comes of one read
-abbrev pub Fills : {R T : Type 0} → (R → Option (List ℕ)) → Watched R → Watched R → List ℕ
-    → Result T RunError → Type 0
-Fills remaining old new bytes (Ok x) = Filled remaining old new bytes
-Fills remaining old new bytes (Err e) = FailedToFill remaining old new bytes e
+abbrev pub Fills : {R T : Type 0} → SourceView R → SourceView R → List ℕ → Result T RunError → Type 0
+Fills old new bytes (Ok x) = Filled old new bytes
+Fills old new bytes (Err e) = FailedToFill old new bytes e
 
 -- A line is taken, which a line feed ends: what was held and what was read are the line, its line
 -- feed and what is held now, and each read gave something.
-pub record TakesLine {R : Type 0} (most : ℕ) (remaining : R → Option (List ℕ)) (old new : Watched R)
+pub record TakesLine {R : Type 0} (most : ℕ) (old new : SourceView R)
     (before after : Lines most) : Type 0 where
   pub text : List ℕ
   pub line : List ℕ
-  pub consumed : Consumes (remaining old.inner) (remaining new.inner) text
-  pub gave : before.reads_left ≤ length text + after.reads_left
+  pub gave : new.log ≡ old.log ++ text
+  pub each_gave : before.reads_left ≤ length text + after.reads_left
   pub is_line : IsLine line
   pub split : before.window ++ text ≡ line ++ 10 ∷ after.window
   pub bytes_are : after.line ≡ kept most line
   pub well : new.faults ≡ old.faults
 
 -- The input ended: what was held and what was read are the rest of a line.
-pub record TakesRest {R : Type 0} (most : ℕ) (remaining : R → Option (List ℕ)) (old new : Watched R)
+pub record TakesRest {R : Type 0} (most : ℕ) (old new : SourceView R)
     (before after : Lines most) : Type 0 where
   pub text : List ℕ
-  pub consumed : Consumes (remaining old.inner) (remaining new.inner) text
+  pub gave : new.log ≡ old.log ++ text
   pub is_line : IsLine (before.window ++ text)
   pub none : after.window ≡ []
   pub bytes_are : after.line ≡ kept most (before.window ++ text)
-  pub ended : IsAtEnd (remaining new.inner)
+  pub ended : new.ended ≡ true
   pub well : new.faults ≡ old.faults
 
 -- No line was taken: what was held and what was read are part of one. The reader failed once more,
 -- or no read was left after so many that each gave something.
-pub record TakesPart {R : Type 0} (most : ℕ) (remaining : R → Option (List ℕ)) (old new : Watched R)
+pub record TakesPart {R : Type 0} (most : ℕ) (old new : SourceView R)
     (before after : Lines most) (error : RunError) : Type 0 where
   pub text : List ℕ
-  pub consumed : Consumes (remaining old.inner) (remaining new.inner) text
+  pub gave : new.log ≡ old.log ++ text
   pub is_line : IsLine (before.window ++ text)
   pub none : after.window ≡ []
   pub why : (new.faults ≡ faults_after true old.faults)
@@ -68,12 +65,11 @@ pub record TakesPart {R : Type 0} (most : ℕ) (remaining : R → Option (List �
   pub kind : error ≡ Read
 
 -- what comes of looking for the next line
-abbrev pub Takes : {R : Type 0} → (most : ℕ) → (R → Option (List ℕ)) → Watched R → Watched R
+abbrev pub Takes : {R : Type 0} → (most : ℕ) → SourceView R → SourceView R
     → Lines most → Lines most → Result Ending RunError → Type 0
-Takes most remaining old new before after (Ok LineFeed) =
-    TakesLine most remaining old new before after
-Takes most remaining old new before after (Ok Input) = TakesRest most remaining old new before after
-Takes most remaining old new before after (Err e) = TakesPart most remaining old new before after e
+Takes most old new before after (Ok LineFeed) = TakesLine most old new before after
+Takes most old new before after (Ok Input) = TakesRest most old new before after
+Takes most old new before after (Err e) = TakesPart most old new before after e
 
 -- a reader failed once more, or not, but gave so much that each of 2^40 reads gave a part of it
 abbrev pub FailsOrEndless : ℕ → ℕ → List ℕ → Type 0

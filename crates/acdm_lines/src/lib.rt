@@ -1,14 +1,18 @@
-//! Readers and writers that count their faults, and the lines of a reader.
+//! Readers and writers that count their faults and keep a log for proofs, and the lines of a reader.
 #![tactic(auto)]
 
-mod counted;
+mod faults;
 mod line;
 mod lines;
+mod log;
 mod run_error;
+mod sink;
+mod source;
 mod window;
 
-pub use counted::Counted;
 pub use line::Line;
 pub use lines::{Ending, Lines};
 pub use run_error::RunError;
+pub use sink::Sink;
+pub use source::Source;
 pub use window::Window;

@@ -3,9 +3,9 @@ ghost use Rattle.std.specs.Prelude.{◌≡◌, ℕ, ◌<◌, true, false, List, 
 ghost use Rattle.acdm_lines.specs.Lines.{IsLine, kept, weight};
 ghost use Rattle.acdm_lines.specs.NextLine.{Takes};
 
-use crate::counted::Counted;
 use crate::line::Line;
 use crate::run_error::RunError;
+use crate::source::Source;
 use crate::window::Window;
 use std::alloc::{AllocError, Global};
 use std::io::Read;
@@ -67,8 +67,8 @@ impl<const MOST: usize> Lines<MOST> {
     }
 
     /// Takes the next line, and says what ended it. It reads only where no whole line is held.
-    pub fn next<R: Read>(&mut self, reader: &mut Counted<R>) -> Result<Ending, RunError>
-        ensures takes { Takes MOST R.remaining reader.old reader.new self.old self.new result }
+    pub fn next<R: Read>(&mut self, reader: &mut Source<R>) -> Result<Ending, RunError>
+        ensures takes { Takes MOST reader.old reader.new self.old self.new result }
         ensures progress { result ≡ Ok Ending.LineFeed → weight self.new.reads_left self.new.window
             < weight self.old.reads_left self.old.window }
     {

@@ -3,8 +3,8 @@ ghost use Rattle.std.specs.Prelude.{◌≡◌, ◌<◌, ◌≤◌, [], length, d
 ghost use Rattle.acdm_lines.specs.Lines.{is_line_feed, most_held};
 ghost use Rattle.acdm_lines.specs.NextLine.{Fills};
 
-use crate::counted::Counted;
 use crate::run_error::RunError;
+use crate::source::Source;
 use memchr::memchr;
 use std::alloc::{AllocError, Global};
 use std::io::Read;
@@ -78,8 +78,8 @@ impl Window {
     }
 
     /// Reads once, in place of what is held. Nothing is held afterwards where the input has ended.
-    pub fn fill<R: Read>(&mut self, reader: &mut Counted<R>) -> Result<(), RunError>
-        ensures fills { Fills R.remaining reader.old reader.new self.new result }
+    pub fn fill<R: Read>(&mut self, reader: &mut Source<R>) -> Result<(), RunError>
+        ensures fills { Fills reader.old reader.new self.new result }
         ensures fits { length self.new ≤ most_held }
     {
         self.start = 0;
