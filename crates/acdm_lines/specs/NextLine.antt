@@ -12,6 +12,7 @@ use Rattle.acdm_lines.specs.Lines.{IsLine, kept}
 -- a read brought these bytes, none only at the end
 pub record Filled {R : Type 0} (old new : SourceView R) (bytes : List ℕ) : Type 0 where
   pub gave : new.log ≡ old.log ++ bytes
+  pub same : new.first ≡ old.first
   pub ended : bytes ≡ [] → new.ended ≡ true
   pub well : new.faults ≡ old.faults
 
@@ -19,6 +20,7 @@ pub record Filled {R : Type 0} (old new : SourceView R) (bytes : List ℕ) : Typ
 pub record FailedToFill {R : Type 0} (old new : SourceView R) (bytes : List ℕ) (error : RunError)
     : Type 0 where
   pub gave : new.log ≡ old.log
+  pub same : new.first ≡ old.first
   pub none : bytes ≡ []
   pub fault : new.faults ≡ faults_after true old.faults
   pub kind : error ≡ Read
@@ -35,6 +37,7 @@ pub record TakesLine {R : Type 0} (most : ℕ) (old new : SourceView R)
   pub text : List ℕ
   pub line : List ℕ
   pub gave : new.log ≡ old.log ++ text
+  pub same : new.first ≡ old.first
   pub each_gave : before.reads_left ≤ length text + after.reads_left
   pub is_line : IsLine line
   pub split : before.window ++ text ≡ line ++ 10 ∷ after.window
@@ -46,6 +49,7 @@ pub record TakesRest {R : Type 0} (most : ℕ) (old new : SourceView R)
     (before after : Lines most) : Type 0 where
   pub text : List ℕ
   pub gave : new.log ≡ old.log ++ text
+  pub same : new.first ≡ old.first
   pub is_line : IsLine (before.window ++ text)
   pub none : after.window ≡ []
   pub bytes_are : after.line ≡ kept most (before.window ++ text)
@@ -58,6 +62,7 @@ pub record TakesPart {R : Type 0} (most : ℕ) (old new : SourceView R)
     (before after : Lines most) (error : RunError) : Type 0 where
   pub text : List ℕ
   pub gave : new.log ≡ old.log ++ text
+  pub same : new.first ≡ old.first
   pub is_line : IsLine (before.window ++ text)
   pub none : after.window ≡ []
   pub why : (new.faults ≡ faults_after true old.faults)
