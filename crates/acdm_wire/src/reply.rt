@@ -6,13 +6,13 @@ ghost use Rattle.acdm_step.specs.declared.outcome.Outcome.TheVariants.{Listed};
 
 use crate::fault::Bad;
 use crate::reply_text::{ReplyText, done, head, refused, rejected, shown};
-use acdm_lines::{Counted, RunError};
+use acdm_lines::{RunError, Sink};
 use acdm_step::{Alerted, Outcome};
 use std::io::Write;
 
 /// Writes all these bytes.
-fn write_whole<W: Write>(writer: &mut Counted<W>, bytes: &[u8]) -> Result<(), RunError>
-    ensures { Writes W.contents writer.old writer.new bytes.now result }
+fn write_whole<W: Write>(writer: &mut Sink<W>, bytes: &[u8]) -> Result<(), RunError>
+    ensures { Writes writer.old writer.new bytes.now result }
 {
     let mut at = 0;
     while at < bytes.len() {
@@ -25,8 +25,8 @@ fn write_whole<W: Write>(writer: &mut Counted<W>, bytes: &[u8]) -> Result<(), Ru
 }
 
 // Writes flights with their alerts after a first one.
-fn write_more<W: Write>(writer: &mut Counted<W>, flights: &[Alerted]) -> Result<(), RunError>
-    ensures { Writes W.contents writer.old writer.new (flat_map next_text flights.now) result }
+fn write_more<W: Write>(writer: &mut Sink<W>, flights: &[Alerted]) -> Result<(), RunError>
+    ensures { Writes writer.old writer.new (flat_map next_text flights.now) result }
 {
     let mut text = ReplyText::new();
     let mut rest = flights;
@@ -39,8 +39,8 @@ fn write_more<W: Write>(writer: &mut Counted<W>, flights: &[Alerted]) -> Result<
 }
 
 // Writes flights with their alerts.
-fn write_flights<W: Write>(writer: &mut Counted<W>, flights: &[Alerted]) -> Result<(), RunError>
-    ensures { Writes W.contents writer.old writer.new (list_text flights.now) result }
+fn write_flights<W: Write>(writer: &mut Sink<W>, flights: &[Alerted]) -> Result<(), RunError>
+    ensures { Writes writer.old writer.new (list_text flights.now) result }
 {
     let Some((first, more)) = flights.split_first() else {
         return write_whole(writer, b"-");
@@ -53,11 +53,11 @@ fn write_flights<W: Write>(writer: &mut Counted<W>, flights: &[Alerted]) -> Resu
 
 // Writes the reply with flights and their alerts, in pieces.
 fn write_list<W: Write>(
-    writer: &mut Counted<W>,
+    writer: &mut Sink<W>,
     number: u64,
     flights: &[Alerted],
 ) -> Result<(), RunError>
-    ensures { Writes W.contents writer.old writer.new
+    ensures { Writes writer.old writer.new
         (entry_text number (Listed flights.now)) result }
 {
     write_whole(writer, head(number).as_slice())?;
@@ -68,11 +68,11 @@ fn write_list<W: Write>(
 /// Writes the reply to a line that made the entry of this number, with what came of it. The writer
 /// is not flushed. `Write` where the writer failed, after some of the first bytes of the reply.
 pub fn write_entered<W: Write>(
-    writer: &mut Counted<W>,
+    writer: &mut Sink<W>,
     number: u64,
     outcome: &Outcome,
 ) -> Result<(), RunError>
-    ensures { Writes W.contents writer.old writer.new (entry_text number outcome.now) result }
+    ensures { Writes writer.old writer.new (entry_text number outcome.now) result }
 {
     match outcome {
         Outcome::Done => write_whole(writer, done(number).as_slice()),
@@ -84,8 +84,8 @@ pub fn write_entered<W: Write>(
 
 /// Writes the reply to a line that made no entry. The writer is not flushed. `Write` as for
 /// `write_entered`.
-pub fn write_rejected<W: Write>(writer: &mut Counted<W>, bad: Bad) -> Result<(), RunError>
-    ensures { Writes W.contents writer.old writer.new (bad_text bad) result }
+pub fn write_rejected<W: Write>(writer: &mut Sink<W>, bad: Bad) -> Result<(), RunError>
+    ensures { Writes writer.old writer.new (bad_text bad) result }
 {
     write_whole(writer, rejected(bad).as_slice())
 }

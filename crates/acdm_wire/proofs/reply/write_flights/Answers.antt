@@ -11,15 +11,15 @@ returns-in_err-write_whole g c =
     let first = c.as_slice.ensures ∙ c.put_first.ensures in
     let p = err_from_is_err_and c.from_residual.result c.from_residual.ensures.1 in
     rw (p.1, p.2)
-    (wrote-as _ _ _ _ _ _ (ap list_text (sym c.in-Some.ensures.cases.0))
-    (wrote-front _ _ _ (alerted_text c.in-Some.first.now)
+    (wrote-as _ _ _ _ _ (ap list_text (sym c.in-Some.ensures.cases.0))
+    (wrote-front _ _ (alerted_text c.in-Some.first.now)
     (flat_map next_text c.in-Some.more.now) _ (rw first at c.in_err-write_whole.ensures)))
 
 pub returns : goal.returns
 returns g c =
     let first = c.as_slice.ensures ∙ c.put_first.ensures in
     subst
-    (λ t. Writes g.W.Write.contents c.args.writer.now c.write_more.new.writer t c.write_more.result)
+    (λ t. Writes c.args.writer.now c.write_more.new.writer t c.write_more.result)
     (ap list_text (sym c.in-Some.ensures.cases.0))
-    (writes-both _ _ _ _ (alerted_text c.in-Some.first.now) (flat_map next_text c.in-Some.more.now)
+    (writes-both _ _ _ (alerted_text c.in-Some.first.now) (flat_map next_text c.in-Some.more.now)
     c.write_more.result (rw first at c.in_ok-write_whole.ensures) c.write_more.ensures)

@@ -11,7 +11,7 @@ returns-in_err-write_whole g c =
     let left = ap (flat_map next_text) c.in-Some.ensures.cases.0 in
     let p = err_from_is_err_and c.from_residual.result c.from_residual.ensures.1 in
     rw (p.1, p.2)
-    (piece-part _ _ _ _ c.loop-flight.invariant.done (flat_map next_text c.loop-flight.rest.now)
+    (piece-part _ _ _ c.loop-flight.invariant.done (flat_map next_text c.loop-flight.rest.now)
     (next_text c.in-Some.flight.now) (flat_map next_text c.in-Some.more.now) _ _
     c.loop-flight.invariant.wrote c.loop-flight.invariant.whole left
     (rw piece at c.in_err-write_whole.ensures))
@@ -22,7 +22,7 @@ loop-flight-preserved g c =
     let left = ap (flat_map next_text) c.in-Some.ensures.cases.0 in
     record {
       done = c.loop-flight.invariant.done ++ next_text c.in-Some.flight.now;
-      wrote = wrote-both _ _ _ _ c.loop-flight.invariant.done (next_text c.in-Some.flight.now)
+      wrote = wrote-both _ _ _ c.loop-flight.invariant.done (next_text c.in-Some.flight.now)
           c.loop-flight.invariant.wrote (rw piece at c.in_ok-write_whole.ensures);
       whole = piece-whole c.loop-flight.invariant.done (flat_map next_text c.loop-flight.rest.now)
           (next_text c.in-Some.flight.now) (flat_map next_text c.in-Some.more.now) _

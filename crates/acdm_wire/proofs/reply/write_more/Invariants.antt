@@ -7,7 +7,7 @@ use Rattle.acdm_wire.proofs.reply.write_more.Given as goal
 abbrev pub invariant-loop-flight : goal.invariant-loop-flight
 invariant-loop-flight g l = record {
   done : List ℕ;
-  wrote : Wrote g.W.Write.contents l.initial.writer l.writer done;
+  wrote : Wrote l.initial.writer l.writer done;
   whole : done ++ flat_map next_text l.rest ≡ flat_map next_text l.flights;
 }
 

@@ -1,6 +1,6 @@
-use Rattle.std.proofs.Common.{◌≡◌, ℕ, List, arith, length-drop}
+use Rattle.std.proofs.Common.{◌≡◌, ℕ, List, ◌∙◌, arith, length-drop}
 use Rattle.std.proofs.lemmas.List.{take_rest}
-use Rattle.acdm_wire.proofs.Writing.{Appends-further}
+use Rattle.acdm_wire.proofs.Writing.{log-further}
 use Rattle.acdm_wire.proofs.reply.write_whole.Goals as goal
 
 pub loop-at-preserved : goal.loop-at-preserved
@@ -12,9 +12,10 @@ loop-at-preserved g c =
     record {
       inside = omega (arith, length-drop c.loop-at.at bytes);
       wrote = record {
-        wrote = Appends-further _ _ _ bytes c.loop-at.at c.in-Ok.taken
+        wrote = log-further _ _ _ bytes c.loop-at.at c.in-Ok.taken
             c.loop-at.invariant.wrote.wrote
             (rw (take_rest bytes c.loop-at.at) at c.in-Ok.ensures.bytes);
+        same = c.in-Ok.ensures.first ∙ c.loop-at.invariant.wrote.same;
         well = grind arith;
       };
     }
