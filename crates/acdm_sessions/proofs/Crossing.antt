@@ -12,7 +12,10 @@ use Rattle.bpf_helpers.specs.declared.helpers.Helpers as helpers
 use Rattle.bpf_helpers.proofs.sigs.Sigs.TheSendSync as sigs
 use Rattle.bpf_helpers.specs.contracts.sigs.Sigs as of_sigs
 use Rattle.acdm_milestones.proofs.role.Role.TheSendSync as role
-use Rattle.acdm_lines.proofs.counted.Counted.TheSendSync as counted
+use Rattle.std.specs.declared.io.traits.Read as read
+use Rattle.std.specs.declared.io.traits.Write as write
+use Rattle.acdm_lines.proofs.sink.Sink.TheSendSync as sink
+use Rattle.acdm_lines.proofs.source.Source.TheSendSync as source
 use Rattle.acdm_row.proofs.Crossing.{pass_send}
 use Rattle.acdm_row.specs.contracts.pass.Pass as pass
 use Rattle.acdm_board.proofs.Crossing.{desk_send}
@@ -62,36 +65,38 @@ caller_send C L n l c =
       ),
     )
 
-seat_send : (R W C L : RattleType) (n : naming.Ghosts L.Denot) (l : ledger.Ghosts L.Denot)
-    → IsSend R → IsSend W → IsSend C → IsSend (seat.the_row R W C L n l)
-seat_send R W C L n l r w c =
-    declared_send (seat.the_type R W C L n l) (
+seat_send : (R W C L : RattleType) (d : read.Ghosts R.Denot) (o : write.Ghosts W.Denot)
+    (n : naming.Ghosts L.Denot) (l : ledger.Ghosts L.Denot)
+    → IsSend R → IsSend W → IsSend C → IsSend (seat.the_row R W C L d o n l)
+seat_send R W C L d o n l r w c =
+    declared_send (seat.the_type R W C L d o n l) (
       search sendable depth 8,
       (
         search (role.the_send, sendable) depth 8,
         (
           caller_send C L n l c,
           (
-            search (counted.the_send, r, sendable) depth 8,
-            (search (counted.the_send, w, sendable) depth 8, tt),
+            search (source.the_send, r, sendable) depth 8,
+            (search (sink.the_send, w, sendable) depth 8, tt),
           ),
         ),
       ),
     )
 
-pub served_send : (R W C L : RattleType) (n : naming.Ghosts L.Denot) (l : ledger.Ghosts L.Denot)
-    → IsSend R → IsSend W → IsSend C → IsSend (served.the_row R W C L n l)
-served_send R W C L n l r w c =
-    declared_send (served.the_type R W C L n l) (
+pub served_send : (R W C L : RattleType) (d : read.Ghosts R.Denot) (o : write.Ghosts W.Denot)
+    (n : naming.Ghosts L.Denot) (l : ledger.Ghosts L.Denot)
+    → IsSend R → IsSend W → IsSend C → IsSend (served.the_row R W C L d o n l)
+served_send R W C L d o n l r w c =
+    declared_send (served.the_type R W C L d o n l) (
       search sendable depth 8,
       (
         search (role.the_send, sendable) depth 8,
         (
           caller_send C L n l c,
           (
-            search (counted.the_send, r, sendable) depth 8,
+            search (source.the_send, r, sendable) depth 8,
             (
-              search (counted.the_send, w, sendable) depth 8,
+              search (sink.the_send, w, sendable) depth 8,
               (search sendable depth 8, tt),
             ),
           ),
@@ -99,12 +104,13 @@ served_send R W C L n l r w c =
       ),
     )
 
-pub work_send : (κ : NamedLft) (R W C H L G Q : RattleType) (g : helpers.Ghosts H.Denot)
-    (n : naming.Ghosts L.Denot) (l : ledger.Ghosts L.Denot) → IsSend R → IsSend W → IsSend C
-    → IsSend H → IsSync G → IsSync Q → IsSend (work.the_row κ R W C H L G Q g n l)
-work_send κ R W C H L G Q g n l r w c h s q =
+pub work_send : (κ : NamedLft) (R W C H L G Q : RattleType) (d : read.Ghosts R.Denot)
+    (o : write.Ghosts W.Denot) (g : helpers.Ghosts H.Denot) (n : naming.Ghosts L.Denot)
+    (l : ledger.Ghosts L.Denot) → IsSend R → IsSend W → IsSend C
+    → IsSend H → IsSync G → IsSync Q → IsSend (work.the_row κ R W C H L G Q d o g n l)
+work_send κ R W C H L G Q d o g n l r w c h s q =
     let shared = lock_sync _ (locked_send H L g n l h) in
-    declared_send (work.the_type κ R W C H L G Q g n l) (
+    declared_send (work.the_type κ R W C H L G Q d o g n l) (
       search (q, sendable) depth 10,
       (
         search sendable depth 10,
@@ -112,7 +118,7 @@ work_send κ R W C H L G Q g n l r w c h s q =
           search (shared, sendable) depth 10,
           (
             search (s, sendable) depth 10,
-            (seat_send R W C L n l r w c, tt),
+            (seat_send R W C L d o n l r w c, tt),
           ),
         ),
       ),

@@ -1,5 +1,5 @@
 -- What stays as it is while lines are answered, and what another sees of it.
-use Rattle.std.proofs.Common.{◌≡◌, ℕ, List, [], ◌∷◌, Option, Result, Ok, Err, refl, sym, ap, ◌∙◌}
+use Rattle.std.proofs.Common.{◌≡◌, ℕ, Bool, List, [], ◌∷◌, Result, Ok, Err, refl, sym, ap, ◌∙◌}
 use Rattle.std.proofs.Common.{subst}
 use Rattle.std.specs.Prelude.{OnOk}
 use Rattle.acdm_lines.specs.Lines.{lines_of}
@@ -7,7 +7,7 @@ use Rattle.acdm_lines.specs.declared.run_error.RunError.{RunError}
 use Rattle.acdm_lines.specs.declared.run_error.RunError.TheVariants.{Read, Write, Memory}
 use Rattle.acdm_sessions.specs.declared.answer.Answer.{Answer}
 use Rattle.acdm_sessions.specs.Stream.{Answering, AnswersAll, AnswersEach, AnswersPart}
-use Rattle.acdm_sessions.specs.Stream.{AnswersText, AnswersWhole, kept}
+use Rattle.acdm_sessions.specs.Stream.{AnswersWhole, kept}
 
 module _ {A X : Type 0} (f : A → X) (may : Answering A)
     (keeps : (a b : A) (l : List ℕ) (x : Answer) → may a b l x → f b ≡ f a) where
@@ -21,21 +21,21 @@ module _ {A X : Type 0} (f : A → X) (may : Answering A)
 
   -- however it ended
   pub all_keep : {T : Type 0} (a b : A) (result : Result T RunError)
-      (left later old new : Option (List ℕ)) (faults more : ℕ)
-      → OnOk result (AnswersAll may left later a b old new)
-      → (result ≡ Err Read → AnswersWhole may left later faults more a b old new)
-      → (result ≡ Err Write → AnswersPart may left later a b old new)
+      (log later old new : List ℕ) (ended : Bool) (faults more : ℕ)
+      → OnOk result (AnswersAll may log later ended a b old new)
+      → (result ≡ Err Read → AnswersWhole may log later faults more a b old new)
+      → (result ≡ Err Write → AnswersPart may log later a b old new)
       → (result ≡ Err Memory → b ≡ a) → f b ≡ f a
-  all_keep a b (Ok x) left later old new faults more all whole part none =
+  all_keep a b (Ok x) log later old new ended faults more all whole part none =
       each_keeps a b (lines_of all.text) all.served.answers all.served.are_right
-  all_keep a b (Err Read) left later old new faults more all whole part none =
+  all_keep a b (Err Read) log later old new ended faults more all whole part none =
       let h = whole refl in
       each_keeps a b (lines_of h.whole) h.served.answers h.served.are_right
-  all_keep a b (Err Write) left later old new faults more all whole part none =
+  all_keep a b (Err Write) log later old new ended faults more all whole part none =
       let h = part refl in
       keeps h.middle b (kept h.line) h.answer h.is_right
       ∙ each_keeps a h.middle (lines_of h.whole) h.served.answers h.served.are_right
-  all_keep a b (Err Memory) left later old new faults more all whole part none = ap f (none refl)
+  all_keep a b (Err Memory) log later old new ended faults more all whole part none = ap f (none refl)
 
 -- What is seen of those who answer, through f, while something stays so of them: lines that were
 -- answered are lines that were answered in what is seen.
@@ -52,13 +52,13 @@ module _ {A B : Type 0} (f : A → B) (may : Answering A) (seen : Answering B) (
   each_seen a b [] (x ∷ xs) s e = absurd e
   each_seen a b (l ∷ ls) [] s e = absurd e
 
-  module _ (a b : A) (left later old new : Option (List ℕ)) (start : stays a) where
-    all_seen : AnswersAll may left later a b old new
-        → AnswersAll seen left later (f a) (f b) old new
-    all_seen h = record {
+  module _ (a b : A) (log later old new : List ℕ) (start : stays a) where
+    all_seen : (ended : Bool) → AnswersAll may log later ended a b old new
+        → AnswersAll seen log later ended (f a) (f b) old new
+    all_seen ended h = record {
       text = h.text;
-      consumed = h.consumed;
-      ended = h.ended;
+      gave = h.gave;
+      at_end = h.at_end;
       served = record {
         answers = h.served.answers;
         are_right = (each_seen a b (lines_of h.text) h.served.answers start
@@ -67,20 +67,20 @@ module _ {A B : Type 0} (f : A → B) (may : Answering A) (seen : Answering B) (
       };
     }
 
-    pub ok_seen : {T : Type 0} (result : Result T RunError)
-        → OnOk result (AnswersAll may left later a b old new)
-        → OnOk result (AnswersAll seen left later (f a) (f b) old new)
-    ok_seen (Ok x) h = all_seen h
-    ok_seen (Err e) h = tt
+    pub ok_seen : {T : Type 0} (result : Result T RunError) (ended : Bool)
+        → OnOk result (AnswersAll may log later ended a b old new)
+        → OnOk result (AnswersAll seen log later ended (f a) (f b) old new)
+    ok_seen (Ok x) ended h = all_seen ended h
+    ok_seen (Err e) ended h = tt
 
-    pub whole_seen : (faults more : ℕ) → AnswersWhole may left later faults more a b old new
-        → AnswersWhole seen left later faults more (f a) (f b) old new
+    pub whole_seen : (faults more : ℕ) → AnswersWhole may log later faults more a b old new
+        → AnswersWhole seen log later faults more (f a) (f b) old new
     whole_seen faults more h = record {
       whole = h.whole;
       part = h.part;
       is_whole = h.is_whole;
       is_part = h.is_part;
-      consumed = h.consumed;
+      gave = h.gave;
       why = h.why;
       served = record {
         answers = h.served.answers;
@@ -90,8 +90,8 @@ module _ {A B : Type 0} (f : A → B) (may : Answering A) (seen : Answering B) (
       };
     }
 
-    pub part_seen : AnswersPart may left later a b old new
-        → AnswersPart seen left later (f a) (f b) old new
+    pub part_seen : AnswersPart may log later a b old new
+        → AnswersPart seen log later (f a) (f b) old new
     part_seen h =
         let so_far = each_seen a h.middle (lines_of h.whole) h.served.answers start
         h.served.are_right in
@@ -102,7 +102,7 @@ module _ {A B : Type 0} (f : A → B) (may : Answering A) (seen : Answering B) (
           others = h.others;
           is_whole = h.is_whole;
           is_next = h.is_next;
-          consumed = h.consumed;
+          gave = h.gave;
           middle = f h.middle;
           between = h.between;
           served = record {

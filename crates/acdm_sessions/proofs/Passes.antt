@@ -1,6 +1,6 @@
 -- What passes tell of a journal that went on.
-use Rattle.std.proofs.Common.{◌≡◌, ℕ, zero, suc, ◌+◌, ◌-◌, ◌<◌, ◌≤◌, ◌⊎◌, inl, inr, ◌==◌}
-use Rattle.std.proofs.Common.{Bool, true, false, not, cond, nat_le, List, [], ◌∷◌, ◌++◌, map, length, reverse}
+use Rattle.std.proofs.Common.{◌≡◌, ℕ, zero, suc, ◌<◌, ◌≤◌, inl, inr, ◌==◌}
+use Rattle.std.proofs.Common.{Bool, true, false, not, cond, nat_le, List, [], ◌∷◌, ◌++◌, length, reverse}
 use Rattle.std.proofs.Common.{take, drop, refl, sym, ap, subst, ◌∙◌, arith, eq-eqb}
 use Rattle.std.specs.Prelude.{slice_get, option_to_list}
 use Rattle.std.specs.List.{filter, list_all}

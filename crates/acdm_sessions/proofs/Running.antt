@@ -1,15 +1,14 @@
 -- What was answered at any time of the text that is read.
 use Rattle.std.proofs.Common.{◌≡◌, ℕ, ◌+◌, ◌-◌, ◌^◌, ◌<◌, ◌≤◌, ◌⊎◌, true, List, [], ◌∷◌, ◌++◌}
 use Rattle.std.proofs.Common.{length}
-use Rattle.std.proofs.Common.{Option, refl, sym, ap, subst, ◌∙◌, arith, append_assoc, append-nil}
+use Rattle.std.proofs.Common.{refl, sym, ap, subst, ◌∙◌, arith, append_assoc, append-nil}
 use Rattle.std.proofs.Common.{inl, inr}
-use Rattle.std.specs.Io.KnownBytes.{Appends, Consumes}
 use Rattle.acdm_wire.specs.declared.request.TheConstants.{LONGEST_LINE}
 use Rattle.acdm_sessions.specs.declared.stream.TheConstants.{MOST_KEPT}
 use Rattle.acdm_sessions.specs.declared.answer.Answer.{Answer}
 use Rattle.acdm_lines.specs.declared.lines.Lines.{Lines}
 use Rattle.acdm_lines.specs.declared.run_error.RunError.{RunError}
-use Rattle.acdm_lines.specs.Counted.{Watched, faults_after}
+use Rattle.acdm_lines.specs.Counted.{SourceView, SinkView, faults_after}
 use Rattle.acdm_lines.specs.Lines.{IsLine, IsWhole, lines_of}
 use Rattle.acdm_lines.specs.NextLine.{TakesLine, TakesRest, TakesPart, FailsOrEndless}
 use Rattle.acdm_sessions.specs.Output.{reply_text}
@@ -17,10 +16,9 @@ use Rattle.acdm_sessions.specs.Stream.{Answered, AnsweredInPart, AnswersEach, re
 use Rattle.acdm_sessions.specs.Stream.{AnswersText, AnswersAll, AnswersWhole, AnswersPart}
 use Rattle.acdm_sessions.specs.Stream.{kept}
 use Rattle.acdm_lines.proofs.Feeds.{lines_of-line, lines_of-rest}
-use Rattle.acdm_wire.proofs.Writing.{Appends-none, Appends-both}
+use Rattle.acdm_wire.proofs.Writing.{log-both}
 use Rattle.acdm_lines.proofs.Whole.{lines_of-whole, IsWhole-line, IsWhole-append}
-use Rattle.acdm_lines.proofs.Taking.{Consumes-none}
-use Rattle.acdm_lines.proofs.Reading.{kept-empty, kept-some, faults-more, consumed-more, gave-more}
+use Rattle.acdm_lines.proofs.Reading.{kept-empty, kept-some, faults-more, logged-more, gave-more}
 
 -- ---- what was answered so far, and one line more
 
@@ -44,35 +42,35 @@ replies_text-more (y ∷ ys) x =
 
 -- lines were answered, and their replies were written
 pub record Spoken {A : Type 0} (may : A → A → List ℕ → Answer → Type 0) (ls : List (List ℕ))
-    (before after : A) (old new : Option (List ℕ)) : Type 0 where
+    (before after : A) (old new : List ℕ) : Type 0 where
   pub answers : List Answer
   pub are_right : AnswersEach may before after ls answers
-  pub wrote : Appends old new (replies_text answers)
+  pub wrote : new ≡ old ++ replies_text answers
 
 -- The reader gave whole lines and what is held, all of the lines are answered, and each read so far
 -- gave something.
 pub record Sofar {A : Type 0} (may : A → A → List ℕ → Answer → Type 0)
-    (start left : Option (List ℕ)) (held : List ℕ) (reads : ℕ)
-    (before after : A) (old new : Option (List ℕ)) : Type 0 where
+    (start log : List ℕ) (held : List ℕ) (reads : ℕ)
+    (before after : A) (old new : List ℕ) : Type 0 where
   pub text : List ℕ
   pub whole : List ℕ
-  pub consumed : Consumes start left text
+  pub logged : log ≡ start ++ text
   pub gave : 2 ^ 40 ≤ length text + reads
   pub is_whole : IsWhole whole
   pub split : text ≡ whole ++ held
   pub spoken : Spoken may (lines_of whole) before after old new
 
 pub sofar-begins : {A : Type 0} (may : A → A → List ℕ → Answer → Type 0)
-    (known : Option (List ℕ)) (d : A) (w : Option (List ℕ))
-    → Sofar may known known [] 1099511627776 d d w w
-sofar-begins may known d w = record {
+    (log : List ℕ) (d : A) (w : List ℕ)
+    → Sofar may log log [] 1099511627776 d d w w
+sofar-begins may log d w = record {
   text = [];
   whole = [];
-  consumed = Consumes-none known;
+  logged = sym (append-nil log);
   gave = omega arith;
   is_whole = tt;
   split = refl;
-  spoken = record { answers = []; are_right = refl; wrote = Appends-none w };
+  spoken = record { answers = []; are_right = refl; wrote = sym (append-nil w) };
 }
 
 lines_with : (whole line : List ℕ) → IsWhole whole → IsLine line
@@ -100,14 +98,12 @@ rest-alone [] l some = absurd (omega arith)
 rest-alone (b ∷ bs) l some = lines_of-rest b bs l
 
 module _ {A R W : Type 0} (may : A → A → List ℕ → Answer → Type 0)
-    (remaining : R → Option (List ℕ)) (r0 r1 r2 : Watched R) (l1 l2 : Lines MOST_KEPT)
-    (contents : W → Option (List ℕ)) (w1 w2 : Watched W)
-    (before d : A) (old : Option (List ℕ))
-    (so_far : Sofar may (remaining r0.inner) (remaining r1.inner) l1.window l1.reads_left
-    before d old (contents w1.inner))
+    (r0 r1 r2 : SourceView R) (l1 l2 : Lines MOST_KEPT) (w1 w2 : SinkView W)
+    (before d : A) (old : List ℕ)
+    (so_far : Sofar may r0.log r1.log l1.window l1.reads_left before d old w1.log)
   where
     -- what was answered is so for a text of these lines
-    text_as : (text : List ℕ) (ls : List (List ℕ)) (after : A) (new : Option (List ℕ))
+    text_as : (text : List ℕ) (ls : List (List ℕ)) (after : A) (new : List ℕ)
         → ls ≡ lines_of text → Spoken may ls before after old new
         → AnswersText may text before after old new
     text_as text ls after new all h =
@@ -117,25 +113,25 @@ module _ {A R W : Type 0} (may : A → A → List ℕ → Answer → Type 0)
 
     -- one more line is answered
     spoken-more : (line bytes : List ℕ) (after : A) → bytes ≡ kept line
-        → Answered may contents w1 w2 d after bytes
-        → Spoken may (lines_of so_far.whole ++ line ∷ []) before after old (contents w2.inner)
+        → Answered may w1 w2 d after bytes
+        → Spoken may (lines_of so_far.whole ++ line ∷ []) before after old w2.log
     spoken-more line bytes after same a =
         let xs : List Answer = so_far.spoken.answers in
         record {
           answers = xs ++ a.answer ∷ [];
           are_right = each_more may (lines_of so_far.whole) xs before d after line a.answer
               so_far.spoken.are_right (subst (λ bs. may d after bs a.answer) same a.is_right);
-          wrote = subst (Appends old (contents w2.inner)) (sym (replies_text-more xs a.answer))
-              (Appends-both old (contents w1.inner) (contents w2.inner) (replies_text xs)
+          wrote = subst (λ t. w2.log ≡ old ++ t) (sym (replies_text-more xs a.answer))
+              (log-both old w1.log w2.log (replies_text xs)
               (reply_text a.answer) so_far.spoken.wrote a.wrote);
         }
 
     -- all that was read, with what was read for one more line
-    consumed_more : (more : List ℕ) → Consumes (remaining r1.inner) (remaining r2.inner) more
-        → Consumes (remaining r0.inner) (remaining r2.inner) (so_far.whole ++ (l1.window ++ more))
-    consumed_more more c =
-        consumed-more (remaining r0.inner) (remaining r1.inner) (remaining r2.inner) so_far.text
-        so_far.whole l1.window more so_far.consumed so_far.split c
+    logged_more : (more : List ℕ) → r2.log ≡ r1.log ++ more
+        → r2.log ≡ r0.log ++ (so_far.whole ++ (l1.window ++ more))
+    logged_more more c =
+        logged-more r0.log r1.log r2.log so_far.text
+        so_far.whole l1.window more so_far.logged so_far.split c
 
     -- so much was read with it
     gave_more : (more : List ℕ) (left : ℕ) → l1.reads_left ≤ length more + left
@@ -145,10 +141,10 @@ module _ {A R W : Type 0} (may : A → A → List ℕ → Answer → Type 0)
         so_far.split g
 
     -- one more line is answered
-    pub sofar-line : (after : A) → TakesLine MOST_KEPT remaining r1 r2 l1 l2
-        → Answered may contents w1 w2 d after l2.line
-        → Sofar may (remaining r0.inner) (remaining r2.inner) l2.window l2.reads_left
-        before after old (contents w2.inner)
+    pub sofar-line : (after : A) → TakesLine MOST_KEPT r1 r2 l1 l2
+        → Answered may w1 w2 d after l2.line
+        → Sofar may r0.log r2.log l2.window l2.reads_left
+        before after old w2.log
     sofar-line after t a =
         let whole : List ℕ = so_far.whole ++ (t.line ++ 10 ∷ []) in
         let lines = lines_with so_far.whole t.line so_far.is_whole t.is_line in
@@ -156,20 +152,20 @@ module _ {A R W : Type 0} (may : A → A → List ℕ → Answer → Type 0)
         record {
           text = so_far.whole ++ (l1.window ++ t.text);
           whole = whole;
-          consumed = consumed_more t.text t.consumed;
-          gave = gave_more t.text l2.reads_left t.gave;
+          logged = logged_more t.text t.gave;
+          gave = gave_more t.text l2.reads_left t.each_gave;
           is_whole = IsWhole-append so_far.whole (t.line ++ 10 ∷ []) so_far.is_whole
               (IsWhole-line t.line);
           split = ap (λ l. so_far.whole ++ l) t.split ∙ text_with so_far.whole t.line l2.window;
-          spoken = subst (λ ls. Spoken may ls before after old (contents w2.inner)) (sym lines)
+          spoken = subst (λ ls. Spoken may ls before after old w2.log) (sym lines)
               more;
         }
 
     -- its reply could not be written
-    pub part-line : (after : A) (error : RunError) → TakesLine MOST_KEPT remaining r1 r2 l1 l2
-        → AnsweredInPart may contents w1 w2 d after l2.line error
-        → AnswersPart may (remaining r0.inner) (remaining r2.inner) before after old
-        (contents w2.inner)
+    pub part-line : (after : A) (error : RunError) → TakesLine MOST_KEPT r1 r2 l1 l2
+        → AnsweredInPart may w1 w2 d after l2.line error
+        → AnswersPart may r0.log r2.log before after old
+        w2.log
     part-line after error t a = record {
       whole = so_far.whole;
       line = t.line;
@@ -177,12 +173,12 @@ module _ {A R W : Type 0} (may : A → A → List ℕ → Answer → Type 0)
       others = lines_of l2.window;
       is_whole = so_far.is_whole;
       is_next = lines_of-line t.line l2.window t.is_line;
-      consumed = subst
-          (λ l. Consumes (remaining r0.inner) (remaining r2.inner) (so_far.whole ++ l)) t.split
-          (consumed_more t.text t.consumed);
+      gave = subst
+          (λ l. r2.log ≡ r0.log ++ (so_far.whole ++ l)) t.split
+          (logged_more t.text t.gave);
       middle = d;
-      between = contents w1.inner;
-      served = text_as so_far.whole (lines_of so_far.whole) d (contents w1.inner) refl
+      between = w1.log;
+      served = text_as so_far.whole (lines_of so_far.whole) d w1.log refl
           so_far.spoken;
       answer = a.answer;
       is_right = subst (λ bs. may d after bs a.answer) t.bytes_are a.is_right;
@@ -190,18 +186,18 @@ module _ {A R W : Type 0} (may : A → A → List ℕ → Answer → Type 0)
     }
 
     -- no line more could be read
-    pub sofar-part : (error : RunError) → TakesPart MOST_KEPT remaining r1 r2 l1 l2 error
+    pub sofar-part : (error : RunError) → TakesPart MOST_KEPT r1 r2 l1 l2 error
         → r1.faults ≡ r0.faults → r0.faults < 2 ^ 64 - 1
-        → AnswersWhole may (remaining r0.inner) (remaining r2.inner) r0.faults r2.faults before d
-        old (contents w1.inner)
+        → AnswersWhole may r0.log r2.log r0.faults r2.faults before d
+        old w1.log
     sofar-part error t well room = record {
       whole = so_far.whole;
       part = l1.window ++ t.text;
       is_whole = so_far.is_whole;
       is_part = t.is_line;
-      consumed = consumed_more t.text t.consumed;
+      gave = logged_more t.text t.gave;
       why = why t.why;
-      served = text_as so_far.whole (lines_of so_far.whole) d (contents w1.inner) refl
+      served = text_as so_far.whole (lines_of so_far.whole) d w1.log refl
           so_far.spoken;
     }
       where
@@ -215,26 +211,26 @@ module _ {A R W : Type 0} (may : A → A → List ℕ → Answer → Type 0)
             inr (few.0 ∙ well, omega (arith, all))
 
     -- the text has ended with a line feed, or was empty
-    pub sofar-ends : TakesRest MOST_KEPT remaining r1 r2 l1 l2 → length l2.line ≡ 0
-        → AnswersAll may (remaining r0.inner) (remaining r2.inner) before d old (contents w1.inner)
+    pub sofar-ends : TakesRest MOST_KEPT r1 r2 l1 l2 → length l2.line ≡ 0
+        → AnswersAll may r0.log r2.log r2.ended before d old w1.log
     sofar-ends t empty =
         let none : l1.window ++ t.text ≡ [] =
         kept-empty LONGEST_LINE (l1.window ++ t.text) (ap length (sym t.bytes_are) ∙ empty) in
         record {
           text = so_far.whole;
-          consumed = subst (Consumes (remaining r0.inner) (remaining r2.inner))
+          gave = subst (λ l. r2.log ≡ r0.log ++ l)
               (ap (λ l. so_far.whole ++ l) none ∙ append-nil so_far.whole)
-              (consumed_more t.text t.consumed);
-          ended = t.ended;
-          served = text_as so_far.whole (lines_of so_far.whole) d (contents w1.inner) refl
+              (logged_more t.text t.gave);
+          at_end = t.ended;
+          served = text_as so_far.whole (lines_of so_far.whole) d w1.log refl
               so_far.spoken;
         }
 
     -- the text has ended with the rest of a line, which is answered
-    pub sofar-rest : (after : A) → TakesRest MOST_KEPT remaining r1 r2 l1 l2 → 0 < length l2.line
-        → Answered may contents w1 w2 d after l2.line
-        → AnswersAll may (remaining r0.inner) (remaining r2.inner) before after old
-        (contents w2.inner)
+    pub sofar-rest : (after : A) → TakesRest MOST_KEPT r1 r2 l1 l2 → 0 < length l2.line
+        → Answered may w1 w2 d after l2.line
+        → AnswersAll may r0.log r2.log r2.ended before after old
+        w2.log
     sofar-rest after t some a =
         let rest : List ℕ = l1.window ++ t.text in
         let there : 0 < length rest = kept-some LONGEST_LINE rest
@@ -243,17 +239,17 @@ module _ {A R W : Type 0} (may : A → A → List ℕ → Answer → Type 0)
         let lines = lines_to_end so_far.whole rest so_far.is_whole t.is_line there in
         record {
           text = so_far.whole ++ rest;
-          consumed = consumed_more t.text t.consumed;
-          ended = t.ended;
+          gave = logged_more t.text t.gave;
+          at_end = t.ended;
           served = text_as (so_far.whole ++ rest) (lines_of so_far.whole ++ rest ∷ []) after
-              (contents w2.inner) (sym lines) more;
+              w2.log (sym lines) more;
         }
 
     -- its reply could not be written
-    pub part-rest : (after : A) (error : RunError) → TakesRest MOST_KEPT remaining r1 r2 l1 l2
-        → 0 < length l2.line → AnsweredInPart may contents w1 w2 d after l2.line error
-        → AnswersPart may (remaining r0.inner) (remaining r2.inner) before after old
-        (contents w2.inner)
+    pub part-rest : (after : A) (error : RunError) → TakesRest MOST_KEPT r1 r2 l1 l2
+        → 0 < length l2.line → AnsweredInPart may w1 w2 d after l2.line error
+        → AnswersPart may r0.log r2.log before after old
+        w2.log
     part-rest after error t some a =
         let rest : List ℕ = l1.window ++ t.text in
         let there : 0 < length rest = kept-some LONGEST_LINE rest
@@ -265,12 +261,12 @@ module _ {A R W : Type 0} (may : A → A → List ℕ → Answer → Type 0)
           others = [];
           is_whole = so_far.is_whole;
           is_next = ap lines_of (append-nil rest) ∙ rest-alone rest t.is_line there;
-          consumed = subst
-              (λ l. Consumes (remaining r0.inner) (remaining r2.inner) (so_far.whole ++ l))
-              (sym (append-nil rest)) (consumed_more t.text t.consumed);
+          gave = subst
+              (λ l. r2.log ≡ r0.log ++ (so_far.whole ++ l))
+              (sym (append-nil rest)) (logged_more t.text t.gave);
           middle = d;
-          between = contents w1.inner;
-          served = text_as so_far.whole (lines_of so_far.whole) d (contents w1.inner) refl
+          between = w1.log;
+          served = text_as so_far.whole (lines_of so_far.whole) d w1.log refl
               so_far.spoken;
           answer = a.answer;
           is_right = subst (λ bs. may d after bs a.answer) t.bytes_are a.is_right;

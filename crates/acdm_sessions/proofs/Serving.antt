@@ -1,10 +1,9 @@
 -- What a desk that answers lines has served.
 use Rattle.std.proofs.Common.{◌≡◌, ℕ, ◌<◌, Bool, true, false, cond, nat_le, List, [], ◌∷◌, ◌++◌}
-use Rattle.std.proofs.Common.{length, Option, Result, Ok, Err, refl, sym, ap, subst, ◌∙◌, arith}
+use Rattle.std.proofs.Common.{length, Result, Ok, Err, refl, sym, ap, subst, ◌∙◌, arith}
 use Rattle.std.proofs.Common.{leb-true, leb-false}
 use Rattle.std.proofs.lemmas.Bool.{lt-leb}
 use Rattle.std.proofs.lemmas.List.{take_all, length-take-le}
-use Rattle.std.specs.Io.KnownBytes.{Appends}
 use Rattle.bpf_helpers.specs.Promise.{Promise}
 use Rattle.acdm_step.specs.declared.command.Command.{Command}
 use Rattle.acdm_board.specs.Desk.{DeskView, entered}
@@ -131,7 +130,7 @@ supplied (l ∷ ls) (x ∷ xs) before after e =
     }
 
 -- the lines of a text that a desk answered were served
-pub serves : (text : List ℕ) (before after : DeskView) (old new : Option (List ℕ))
+pub serves : (text : List ℕ) (before after : DeskView) (old new : List ℕ)
     → AnswersText Answers text before after old new → Serves text before after old new
 serves text before after old new t =
     let all : Supplied (lines_of text) t.answers before after =
@@ -140,35 +139,35 @@ serves text before after old new t =
       supplies = all.supplies;
       right = all.right;
       desk_is = all.desk_is;
-      wrote = subst (Appends old new) all.text_is t.wrote;
+      wrote = subst (λ t. new ≡ old ++ t) all.text_is t.wrote;
     }
 
-module _ (left left_after : Option (List ℕ)) (before after : DeskView) (old new : Option (List ℕ))
+module _ (log log_after : List ℕ) (before after : DeskView) (old new : List ℕ)
   where
-    pub serves_all : AnswersAll Answers left left_after before after old new
-        → ServesAll left left_after before after old new
-    serves_all a = record {
+    pub serves_all : (ended : Bool) → AnswersAll Answers log log_after ended before after old new
+        → ServesAll log log_after ended before after old new
+    serves_all ended a = record {
       text = a.text;
-      consumed = a.consumed;
-      ended = a.ended;
+      gave = a.gave;
+      at_end = a.at_end;
       served = serves a.text before after old new a.served;
     }
 
     pub serves_whole : (faults later : ℕ)
-        → AnswersWhole Answers left left_after faults later before after old new
-        → ServesWhole left left_after faults later before after old new
+        → AnswersWhole Answers log log_after faults later before after old new
+        → ServesWhole log log_after faults later before after old new
     serves_whole faults later a = record {
       whole = a.whole;
       part = a.part;
       is_whole = a.is_whole;
       is_part = a.is_part;
-      consumed = a.consumed;
+      gave = a.gave;
       why = a.why;
       served = serves a.whole before after old new a.served;
     }
 
-    pub serves_part : AnswersPart Answers left left_after before after old new
-        → ServesPart left left_after before after old new
+    pub serves_part : AnswersPart Answers log log_after before after old new
+        → ServesPart log log_after before after old new
     serves_part a =
         let last : Answers a.middle after a.line a.answer =
         to_line a.middle after a.line a.answer a.is_right in
@@ -179,7 +178,7 @@ module _ (left left_after : Option (List ℕ)) (before after : DeskView) (old ne
           others = a.others;
           is_whole = a.is_whole;
           is_next = a.is_next;
-          consumed = a.consumed;
+          gave = a.gave;
           middle = a.middle;
           between = a.between;
           served = serves a.whole before a.middle old a.between a.served;

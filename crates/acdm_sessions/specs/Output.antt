@@ -1,7 +1,6 @@
 -- What is written for what is read.
 use Rattle.std.specs.Prelude.{ℕ, ◌≡◌, Bool, false, ◌==◌, if◌then◌else◌}
-use Rattle.std.specs.Prelude.{List, [], ◌∷◌, ◌++◌, length, codes, Option, Result, Ok, Err}
-use Rattle.std.specs.Io.KnownBytes.{Appends}
+use Rattle.std.specs.Prelude.{List, [], ◌∷◌, ◌++◌, length, Result, Ok, Err}
 use Rattle.acdm_milestones.specs.declared.role.Role.{Role}
 use Rattle.bpf_helpers.specs.Promise.{Promise}
 use Rattle.acdm_step.specs.declared.command.Command.{Command}
@@ -123,7 +122,7 @@ reply_text (Entered reply) = entry_text reply.number reply.outcome
 reply_text (Rejected b) = bad_text b
 
 -- one line was answered, and a first part of its reply was written
-pub record ServesLinePart (before after : DeskView) (line : List ℕ) (old new : Option (List ℕ))
+pub record ServesLinePart (before after : DeskView) (line : List ℕ) (old new : List ℕ)
     : Type 0 where
   pub supply : Supply
   pub right : IsRight before.sigs supply line
@@ -167,9 +166,9 @@ abbrev pub output : DeskView → List Supply → List ℕ → List ℕ
 output d supplies text = replies d supplies (lines_of text)
 
 -- the lines of a text were answered: their entries were made, and their output was written
-pub record Serves (text : List ℕ) (before after : DeskView) (old new : Option (List ℕ))
+pub record Serves (text : List ℕ) (before after : DeskView) (old new : List ℕ)
     : Type 0 where
   pub supplies : List Supply
   pub right : AreRight before.sigs supplies (lines_of text)
   pub desk_is : after ≡ desk_after_all before supplies (lines_of text)
-  pub wrote : Appends old new (output before supplies text)
+  pub wrote : new ≡ old ++ output before supplies text

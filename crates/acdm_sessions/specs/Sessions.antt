@@ -1,6 +1,6 @@
 -- What sessions are served, and what is told of them once they have ended.
 use Rattle.std.specs.Prelude.{ℕ, ◌+◌, ◌≡◌, ◌⊎◌, Bool, List, [], ◌∷◌, ◌++◌, length, reverse, take}
-use Rattle.std.specs.Prelude.{Option, Result, Ok, Err}
+use Rattle.std.specs.Prelude.{Result, Ok, Err}
 use Rattle.acdm_milestones.specs.declared.role.Role.{Role}
 use Rattle.bpf_helpers.specs.Promise.{Promise}
 use Rattle.acdm_step.specs.Commands.{History}
@@ -9,6 +9,7 @@ use Rattle.acdm_step.specs.Verdicts.{outcome_of, verdict_of}
 use Rattle.acdm_row.specs.Views.{PassView, RowView, IsSameCaller}
 use Rattle.acdm_board.specs.declared.desk.Reply.{Reply}
 use Rattle.acdm_jobs.specs.Each.{Each}
+use Rattle.acdm_lines.specs.Counted.{SinkView, SourceView}
 use Rattle.acdm_lines.specs.declared.run_error.RunError.{RunError}
 use Rattle.acdm_lines.specs.declared.run_error.RunError.TheVariants as errors
 use Rattle.acdm_wire.specs.declared.fault.Bad.{Bad}
@@ -104,44 +105,30 @@ pub record EndsAs (number : ℕ) (role : Role) (t : SessionEnd) : Type 0 where
 
 -- ---- what was read and written
 
--- what a session is opened with: its role, what its reader has left and how often it failed, what
--- its writer holds, and the minutes that its clock may give
-pub record SessionStart : Type 0 where
+-- what a session is opened with: its role, its reader and writer, and the minutes that its clock may
+-- give
+pub record SessionStart (R W : Type 0) : Type 0 where
   pub role : Role
-  pub unread : Option (List ℕ)
-  pub faults : ℕ
-  pub written : Option (List ℕ)
+  pub reader : SourceView R
+  pub writer : SinkView W
   pub gives : ℕ → Bool
 
-abbrev pub session_start : Role → Option (List ℕ) → ℕ → Option (List ℕ) → (ℕ → Bool)
-    → SessionStart
-session_start role unread faults written gives =
-    record {
-      role = role;
-      unread = unread;
-      faults = faults;
-      written = written;
-      gives = gives;
-    }
+abbrev pub session_start : {R W : Type 0} → Role → SourceView R → SinkView W → (ℕ → Bool)
+    → SessionStart R W
+session_start role reader writer gives =
+    record { role = role; reader = reader; writer = writer; gives = gives }
 
--- what it leaves: how it ended, what its reader has left and how often it failed, what its writer
--- holds, and its pass
-pub record SessionLeft : Type 0 where
+-- what it leaves: how it ended, its reader and writer, and its pass
+pub record SessionLeft (R W : Type 0) : Type 0 where
   pub end : End
-  pub unread : Option (List ℕ)
-  pub faults : ℕ
-  pub written : Option (List ℕ)
+  pub reader : SourceView R
+  pub writer : SinkView W
   pub pass : PassView
 
-abbrev pub session_left : End → Option (List ℕ) → ℕ → Option (List ℕ) → PassView → SessionLeft
-session_left end unread faults written pass =
-    record {
-      end = end;
-      unread = unread;
-      faults = faults;
-      written = written;
-      pass = pass;
-    }
+abbrev pub session_left : {R W : Type 0} → End → SourceView R → SinkView W → PassView
+    → SessionLeft R W
+session_left end reader writer pass =
+    record { end = end; reader = reader; writer = writer; pass = pass }
 
 -- a pass that has seen nothing
 abbrev pub new_pass : RowView → ℕ → Role → PassView
@@ -165,22 +152,29 @@ end_for (Err errors.Memory) = ends.Memory
 -- Lines were answered, from a pass that had seen nothing to the one that the session leaves: all of
 -- the input, or the whole lines before its reader failed or without end, or those before its
 -- writer failed. One that had no memory for its buffers, or was not started, did nothing.
-abbrev pub ServesAs : RowView → ℕ → SessionStart → SessionLeft → End → Type 0
+abbrev pub ServesAs : {R W : Type 0} → RowView → ℕ → SessionStart R W → SessionLeft R W → End
+    → Type 0
 ServesAs row number s t ends.End =
-    AnswersAll (SessionAnswers s.gives row.sigs) s.unread t.unread (new_pass row number s.role)
-    t.pass s.written t.written
+    AnswersAll (SessionAnswers s.gives row.sigs) s.reader.log t.reader.log t.reader.ended
+    (new_pass row number s.role) t.pass s.writer.log t.writer.log
 ServesAs row number s t ends.Read =
-    AnswersWhole (SessionAnswers s.gives row.sigs) s.unread t.unread s.faults t.faults
-    (new_pass row number s.role) t.pass s.written t.written
+    AnswersWhole (SessionAnswers s.gives row.sigs) s.reader.log t.reader.log s.reader.faults
+    t.reader.faults (new_pass row number s.role) t.pass s.writer.log t.writer.log
 ServesAs row number s t ends.Write =
-    AnswersPart (SessionAnswers s.gives row.sigs) s.unread t.unread (new_pass row number s.role)
-    t.pass s.written t.written
+    AnswersPart (SessionAnswers s.gives row.sigs) s.reader.log t.reader.log
+    (new_pass row number s.role) t.pass s.writer.log t.writer.log
+    × (t.writer.faults ≡ s.writer.faults + 1)
 ServesAs row number s t _ =
-    (t.unread ≡ s.unread) × (t.written ≡ s.written) × (t.pass ≡ new_pass row number s.role)
+    (t.reader ≡ s.reader) × (t.writer ≡ s.writer) × (t.pass ≡ new_pass row number s.role)
 
-abbrev pub HasServed : RowView → ℕ → SessionStart → SessionLeft → Type 0
-HasServed row number s t = ServesAs row number s t t.end
+-- A session served so. What was known at first of its reader and writer stays as it was.
+pub record HasServed {R W : Type 0} (row : RowView) (number : ℕ) (s : SessionStart R W)
+    (t : SessionLeft R W) : Type 0 where
+  pub serves : ServesAs row number s t t.end
+  pub same_reader : t.reader.first ≡ s.reader.first
+  pub same_writer : t.writer.first ≡ s.writer.first
 
 -- the same of all sessions, numbered from 1
-abbrev pub HaveServed : RowView → List SessionStart → List SessionLeft → Type 0
+abbrev pub HaveServed : {R W : Type 0} → RowView → List (SessionStart R W)
+    → List (SessionLeft R W) → Type 0
 HaveServed row ss ts = Each (λ p t. HasServed row p.0 p.1 t) (numbered 1 ss) ts

@@ -1,11 +1,10 @@
 -- How the lines of a stream are answered, by whoever answers them.
 use Rattle.std.specs.Prelude.{ℕ, ◌≡◌, true, false, List, [], ◌∷◌, ◌++◌}
-use Rattle.std.specs.Prelude.{take, Option, Result, Ok, Err}
-use Rattle.std.specs.Io.KnownBytes.{Appends, Consumes, IsAtEnd}
+use Rattle.std.specs.Prelude.{Bool, take, Result, Ok, Err}
 use Rattle.acdm_sessions.specs.declared.answer.Answer.{Answer}
 use Rattle.acdm_lines.specs.declared.run_error.RunError.{RunError}
 use Rattle.acdm_lines.specs.declared.run_error.RunError.TheVariants.{Write}
-use Rattle.acdm_lines.specs.Counted.{Watched, faults_after}
+use Rattle.acdm_lines.specs.Counted.{SinkView, faults_after}
 use Rattle.acdm_lines.specs.Lines.{IsLine, IsWhole, lines_of}
 use Rattle.acdm_lines.specs.NextLine.{FailsOrEndless}
 use Rattle.acdm_sessions.specs.Output.{reply_text}
@@ -20,30 +19,32 @@ Answering A = A → A → List ℕ → Answer → Type 0
 -- ---- one line
 
 -- a line was answered, and no byte of its reply waits for a flush
-pub record Answered {A W : Type 0} (may : Answering A) (contents : W → Option (List ℕ))
-    (old new : Watched W) (before after : A) (line : List ℕ) : Type 0 where
+pub record Answered {A W : Type 0} (may : Answering A)
+    (old new : SinkView W) (before after : A) (line : List ℕ) : Type 0 where
   pub answer : Answer
   pub is_right : may before after line answer
-  pub wrote : Appends (contents old.inner) (contents new.inner) (reply_text answer)
+  pub wrote : new.log ≡ old.log ++ reply_text answer
+  pub same : new.first ≡ old.first
   pub well : new.faults ≡ old.faults
   pub flushed : new.waits ≡ false
 
 -- the writer failed once more, after a first part of the reply to a line
-pub record AnsweredInPart {A W : Type 0} (may : Answering A) (contents : W → Option (List ℕ))
-    (old new : Watched W) (before after : A) (line : List ℕ) (error : RunError) : Type 0 where
+pub record AnsweredInPart {A W : Type 0} (may : Answering A)
+    (old new : SinkView W) (before after : A) (line : List ℕ) (error : RunError) : Type 0 where
   pub answer : Answer
   pub is_right : may before after line answer
-  pub wrote : AppendsPart (contents old.inner) (contents new.inner) (reply_text answer)
+  pub wrote : AppendsPart old.log new.log (reply_text answer)
+  pub same : new.first ≡ old.first
   pub fault : new.faults ≡ faults_after true old.faults
   pub kind : error ≡ Write
 
 -- what comes of answering a line
-abbrev pub AnswersLine : {A W T : Type 0} → Answering A → (W → Option (List ℕ)) → Watched W
-    → Watched W → A → A → List ℕ → Result T RunError → Type 0
-AnswersLine may contents old new before after line (Ok x) =
-    Answered may contents old new before after line
-AnswersLine may contents old new before after line (Err e) =
-    AnsweredInPart may contents old new before after line e
+abbrev pub AnswersLine : {A W T : Type 0} → Answering A → SinkView W
+    → SinkView W → A → A → List ℕ → Result T RunError → Type 0
+AnswersLine may old new before after line (Ok x) =
+    Answered may old new before after line
+AnswersLine may old new before after line (Err e) =
+    AnsweredInPart may old new before after line e
 
 -- ---- all lines
 
@@ -67,48 +68,47 @@ replies_text (x ∷ xs) = reply_text x ++ replies_text xs
 
 -- the lines of a text were answered, and their replies were written
 pub record AnswersText {A : Type 0} (may : Answering A) (text : List ℕ) (before after : A)
-    (old new : Option (List ℕ)) : Type 0 where
+    (old new : List ℕ) : Type 0 where
   pub answers : List Answer
   pub are_right : AnswersEach may before after (lines_of text) answers
-  pub wrote : Appends old new (replies_text answers)
+  pub wrote : new ≡ old ++ replies_text answers
 
 -- ---- how it ends
 
--- The reader gave a text and has ended, and the lines of that text were answered. Where it was
--- known what the reader has left, the text is all of that (`Consumes`, `IsAtEnd`).
-pub record AnswersAll {A : Type 0} (may : Answering A) (left left_after : Option (List ℕ))
-    (before after : A) (old new : Option (List ℕ)) : Type 0 where
+-- The reader gave a text and has ended, and the lines of that text were answered.
+pub record AnswersAll {A : Type 0} (may : Answering A) (log log_after : List ℕ) (ended : Bool)
+    (before after : A) (old new : List ℕ) : Type 0 where
   pub text : List ℕ
-  pub consumed : Consumes left left_after text
-  pub ended : IsAtEnd left_after
+  pub gave : log_after ≡ log ++ text
+  pub at_end : ended ≡ true
   pub served : AnswersText may text before after old new
 
 -- No more could be read: the reader gave whole lines and a part of one, and then failed or was
 -- endless. The whole lines were answered, and nothing else was done.
-pub record AnswersWhole {A : Type 0} (may : Answering A) (left left_after : Option (List ℕ))
-    (faults later_faults : ℕ) (before after : A) (old new : Option (List ℕ)) : Type 0 where
+pub record AnswersWhole {A : Type 0} (may : Answering A) (log log_after : List ℕ)
+    (faults later_faults : ℕ) (before after : A) (old new : List ℕ) : Type 0 where
   pub whole : List ℕ
   pub part : List ℕ
   pub is_whole : IsWhole whole
   pub is_part : IsLine part
-  pub consumed : Consumes left left_after (whole ++ part)
+  pub gave : log_after ≡ log ++ (whole ++ part)
   pub why : FailsOrEndless faults later_faults (whole ++ part)
   pub served : AnswersText may whole before after old new
 
 -- A reply could not be written: the reader gave whole lines, a line, and what follows it. The whole
 -- lines were answered, and so was the line, of whose reply a first part was written. Of the other
 -- lines none was answered.
-pub record AnswersPart {A : Type 0} (may : Answering A) (left left_after : Option (List ℕ))
-    (before after : A) (old new : Option (List ℕ)) : Type 0 where
+pub record AnswersPart {A : Type 0} (may : Answering A) (log log_after : List ℕ)
+    (before after : A) (old new : List ℕ) : Type 0 where
   pub whole : List ℕ
   pub line : List ℕ
   pub later : List ℕ
   pub others : List (List ℕ)
   pub is_whole : IsWhole whole
   pub is_next : lines_of (line ++ later) ≡ line ∷ others
-  pub consumed : Consumes left left_after (whole ++ (line ++ later))
+  pub gave : log_after ≡ log ++ (whole ++ (line ++ later))
   pub middle : A
-  pub between : Option (List ℕ)
+  pub between : List ℕ
   pub served : AnswersText may whole before middle old between
   pub answer : Answer
   pub is_right : may middle after (kept line) answer

@@ -1,5 +1,5 @@
 //! One session, from its first line to its last reply.
-ghost use Rattle.std.specs.Prelude.{◌≡◌, ◌-◌, ◌≤◌, ◌<◌, ◌^◌, false, Err, IfOk, OnOk};
+ghost use Rattle.std.specs.Prelude.{◌≡◌, ◌+◌, ◌-◌, ◌≤◌, ◌<◌, ◌^◌, false, Err, IfOk, OnOk};
 ghost use Rattle.acdm_board.specs.Desk.{is_foreign};
 ghost use Rattle.acdm_sessions.specs.Orders.{Orders};
 ghost use Rattle.acdm_sessions.specs.Sessions.{CallAnswers, EndsAs, HasServed, SessionAnswers};
@@ -14,7 +14,7 @@ use crate::order::{Order, order_in};
 use crate::session::{Caller, End, Seat, Served};
 use crate::stream::serve_lines;
 use acdm_board::DeskError;
-use acdm_lines::{Counted, RunError};
+use acdm_lines::{RunError, Sink, Source};
 use acdm_wire::Bad;
 use bpf_helpers::Helpers;
 use std::alloc::Global;
@@ -121,29 +121,32 @@ fn answer_all<
     Rt: Wait,
 >(
     alloc: Global,
-    reader: &mut Counted<R>,
-    writer: &mut Counted<W>,
+    reader: &mut Source<R>,
+    writer: &mut Sink<W>,
     who: &mut AtDesk<'s, C, H, J, G, Rt>,
 ) -> Result<(), RunError>
     requires reads { reader.old.faults < 2 ^ 64 - 1 }
     requires writes { writer.old.faults < 2 ^ 64 - 1 }
+    ensures same_reader { reader.new.first ≡ reader.old.first }
+    ensures same_writer { writer.new.first ≡ writer.old.first }
+    ensures write { result ≡ Err RunError.Write → writer.new.faults ≡ writer.old.faults + 1 }
     ensures number { who.new.caller.number ≡ who.old.caller.number }
     ensures role { who.new.caller.role ≡ who.old.caller.role }
     ensures output { OnOk result (AnswersAll
         (SessionAnswers (C.gives who.old.caller.clock) J.desk_row.sigs)
-        (R.remaining reader.old.inner) (R.remaining reader.new.inner)
+        reader.old.log reader.new.log reader.new.ended
         who.old.caller.pass who.new.caller.pass
-        (W.contents writer.old.inner) (W.contents writer.new.inner)) }
+        writer.old.log writer.new.log) }
     ensures read { result ≡ Err RunError.Read → AnswersWhole
         (SessionAnswers (C.gives who.old.caller.clock) J.desk_row.sigs)
-        (R.remaining reader.old.inner) (R.remaining reader.new.inner)
+        reader.old.log reader.new.log
         reader.old.faults reader.new.faults who.old.caller.pass who.new.caller.pass
-        (W.contents writer.old.inner) (W.contents writer.new.inner) }
+        writer.old.log writer.new.log }
     ensures written_in_part { result ≡ Err RunError.Write → AnswersPart
         (SessionAnswers (C.gives who.old.caller.clock) J.desk_row.sigs)
-        (R.remaining reader.old.inner) (R.remaining reader.new.inner)
+        reader.old.log reader.new.log
         who.old.caller.pass who.new.caller.pass
-        (W.contents writer.old.inner) (W.contents writer.new.inner) }
+        writer.old.log writer.new.log }
     ensures memory { result ≡ Err RunError.Memory →
         (reader.new ≡ reader.old) × (writer.new ≡ writer.old) × (who.new ≡ who.old) }
 {
@@ -182,10 +185,8 @@ pub(crate) fn serve<
     ensures end { EndsAs seat.number seat.role
         (session_end result.number result.role result.caller.calls result.end) }
     ensures served { HasServed J.desk_row seat.number
-        (session_start seat.role (R.remaining seat.reader.inner) seat.reader.faults
-        (W.contents seat.writer.inner) (C.gives seat.caller.clock))
-        (session_left result.end (R.remaining result.reader.inner) result.reader.faults
-        (W.contents result.writer.inner) result.caller.pass) }
+        (session_start seat.role seat.reader seat.writer (C.gives seat.caller.clock))
+        (session_left result.end result.reader result.writer result.caller.pass) }
 {
     let Seat {
         number,

@@ -13,7 +13,7 @@ mod session;
 mod sessions;
 mod stream;
 
-pub use acdm_lines::{Counted, RunError};
+pub use acdm_lines::{RunError, Sink, Source};
 pub use acdm_wire::{
     Asked, Bad, Fault, LineError, LoadRequest, ProgramBytes, ProgramError, Request, read_program,
     request_of,

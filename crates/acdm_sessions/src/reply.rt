@@ -4,12 +4,12 @@ ghost use Rattle.acdm_wire.specs.Writes.{Writes};
 ghost use Rattle.acdm_sessions.specs.Output.{reply_text};
 
 use crate::answer::Answer;
-use acdm_lines::{Counted, RunError};
+use acdm_lines::{RunError, Sink};
 use acdm_wire::{write_entered, write_rejected};
 use std::io::Write;
 
-fn write_answer<W: Write>(writer: &mut Counted<W>, answer: &Answer) -> Result<(), RunError>
-    ensures { Writes W.contents writer.old writer.new (reply_text answer.now) result }
+fn write_answer<W: Write>(writer: &mut Sink<W>, answer: &Answer) -> Result<(), RunError>
+    ensures { Writes writer.old writer.new (reply_text answer.now) result }
 {
     match answer {
         Answer::Entered(reply) => write_entered(writer, reply.number, &reply.outcome),
@@ -18,11 +18,8 @@ fn write_answer<W: Write>(writer: &mut Counted<W>, answer: &Answer) -> Result<()
 }
 
 /// Writes the reply, and lets it go at once.
-pub(crate) fn write_reply<W: Write>(
-    writer: &mut Counted<W>,
-    answer: &Answer,
-) -> Result<(), RunError>
-    ensures writes { Writes W.contents writer.old writer.new (reply_text answer.now) result }
+pub(crate) fn write_reply<W: Write>(writer: &mut Sink<W>, answer: &Answer) -> Result<(), RunError>
+    ensures writes { Writes writer.old writer.new (reply_text answer.now) result }
     ensures flushed { OnOk result (writer.new.waits ≡ false) }
 {
     write_answer(writer, answer)?;

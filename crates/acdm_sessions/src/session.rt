@@ -5,21 +5,22 @@ ghost use Rattle.acdm_sessions.specs.Sessions.{new_pass};
 
 use crate::locked::Naming;
 use acdm_board::Desk;
-use acdm_lines::Counted;
+use acdm_lines::{Sink, Source};
 use acdm_milestones::Role;
 use acdm_row::Pass;
 use bpf_helpers::{Helpers, Sigs};
+use std::io::{Read, Write};
 use std::sync::ledger::Share;
 
 /// What a session is opened with.
 #[derive(Drop)]
-pub struct Session<R: Drop, W: Drop, C: Drop> {
+pub struct Session<R: Read + Drop, W: Write + Drop, C: Drop> {
     /// The role of who is at the other end.
     pub role: Role,
     /// Where its lines come from.
-    pub reader: Counted<R>,
+    pub reader: Source<R>,
     /// Where its replies go.
-    pub writer: Counted<W>,
+    pub writer: Sink<W>,
     /// Which tells the moment of each of its commands.
     pub clock: C,
     // The counts of faults are below their last value.
@@ -44,15 +45,15 @@ pub enum End {
 
 /// A session, once it has ended.
 #[derive(Drop)]
-pub struct Ended<R: Drop, W: Drop, C: Drop> {
+pub struct Ended<R: Read + Drop, W: Write + Drop, C: Drop> {
     /// Its number, from 1.
     pub number: u8,
     /// Its role.
     pub role: Role,
     /// Its reader, after all that was read.
-    pub reader: Counted<R>,
+    pub reader: Source<R>,
     /// Its writer, after all that was written.
-    pub writer: Counted<W>,
+    pub writer: Sink<W>,
     /// Its clock.
     pub clock: C,
     /// How many of its calls of the desk made an entry.
@@ -68,7 +69,7 @@ pub struct Ended<R: Drop, W: Drop, C: Drop> {
 
 /// A desk whose sessions have ended.
 #[derive(Drop)]
-pub struct Closed<H: Helpers + Drop, R: Drop, W: Drop, C: Drop> {
+pub struct Closed<H: Helpers + Drop, R: Read + Drop, W: Write + Drop, C: Drop> {
     /// The desk, with the entries that the sessions made.
     pub desk: Desk<H>,
     /// The sessions, in the order of their numbers.
@@ -98,12 +99,12 @@ pub(crate) struct Caller<C: Drop, J: Naming> {
 
 /// A session that has not begun.
 #[derive(Drop)]
-pub(crate) struct Seat<R: Drop, W: Drop, C: Drop, J: Naming> {
+pub(crate) struct Seat<R: Read + Drop, W: Write + Drop, C: Drop, J: Naming> {
     pub(crate) number: u8,
     pub(crate) role: Role,
     pub(crate) caller: Caller<C, J>,
-    pub(crate) reader: Counted<R>,
-    pub(crate) writer: Counted<W>,
+    pub(crate) reader: Source<R>,
+    pub(crate) writer: Sink<W>,
     ghost same_number: { caller.number ≡ number },
     ghost same_role: { caller.role ≡ role },
     ghost none_yet: { caller.calls ≡ 0 },
@@ -114,12 +115,12 @@ pub(crate) struct Seat<R: Drop, W: Drop, C: Drop, J: Naming> {
 
 /// A session that has ended, with its part of the ledger.
 #[derive(Drop)]
-pub(crate) struct Served<R: Drop, W: Drop, C: Drop, J: Naming> {
+pub(crate) struct Served<R: Read + Drop, W: Write + Drop, C: Drop, J: Naming> {
     pub(crate) number: u8,
     pub(crate) role: Role,
     pub(crate) caller: Caller<C, J>,
-    pub(crate) reader: Counted<R>,
-    pub(crate) writer: Counted<W>,
+    pub(crate) reader: Source<R>,
+    pub(crate) writer: Sink<W>,
     pub(crate) end: End,
     ghost same_number: { caller.number ≡ number },
     ghost same_role: { caller.role ≡ role },

@@ -26,7 +26,7 @@ use std::thread::Threads;
 
 // A session, and what it is served with.
 #[derive(Drop)]
-struct Work<'s, R: Drop, W: Drop, C: Drop, H: Helpers + Drop, J: Naming, G, Rt> {
+struct Work<'s, R: Read + Drop, W: Write + Drop, C: Drop, H: Helpers + Drop, J: Naming, G, Rt> {
     rt: &'s Rt,
     alloc: Global,
     shared: &'s Mutex<Locked<H, J>>,
@@ -50,10 +50,8 @@ impl<
     ghost gives = { λ work served. EndsAs work.seat.number work.seat.role
         (session_end served.number served.role served.caller.calls served.end)
         × HasServed J.desk_row work.seat.number
-        (session_start work.seat.role (R.remaining work.seat.reader.inner) work.seat.reader.faults
-        (W.contents work.seat.writer.inner) (C.gives work.seat.caller.clock))
-        (session_left served.end (R.remaining served.reader.inner) served.reader.faults
-        (W.contents served.writer.inner) served.caller.pass) };
+        (session_start work.seat.role work.seat.reader work.seat.writer (C.gives work.seat.caller.clock))
+        (session_left served.end served.reader served.writer served.caller.pass) };
 
     fn run(self, begins: bool) -> Served<R, W, C, J> {
         let Work {
@@ -118,10 +116,10 @@ fn seated<R: Read + Drop, W: Write + Drop, C: Clock + Drop, H: Helpers + Drop, J
     ensures starts { IfOk result (λ v. map (λ s. (
       s.number,
       session_start s.role
-          (R.remaining s.reader.inner) s.reader.faults (W.contents s.writer.inner)
+          s.reader s.writer
           (C.gives s.caller.clock),
     )) v.items ≡ numbered 1 (map (λ s. session_start s.role
-        (R.remaining s.reader.inner) s.reader.faults (W.contents s.writer.inner)
+        s.reader s.writer
         (C.gives s.clock)) sessions.items)) }
     ensures parts { OnOk result (all.new.parts + vec_len sessions ≡ all.old.parts) }
     ensures amount { OnOk result (all.new.amount ≡ all.old.amount) }
@@ -146,10 +144,8 @@ fn seat_for<R: Read + Drop, W: Write + Drop, C: Clock + Drop, H: Helpers + Drop,
     requires number { (1 ≤ number) × (number ≤ 64) }
     requires parts { 1 < all.old.parts }
     ensures place { IfOk result (λ s. (s.number ≡ number) × (s.role ≡ session.role)) }
-    ensures start { IfOk result (λ s. session_start s.role (R.remaining s.reader.inner)
-        s.reader.faults (W.contents s.writer.inner) (C.gives s.caller.clock)
-        ≡ session_start session.role (R.remaining session.reader.inner) session.reader.faults
-        (W.contents session.writer.inner) (C.gives session.clock)) }
+    ensures start { IfOk result (λ s. session_start s.role s.reader s.writer (C.gives s.caller.clock)
+        ≡ session_start session.role session.reader session.writer (C.gives session.clock)) }
     ensures share { OnOk result ((all.new.parts + 1 ≡ all.old.parts)
         × (all.new.amount ≡ all.old.amount)) }
 {
@@ -174,10 +170,8 @@ fn seat_of<R: Read + Drop, W: Write + Drop, C: Clock + Drop, J: Naming>(
     requires empty { (pass.seen ≡ []) × (pass.numbers ≡ []) × (pass.own ≡ []) }
     ensures number { result.number ≡ number }
     ensures role { result.role ≡ session.role }
-    ensures start { session_start result.role (R.remaining result.reader.inner)
-        result.reader.faults (W.contents result.writer.inner) (C.gives result.caller.clock)
-        ≡ session_start session.role (R.remaining session.reader.inner) session.reader.faults
-        (W.contents session.writer.inner) (C.gives session.clock) }
+    ensures start { session_start result.role result.reader result.writer (C.gives result.caller.clock)
+        ≡ session_start session.role session.reader session.writer (C.gives session.clock) }
 {
     let Session {
         role,
@@ -215,10 +209,8 @@ fn left_by<R: Read + Drop, W: Write + Drop, C: Drop, H: Helpers + Drop, J: Namin
         result.pass }
     ensures session_end { session_end result.number result.role result.calls result.end
         ≡ session_end one.number one.role one.caller.calls one.end }
-    ensures left { session_left result.end (R.remaining result.reader.inner) result.reader.faults
-        (W.contents result.writer.inner) result.pass
-        ≡ session_left one.end (R.remaining one.reader.inner) one.reader.faults
-        (W.contents one.writer.inner) one.caller.pass }
+    ensures left { session_left result.end result.reader result.writer result.pass
+        ≡ session_left one.end one.reader one.writer one.caller.pass }
     ensures parts { all.new.parts ≡ all.old.parts + 1 }
     ensures amount { all.new.amount ≡ all.old.amount + result.calls }
 {
@@ -268,10 +260,8 @@ fn gathered<R: Read + Drop, W: Write + Drop, C: Drop, H: Helpers + Drop, J: Nami
     ensures len { vec_len result ≡ vec_len served }
     ensures session_end { map (λ e. session_end e.number e.role e.calls e.end) result.items
         ≡ map (λ s. session_end s.number s.role s.caller.calls s.end) served.items }
-    ensures left { map (λ e. session_left e.end (R.remaining e.reader.inner) e.reader.faults
-        (W.contents e.writer.inner) e.pass) result.items
-        ≡ map (λ s. session_left s.end (R.remaining s.reader.inner) s.reader.faults
-        (W.contents s.writer.inner) s.caller.pass) served.items }
+    ensures left { map (λ e. session_left e.end e.reader e.writer e.pass) result.items
+        ≡ map (λ s. session_left s.end s.reader s.writer s.caller.pass) served.items }
     ensures parts { all.new.parts ≡ all.old.parts + vec_len served }
     ensures amount { all.new.amount
         ≡ all.old.amount + sum_by (λ e. e.calls) result.items }
@@ -309,10 +299,8 @@ fn close<R: Read + Drop, W: Write + Drop, C: Drop, H: Helpers + Drop, J: Naming>
         ≡ all.amount + sum_by (λ e. e.calls) result.sessions.items }
     ensures session_end { map (λ e. session_end e.number e.role e.calls e.end) result.sessions.items
         ≡ map (λ s. session_end s.number s.role s.caller.calls s.end) served.items }
-    ensures left { map (λ e. session_left e.end (R.remaining e.reader.inner) e.reader.faults
-        (W.contents e.writer.inner) e.pass) result.sessions.items
-        ≡ map (λ s. session_left s.end (R.remaining s.reader.inner) s.reader.faults
-        (W.contents s.writer.inner) s.caller.pass) served.items }
+    ensures left { map (λ e. session_left e.end e.reader e.writer e.pass) result.sessions.items
+        ≡ map (λ s. session_left s.end s.reader s.writer s.caller.pass) served.items }
     ensures begins { first.seen ≡ take (length first.seen) (reverse result.desk.history) }
     ensures shown { All (λ e. IsShown J.start result.desk e.number e.role e.calls e.torn e.pass)
         result.sessions.items }
@@ -326,7 +314,7 @@ fn close<R: Read + Drop, W: Write + Drop, C: Drop, H: Helpers + Drop, J: Naming>
 
 // All that a run has before its threads begin.
 #[derive(Drop)]
-struct Opened<R: Drop, W: Drop, C: Drop, H: Helpers + Drop, J: Naming> {
+struct Opened<R: Read + Drop, W: Write + Drop, C: Drop, H: Helpers + Drop, J: Naming> {
     locked: Locked<H, J>,
     // It has seen what the desk had before.
     first: Pass,
@@ -354,10 +342,10 @@ fn open<R: Read + Drop, W: Write + Drop, C: Clock + Drop, H: Helpers + Drop, J: 
     ensures starts { IfOk result (λ o. map (λ s. (
       s.number,
       session_start s.role
-          (R.remaining s.reader.inner) s.reader.faults (W.contents s.writer.inner)
+          s.reader s.writer
           (C.gives s.caller.clock),
     )) o.seats.items ≡ numbered 1 (map (λ s. session_start s.role
-        (R.remaining s.reader.inner) s.reader.faults (W.contents s.writer.inner)
+        s.reader s.writer
         (C.gives s.clock)) sessions.items)) }
     ensures parts { IfOk result (λ o. o.all.parts + vec_len sessions ≡ J.parts) }
     ensures amount { IfOk result (λ o. o.all.amount ≡ length desk.history) }
@@ -426,10 +414,8 @@ fn run_named<
         (map (λ e. session_end e.number e.role e.calls e.end)
         c.sessions.items)) }
     ensures served { IfOk result (λ c. HaveServed (row_of desk)
-        (map (λ s. session_start s.role (R.remaining s.reader.inner) s.reader.faults
-        (W.contents s.writer.inner) (C.gives s.clock)) sessions.items)
-        (map (λ e. session_left e.end (R.remaining e.reader.inner) e.reader.faults
-        (W.contents e.writer.inner) e.pass) c.sessions.items)) }
+        (map (λ s. session_start s.role s.reader s.writer (C.gives s.clock)) sessions.items)
+        (map (λ e. session_left e.end e.reader e.writer e.pass) c.sessions.items)) }
     ensures err { IfErr result (λ d. d ≡ desk) }
 {
     let Ok(crew) = Crew::new(alloc, sessions.len()) else {
@@ -483,10 +469,8 @@ pub fn run_sessions<
     // pass that it leaves. A line that made an entry made the next of the pass's own, for what the
     // line asks at a minute that the clock may give, and the reply tells of that entry.
     ensures served { IfOk result (λ c. HaveServed (row_of desk)
-        (map (λ s. session_start s.role (R.remaining s.reader.inner) s.reader.faults
-        (W.contents s.writer.inner) (C.gives s.clock)) sessions.items)
-        (map (λ e. session_left e.end (R.remaining e.reader.inner) e.reader.faults
-        (W.contents e.writer.inner) e.pass) c.sessions.items)) }
+        (map (λ s. session_start s.role s.reader s.writer (C.gives s.clock)) sessions.items)
+        (map (λ e. session_left e.end e.reader e.writer e.pass) c.sessions.items)) }
 
     // The closed journal begins with the opening one and, but for a torn session, with what the
     // pass of each has seen, and its own entries are a part of what it made. With the sum above

@@ -6,7 +6,7 @@ ghost use Rattle.acdm_sessions.specs.Stream.{AnswersLine, AnswersAll, AnswersWho
 use crate::answerer::Answerer;
 use crate::reply::write_reply;
 use acdm_board::Desk;
-use acdm_lines::{Counted, Ending, Lines, RunError};
+use acdm_lines::{Ending, Lines, RunError, Sink, Source};
 use acdm_wire::LONGEST_LINE;
 use bpf_helpers::Helpers;
 use std::alloc::Global;
@@ -19,10 +19,10 @@ const MOST_KEPT: usize = LONGEST_LINE + 1;
 fn serve_line<W: Write, A: Answerer>(
     alloc: Global,
     line: &[u8],
-    writer: &mut Counted<W>,
+    writer: &mut Sink<W>,
     who: &mut A,
 ) -> Result<(), RunError>
-    ensures { AnswersLine A.may W.contents writer.old writer.new who.old who.new line.now result }
+    ensures { AnswersLine A.may writer.old writer.new who.old who.new line.now result }
 {
     let answer = who.answer(alloc, line);
     write_reply(writer, &answer)?;
@@ -34,28 +34,30 @@ fn serve_line<W: Write, A: Answerer>(
 /// before more is read. The errors are those of `run`.
 pub(crate) fn serve_lines<R: Read, W: Write, A: Answerer>(
     alloc: Global,
-    reader: &mut Counted<R>,
-    writer: &mut Counted<W>,
+    reader: &mut Source<R>,
+    writer: &mut Sink<W>,
     who: &mut A,
 ) -> Result<(), RunError>
     requires reads { reader.old.faults < 2 ^ 64 - 1 }
     requires writes { writer.old.faults < 2 ^ 64 - 1 }
     ensures output { OnOk result (AnswersAll A.may
-        (R.remaining reader.old.inner) (R.remaining reader.new.inner) who.old who.new
-        (W.contents writer.old.inner) (W.contents writer.new.inner)) }
+        reader.old.log reader.new.log reader.new.ended who.old who.new
+        writer.old.log writer.new.log) }
+    ensures same_reader { reader.new.first ≡ reader.old.first }
+    ensures same_writer { writer.new.first ≡ writer.old.first }
     ensures read_well { OnOk result (reader.new.faults ≡ reader.old.faults) }
     ensures wrote_well { OnOk result (writer.new.faults ≡ writer.old.faults) }
     ensures flushed { OnOk result (writer.old.waits ≡ false → writer.new.waits ≡ false) }
     ensures read { result ≡ Err RunError.Read → AnswersWhole A.may
-        (R.remaining reader.old.inner) (R.remaining reader.new.inner)
+        reader.old.log reader.new.log
         reader.old.faults reader.new.faults who.old who.new
-        (W.contents writer.old.inner) (W.contents writer.new.inner) }
+        writer.old.log writer.new.log }
     ensures read_alone { result ≡ Err RunError.Read → writer.new.faults ≡ writer.old.faults }
     ensures write { result ≡ Err RunError.Write → writer.new.faults ≡ writer.old.faults + 1 }
     ensures write_alone { result ≡ Err RunError.Write → reader.new.faults ≡ reader.old.faults }
     ensures written_in_part { result ≡ Err RunError.Write → AnswersPart A.may
-        (R.remaining reader.old.inner) (R.remaining reader.new.inner) who.old who.new
-        (W.contents writer.old.inner) (W.contents writer.new.inner) }
+        reader.old.log reader.new.log who.old who.new
+        writer.old.log writer.new.log }
     ensures memory { result ≡ Err RunError.Memory →
         (reader.new ≡ reader.old) × (writer.new ≡ writer.old) × (who.new ≡ who.old) }
 {
@@ -86,8 +88,8 @@ pub(crate) fn serve_lines<R: Read, W: Write, A: Answerer>(
 /// then nothing was read.
 pub fn run<R: Read, W: Write, H: Helpers + Drop>(
     alloc: Global,
-    reader: &mut Counted<R>,
-    writer: &mut Counted<W>,
+    reader: &mut Source<R>,
+    writer: &mut Sink<W>,
     desk: &mut Desk<H>,
 ) -> Result<(), RunError>
     requires reads { reader.old.faults < 2 ^ 64 - 1 }
@@ -95,25 +97,27 @@ pub fn run<R: Read, W: Write, H: Helpers + Drop>(
 
     // Where neither fails, all that the reader gave was answered, and it has ended.
     ensures output { OnOk result (ServesAll
-        (R.remaining reader.old.inner) (R.remaining reader.new.inner) desk.old desk.new
-        (W.contents writer.old.inner) (W.contents writer.new.inner)) }
+        reader.old.log reader.new.log reader.new.ended desk.old desk.new
+        writer.old.log writer.new.log) }
+    ensures same_reader { reader.new.first ≡ reader.old.first }
+    ensures same_writer { writer.new.first ≡ writer.old.first }
     ensures read_well { OnOk result (reader.new.faults ≡ reader.old.faults) }
     ensures wrote_well { OnOk result (writer.new.faults ≡ writer.old.faults) }
     ensures flushed { OnOk result (writer.old.waits ≡ false → writer.new.waits ≡ false) }
 
     // When no more could be read, and what stands then.
     ensures read { result ≡ Err RunError.Read → ServesWhole
-        (R.remaining reader.old.inner) (R.remaining reader.new.inner)
+        reader.old.log reader.new.log
         reader.old.faults reader.new.faults desk.old desk.new
-        (W.contents writer.old.inner) (W.contents writer.new.inner) }
+        writer.old.log writer.new.log }
     ensures read_alone { result ≡ Err RunError.Read → writer.new.faults ≡ writer.old.faults }
 
     // When a reply could not be written, and what stands then.
     ensures write { result ≡ Err RunError.Write → writer.new.faults ≡ writer.old.faults + 1 }
     ensures write_alone { result ≡ Err RunError.Write → reader.new.faults ≡ reader.old.faults }
     ensures written_in_part { result ≡ Err RunError.Write → ServesPart
-        (R.remaining reader.old.inner) (R.remaining reader.new.inner) desk.old desk.new
-        (W.contents writer.old.inner) (W.contents writer.new.inner) }
+        reader.old.log reader.new.log desk.old desk.new
+        writer.old.log writer.new.log }
 
     ensures memory { result ≡ Err RunError.Memory →
         (reader.new ≡ reader.old) × (writer.new ≡ writer.old) × (desk.new ≡ desk.old) }

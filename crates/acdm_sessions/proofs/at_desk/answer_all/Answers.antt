@@ -5,13 +5,13 @@ use Rattle.acdm_sessions.proofs.at_desk.answer_all.Goals as goal
 
 pub returns-clause-number : goal.returns-clause-number
 returns-clause-number g c =
-    all_keep (λ a. a.caller.number) _ (λ a b l x h. h.1.same_number) _ _ _ _ _ _ _ _ _
+    all_keep (λ a. a.caller.number) _ (λ a b l x h. h.1.same_number) _ _ _ _ _ _ _ _ _ _
     c.serve_lines.ensures.output c.serve_lines.ensures.read c.serve_lines.ensures.written_in_part
     (λ same. (c.serve_lines.ensures.memory same).2)
 
 pub returns-clause-role : goal.returns-clause-role
 returns-clause-role g c =
-    all_keep (λ a. a.caller.role) _ (λ a b l x h. h.1.same_role) _ _ _ _ _ _ _ _ _
+    all_keep (λ a. a.caller.role) _ (λ a b l x h. h.1.same_role) _ _ _ _ _ _ _ _ _ _
     c.serve_lines.ensures.output c.serve_lines.ensures.read c.serve_lines.ensures.written_in_part
     (λ same. (c.serve_lines.ensures.memory same).2)
 
@@ -24,7 +24,7 @@ returns-clause-output g c =
     (λ a b l x s h. (
       subst (λ gs. SessionAnswers gs sigs a.caller.pass b.caller.pass l x) s h.0,
       h.1.same_clock ∙ s,
-    )) _ _ _ _ _ _ refl _ c.serve_lines.ensures.output
+    )) _ _ _ _ _ _ refl _ _ c.serve_lines.ensures.output
 
 pub returns-clause-read : goal.returns-clause-read
 returns-clause-read g c =

@@ -25,12 +25,9 @@ returns-clause-left g c =
     let it = c.loop-one.one-iterator in
     let none : into_iter_items it ≡ [] =
     empty_of it.rest.items (sym it.rest.ok.0 ∙ c.in-None.ensures.steps.0) in
-    sym (append-nil (map (λ e. session_left e.end (g.R.Read.remaining e.reader.inner)
-    e.reader.faults (g.W.Write.contents e.writer.inner) e.pass) c.loop-one.ended.items))
-    ∙ ap (λ xs. map (λ e. session_left e.end (g.R.Read.remaining e.reader.inner)
-    e.reader.faults (g.W.Write.contents e.writer.inner) e.pass) c.loop-one.ended.items
-    ++ map (λ s. session_left s.end (g.R.Read.remaining s.reader.inner) s.reader.faults
-    (g.W.Write.contents s.writer.inner) s.caller.pass) xs) (sym none)
+    sym (append-nil (map (λ e. session_left e.end e.reader e.writer e.pass) c.loop-one.ended.items))
+    ∙ ap (λ xs. map (λ e. session_left e.end e.reader e.writer e.pass) c.loop-one.ended.items
+    ++ map (λ s. session_left s.end s.reader s.writer s.caller.pass) xs) (sym none)
     ∙ c.loop-one.invariant.left
 
 pub loop-one-init : goal.loop-one-init
@@ -49,12 +46,9 @@ loop-one-init g c =
       session_end = ap (λ es. map (λ e. session_end e.number e.role e.calls e.end) es
           ++ map (λ s. session_end s.number s.role s.caller.calls s.end) it) none
           ∙ ap (λ es. map (λ s. session_end s.number s.role s.caller.calls s.end) es) all;
-      left = ap (λ es. map (λ e. session_left e.end (g.R.Read.remaining e.reader.inner)
-          e.reader.faults (g.W.Write.contents e.writer.inner) e.pass) es
-          ++ map (λ s. session_left s.end (g.R.Read.remaining s.reader.inner) s.reader.faults
-          (g.W.Write.contents s.writer.inner) s.caller.pass) it) none
-          ∙ ap (λ es. map (λ s. session_left s.end (g.R.Read.remaining s.reader.inner)
-          s.reader.faults (g.W.Write.contents s.writer.inner) s.caller.pass) es) all;
+      left = ap (λ es. map (λ e. session_left e.end e.reader e.writer e.pass) es
+          ++ map (λ s. session_left s.end s.reader s.writer s.caller.pass) it) none
+          ∙ ap (λ es. map (λ s. session_left s.end s.reader s.writer s.caller.pass) es) all;
     }
 
 pub loop-one-preserved : goal.loop-one-preserved
@@ -89,16 +83,11 @@ loop-one-preserved g c =
           (map (λ s. session_end s.number s.role s.caller.calls s.end) c.args.served.items)
           c.in-Some.ensures.steps.0 c.left_by.ensures.session_end
           c.loop-one.invariant.session_end;
-      left = ap (λ es. map (λ e. session_left e.end (g.R.Read.remaining e.reader.inner)
-          e.reader.faults (g.W.Write.contents e.writer.inner) e.pass) es
-          ++ map (λ s. session_left s.end (g.R.Read.remaining s.reader.inner) s.reader.faults
-          (g.W.Write.contents s.writer.inner) s.caller.pass) rest) items
-          ∙ taken_both (λ e. session_left e.end (g.R.Read.remaining e.reader.inner)
-          e.reader.faults (g.W.Write.contents e.writer.inner) e.pass)
-          (λ s. session_left s.end (g.R.Read.remaining s.reader.inner) s.reader.faults
-          (g.W.Write.contents s.writer.inner) s.caller.pass) c.loop-one.ended.items e
+      left = ap (λ es. map (λ e. session_left e.end e.reader e.writer e.pass) es
+          ++ map (λ s. session_left s.end s.reader s.writer s.caller.pass) rest) items
+          ∙ taken_both (λ e. session_left e.end e.reader e.writer e.pass)
+          (λ s. session_left s.end s.reader s.writer s.caller.pass) c.loop-one.ended.items e
           c.in-Some.one (into_iter_items c.loop-one.one-iterator) rest
-          (map (λ s. session_left s.end (g.R.Read.remaining s.reader.inner) s.reader.faults
-          (g.W.Write.contents s.writer.inner) s.caller.pass) c.args.served.items)
+          (map (λ s. session_left s.end s.reader s.writer s.caller.pass) c.args.served.items)
           c.in-Some.ensures.steps.0 c.left_by.ensures.left c.loop-one.invariant.left;
     }

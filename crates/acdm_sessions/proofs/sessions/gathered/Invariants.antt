@@ -19,10 +19,7 @@ invariant-loop-one g l = record {
       ++ map (λ s. session_end s.number s.role s.caller.calls s.end)
       (into_iter_items l.one-iterator)
       ≡ map (λ s. session_end s.number s.role s.caller.calls s.end) l.fn.served.items;
-  left : map (λ e. session_left e.end (g.R.Read.remaining e.reader.inner) e.reader.faults
-      (g.W.Write.contents e.writer.inner) e.pass) l.ended.items
-      ++ map (λ s. session_left s.end (g.R.Read.remaining s.reader.inner) s.reader.faults
-      (g.W.Write.contents s.writer.inner) s.caller.pass) (into_iter_items l.one-iterator)
-      ≡ map (λ s. session_left s.end (g.R.Read.remaining s.reader.inner) s.reader.faults
-      (g.W.Write.contents s.writer.inner) s.caller.pass) l.fn.served.items;
+  left : map (λ e. session_left e.end e.reader e.writer e.pass) l.ended.items
+      ++ map (λ s. session_left s.end s.reader s.writer s.caller.pass) (into_iter_items l.one-iterator)
+      ≡ map (λ s. session_left s.end s.reader s.writer s.caller.pass) l.fn.served.items;
 }

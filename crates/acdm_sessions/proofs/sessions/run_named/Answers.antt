@@ -12,21 +12,21 @@ use Rattle.acdm_sessions.proofs.sessions.run_named.Goals as goal
 
 pub new-requires-send-B : goal.new-requires-send-B
 new-requires-send-B g c κs within = let k = c.type_bounds in
-    param_send 0 _ (arg_send _ no _ (work_send _ _ _ _ _ _ _ _ _ _ _ k.send-R k.send-W k.send-C
+    param_send 0 _ (arg_send _ no _ (work_send _ _ _ _ _ _ _ _ _ _ _ _ _ k.send-R k.send-W k.send-C
     k.send-H k.sync-G k.sync-Rt))
 
 pub run-served-requires-send-B : goal.run-served-requires-send-B
 run-served-requires-send-B g c κs within = let k = c.type_bounds in
-    param_send 0 _ (arg_send _ no _ (work_send _ _ _ _ _ _ _ _ _ _ _ k.send-R k.send-W k.send-C
+    param_send 0 _ (arg_send _ no _ (work_send _ _ _ _ _ _ _ _ _ _ _ _ _ k.send-R k.send-W k.send-C
     k.send-H k.sync-G k.sync-Rt))
 
 pub new-requires-send-T : goal.new-requires-send-T
 new-requires-send-T g c κs within = let k = c.type_bounds in
-    param_send 1 _ (arg_send _ no _ (served_send _ _ _ _ _ _ k.send-R k.send-W k.send-C))
+    param_send 1 _ (arg_send _ no _ (served_send _ _ _ _ _ _ _ _ k.send-R k.send-W k.send-C))
 
 pub run-served-requires-send-T : goal.run-served-requires-send-T
 run-served-requires-send-T g c κs within = let k = c.type_bounds in
-    param_send 1 _ (arg_send _ no _ (served_send _ _ _ _ _ _ k.send-R k.send-W k.send-C))
+    param_send 1 _ (arg_send _ no _ (served_send _ _ _ _ _ _ _ _ k.send-R k.send-W k.send-C))
 
 pub returns-clause-begins : goal.returns-clause-begins
 returns-clause-begins g c =
@@ -47,20 +47,16 @@ returns-clause-sessions g c =
 
 pub returns-clause-served : goal.returns-clause-served
 returns-clause-served g c =
-    let starts = map (λ s. session_start s.role (g.R.Read.remaining s.reader.inner)
-    s.reader.faults (g.W.Write.contents s.writer.inner) (g.C.Clock.gives s.clock))
+    let starts = map (λ s. session_start s.role s.reader s.writer (g.C.Clock.gives s.clock))
     c.args.sessions.items in
-    let lefts = map (λ e. session_left e.end (g.R.Read.remaining e.reader.inner) e.reader.faults
-    (g.W.Write.contents e.writer.inner) e.pass) c.close.result.sessions.items in
+    let lefts = map (λ e. session_left e.end e.reader e.writer e.pass) c.close.result.sessions.items in
     let served : HaveServed g.J.Naming.desk_row starts lefts =
     each_seated (λ p t. HasServed g.J.Naming.desk_row p.0 p.1 t) (λ w. w.seat)
     (λ s. (
       s.number,
-      session_start s.role (g.R.Read.remaining s.reader.inner) s.reader.faults
-          (g.W.Write.contents s.writer.inner) (g.C.Clock.gives s.caller.clock),
+      session_start s.role s.reader s.writer (g.C.Clock.gives s.caller.clock),
     ))
-    (λ y. session_left y.end (g.R.Read.remaining y.reader.inner) y.reader.faults
-    (g.W.Write.contents y.writer.inner) y.caller.pass) c.filled-crew.result.jobs
+    (λ y. session_left y.end y.reader y.writer y.caller.pass) c.filled-crew.result.jobs
     c.in_ok-locked.field-0.seats.items c.run-served.result.items _ _
     (each_as _ _ c.filled-crew.result.jobs c.run-served.result.items (λ w y h. h.1)
     c.run-served.ensures.gives)

@@ -23,12 +23,10 @@ loop-session-init g c =
           ∙ ap (λ es. numbered 1 (map (λ s. s.role) es)) all;
       starts = ap (λ es. map (λ s. (
         s.number,
-        session_start s.role (g.R.Read.remaining s.reader.inner) s.reader.faults
-            (g.W.Write.contents s.writer.inner) (g.C.Clock.gives s.caller.clock),
-      )) es ++ numbered 1 (map (λ s. session_start s.role (g.R.Read.remaining s.reader.inner)
-          s.reader.faults (g.W.Write.contents s.writer.inner) (g.C.Clock.gives s.clock)) it)) none
+        session_start s.role s.reader s.writer (g.C.Clock.gives s.caller.clock),
+      )) es ++ numbered 1 (map (λ s. session_start s.role s.reader s.writer (g.C.Clock.gives s.clock)) it)) none
           ∙ ap (λ es. numbered 1 (map (λ s. session_start s.role
-          (g.R.Read.remaining s.reader.inner) s.reader.faults (g.W.Write.contents s.writer.inner)
+          s.reader s.writer
           (g.C.Clock.gives s.clock)) es)) all;
     }
 
@@ -58,25 +56,20 @@ loop-session-preserved g c =
           before.places;
       starts = ap (λ es. map (λ s. (
         s.number,
-        session_start s.role (g.R.Read.remaining s.reader.inner) s.reader.faults
-            (g.W.Write.contents s.writer.inner) (g.C.Clock.gives s.caller.clock),
+        session_start s.role s.reader s.writer (g.C.Clock.gives s.caller.clock),
       )) es ++ numbered (n + 1 + 1) (map (λ s. session_start s.role
-          (g.R.Read.remaining s.reader.inner) s.reader.faults (g.W.Write.contents s.writer.inner)
+          s.reader s.writer
           (g.C.Clock.gives s.clock)) rest)) pushed.items
           ∙ taken_numbered (λ s. (
             s.number,
-            session_start s.role (g.R.Read.remaining s.reader.inner) s.reader.faults
-                (g.W.Write.contents s.writer.inner) (g.C.Clock.gives s.caller.clock),
-          )) (λ s. session_start s.role (g.R.Read.remaining s.reader.inner) s.reader.faults
-          (g.W.Write.contents s.writer.inner) (g.C.Clock.gives s.clock)) (n + 1) done one
+            session_start s.role s.reader s.writer (g.C.Clock.gives s.caller.clock),
+          )) (λ s. session_start s.role s.reader s.writer (g.C.Clock.gives s.clock)) (n + 1) done one
           c.in-Some.session items rest
-          (numbered 1 (map (λ s. session_start s.role (g.R.Read.remaining s.reader.inner)
-          s.reader.faults (g.W.Write.contents s.writer.inner) (g.C.Clock.gives s.clock))
+          (numbered 1 (map (λ s. session_start s.role s.reader s.writer (g.C.Clock.gives s.clock))
           c.args.sessions.items)) steps.0
           (ap (λ k. (
             k,
-            session_start one.role (g.R.Read.remaining one.reader.inner) one.reader.faults
-                (g.W.Write.contents one.writer.inner) (g.C.Clock.gives one.caller.clock),
+            session_start one.role one.reader one.writer (g.C.Clock.gives one.caller.clock),
           )) given.place.0 ∙ ap (λ t. (n + 1, t)) given.start)
           before.starts;
     }
@@ -129,15 +122,13 @@ returns-clause-starts g c =
     empty_of it.rest.items (sym it.rest.ok.0 ∙ c.in-None.ensures.steps.0) in
     sym (append-nil (map (λ s. (
       s.number,
-      session_start s.role (g.R.Read.remaining s.reader.inner) s.reader.faults
-          (g.W.Write.contents s.writer.inner) (g.C.Clock.gives s.caller.clock),
+      session_start s.role s.reader s.writer (g.C.Clock.gives s.caller.clock),
     )) c.loop-session.seats.items))
     ∙ ap (λ xs. map (λ s. (
       s.number,
-      session_start s.role (g.R.Read.remaining s.reader.inner) s.reader.faults
-          (g.W.Write.contents s.writer.inner) (g.C.Clock.gives s.caller.clock),
+      session_start s.role s.reader s.writer (g.C.Clock.gives s.caller.clock),
     )) c.loop-session.seats.items
     ++ numbered (c.loop-session.number + 1) (map (λ s. session_start s.role
-    (g.R.Read.remaining s.reader.inner) s.reader.faults (g.W.Write.contents s.writer.inner)
+    s.reader s.writer
     (g.C.Clock.gives s.clock)) xs)) (sym none)
     ∙ c.loop-session.invariant.starts

@@ -15,14 +15,11 @@ invariant-loop-session g l = record {
       ≡ numbered 1 (map (λ s. s.role) l.fn.sessions.items);
   starts : map (λ s. (
     s.number,
-    session_start s.role (g.R.Read.remaining s.reader.inner)
-        s.reader.faults (g.W.Write.contents s.writer.inner) (g.C.Clock.gives s.caller.clock),
+    session_start s.role s.reader s.writer (g.C.Clock.gives s.caller.clock),
   ))
       l.seats.items
-      ++ numbered (l.number + 1) (map (λ s. session_start s.role (g.R.Read.remaining s.reader.inner)
-      s.reader.faults (g.W.Write.contents s.writer.inner) (g.C.Clock.gives s.clock))
+      ++ numbered (l.number + 1) (map (λ s. session_start s.role s.reader s.writer (g.C.Clock.gives s.clock))
       (into_iter_items l.session-iterator))
-      ≡ numbered 1 (map (λ s. session_start s.role (g.R.Read.remaining s.reader.inner)
-      s.reader.faults (g.W.Write.contents s.writer.inner) (g.C.Clock.gives s.clock))
+      ≡ numbered 1 (map (λ s. session_start s.role s.reader s.writer (g.C.Clock.gives s.clock))
       l.fn.sessions.items);
 }

@@ -16,4 +16,4 @@ returns-in_err-serve_lines-clause-written_in_part g c =
     (λ same. serves_part _ _ _ _ _ _ (c.in_err-serve_lines.ensures.written_in_part same))
 
 pub returns-clause-output : goal.returns-clause-output
-returns-clause-output g c = serves_all _ _ _ _ _ _ c.in_ok-serve_lines.ensures.output
+returns-clause-output g c = serves_all _ _ _ _ _ _ _ c.in_ok-serve_lines.ensures.output

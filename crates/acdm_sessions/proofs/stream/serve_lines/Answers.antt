@@ -10,6 +10,8 @@ pub loop-lines-init : goal.loop-lines-init
 loop-lines-init g c = record {
   sofar = rw (c.in-Ok.ensures.window, c.in-Ok.ensures.reads)
       (sofar-begins g.A.Answerer.may _ _ _);
+  same_reader = refl;
+  same_writer = refl;
   read_well = refl;
   wrote_well = refl;
   flushed = λ h. h;
@@ -20,10 +22,12 @@ loop-lines-preserved g c =
     let t = rw c.in-LineFeed.is at c.in_ok-next.ensures.takes in
     let answered = rw c.as_slice.ensures at c.in_ok-serve_line.ensures in
     record {
-      sofar = sofar-line g.A.Answerer.may g.R.Read.remaining c.args.reader.now c.loop-lines.reader
-          c.next.new.reader c.loop-lines.lines c.next.new.self g.W.Write.contents
+      sofar = sofar-line g.A.Answerer.may c.args.reader.now c.loop-lines.reader
+          c.next.new.reader c.loop-lines.lines c.next.new.self
           c.loop-lines.writer c.serve_line.new.writer _ _ _ c.loop-lines.invariant.sofar _ t
           answered;
+      same_reader = t.same ∙ c.loop-lines.invariant.same_reader;
+      same_writer = answered.same ∙ c.loop-lines.invariant.same_writer;
       read_well = t.well ∙ c.loop-lines.invariant.read_well;
       wrote_well = answered.well ∙ c.loop-lines.invariant.wrote_well;
       flushed = λ h. answered.flushed;
@@ -32,8 +36,8 @@ loop-lines-preserved g c =
 pub returns-in_err-next-clause-read : goal.returns-in_err-next-clause-read
 returns-in_err-next-clause-read g c =
     let t = c.in_err-next.ensures.takes in
-    λ same. sofar-part g.A.Answerer.may g.R.Read.remaining c.args.reader.now c.loop-lines.reader
-    c.next.new.reader c.loop-lines.lines c.next.new.self g.W.Write.contents
+    λ same. sofar-part g.A.Answerer.may c.args.reader.now c.loop-lines.reader
+    c.next.new.reader c.loop-lines.lines c.next.new.self
     c.loop-lines.writer c.loop-lines.writer _ _ _ c.loop-lines.invariant.sofar _ t
     c.loop-lines.invariant.read_well c.requires.reads
 
@@ -42,8 +46,8 @@ pub returns-in_err-serve_line-clause-written_in_part :
 returns-in_err-serve_line-clause-written_in_part g c =
     let t = rw c.in-LineFeed.is at c.in_ok-next.ensures.takes in
     let failed = rw c.as_slice.ensures at c.in_err-serve_line.ensures in
-    λ same. part-line g.A.Answerer.may g.R.Read.remaining c.args.reader.now c.loop-lines.reader
-    c.next.new.reader c.loop-lines.lines c.next.new.self g.W.Write.contents
+    λ same. part-line g.A.Answerer.may c.args.reader.now c.loop-lines.reader
+    c.next.new.reader c.loop-lines.lines c.next.new.self
     c.loop-lines.writer c.serve_line.new.writer _ _ _ c.loop-lines.invariant.sofar _ _ t failed
 
 pub returns-then-is_empty-clause-output : goal.returns-then-is_empty-clause-output
@@ -51,8 +55,8 @@ returns-then-is_empty-clause-output g c =
     let ended = input-from_not_line_feed _ c.in_default-2.not-LineFeed in
     let t = rw ended at c.in_ok-next.ensures.takes in
     let empty = eqb-true _ _ (sym c.is_empty.ensures ∙ c.if-is_empty.true) in
-    sofar-ends g.A.Answerer.may g.R.Read.remaining c.args.reader.now c.loop-lines.reader
-    c.next.new.reader c.loop-lines.lines c.next.new.self g.W.Write.contents
+    sofar-ends g.A.Answerer.may c.args.reader.now c.loop-lines.reader
+    c.next.new.reader c.loop-lines.lines c.next.new.self
     c.loop-lines.writer c.loop-lines.writer _ _ _ c.loop-lines.invariant.sofar t
     (ap length (sym c.as_slice-2.ensures) ∙ empty)
 
@@ -66,8 +70,8 @@ returns-in_err-serve_line-2-clause-written_in_part g c =
     (sym c.is_empty.ensures ∙ c.if-is_empty.false) (ap length c.as_slice-2.ensures ∙ none) in
     let some : 0 < length c.next.new.self.line = omega arith in
     let failed = rw c.as_slice-3.ensures at c.in_err-serve_line-2.ensures in
-    λ same. part-rest g.A.Answerer.may g.R.Read.remaining c.args.reader.now c.loop-lines.reader
-    c.next.new.reader c.loop-lines.lines c.next.new.self g.W.Write.contents
+    λ same. part-rest g.A.Answerer.may c.args.reader.now c.loop-lines.reader
+    c.next.new.reader c.loop-lines.lines c.next.new.self
     c.loop-lines.writer c.serve_line-2.new.writer _ _ _ c.loop-lines.invariant.sofar _ _ t some
     failed
 
@@ -80,7 +84,7 @@ returns-clause-output g c =
     (sym c.is_empty.ensures ∙ c.if-is_empty.false) (ap length c.as_slice-2.ensures ∙ none) in
     let some : 0 < length c.next.new.self.line = omega arith in
     let answered = rw c.as_slice-3.ensures at c.in_ok-serve_line-2.ensures in
-    sofar-rest g.A.Answerer.may g.R.Read.remaining c.args.reader.now c.loop-lines.reader
-    c.next.new.reader c.loop-lines.lines c.next.new.self g.W.Write.contents
+    sofar-rest g.A.Answerer.may c.args.reader.now c.loop-lines.reader
+    c.next.new.reader c.loop-lines.lines c.next.new.self
     c.loop-lines.writer c.serve_line-2.new.writer _ _ _ c.loop-lines.invariant.sofar _ t some
     answered

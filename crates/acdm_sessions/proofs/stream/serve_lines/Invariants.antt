@@ -6,9 +6,11 @@ use Rattle.acdm_sessions.proofs.stream.serve_lines.Given as goal
 abbrev pub invariant-loop-lines : goal.invariant-loop-lines
 invariant-loop-lines g l = record {
   sofar : Sofar g.A.Answerer.may
-      (g.R.Read.remaining l.initial.reader.inner) (g.R.Read.remaining l.reader.inner)
+      l.initial.reader.log l.reader.log
       l.lines.window l.lines.reads_left l.initial.who l.who
-      (g.W.Write.contents l.initial.writer.inner) (g.W.Write.contents l.writer.inner);
+      l.initial.writer.log l.writer.log;
+  same_reader : l.reader.first ≡ l.initial.reader.first;
+  same_writer : l.writer.first ≡ l.initial.writer.first;
   read_well : l.reader.faults ≡ l.initial.reader.faults;
   wrote_well : l.writer.faults ≡ l.initial.writer.faults;
   flushed : l.initial.writer.waits ≡ false → l.writer.waits ≡ false;
