@@ -150,6 +150,8 @@ impl Book {
         ensures begins { result ≡ true → pass.old.seen ≡ take (length pass.old.seen)
             (reverse self.old.history) }
         ensures longer { result ≡ false → length self.old.history < length pass.old.seen }
+        ensures room { length pass.old.seen ≤ self.old.capacity }
+        ensures cells { self.old.capacity ≡ length self.old.cells }
     {
         self.journal.holds(pass)
     }

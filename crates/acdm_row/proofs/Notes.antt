@@ -6,7 +6,7 @@ use Rattle.once_cell.specs.Once.{Agrees}
 use Rattle.once_cell.specs.declared.race.note.Note.{Note}
 use Rattle.acdm_step.specs.declared.entry.Entry.{Entry}
 use Rattle.acdm_row.specs.declared.published.Published.{Published}
-use Rattle.acdm_row.specs.Notes.{before_of, entry_in, entries_of, AreKnown, IsKnownAt, AreNotes}
+use Rattle.acdm_row.specs.Notes.{before_of, entry_in, entries_of, AreKnown, IsKnownAt}
 use Rattle.std.proofs.lemmas.List.{length-append}
 use Rattle.std.proofs.Math.Seq.{take-suc, take-append_seam}
 

@@ -50,9 +50,10 @@ impl Front {
         }
     }
 
-    /// How many cells are known.
+    /// How many cells are known, no more than there are.
     pub fn len(&self) -> usize
-        ensures { result ≡ length self.now.entries }
+        ensures value { result ≡ length self.now.entries }
+        ensures room { length self.now.entries ≤ length self.now.row.cells }
     {
         self.notes.len()
     }

@@ -175,6 +175,7 @@ impl Journal {
         ensures begins { result ≡ true → pass.old.seen ≡ take (length pass.old.seen)
             self.old.entries }
         ensures longer { result ≡ false → length self.old.entries < length pass.old.seen }
+        ensures room { length pass.old.seen ≤ length self.old.row.cells }
     {
         if pass.front.len() > self.front.len() {
             return false;

@@ -1,10 +1,10 @@
 -- What sessions are served, and what is told of them once they have ended.
 use Rattle.std.specs.Prelude.{ℕ, ◌+◌, ◌≡◌, ◌⊎◌, Bool, List, [], ◌∷◌, ◌++◌, length, reverse, take}
-use Rattle.std.specs.Prelude.{Result, Ok, Err}
+use Rattle.std.specs.Prelude.{Option, None, Result, Ok, Err}
 use Rattle.acdm_milestones.specs.declared.role.Role.{Role}
 use Rattle.bpf_helpers.specs.Promise.{Promise}
 use Rattle.acdm_step.specs.Commands.{History}
-use Rattle.acdm_step.specs.History.{after}
+use Rattle.acdm_step.specs.History.{IsLegal, after}
 use Rattle.acdm_step.specs.Verdicts.{outcome_of, verdict_of}
 use Rattle.acdm_row.specs.Views.{PassView, RowView, IsSameCaller}
 use Rattle.acdm_board.specs.declared.desk.Reply.{Reply}
@@ -42,12 +42,25 @@ pub record Calls (sigs : List (ℕ × Promise)) (o : Order) (old new : PassView)
   pub number : reply.number ≡ length before
   pub outcome : reply.outcome ≡ outcome_of sigs before old.role o.command
 
+-- There was a legal journal, the newest entry first, that began with what a pass has seen and had an
+-- entry in each cell of its row.
+pub record IsFull (pass : PassView) : Type 0 where
+  pub before : History
+  pub legal : IsLegal pass.row.sigs before
+  pub begins : pass.seen ≡ take (length pass.seen) (reverse before)
+  pub full : length before ≡ length pass.row.cells
+
+-- why a call of a pass makes no entry: memory was refused, or the journal is full
+abbrev pub RejectsCall : PassView → Bad → Type 0
+RejectsCall pass NoMemory = Unit {0}
+RejectsCall pass FullJournal = IsFull pass
+RejectsCall pass _ = ⊥
+
 -- What is answered to a call of the desk, and the session's pass before it and after it: it makes
 -- an entry, unless memory was refused or the journal is full.
 abbrev pub CallAnswers : List (ℕ × Promise) → Order → PassView → PassView → Answer → Type 0
 CallAnswers sigs o old new (Entered reply) = Calls sigs o old new reply
-CallAnswers sigs o old new (Rejected b) =
-    (new ≡ old) × ((b ≡ NoMemory) ⊎ (b ≡ FullJournal))
+CallAnswers sigs o old new (Rejected b) = (new ≡ old) × RejectsCall old b
 
 -- the same of an order, or of a line that gives none
 abbrev pub OrderAnswers : List (ℕ × Promise) → Result Order Bad → PassView → PassView → Answer
@@ -105,30 +118,68 @@ pub record EndsAs (number : ℕ) (role : Role) (t : SessionEnd) : Type 0 where
 
 -- ---- what was read and written
 
--- what a session is opened with: its role, its reader and writer, and the minutes that its clock may
--- give
-pub record SessionStart (R W : Type 0) : Type 0 where
+-- What a session is opened with: its role, all bytes that its reader gave so far and how often it
+-- failed, all that its writer took and how often it failed, and the minutes that its clock may
+-- give. With them stands what was known of both at first.
+pub record SessionStart : Type 0 where
   pub role : Role
-  pub reader : SourceView R
-  pub writer : SinkView W
+  pub read : List ℕ
+  pub faults : ℕ
+  pub written : List ℕ
+  pub write_faults : ℕ
+  pub known : Option (List ℕ) × Option (List ℕ)
   pub gives : ℕ → Bool
 
 abbrev pub session_start : {R W : Type 0} → Role → SourceView R → SinkView W → (ℕ → Bool)
-    → SessionStart R W
+    → SessionStart
 session_start role reader writer gives =
-    record { role = role; reader = reader; writer = writer; gives = gives }
+    record {
+      role = role;
+      read = reader.log;
+      faults = reader.faults;
+      written = writer.log;
+      write_faults = writer.faults;
+      known = (reader.first, writer.first);
+      gives = gives;
+    }
 
--- what it leaves: how it ended, its reader and writer, and its pass
-pub record SessionLeft (R W : Type 0) : Type 0 where
+-- one that begins on a new connection, of whose bytes nothing is known beforehand
+abbrev pub new_session : Role → (ℕ → Bool) → SessionStart
+new_session role gives =
+    record {
+      role = role;
+      read = [];
+      faults = 0;
+      written = [];
+      write_faults = 0;
+      known = (None, None);
+      gives = gives;
+    }
+
+-- what it leaves: how it ended, the same of its reader and writer, whether its reader has told the
+-- end, and its pass
+pub record SessionLeft : Type 0 where
   pub end : End
-  pub reader : SourceView R
-  pub writer : SinkView W
+  pub read : List ℕ
+  pub ended : Bool
+  pub faults : ℕ
+  pub written : List ℕ
+  pub write_faults : ℕ
+  pub known : Option (List ℕ) × Option (List ℕ)
   pub pass : PassView
 
-abbrev pub session_left : {R W : Type 0} → End → SourceView R → SinkView W → PassView
-    → SessionLeft R W
+abbrev pub session_left : {R W : Type 0} → End → SourceView R → SinkView W → PassView → SessionLeft
 session_left end reader writer pass =
-    record { end = end; reader = reader; writer = writer; pass = pass }
+    record {
+      end = end;
+      read = reader.log;
+      ended = reader.ended;
+      faults = reader.faults;
+      written = writer.log;
+      write_faults = writer.faults;
+      known = (reader.first, writer.first);
+      pass = pass;
+    }
 
 -- a pass that has seen nothing
 abbrev pub new_pass : RowView → ℕ → Role → PassView
@@ -151,30 +202,24 @@ end_for (Err errors.Memory) = ends.Memory
 
 -- Lines were answered, from a pass that had seen nothing to the one that the session leaves: all of
 -- the input, or the whole lines before its reader failed or without end, or those before its
--- writer failed. One that had no memory for its buffers, or was not started, did nothing.
-abbrev pub ServesAs : {R W : Type 0} → RowView → ℕ → SessionStart R W → SessionLeft R W → End
-    → Type 0
+-- writer failed once more. One that had no memory for its buffers, or was not started, did nothing.
+abbrev pub ServesAs : RowView → ℕ → SessionStart → SessionLeft → End → Type 0
 ServesAs row number s t ends.End =
-    AnswersAll (SessionAnswers s.gives row.sigs) s.reader.log t.reader.log t.reader.ended
-    (new_pass row number s.role) t.pass s.writer.log t.writer.log
+    AnswersAll (SessionAnswers s.gives row.sigs) s.read t.read t.ended (new_pass row number s.role)
+    t.pass s.written t.written
 ServesAs row number s t ends.Read =
-    AnswersWhole (SessionAnswers s.gives row.sigs) s.reader.log t.reader.log s.reader.faults
-    t.reader.faults (new_pass row number s.role) t.pass s.writer.log t.writer.log
+    AnswersWhole (SessionAnswers s.gives row.sigs) s.read t.read s.faults t.faults
+    (new_pass row number s.role) t.pass s.written t.written
 ServesAs row number s t ends.Write =
-    AnswersPart (SessionAnswers s.gives row.sigs) s.reader.log t.reader.log
-    (new_pass row number s.role) t.pass s.writer.log t.writer.log
-    × (t.writer.faults ≡ s.writer.faults + 1)
+    AnswersPart (SessionAnswers s.gives row.sigs) s.read t.read (new_pass row number s.role) t.pass
+    s.written t.written × (t.write_faults ≡ s.write_faults + 1)
 ServesAs row number s t _ =
-    (t.reader ≡ s.reader) × (t.writer ≡ s.writer) × (t.pass ≡ new_pass row number s.role)
+    (t.read ≡ s.read) × (t.written ≡ s.written) × (t.pass ≡ new_pass row number s.role)
 
--- A session served so. What was known at first of its reader and writer stays as it was.
-pub record HasServed {R W : Type 0} (row : RowView) (number : ℕ) (s : SessionStart R W)
-    (t : SessionLeft R W) : Type 0 where
-  pub serves : ServesAs row number s t t.end
-  pub same_reader : t.reader.first ≡ s.reader.first
-  pub same_writer : t.writer.first ≡ s.writer.first
+-- A session served so. What was known of its reader and writer at first stays as it was.
+abbrev pub HasServed : RowView → ℕ → SessionStart → SessionLeft → Type 0
+HasServed row number s t = ServesAs row number s t t.end × (t.known ≡ s.known)
 
 -- the same of all sessions, numbered from 1
-abbrev pub HaveServed : {R W : Type 0} → RowView → List (SessionStart R W)
-    → List (SessionLeft R W) → Type 0
+abbrev pub HaveServed : RowView → List SessionStart → List SessionLeft → Type 0
 HaveServed row ss ts = Each (λ p t. HasServed row p.0 p.1 t) (numbered 1 ss) ts

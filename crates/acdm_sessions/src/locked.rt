@@ -4,7 +4,7 @@ ghost use Rattle.std.specs.Prelude.{Err, OnOk, OnErr, IfOk};
 ghost use Rattle.acdm_row.specs.Views.{IsSameCaller, RowView};
 ghost use Rattle.acdm_board.specs.Desk.{is_foreign, row_of};
 ghost use Rattle.acdm_sessions.specs.Passes.{are_from};
-ghost use Rattle.acdm_sessions.specs.Sessions.{Calls};
+ghost use Rattle.acdm_sessions.specs.Sessions.{Calls, IsFull};
 
 use crate::order::Order;
 use acdm_board::{Desk, DeskError, Reply};
@@ -37,6 +37,19 @@ pub(crate) struct Locked<H: Helpers + Drop, J: Naming> {
     ghost since: { J.start ≤ length desk.history },
 }
 
+// Holds a pass against a journal that is full.
+fn hold_full<H: Helpers + Drop>(desk: &mut Desk<H>, pass: &mut Pass)
+    requires row { pass.old.row ≡ row_of desk.old }
+    requires full { length desk.old.history ≡ desk.old.capacity }
+    ensures same { (desk.new ≡ desk.old) × (pass.new ≡ pass.old) }
+    ensures full { IsFull pass.old }
+{
+    if !desk.holds(pass) {
+        unreachable!();
+    }
+    let _core = desk.core();
+}
+
 impl<H: Helpers + Drop, J: Naming> Locked<H, J> {
     /// One call of a session by its pass, which its share counts where it makes an entry. The errors
     /// are those of the desk, of which `OtherSignatures` can't come.
@@ -63,11 +76,20 @@ impl<H: Helpers + Drop, J: Naming> Locked<H, J> {
             → are_from J.start pass.new.numbers ≡ true) }
         ensures full { (result ≡ Err DeskError.Full)
             ↔ (length self.old.desk.history ≡ self.old.desk.capacity) }
+        ensures seen_full { result ≡ Err DeskError.Full → IsFull pass.old }
         ensures known { result ≢ Err DeskError.OtherSignatures }
     {
         let Locked { desk, book } = self;
         let Order { moment, command } = order;
-        let reply = desk.call(pass, moment, command)?;
+        let reply = match desk.call(pass, moment, command) {
+            Ok(reply) => reply,
+            Err(error) => {
+                if error == DeskError::Full {
+                    hold_full(desk, pass);
+                }
+                return Err(error);
+            }
+        };
         book.add(mine, 1);
         book.audit(mine);
         let _count = desk.len();

@@ -1,9 +1,9 @@
-use Rattle.std.proofs.Common.{◌≡◌, ◌<◌, [], ℕ, List, length, get_or, sym, subst, ◌∙◌, ap, arith}
+use Rattle.std.proofs.Common.{◌≡◌, ◌<◌, [], List, length, get_or, sym, subst, ◌∙◌, ap, arith}
 use Rattle.std.proofs.lemmas.List.{get_or_read}
 use Rattle.acdm_step.specs.declared.entry.Entry.{Entry}
 use Rattle.once_cell.specs.declared.race.note.Note.{Note}
 use Rattle.acdm_row.specs.declared.published.Published.{Published}
-use Rattle.acdm_row.specs.Notes.{entries_of, AreKnown, IsKnownAt}
+use Rattle.acdm_row.specs.Notes.{entries_of, IsKnownAt}
 use Rattle.acdm_row.proofs.Notes.{length_entries, length_cells, cell_at, known_here}
 use Rattle.acdm_row.proofs.front.Front.recall.Goals as goal
 

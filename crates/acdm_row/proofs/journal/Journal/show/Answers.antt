@@ -1,6 +1,6 @@
-use Rattle.std.proofs.Common.{◌≡◌, ◌≤◌, ℕ, List, length, take, sym, subst, ◌∙◌, rules}
+use Rattle.std.proofs.Common.{◌≡◌, ◌≤◌, List, length, take, sym, subst, ◌∙◌, rules}
 use Rattle.acdm_step.specs.declared.entry.Entry.{Entry}
-use Rattle.acdm_row.specs.Views.{entries_at, AreBelow, AreOf, PassView}
+use Rattle.acdm_row.specs.Views.{entries_at, AreOf}
 use Rattle.acdm_row.proofs.Own.{below_more, entries_shown, same_legal}
 use Rattle.acdm_row.proofs.journal.Journal.show.Goals as goal
 

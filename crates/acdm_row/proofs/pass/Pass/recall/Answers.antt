@@ -1,4 +1,4 @@
-use Rattle.std.proofs.Common.{◌≡◌, List, subst, ap}
+use Rattle.std.proofs.Common.{List, subst, ap}
 use Rattle.acdm_step.specs.declared.entry.Entry.{Entry}
 use Rattle.acdm_row.specs.Notes.{IsKnownAt}
 use Rattle.acdm_row.proofs.pass.Pass.recall.Goals as goal
