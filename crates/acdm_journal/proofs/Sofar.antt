@@ -1,19 +1,17 @@
 -- What an audit knows at any time of the text that it reads.
 use Rattle.std.proofs.Common.{◌≡◌, ◌≢◌, ℕ, ◌+◌, ◌-◌, ◌^◌, ◌<◌, ◌≤◌, ◌⊎◌, true, false, nat_le}
 use Rattle.std.proofs.Common.{List, [], ◌∷◌, ◌++◌}
-use Rattle.std.proofs.Common.{length, Option, Err, refl, sym, ap, subst, ◌∙◌, arith}
+use Rattle.std.proofs.Common.{length, Err, refl, sym, ap, subst, ◌∙◌, arith}
 use Rattle.std.proofs.Common.{append_assoc}
 use Rattle.std.proofs.Common.{append-nil, inl, inr, leb-true, leb-false}
 use Rattle.std.proofs.lemmas.List.{take_all, length-take-le}
-use Rattle.std.specs.Io.KnownBytes.{Consumes}
 use Rattle.bpf_helpers.specs.Promise.{Promise}
 use Rattle.acdm_lines.specs.declared.lines.Lines.{Lines}
 use Rattle.acdm_lines.specs.declared.run_error.RunError.{RunError}
-use Rattle.acdm_lines.specs.Counted.{Watched, faults_after}
+use Rattle.acdm_lines.specs.Counted.{SourceView, faults_after}
 use Rattle.acdm_lines.specs.Lines.{kept}
 use Rattle.acdm_lines.specs.NextLine.{TakesLine, TakesRest, TakesPart, FailsOrEndless}
-use Rattle.acdm_lines.proofs.Taking.{Consumes-none}
-use Rattle.acdm_lines.proofs.Reading.{kept-empty, kept-some, faults-more, consumed-more, gave-more}
+use Rattle.acdm_lines.proofs.Reading.{kept-empty, kept-some, faults-more, logged-more, gave-more}
 use Rattle.acdm_step.specs.Commands.{History}
 use Rattle.acdm_step.specs.History.{Board, IsLegal, replay}
 use Rattle.acdm_journal.specs.declared.stated.Stated.{Stated}
@@ -89,11 +87,11 @@ module _ (sigs : List (ℕ × Promise)) (J : History) (line : List ℕ) where
 
 -- The reader gave the text of a legal history of so many entries and what is held, the board is its
 -- replay, and each read so far gave something.
-pub record Sofar (sigs : List (ℕ × Promise)) (start left : Option (List ℕ)) (held : List ℕ)
+pub record Sofar (sigs : List (ℕ × Promise)) (start log held : List ℕ)
     (reads : ℕ) (entry : ℕ) (board : Board) : Type 0 where
   pub text : List ℕ
   pub front : History
-  pub consumed : Consumes start left text
+  pub logged : log ≡ start ++ text
   pub gave : 2 ^ 40 ≤ length text + reads
   pub split : text ≡ history_text front ++ held
   pub legal : IsLegal sigs front
@@ -101,12 +99,12 @@ pub record Sofar (sigs : List (ℕ × Promise)) (start left : Option (List ℕ))
   pub count : length front ≡ entry
   pub replays : board ≡ replay sigs front
 
-pub sofar-begins : (sigs : List (ℕ × Promise)) (known : Option (List ℕ)) (board : Board)
-    → board ≡ replay sigs [] → Sofar sigs known known [] 1099511627776 0 board
-sofar-begins sigs known board same = record {
+pub sofar-begins : (sigs : List (ℕ × Promise)) (log : List ℕ) (board : Board)
+    → board ≡ replay sigs [] → Sofar sigs log log [] 1099511627776 0 board
+sofar-begins sigs log board same = record {
   text = [];
   front = [];
-  consumed = Consumes-none known;
+  logged = sym (append-nil log);
   gave = omega arith;
   split = refl;
   legal = tt;
@@ -115,21 +113,20 @@ sofar-begins sigs known board same = record {
   replays = same;
 }
 
-module _ {R : Type 0} (sigs : List (ℕ × Promise)) (remaining : R → Option (List ℕ))
-    (r0 r1 r2 : Watched R) (l1 l2 : Lines MOST_KEPT) (entry : ℕ) (board : Board)
-    (so_far : Sofar sigs (remaining r0.inner) (remaining r1.inner) l1.window l1.reads_left entry
-    board)
+module _ {R : Type 0} (sigs : List (ℕ × Promise)) (r0 r1 r2 : SourceView R)
+    (l1 l2 : Lines MOST_KEPT) (entry : ℕ) (board : Board)
+    (so_far : Sofar sigs r0.log r1.log l1.window l1.reads_left entry board)
   where
     -- the text of the entries so far
     judged : List ℕ
     judged = history_text so_far.front
 
-    consumed_with : (more : List ℕ) → Consumes (remaining r1.inner) (remaining r2.inner) more
-        → Consumes (remaining r0.inner) (remaining r2.inner) (judged ++ (l1.window ++ more))
+    logged_with : (more : List ℕ) → r2.log ≡ r1.log ++ more
+        → r2.log ≡ r0.log ++ (judged ++ (l1.window ++ more))
     unfolding judged
-    consumed_with more c =
-        consumed-more (remaining r0.inner) (remaining r1.inner) (remaining r2.inner) so_far.text
-        (history_text so_far.front) l1.window more so_far.consumed so_far.split c
+    logged_with more e =
+        logged-more r0.log r1.log r2.log so_far.text (history_text so_far.front) l1.window more
+        so_far.logged so_far.split e
 
     gave_with : (more : List ℕ) (left : ℕ) → l1.reads_left ≤ length more + left
         → 2 ^ 40 ≤ length (judged ++ (l1.window ++ more)) + left
@@ -139,10 +136,9 @@ module _ {R : Type 0} (sigs : List (ℕ × Promise)) (remaining : R → Option (
         left so_far.gave so_far.split g
 
     -- an entry more
-    pub sofar-line : (after : Board) (line : List ℕ) → TakesLine MOST_KEPT remaining r1 r2 l1 l2
+    pub sofar-line : (after : Board) (line : List ℕ) → TakesLine MOST_KEPT r1 r2 l1 l2
         → line ≡ l2.line → Continues sigs so_far.front line after
-        → Sofar sigs (remaining r0.inner) (remaining r2.inner) l2.window l2.reads_left
-        (entry + 1) after
+        → Sofar sigs r0.log r2.log l2.window l2.reads_left (entry + 1) after
     unfolding judged
     sofar-line after line t is h =
         let n = continues-line sigs so_far.front t.line after
@@ -152,8 +148,8 @@ module _ {R : Type 0} (sigs : List (ℕ × Promise)) (remaining : R → Option (
         record {
           text = history_text so_far.front ++ (l1.window ++ t.text);
           front = n.entry ∷ so_far.front;
-          consumed = consumed_with t.text t.consumed;
-          gave = gave_with t.text l2.reads_left t.gave;
+          logged = logged_with t.text t.gave;
+          gave = gave_with t.text l2.reads_left t.each_gave;
           split = ap (λ l. history_text so_far.front ++ l)
               (t.split ∙ ap (λ l. l ++ 10 ∷ l2.window) n.line_is
               ∙ sym (append_assoc text (10 ∷ []) l2.window))
@@ -185,9 +181,9 @@ module _ {R : Type 0} (sigs : List (ℕ × Promise)) (remaining : R → Option (
     }
 
     -- the line breaks a clause
-    faulty-line : (clause : Clause) → TakesLine MOST_KEPT remaining r1 r2 l1 l2
+    faulty-line : (clause : Clause) → TakesLine MOST_KEPT r1 r2 l1 l2
         → Breaks sigs so_far.front l2.line clause
-        → GaveFaulty sigs (remaining r0.inner) (remaining r2.inner) entry clause
+        → GaveFaulty sigs r0.log r2.log r2.ended entry clause
     faulty-line clause t h =
         let breaks : Breaks sigs so_far.front t.line clause =
         breaks-line sigs so_far.front t.line clause
@@ -195,7 +191,7 @@ module _ {R : Type 0} (sigs : List (ℕ × Promise)) (remaining : R → Option (
         let text : List ℕ = judged ++ (l1.window ++ t.text) in
         record {
           text = text;
-          consumed = consumed_with t.text t.consumed;
+          gave = logged_with t.text t.gave;
           first = fault_in text (l1.window ++ t.text) clause refl
               (at_line t.line l2.window t.is_line t.split breaks);
           stays = inr (λ later.
@@ -208,13 +204,13 @@ module _ {R : Type 0} (sigs : List (ℕ × Promise)) (remaining : R → Option (
 
     -- the line is not taken
     pub faulty : (after : Board) (e : Fault) (line : List ℕ)
-        → TakesLine MOST_KEPT remaining r1 r2 l1 l2 → r2.faults ≡ r0.faults → line ≡ l2.line
+        → TakesLine MOST_KEPT r1 r2 l1 l2 → r2.faults ≡ r0.faults → line ≡ l2.line
         → JudgesEntry {T = Unit {0}} sigs so_far.front entry line after (Err e)
-        → Audits sigs remaining r0 r2 (Err e)
+        → Audits sigs r0 r2 (Err e)
     faulty after (faults.Faulty number clause) line t well is h =
         let breaks : Breaks sigs so_far.front l2.line clause =
         subst (λ l. Breaks sigs so_far.front l clause) is h.1 in (
-          subst (λ n. GaveFaulty sigs (remaining r0.inner) (remaining r2.inner) n clause)
+          subst (λ n. GaveFaulty sigs r0.log r2.log r2.ended n clause)
               (sym h.0) (faulty-line clause t breaks),
           well,
         )
@@ -222,8 +218,8 @@ module _ {R : Type 0} (sigs : List (ℕ × Promise)) (remaining : R → Option (
     faulty after faults.Memory line t well is h = well
 
     -- the text has ended
-    pub ends : TakesRest MOST_KEPT remaining r1 r2 l1 l2 → length l2.line ≡ 0
-        → GaveLegal sigs (remaining r0.inner) (remaining r2.inner) entry
+    pub ends : TakesRest MOST_KEPT r1 r2 l1 l2 → length l2.line ≡ 0
+        → GaveLegal sigs r0.log r2.log r2.ended entry
     unfolding judged
     ends t empty =
         let none : l1.window ++ t.text ≡ [] =
@@ -231,34 +227,33 @@ module _ {R : Type 0} (sigs : List (ℕ × Promise)) (remaining : R → Option (
         record {
           text = history_text so_far.front;
           history = so_far.front;
-          consumed = subst (Consumes (remaining r0.inner) (remaining r2.inner))
-              (ap (λ l. history_text so_far.front ++ l) none
-              ∙ append-nil (history_text so_far.front))
-              (consumed_with t.text t.consumed);
-          ended = t.ended;
+          gave = logged_with t.text t.gave
+              ∙ ap (λ l. r0.log ++ l) (ap (λ l. history_text so_far.front ++ l) none
+              ∙ append-nil (history_text so_far.front));
+          at_end = t.ended;
           is = record { legal = so_far.legal; readable = so_far.readable; text_is = refl };
           count_is = so_far.count;
         }
 
     -- the text has ended with the rest of a line
-    pub faulty-rest : TakesRest MOST_KEPT remaining r1 r2 l1 l2 → 0 < length l2.line
-        → GaveFaulty sigs (remaining r0.inner) (remaining r2.inner) entry clauses.Unreadable
+    pub faulty-rest : TakesRest MOST_KEPT r1 r2 l1 l2 → 0 < length l2.line
+        → GaveFaulty sigs r0.log r2.log r2.ended entry clauses.Unreadable
     faulty-rest t some =
         let rest : List ℕ = l1.window ++ t.text in
         let there : 0 < length rest =
         kept-some LONGEST_LINE rest (subst (λ l. 0 < length l) t.bytes_are some) in
         record {
           text = judged ++ rest;
-          consumed = consumed_with t.text t.consumed;
+          gave = logged_with t.text t.gave;
           first = fault_in (judged ++ rest) rest clauses.Unreadable refl
               (at_end t.is_line there refl);
           stays = inl t.ended;
         }
 
     -- no line more could be read
-    pub unended : (error : RunError) → TakesPart MOST_KEPT remaining r1 r2 l1 l2 error
+    pub unended : (error : RunError) → TakesPart MOST_KEPT r1 r2 l1 l2 error
         → r1.faults ≡ r0.faults → r0.faults < 2 ^ 64 - 1
-        → GaveUnended sigs (remaining r0.inner) (remaining r2.inner) r0.faults r2.faults
+        → GaveUnended sigs r0.log r2.log r0.faults r2.faults
     unfolding judged
     unended error t well room = record {
       front = so_far.front;
@@ -266,7 +261,7 @@ module _ {R : Type 0} (sigs : List (ℕ × Promise)) (remaining : R → Option (
       legal = so_far.legal;
       readable = so_far.readable;
       is_part = t.is_line;
-      consumed = consumed_with t.text t.consumed;
+      gave = logged_with t.text t.gave;
       why = why t.why;
     }
       where

@@ -1,74 +1,63 @@
 -- What was written of a legal history is taken by an audit.
-use Rattle.std.proofs.Common.{◌≡◌, ℕ, List, [], ◌++◌, length, Option, Some, None, refl, sym}
-use Rattle.std.proofs.Common.{ap}
-use Rattle.std.proofs.Common.{subst, ◌∙◌, append-nil, inl, inr, ◌⊎◌}
-use Rattle.std.specs.Io.KnownBytes.{Appends, Consumes, IsAtEnd}
+use Rattle.std.proofs.Common.{◌≡◌, ℕ, Bool, true, List, [], ◌++◌, length, sym, ap, subst, ◌∙◌}
+use Rattle.std.proofs.Common.{append_assoc, append-nil, inl, inr, ◌⊎◌}
+use Rattle.std.proofs.lemmas.List.{append_cancel_left}
 use Rattle.bpf_helpers.specs.Promise.{Promise}
 use Rattle.acdm_step.specs.Commands.{History}
 use Rattle.acdm_step.specs.History.{IsLegal}
 use Rattle.acdm_journal.specs.declared.judge.Clause.{Clause}
-use Rattle.acdm_journal.specs.Text.{history_text}
 use Rattle.acdm_journal.specs.Whole.{AreReadable, IsTextOf, FirstFault, Saves}
-use Rattle.acdm_journal.specs.Whole.{GaveLegal, GaveFaulty}
+use Rattle.acdm_journal.specs.Whole.{GaveLegal, GaveFaulty, GaveOf}
 use Rattle.acdm_journal.proofs.OneText.{one_history, no_fault}
 use Rattle.acdm_journal.proofs.Readable.{readable}
 
--- what was written into nothing is the text of the history
-written : (xs : List ℕ) (saved : Option (List ℕ)) → Appends (Some []) saved xs → saved ≡ Some xs
-written xs None a = absurd a
-written xs (Some ys) a = ap Some a
+-- what a reader gave of some bytes that it was to give, and the rest
+part_of : (bytes log log_after text : List ℕ) (ended : Bool) → (g : GaveOf bytes log log_after ended)
+    → log_after ≡ log ++ text → bytes ≡ text ++ g.rest
+part_of bytes log log_after text ended g e =
+    append_cancel_left log bytes (text ++ g.rest)
+    (g.split ∙ ap (λ l. l ++ g.rest) e ∙ append_assoc log text g.rest)
 
--- what a reader gave of a text that was known, and what is left of it
-gave : (text part : List ℕ) (left : Option (List ℕ)) → Consumes (Some text) left part
-    → (rest : List ℕ) × (left ≡ Some rest) × (text ≡ part ++ rest)
-gave text part None c = absurd c
-gave text part (Some rest) c = (rest, refl, c)
-
-gave_all : (text part : List ℕ) (left : Option (List ℕ)) → Consumes (Some text) left part
-    → IsAtEnd left → text ≡ part
-gave_all text part None c end = absurd c
-gave_all text part (Some rest) c end = c ∙ ap (λ l. part ++ l) end ∙ append-nil part
+-- all that it gave, where it has ended
+all_of : (bytes log log_after text : List ℕ) (ended : Bool) → (g : GaveOf bytes log log_after ended)
+    → log_after ≡ log ++ text → ended ≡ true → bytes ≡ text
+all_of bytes log log_after text ended g e end =
+    part_of bytes log log_after text ended g e ∙ ap (λ l. text ++ l) (g.whole end)
+    ∙ append-nil text
 
 module _ (sigs : List (ℕ × Promise)) (J : History) where
-  pub each_readable : (old new : Option (List ℕ)) → IsLegal sigs J → Saves J old new
-      → AreReadable sigs J
+  pub each_readable : (old new : List ℕ) → IsLegal sigs J → Saves J old new → AreReadable sigs J
   each_readable old new legal saves = readable sigs J legal saves.types
 
-  module _ (saved left : Option (List ℕ)) (legal : IsLegal sigs J)
-      (saves : Saves J (Some []) saved) where
-    text_of : IsTextOf sigs (history_text J) J
+  module _ (saved log log_after : List ℕ) (ended : Bool) (legal : IsLegal sigs J)
+      (saves : Saves J [] saved) (of : GaveOf saved log log_after ended) where
+    text_of : IsTextOf sigs saved J
     text_of = record {
       legal = legal;
-      readable = each_readable (Some []) saved legal saves;
-      text_is = refl;
+      readable = each_readable [] saved legal saves;
+      text_is = saves.text;
     }
 
-    given : (text : List ℕ) → Consumes saved left text
-        → Consumes (Some (history_text J)) left text
-    given text c =
-        subst (λ b. Consumes b left text) (written (history_text J) saved saves.text) c
-
-    pub taken_whole : (n : ℕ) → GaveLegal sigs saved left n → n ≡ length J
+    pub taken_whole : (n : ℕ) → GaveLegal sigs log log_after ended n → n ≡ length J
     taken_whole n g =
-        let all : history_text J ≡ g.text =
-        gave_all (history_text J) g.text left (given g.text g.consumed) g.ended in
+        let all : saved ≡ g.text = all_of saved log log_after g.text ended of g.gave g.at_end in
         let same : J ≡ g.history = one_history sigs g.text J g.history
         (subst (λ t. IsTextOf sigs t J) all text_of) g.is in
         sym (ap length same ∙ g.count_is)
 
-    pub taken_well : (entry : ℕ) (clause : Clause) → GaveFaulty sigs saved left entry clause → ⊥
+    pub taken_well : (entry : ℕ) (clause : Clause)
+        → GaveFaulty sigs log log_after ended entry clause → ⊥
     taken_well entry clause g = none g.stays
       where
-        c : Consumes (Some (history_text J)) left g.text
-        c = given g.text g.consumed
-
-        none : IsAtEnd left ⊎ ((later : List ℕ) → FirstFault sigs (g.text ++ later) entry clause)
+        none : (ended ≡ true) ⊎ ((later : List ℕ) → FirstFault sigs (g.text ++ later) entry clause)
             → ⊥
         none (inl end) =
             no_fault sigs g.text J entry clause
-            (subst (λ t. IsTextOf sigs t J) (gave_all (history_text J) g.text left c end) text_of)
+            (subst (λ t. IsTextOf sigs t J)
+            (all_of saved log log_after g.text ended of g.gave end) text_of)
             g.first
         none (inr stays) =
-            let rest = gave (history_text J) g.text left c in
-            no_fault sigs (g.text ++ rest.0) J entry clause
-            (subst (λ t. IsTextOf sigs t J) rest.2 text_of) (stays rest.0)
+            no_fault sigs (g.text ++ of.rest) J entry clause
+            (subst (λ t. IsTextOf sigs t J)
+            (part_of saved log log_after g.text ended of g.gave) text_of)
+            (stays of.rest)

@@ -4,3 +4,4 @@ pub mod Ranges
 pub mod Reading
 pub mod Audit
 pub mod Whole
+pub mod Handed

@@ -1,10 +1,9 @@
 -- What an audit says of a whole text (this project's profile).
-use Rattle.std.specs.Prelude.{ℕ, ◌<◌, ◌≤◌, ◌≡◌, ◌⊎◌, List, [], ◌∷◌, ◌++◌, length, Option}
+use Rattle.std.specs.Prelude.{ℕ, ◌<◌, ◌≤◌, ◌≡◌, ◌⊎◌, List, [], ◌∷◌, ◌++◌, length, Bool, true}
 use Rattle.std.specs.Prelude.{Result, Ok, Err}
-use Rattle.std.specs.Io.KnownBytes.{Appends, Consumes, IsAtEnd}
 use Rattle.std.specs.List.{AllByRecursion}
 use Rattle.bpf_helpers.specs.Promise.{Promise}
-use Rattle.acdm_lines.specs.Counted.{Watched}
+use Rattle.acdm_lines.specs.Counted.{SourceView}
 use Rattle.acdm_lines.specs.Lines.{IsLine}
 use Rattle.acdm_lines.specs.declared.lines.Ending.{Ending}
 use Rattle.acdm_lines.specs.declared.lines.Ending.TheVariants.{LineFeed, Input}
@@ -64,71 +63,73 @@ pub record FirstFault (sigs : List (ℕ × Promise)) (text : List ℕ) (entry : 
 
 -- ---- what comes of an audit
 
--- The reader gave the text of a legal history of so many entries, and has ended. Where it was known
--- what the reader has left, the text is all of that (`Consumes`, `IsAtEnd`).
-pub record GaveLegal (sigs : List (ℕ × Promise)) (left left_after : Option (List ℕ)) (count : ℕ)
-    : Type 0 where
+-- The reader gave the text of a legal history of so many entries, and nothing else, and has ended.
+pub record GaveLegal (sigs : List (ℕ × Promise)) (log log_after : List ℕ) (ended : Bool)
+    (count : ℕ) : Type 0 where
   pub text : List ℕ
   pub history : History
-  pub consumed : Consumes left left_after text
-  pub ended : IsAtEnd left_after
+  pub gave : log_after ≡ log ++ text
+  pub at_end : ended ≡ true
   pub is : IsTextOf sigs text history
   pub count_is : length history ≡ count
 
 -- The reader gave a text with this first fault. It has ended, or whatever it gives later does not
 -- change that.
-pub record GaveFaulty (sigs : List (ℕ × Promise)) (left left_after : Option (List ℕ)) (entry : ℕ)
-    (clause : Clause) : Type 0 where
+pub record GaveFaulty (sigs : List (ℕ × Promise)) (log log_after : List ℕ) (ended : Bool)
+    (entry : ℕ) (clause : Clause) : Type 0 where
   pub text : List ℕ
-  pub consumed : Consumes left left_after text
+  pub gave : log_after ≡ log ++ text
   pub first : FirstFault sigs text entry clause
-  pub stays : IsAtEnd left_after
+  pub stays : (ended ≡ true)
       ⊎ ((later : List ℕ) → FirstFault sigs (text ++ later) entry clause)
 
 -- No more could be read: the reader gave the text of a legal history and a part of a line, and then
 -- failed or was endless.
-pub record GaveUnended (sigs : List (ℕ × Promise)) (left left_after : Option (List ℕ))
+pub record GaveUnended (sigs : List (ℕ × Promise)) (log log_after : List ℕ)
     (faults later_faults : ℕ) : Type 0 where
   pub front : History
   pub part : List ℕ
   pub legal : IsLegal sigs front
   pub readable : AreReadable sigs front
   pub is_part : IsLine part
-  pub consumed : Consumes left left_after (history_text front ++ part)
+  pub gave : log_after ≡ log ++ (history_text front ++ part)
   pub why : FailsOrEndless faults later_faults (history_text front ++ part)
 
 -- what comes of an audit of what a reader gives
-abbrev pub Audits : {R : Type 0} → List (ℕ × Promise) → (R → Option (List ℕ)) → Watched R
-    → Watched R → Result ℕ Fault → Type 0
-Audits sigs remaining old new (Ok n) =
-    GaveLegal sigs (remaining old.inner) (remaining new.inner) n × (new.faults ≡ old.faults)
-Audits sigs remaining old new (Err (faults.Faulty entry clause)) =
-    GaveFaulty sigs (remaining old.inner) (remaining new.inner) entry clause
-    × (new.faults ≡ old.faults)
-Audits sigs remaining old new (Err faults.Read) =
-    GaveUnended sigs (remaining old.inner) (remaining new.inner) old.faults new.faults
-Audits sigs remaining old new (Err faults.Memory) = new.faults ≡ old.faults
+abbrev pub Audits : {R : Type 0} → List (ℕ × Promise) → SourceView R → SourceView R
+    → Result ℕ Fault → Type 0
+Audits sigs old new (Ok n) =
+    GaveLegal sigs old.log new.log new.ended n × (new.faults ≡ old.faults)
+Audits sigs old new (Err (faults.Faulty entry clause)) =
+    GaveFaulty sigs old.log new.log new.ended entry clause × (new.faults ≡ old.faults)
+Audits sigs old new (Err faults.Read) =
+    GaveUnended sigs old.log new.log old.faults new.faults
+Audits sigs old new (Err faults.Memory) = new.faults ≡ old.faults
 
 -- ---- what was written
 
--- The text of a history was written behind what stood there, and the parts of its entries are in
--- the ranges of their types.
-pub record Saves (J : History) (old new : Option (List ℕ)) : Type 0 where
-  pub text : Appends old new (history_text J)
+-- The text of a history was written behind what had been written, and the parts of its entries are
+-- in the ranges of their types.
+pub record Saves (J : History) (old new : List ℕ) : Type 0 where
+  pub text : new ≡ old ++ history_text J
   pub types : AllByRecursion FitsTypes J
+
+-- A reader that was to give these bytes gave them or a first part of them, and all where it has
+-- ended.
+pub record GaveOf (bytes log log_after : List ℕ) (ended : Bool) : Type 0 where
+  pub rest : List ℕ
+  pub split : log ++ bytes ≡ log_after ++ rest
+  pub whole : ended ≡ true → rest ≡ []
 
 -- ---- parts
 
 -- what comes of looking for the next line
-abbrev pub TakesNext : {R : Type 0} → (R → Option (List ℕ)) → Watched R → Watched R
-    → Lines MOST_KEPT
+abbrev pub TakesNext : {R : Type 0} → SourceView R → SourceView R → Lines MOST_KEPT
     → Lines MOST_KEPT → Result Ending Fault → Type 0
-TakesNext remaining old new before after (Ok LineFeed) =
-    TakesLine MOST_KEPT remaining old new before after
-TakesNext remaining old new before after (Ok Input) =
-    TakesRest MOST_KEPT remaining old new before after
-TakesNext remaining old new before after (Err e) =
-    TakesPart MOST_KEPT remaining old new before after Read × (e ≡ faults.Read)
+TakesNext old new before after (Ok LineFeed) = TakesLine MOST_KEPT old new before after
+TakesNext old new before after (Ok Input) = TakesRest MOST_KEPT old new before after
+TakesNext old new before after (Err e) =
+    TakesPart MOST_KEPT old new before after Read × (e ≡ faults.Read)
 
 -- what comes of judging the line of an entry after a legal history, and the board then
 abbrev pub JudgesEntry : {T : Type 0} → List (ℕ × Promise) → History → ℕ → List ℕ → Board

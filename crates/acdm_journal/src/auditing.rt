@@ -7,7 +7,7 @@ ghost use Rattle.acdm_journal.specs.Whole.{Audits, JudgesEntry, TakesNext};
 
 use crate::judge::{AuditError, Clause, judge_line};
 use crate::reading::LONGEST_LINE;
-use acdm_lines::{Counted, Ending, Lines};
+use acdm_lines::{Ending, Lines, Source};
 use acdm_step::Core;
 use bpf_helpers::Sigs;
 use std::alloc::Global;
@@ -28,11 +28,8 @@ pub enum Fault {
 }
 
 // Takes the next line.
-fn next_line<R: Read>(
-    lines: &mut Lines<MOST_KEPT>,
-    reader: &mut Counted<R>,
-) -> Result<Ending, Fault>
-    ensures takes { TakesNext R.remaining reader.old reader.new lines.old lines.new result }
+fn next_line<R: Read>(lines: &mut Lines<MOST_KEPT>, reader: &mut Source<R>) -> Result<Ending, Fault>
+    ensures takes { TakesNext reader.old reader.new lines.old lines.new result }
     ensures progress { result ≡ Ok Ending.LineFeed →
         weight lines.new.reads_left lines.new.window
         < weight lines.old.reads_left lines.old.window }
@@ -67,7 +64,7 @@ fn judge_entry(
 // with.
 fn audit_lines<R: Read>(
     alloc: Global,
-    reader: &mut Counted<R>,
+    reader: &mut Source<R>,
     sigs: &Sigs,
     core: &mut Core,
     lines: &mut Lines<MOST_KEPT>,
@@ -76,7 +73,8 @@ fn audit_lines<R: Read>(
     requires board { core.old ≡ replay sigs.now [] }
     requires window { lines.old.window ≡ [] }
     requires left { lines.old.reads_left ≡ 1099511627776 }
-    ensures audits { Audits sigs.now R.remaining reader.old reader.new result }
+    ensures audits { Audits sigs.now reader.old reader.new result }
+    ensures first { reader.new.first ≡ reader.old.first }
 {
     let mut entry = 0;
     while let Ending::LineFeed = next_line(lines, reader)? {
@@ -101,9 +99,10 @@ fn audit_lines<R: Read>(
 /// did not reach its end; `Memory` where there was no room for the board, for a line, or for what
 /// an entry asks for. At no time is more kept than 65,536 bytes that were read, 200,001 of a line,
 /// what it states, and the board after the entries before it.
-pub fn audit<R: Read>(alloc: Global, reader: &mut Counted<R>, sigs: &Sigs) -> Result<u64, Fault>
+pub fn audit<R: Read>(alloc: Global, reader: &mut Source<R>, sigs: &Sigs) -> Result<u64, Fault>
     requires reads { reader.old.faults < 2 ^ 64 - 1 }
-    ensures audits { Audits sigs.now R.remaining reader.old reader.new result }
+    ensures audits { Audits sigs.now reader.old reader.new result }
+    ensures first { reader.new.first ≡ reader.old.first }
 {
     let Ok(same) = sigs.copy() else {
         return Err(Fault::Memory);

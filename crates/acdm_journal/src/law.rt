@@ -1,6 +1,6 @@
 //! Laws of lines. Each function does nothing when it runs; its contract is the law.
 
-ghost use Rattle.std.specs.Prelude.{◌≡◌, ℕ, List, [], length, Option, Some};
+ghost use Rattle.std.specs.Prelude.{◌≡◌, ℕ, Bool, List, [], length, Some};
 ghost use Rattle.bpf_helpers.specs.Promise.{Promise};
 ghost use Rattle.acdm_step.specs.Commands.{History};
 ghost use Rattle.acdm_step.specs.History.{Board, IsLegal};
@@ -12,7 +12,7 @@ ghost use Rattle.acdm_journal.specs.Text.{line_of, stated_in};
 ghost use Rattle.acdm_journal.specs.Ranges.{IsStated};
 ghost use Rattle.acdm_journal.specs.Reading.{stated_of};
 ghost use Rattle.acdm_journal.specs.Whole.{AreReadable, IsTextOf, FirstFault, Saves};
-ghost use Rattle.acdm_journal.specs.Whole.{GaveLegal, GaveFaulty};
+ghost use Rattle.acdm_journal.specs.Whole.{GaveLegal, GaveFaulty, GaveOf};
 
 /// A line states what it was written for, and nothing else.
 pub fn a_line_is_read_as_it_was_written()
@@ -41,17 +41,18 @@ pub fn a_text_has_one_verdict()
         FirstFault sigs text m c → FirstFault sigs text n d → (m ≡ n) × (c ≡ d) }
 {}
 
-/// What is saved of a legal history, by a writer that had nothing written before, an audit takes:
-/// it can answer the number of the entries, and no fault. A history is saved (`Saves`) where
-/// `write_entry` answered `Ok` for each of its entries, the oldest first.
+/// What is saved of a legal history, by a writer that had nothing written before, an audit takes of
+/// a reader that gives what was saved (`GaveOf`): it can answer the number of the entries, and no
+/// fault. A history is saved (`Saves`) where `write_entry` answered `Ok` for each of its entries, the
+/// oldest first.
 pub fn what_is_written_is_taken()
-    ensures count { (sigs : List (ℕ × Promise)) (J : History) (saved left : Option (List ℕ))
-        (n : ℕ) → IsLegal sigs J → Saves J (Some []) saved → GaveLegal sigs saved left n →
-        n ≡ length J }
-    ensures no_fault { (sigs : List (ℕ × Promise)) (J : History) (saved left : Option (List ℕ))
-        (entry : ℕ) (clause : Clause) → IsLegal sigs J → Saves J (Some []) saved →
-        GaveFaulty sigs saved left entry clause → ⊥ }
+    ensures count { (sigs : List (ℕ × Promise)) (J : History) (saved log log_after : List ℕ)
+        (ended : Bool) (n : ℕ) → IsLegal sigs J → Saves J [] saved →
+        GaveOf saved log log_after ended → GaveLegal sigs log log_after ended n → n ≡ length J }
+    ensures no_fault { (sigs : List (ℕ × Promise)) (J : History) (saved log log_after : List ℕ)
+        (ended : Bool) (entry : ℕ) (clause : Clause) → IsLegal sigs J → Saves J [] saved →
+        GaveOf saved log log_after ended → GaveFaulty sigs log log_after ended entry clause → ⊥ }
     // Each of its lines may be read.
-    ensures readable { (sigs : List (ℕ × Promise)) (J : History) (old new : Option (List ℕ)) →
+    ensures readable { (sigs : List (ℕ × Promise)) (J : History) (old new : List ℕ) →
         IsLegal sigs J → Saves J old new → AreReadable sigs J }
 {}

@@ -8,8 +8,8 @@ use Rattle.acdm_journal.proofs.auditing.audit_lines.Goals as goal
 
 pub loop-core-init : goal.loop-core-init
 loop-core-init g c = rw (c.requires.window, c.requires.left) (record {
-  sofar = sofar-begins c.args.sigs.now (g.R.Read.remaining c.args.reader.now.inner) c.args.core.now
-      c.requires.board;
+  sofar = sofar-begins c.args.sigs.now c.args.reader.now.log c.args.core.now c.requires.board;
+  same = refl;
   well = refl;
   sigs = ap (λ (b : Board). b.slots.sigs) c.requires.board;
   bound = omega arith;
@@ -20,10 +20,11 @@ returns-in_err-next_line g c =
     let t = c.in_err-next_line.ensures.takes in
     let p = err_from_is_err_and c.from_residual.result c.from_residual.ensures.1 in
     rw (p.1, p.2, t.1) (record {
-      audits = unended c.args.sigs.now g.R.Read.remaining c.args.reader.now c.loop-core.reader
+      audits = unended c.args.sigs.now c.args.reader.now c.loop-core.reader
           c.next_line.new.reader c.loop-core.lines c.next_line.new.lines c.loop-core.entry
           c.loop-core.core c.loop-core.invariant.sofar _ t.0 c.loop-core.invariant.well
           c.requires.reads;
+      first = t.0.same ∙ c.loop-core.invariant.same;
     })
 
 pub returns-in_err-judge_entry : goal.returns-in_err-judge_entry
@@ -35,11 +36,12 @@ returns-in_err-judge_entry g c =
     let p = err_from_is_err_and c.from_residual-in_err-judge_entry.result
     c.from_residual-in_err-judge_entry.ensures.1 in
     rw (p.1, p.2) (record {
-      audits = faulty c.args.sigs.now g.R.Read.remaining c.args.reader.now c.loop-core.reader
+      audits = faulty c.args.sigs.now c.args.reader.now c.loop-core.reader
           c.next_line.new.reader c.loop-core.lines c.next_line.new.lines c.loop-core.entry
           c.loop-core.core so_far c.judge_entry.new.core _ _ t (t.well
           ∙ c.loop-core.invariant.well)
           c.as_slice.ensures judged;
+      first = t.same ∙ c.loop-core.invariant.same;
     })
 
 pub loop-core-preserved : goal.loop-core-preserved
@@ -50,9 +52,10 @@ loop-core-preserved g c =
     so_far.replays in
     let lighter = c.in_ok-next_line.ensures.progress (ap Ok c.in-LineFeed.is) in
     record {
-      sofar = sofar-line c.args.sigs.now g.R.Read.remaining c.args.reader.now c.loop-core.reader
+      sofar = sofar-line c.args.sigs.now c.args.reader.now c.loop-core.reader
           c.next_line.new.reader c.loop-core.lines c.next_line.new.lines c.loop-core.entry
           c.loop-core.core so_far _ _ t c.as_slice.ensures judged;
+      same = t.same ∙ c.loop-core.invariant.same;
       well = t.well ∙ c.loop-core.invariant.well;
       sigs = c.judge_entry.ensures.sigs ∙ c.loop-core.invariant.sigs;
       bound = omega (arith, c.loop-core.invariant.bound, lighter);
@@ -65,12 +68,13 @@ returns-then-is_empty g c =
     let empty = eqb-true _ _ (sym c.is_empty.ensures ∙ c.if-is_empty.true) in
     record {
       audits = (
-        ends c.args.sigs.now g.R.Read.remaining c.args.reader.now c.loop-core.reader
+        ends c.args.sigs.now c.args.reader.now c.loop-core.reader
             c.next_line.new.reader c.loop-core.lines c.next_line.new.lines c.loop-core.entry
             c.loop-core.core c.loop-core.invariant.sofar t
             (ap length (sym c.as_slice-2.ensures) ∙ empty),
         t.well ∙ c.loop-core.invariant.well,
       );
+      first = t.same ∙ c.loop-core.invariant.same;
     }
 
 pub returns : goal.returns
@@ -83,9 +87,10 @@ returns g c =
     let some : 0 < length c.next_line.new.lines.line = omega arith in
     record {
       audits = (
-        faulty-rest c.args.sigs.now g.R.Read.remaining c.args.reader.now c.loop-core.reader
+        faulty-rest c.args.sigs.now c.args.reader.now c.loop-core.reader
             c.next_line.new.reader c.loop-core.lines c.next_line.new.lines c.loop-core.entry
             c.loop-core.core c.loop-core.invariant.sofar t some,
         t.well ∙ c.loop-core.invariant.well,
       );
+      first = t.same ∙ c.loop-core.invariant.same;
     }

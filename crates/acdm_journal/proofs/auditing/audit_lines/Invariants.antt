@@ -5,9 +5,9 @@ use Rattle.acdm_journal.proofs.auditing.audit_lines.Given as goal
 
 abbrev pub invariant-loop-core : goal.invariant-loop-core
 invariant-loop-core g l = record {
-  sofar : Sofar l.fn.sigs
-      (g.R.Read.remaining l.initial.reader.inner) (g.R.Read.remaining l.reader.inner)
-      l.lines.window l.lines.reads_left l.entry l.core;
+  sofar : Sofar l.fn.sigs l.initial.reader.log l.reader.log l.lines.window l.lines.reads_left
+      l.entry l.core;
+  same : l.reader.first ≡ l.initial.reader.first;
   well : l.reader.faults ≡ l.initial.reader.faults;
   sigs : l.core.slots.sigs ≡ l.fn.sigs;
   bound : l.entry + weight l.lines.reads_left l.lines.window ≤ 72058693549555712;
