@@ -1,5 +1,5 @@
 //! The command line.
-ghost use Rattle.std.specs.Prelude.{◌≡◌, false, IfOk, IfErr, map, codes};
+ghost use Rattle.std.specs.Prelude.{◌≡◌, false, IfOk, IfErr, IfSome, map, codes};
 ghost use Rattle.std.specs.Prelude.{option_map};
 ghost use Rattle.std.specs.Option.{SomeIff};
 ghost use Rattle.clap.specs.Values.{kind_of};
@@ -308,7 +308,9 @@ pub fn asked<'a, E: Write + Drop>(
     alloc: Global,
     words: &'a [&'a str],
     mut errors: E,
-) -> Option<Line<'a>> {
+) -> Option<Line<'a>>
+    ensures { IfSome result (AsksFor (map (λ w. w.now) words.entry.now)) }
+{
     match parse(alloc, words) {
         Ok(line) => Some(line),
         Err(error) => {
