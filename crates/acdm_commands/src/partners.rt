@@ -1,11 +1,16 @@
 //! The command `serve`, over the listeners that it is handed.
 ghost use Rattle.std.specs.Prelude.{◌≡◌, ◌+◌, ◌≤◌, IfOk, length, map, sum_by, vec_len};
-ghost use Rattle.acdm_sessions.specs.Sessions.{HaveEnded, session_end};
+ghost use Rattle.std.specs.List.{All};
+ghost use Rattle.acdm_board.specs.Desk.{row_of};
+ghost use Rattle.acdm_commands.specs.Served.{end_text};
+ghost use Rattle.acdm_sessions.specs.Passes.{BeginsWith, IsShown};
+ghost use Rattle.acdm_sessions.specs.Sessions.{HaveEnded, HaveServed, new_session, session_end};
+ghost use Rattle.acdm_sessions.specs.Sessions.{session_left, session_start};
 
 use acdm_board::Desk;
 use acdm_failures::ServeError;
 use acdm_milestones::Role;
-use acdm_sessions::{Clock, Closed, Counted, End, Gate, Session, run_sessions};
+use acdm_sessions::{Clock, Closed, End, Gate, Session, Sink, Source, run_sessions};
 use bpf_helpers::Helpers;
 use std::alloc::Global;
 use std::io::Write;
@@ -47,6 +52,12 @@ pub fn serve_on<
         ≡ length desk.history + sum_by (λ e. e.calls) c.sessions.items) }
     ensures sessions { IfOk result (λ c. HaveEnded 1 (map (λ p. p.0) partners.items)
         (map (λ e. session_end e.number e.role e.calls e.end) c.sessions.items)) }
+    ensures served { IfOk result (λ c. HaveServed (row_of desk)
+        (map (λ p. new_session p.0 (C.gives p.2)) partners.items)
+        (map (λ e. session_left e.end e.reader e.writer e.pass) c.sessions.items)) }
+    ensures begins { IfOk result (λ c. BeginsWith desk.history c.desk.history) }
+    ensures shown { IfOk result (λ c. All (λ e. IsShown (length desk.history) c.desk e.number
+        e.role e.calls e.torn e.pass) c.sessions.items) }
 {
     let sessions = arrived(alloc, partners, writer)?;
     let closed = closed_by(rt, alloc, desk, sessions)?;
@@ -54,7 +65,7 @@ pub fn serve_on<
 }
 
 // Tells of the listeners, and accepts a partner on each.
-fn arrived<C: Drop, W: Write>(
+fn arrived<C: Clock + Drop, W: Write>(
     alloc: Global,
     partners: Vec<(Role, TcpListener, C)>,
     writer: &mut W,
@@ -62,6 +73,9 @@ fn arrived<C: Drop, W: Write>(
     ensures len { IfOk result (λ sessions. vec_len sessions ≡ vec_len partners) }
     ensures roles { IfOk result (λ sessions. map (λ s. s.role) sessions.items
         ≡ map (λ p. p.0) partners.items) }
+    ensures starts { IfOk result (λ sessions. map (λ s. session_start s.role s.reader s.writer
+        (C.gives s.clock)) sessions.items
+        ≡ map (λ p. new_session p.0 (C.gives p.2)) partners.items) }
 {
     announce(&partners, writer)?;
     accept_all(alloc, partners)
@@ -79,6 +93,12 @@ fn closed_by<Rt: Threads + Wait + Sync, H: Helpers + Drop + Send, C: Clock + Dro
         ≡ length desk.history + sum_by (λ e. e.calls) c.sessions.items) }
     ensures sessions { IfOk result (λ c. HaveEnded 1 (map (λ s. s.role) sessions.items)
         (map (λ e. session_end e.number e.role e.calls e.end) c.sessions.items)) }
+    ensures served { IfOk result (λ c. HaveServed (row_of desk)
+        (map (λ s. session_start s.role s.reader s.writer (C.gives s.clock)) sessions.items)
+        (map (λ e. session_left e.end e.reader e.writer e.pass) c.sessions.items)) }
+    ensures begins { IfOk result (λ c. BeginsWith desk.history c.desk.history) }
+    ensures shown { IfOk result (λ c. All (λ e. IsShown (length desk.history) c.desk e.number
+        e.role e.calls e.torn e.pass) c.sessions.items) }
 {
     match run_sessions(rt, alloc, desk, sessions, &Open) {
         Ok(closed) => Ok(closed),
@@ -116,13 +136,16 @@ fn announce<C, W: Write>(
 }
 
 // Accepts a partner on each listener, in order.
-fn accept_all<C: Drop>(
+fn accept_all<C: Clock + Drop>(
     alloc: Global,
     partners: Vec<(Role, TcpListener, C)>,
 ) -> Result<Vec<Session<TcpStream, TcpStream, C>>, ServeError>
     ensures len { IfOk result (λ sessions. vec_len sessions ≡ vec_len partners) }
     ensures roles { IfOk result (λ sessions. map (λ s. s.role) sessions.items
         ≡ map (λ p. p.0) partners.items) }
+    ensures starts { IfOk result (λ sessions. map (λ s. session_start s.role s.reader s.writer
+        (C.gives s.clock)) sessions.items
+        ≡ map (λ p. new_session p.0 (C.gives p.2)) partners.items) }
 {
     let Ok(mut sessions) = Vec::with_capacity(alloc, partners.len()) else {
         return Err(ServeError::Memory);
@@ -135,11 +158,13 @@ fn accept_all<C: Drop>(
 }
 
 // Accepts a partner.
-fn accept<C: Drop>(
+fn accept<C: Clock + Drop>(
     number: usize,
     partner: (Role, TcpListener, C),
 ) -> Result<Session<TcpStream, TcpStream, C>, ServeError>
-    ensures { IfOk result (λ session. session.role ≡ partner.0) }
+    ensures role { IfOk result (λ session. session.role ≡ partner.0) }
+    ensures start { IfOk result (λ s. session_start s.role s.reader s.writer (C.gives s.clock)
+        ≡ new_session partner.0 (C.gives partner.2)) }
 {
     let (role, listener, clock) = partner;
     let Ok((stream, _)) = listener.accept() else {
@@ -152,14 +177,19 @@ fn accept<C: Drop>(
     let _ = stream.set_nodelay(true);
     Ok(Session {
         role,
-        reader: Counted::new(stream),
-        writer: Counted::new(same),
+        reader: Source::new(stream),
+        writer: Sink::new(same),
         clock,
     })
 }
 
-// The name of an end.
-fn end_name(end: End) -> &'static str {
+// The name of an end; of a session that is torn that alone is told.
+fn end_name(end: End, torn: bool) -> &'static str
+    ensures { result.now ≡ end_text end torn }
+{
+    if torn {
+        return "torn";
+    }
     match end {
         End::End => "end",
         End::Read => "read",
@@ -175,7 +205,7 @@ fn tell<H: Helpers + Drop, C: Drop, W: Write>(
     writer: &mut W,
 ) -> Result<(), ServeError> {
     for session in &closed.sessions {
-        let end = end_name(session.end);
+        let end = end_name(session.end, session.torn);
         if writeln!(writer, "session {} {} {end}", session.number, session.calls).is_err() {
             return Err(ServeError::Write);
         }

@@ -1,12 +1,14 @@
 //! The saving of a desk's journal, as text.
-ghost use Rattle.std.specs.Prelude.{◌≡◌, OnOk};
+ghost use Rattle.std.specs.Prelude.{◌≡◌, false, OnOk};
 ghost use Rattle.acdm_board.specs.Desk.{row_of};
+ghost use Rattle.acdm_commands.specs.Served.{IsSaved};
 ghost use Rattle.acdm_journal.specs.Whole.{Saves};
 
 use acdm_board::Desk;
 use acdm_failures::Failure;
 use acdm_journal::write_entry;
 use acdm_row::Row;
+use acdm_sessions::Sink;
 use bpf_helpers::Helpers;
 use std::alloc::Global;
 use std::fs::{self, Files};
@@ -17,44 +19,51 @@ use std::sync::Arc;
 const BUFFER: usize = 65_536;
 
 /// Makes the file of this path, if there is one, so that a journal can be saved in it.
-pub(crate) fn file_of<Rt: Files>(rt: &Rt, path: Option<&str>) -> Result<Option<Rt::File>, Failure> {
+pub(crate) fn file_of<Rt: Files>(
+    rt: &Rt,
+    alloc: Global,
+    path: Option<&str>,
+) -> Result<Option<Sink<BufWriter<Rt::File>>>, Failure> {
     let Some(path) = path else {
         return Ok(None);
     };
-    match fs::create(rt, path) {
-        Ok(file) => Ok(Some(file)),
-        Err(_) => Err(Failure::Save),
+    let Ok(file) = fs::create(rt, path) else {
+        return Err(Failure::Save);
+    };
+    match BufWriter::with_capacity(alloc, BUFFER, file) {
+        Ok(writer) => Ok(Some(Sink::new(writer))),
+        Err(_) => Err(Failure::Memory),
     }
 }
 
-/// Writes the journal of a desk, one line for each entry, to a writer if there is one.
-pub(crate) fn save<H: Helpers + Drop, W: Write + Drop>(
+/// Writes the journal of a desk, one line for each entry, to a writer if there is one, and flushes
+/// it.
+pub(crate) fn save<H: Helpers + Drop, F: Write + Drop>(
     alloc: Global,
     desk: &mut Desk<H>,
-    writer: Option<W>,
-) -> Result<(), Failure> {
-    let Some(writer) = writer else {
+    saved: &mut Option<Sink<F>>,
+) -> Result<(), Failure>
+    ensures { OnOk result (IsSaved desk.old.history saved.old saved.new) }
+{
+    let Some(writer) = saved else {
         return Ok(());
-    };
-    let Ok(mut writer) = BufWriter::with_capacity(alloc, BUFFER, writer) else {
-        return Err(Failure::Memory);
     };
     let Ok(row) = Arc::try_clone(desk.row()) else {
         return Err(Failure::Memory);
     };
-    write_journal(alloc, desk, &row, &mut writer)
+    write_journal(alloc, desk, &row, writer)
 }
 
 // Writes all entries, the oldest first, as they stand in the desk's row.
-fn write_journal<H: Helpers + Drop, W: Write>(
+fn write_journal<H: Helpers + Drop, F: Write>(
     alloc: Global,
     desk: &mut Desk<H>,
     row: &Row,
-    writer: &mut W,
+    writer: &mut Sink<F>,
 ) -> Result<(), Failure>
     requires { row.now ≡ row_of desk.old }
-    ensures { OnOk result
-        (Saves desk.old.history (W.contents writer.old) (W.contents writer.new)) }
+    ensures saves { OnOk result (Saves desk.old.history writer.old.log writer.new.log) }
+    ensures flushed { OnOk result (writer.new.waits ≡ false) }
 {
     let count = desk.len();
     let mut number = 0;

@@ -1,5 +1,6 @@
 //! The command `serve`, from its words on.
-ghost use Rattle.std.specs.Prelude.{◌≤◌, IfOk, vec_len};
+ghost use Rattle.std.specs.Prelude.{◌≤◌, IfOk, OnOk, vec_len};
+ghost use Rattle.acdm_commands.specs.Served.{Closes};
 
 use crate::addresses::{Partner, listen};
 use crate::known::{minutes_later, taxi_minutes, turn_round_minutes};
@@ -11,7 +12,7 @@ use acdm_failures::Failure;
 use acdm_judging::bank_of;
 use acdm_milestones::Role;
 use acdm_row::Row;
-use acdm_sessions::Clock;
+use acdm_sessions::{Clock, Sink};
 use bpf_helpers::{Code, Helpers};
 use std::alloc::Global;
 use std::io::Write;
@@ -47,7 +48,7 @@ pub(crate) fn serve_words<
     watch: Option<&str>,
     words: &[&str],
     writer: W,
-    saved: Option<F>,
+    saved: &mut Option<Sink<F>>,
     errors: E,
 ) -> u8 {
     match serve(rt, alloc, journal, watch, words, writer, saved) {
@@ -76,7 +77,7 @@ fn serve<
     watch: Option<&str>,
     words: &[&str],
     writer: W,
-    saved: Option<F>,
+    saved: &mut Option<Sink<F>>,
 ) -> Result<(), Failure> {
     let kinds: Code = Box::new(alloc, turn_round_minutes)?;
     let stands: Code = Box::new(alloc, taxi_minutes)?;
@@ -107,7 +108,7 @@ fn serve_with<
     watch: Option<&str>,
     words: &[&str],
     writer: W,
-    saved: Option<F>,
+    saved: &mut Option<Sink<F>>,
 ) -> Result<(), Failure> {
     let desk = Desk::new(alloc, helpers, journal)?;
     serve_at(rt, alloc, desk, watch, words, writer, saved)
@@ -134,8 +135,10 @@ fn serve_at<
     watch: Option<&str>,
     words: &[&str],
     writer: W,
-    saved: Option<F>,
-) -> Result<(), Failure> {
+    saved: &mut Option<Sink<F>>,
+) -> Result<(), Failure>
+    ensures { OnOk result (Closes desk saved.old saved.new) }
+{
     let (partners, displays) = opened(rt, alloc, desk.row(), watch, words)?;
     let ended = serve_all(rt, alloc, partners, desk, writer, saved);
     close(rt, displays);
@@ -201,9 +204,10 @@ fn serve_all<
     partners: Vec<(Role, TcpListener, C)>,
     desk: Desk<H>,
     mut writer: W,
-    saved: Option<F>,
+    saved: &mut Option<Sink<F>>,
 ) -> Result<(), Failure>
     requires { vec_len partners ≤ 64 }
+    ensures { OnOk result (Closes desk saved.old saved.new) }
 {
     let mut closed = serve_on(rt, alloc, partners, desk, &mut writer)?;
     save(alloc, &mut closed.desk, saved)

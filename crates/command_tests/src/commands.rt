@@ -6,7 +6,7 @@ mod serve;
 
 use acdm_board::Desk;
 use acdm_commands::{complete, run_on, verify_on};
-use acdm_sessions::{Counted, run};
+use acdm_sessions::{Sink, Source, run};
 use bpf_helpers::{Bank, Helpers};
 use std::alloc::Global;
 use std::fs::Files;
@@ -57,7 +57,16 @@ fn run_ends<R: Read + Drop, W: Write + Drop>(
     expected: (u8, &str),
 ) {
     let mut errors = Vec::new(alloc);
-    let status = run_on(alloc, 10, reader, writer, NO_FILE, &mut errors);
+    let mut reader = Source::new(reader);
+    let mut writer = Sink::new(writer);
+    let status = run_on(
+        alloc,
+        10,
+        &mut reader,
+        &mut writer,
+        &mut no_file(),
+        &mut errors,
+    );
     let (wanted, complaint) = expected;
     assert!(rt; status == wanted);
     assert!(rt; errors.as_slice() == complaint.as_bytes());
@@ -74,7 +83,30 @@ fn a_run_ends_with_its_status(rt: HostRuntime) {
 }
 
 // No journal is to be saved.
-const NO_FILE: Option<Broken> = None;
+fn no_file() -> Option<Sink<Broken>> {
+    None
+}
+
+// The status of a command line over this reader and these writers.
+fn status_of<
+    Rt: Files
+        + Net<Listener = TcpListener, Stream = TcpStream>
+        + Clock
+        + Threads
+        + Wait
+        + Clone
+        + Drop
+        + Send
+        + Sync
+        + 'static,
+    R: Read + Drop,
+    W: Write + Drop,
+    E: Write + Drop,
+>(alloc: Global, rt: &Rt, words: &[&str], input: R, output: W, errors: E) -> u8 {
+    let mut input = Source::new(input);
+    let mut output = Sink::new(output);
+    complete(alloc, rt, words, &mut input, &mut output, errors)
+}
 
 const TICK: &str = "1 29000580 APT {\"cmd\":\"tick\"}\n";
 
@@ -94,7 +126,7 @@ pub(crate) fn completes<
 >(rt: &Rt, alloc: Global, words: &[&str], input: &str, expected: (u8, &str, &str)) {
     let mut output = Vec::new(alloc);
     let mut errors = Vec::new(alloc);
-    let status = complete(alloc, rt, words, input.as_bytes(), &mut output, &mut errors);
+    let status = status_of(alloc, rt, words, input.as_bytes(), &mut output, &mut errors);
     let (wanted, replies, complaint) = expected;
     assert!(rt; status == wanted);
     assert!(rt; output.as_slice() == replies.as_bytes());
@@ -129,9 +161,9 @@ fn words_and_files_that_fail_are_told_as_errors(rt: HostRuntime) {
     let mut errors = Vec::new(alloc);
     let words = ["acdm", "walk"];
     let lines = TICK.as_bytes();
-    let status = complete(alloc, &rt, &words, lines, &mut output, &mut errors);
+    let status = status_of(alloc, &rt, &words, lines, &mut output, &mut errors);
     assert!(rt; status == 2 && output.is_empty() && !errors.is_empty());
-    assert!(rt; complete(alloc, &rt, &words, Broken, Broken, Broken) == 2);
+    assert!(rt; status_of(alloc, &rt, &words, Broken, Broken, Broken) == 2);
 }
 
 // Whether these lines are answered so.
@@ -141,8 +173,8 @@ fn is_answered<H: Helpers + Drop>(
     desk: &mut Desk<H>,
     expected: &str,
 ) -> bool {
-    let mut replies = Counted::new(Vec::new(alloc));
-    let mut reader = Counted::new(lines.as_bytes());
+    let mut replies = Sink::new(Vec::new(alloc));
+    let mut reader = Source::new(lines.as_bytes());
     if run(alloc, &mut reader, &mut replies, desk).is_err() {
         return false;
     }

@@ -6,7 +6,7 @@ mod threads;
 mod wire;
 
 use acdm_board::Desk;
-use acdm_sessions::{Counted, RunError, run};
+use acdm_sessions::{RunError, Sink, Source, run};
 use bpf_helpers::{Bank, Helpers};
 use std::alloc::Global;
 use std::cell::Cell;
@@ -47,8 +47,8 @@ pub(crate) fn replies_of<H: Helpers + Drop>(
     desk: &mut Desk<H>,
 ) -> String {
     let text = joined(rt, alloc, parts);
-    let mut reader = Counted::new(text.as_slice());
-    let mut writer = Counted::new(Vec::new(alloc));
+    let mut reader = Source::new(text.as_slice());
+    let mut writer = Sink::new(Vec::new(alloc));
     run(alloc, &mut reader, &mut writer, desk).expect(rt, "a run");
     String::from_utf8(writer.into_inner())
         .ok()
@@ -228,8 +228,8 @@ impl Read for Failing<'_> {
 
 fn ends_by_the_reader<H: Helpers + Drop>(rt: &impl Abort, alloc: Global, helpers: H) {
     let text = TURN_ROUND.as_bytes();
-    let mut reader = Counted::new(Failing { text });
-    let mut writer = Counted::new(Vec::new(alloc));
+    let mut reader = Source::new(Failing { text });
+    let mut writer = Sink::new(Vec::new(alloc));
     let mut desk = Desk::new(alloc, helpers, 10).expect(rt, "a desk");
     let ended = run(alloc, &mut reader, &mut writer, &mut desk);
     drop(desk);
@@ -266,8 +266,8 @@ impl Write for Narrow {
 }
 
 fn ends_by_the_writer<H: Helpers + Drop>(rt: &impl Abort, alloc: Global, helpers: H) {
-    let mut reader = Counted::new(TURN_ROUND.as_bytes());
-    let mut writer = Counted::new(Narrow {
+    let mut reader = Source::new(TURN_ROUND.as_bytes());
+    let mut writer = Sink::new(Narrow {
         taken: Vec::new(alloc),
         room: 8,
     });
@@ -329,13 +329,13 @@ impl Write for Prompt<'_> {
 fn answers_promptly<H: Helpers + Drop>(rt: &impl Abort, alloc: Global, helpers: H) {
     let answered = Cell::new(0);
     let lines = [LANDED, "1 1 APT {}\n", LANDED, "\n", IN_BLOCK];
-    let mut reader = Counted::new(Patient {
+    let mut reader = Source::new(Patient {
         lines: &lines,
         asked: 0,
         answered: &answered,
         waits: true,
     });
-    let mut writer = Counted::new(Prompt {
+    let mut writer = Sink::new(Prompt {
         answered: &answered,
     });
     let mut desk = Desk::new(alloc, helpers, 10).expect(rt, "a desk");

@@ -1,5 +1,6 @@
 //! Journals that are saved, and the audit of them.
 use acdm_commands::{audit_on, run_on};
+use acdm_sessions::{Sink, Source};
 use std::alloc::Global;
 use std::io::{self, Read, Write};
 use std::process::Abort;
@@ -48,12 +49,22 @@ fn audits_to(rt: &impl Abort, alloc: Global, parts: &[&str], status: u8, told: &
 
 // The status of a run over the lines, and what it saved.
 fn day_saved(alloc: Global) -> (u8, Vec<u8>) {
-    let mut replies = Vec::new(alloc);
-    let mut saved = Vec::new(alloc);
+    let mut reader = Source::new(LINES.as_bytes());
+    let mut writer = Sink::new(Vec::new(alloc));
+    let mut saved = Some(Sink::new(Vec::new(alloc)));
     let mut errors = Vec::new(alloc);
-    let file = Some(&mut saved);
-    let status = run_on(alloc, 10, LINES.as_bytes(), &mut replies, file, &mut errors);
-    (status, saved)
+    let status = run_on(
+        alloc,
+        10,
+        &mut reader,
+        &mut writer,
+        &mut saved,
+        &mut errors,
+    );
+    match saved {
+        Some(file) => (status, file.into_inner()),
+        None => (status, Vec::new(alloc)),
+    }
 }
 
 #[test]
@@ -158,10 +169,18 @@ fn audit_fails<R: Read + Drop, W: Write + Drop>(
 
 // So does a run over the lines whose journal can't be saved.
 fn saving_fails(rt: &impl Abort, alloc: Global, complaint: &str) {
-    let mut replies = Vec::new(alloc);
+    let mut reader = Source::new(LINES.as_bytes());
+    let mut writer = Sink::new(Vec::new(alloc));
     let mut errors = Vec::new(alloc);
-    let file = Some(Broken);
-    let status = run_on(alloc, 10, LINES.as_bytes(), &mut replies, file, &mut errors);
+    let mut file = Some(Sink::new(Broken));
+    let status = run_on(
+        alloc,
+        10,
+        &mut reader,
+        &mut writer,
+        &mut file,
+        &mut errors,
+    );
     assert!(rt; status == 2);
     assert!(rt; errors.as_slice() == complaint.as_bytes());
 }

@@ -2,7 +2,8 @@
 ghost use Rattle.std.specs.Prelude.{◌≡◌, vec_len};
 
 use acdm_board::Desk;
-use acdm_commands::{complete, serve_on};
+use super::status_of;
+use acdm_commands::serve_on;
 use acdm_milestones::Role;
 use acdm_sessions::Clock;
 use bpf_helpers::{Bank, Helpers};
@@ -175,7 +176,7 @@ fn complains<
 >(rt: &Rt, alloc: Global, words: &[&str], complaint: &str) -> bool {
     let mut output = Vec::new(alloc);
     let mut errors = Vec::new(alloc);
-    let status = complete(alloc, rt, words, "".as_bytes(), &mut output, &mut errors);
+    let status = status_of(alloc, rt, words, "".as_bytes(), &mut output, &mut errors);
     status == 2 && output.is_empty() && errors.as_slice() == complaint.as_bytes()
 }
 

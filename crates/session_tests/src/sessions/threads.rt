@@ -3,7 +3,9 @@ use crate::sessions::replies_of;
 use acdm_board::Desk;
 use acdm_milestones::Role;
 use acdm_record::Field;
-use acdm_sessions::{Clock, Closed, Counted, End, Ended, Gate, Session, run_sessions};
+use acdm_sessions::{
+    Clock, Closed, End, Ended, Gate, Session, Sink, Source, run_sessions,
+};
 use bpf_helpers::{Bank, Helpers};
 use std::alloc::Global;
 use std::io::{self, Cursor, Read, Write};
@@ -115,8 +117,8 @@ fn opened(rt: &impl Abort, alloc: Global, role: Role, text: &str, minute: Option
         .expect(rt, "room for a text");
     Session {
         role,
-        reader: Counted::new(Cursor::new(bytes)),
-        writer: Counted::new(Vec::new(alloc)),
+        reader: Source::new(Cursor::new(bytes)),
+        writer: Sink::new(Vec::new(alloc)),
         clock: Fixed(minute),
     }
 }
@@ -387,8 +389,8 @@ fn session_over<R: Read + Drop, W: Write + Drop>(
     let mut sessions = Vec::new(alloc);
     let session = Session {
         role: Role::AirportOperator,
-        reader: Counted::new(reader),
-        writer: Counted::new(writer),
+        reader: Source::new(reader),
+        writer: Sink::new(writer),
         clock: Fixed(Some(29_000_590)),
     };
     let is_pushed = sessions.push(session).is_ok();

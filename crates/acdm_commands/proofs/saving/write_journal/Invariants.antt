@@ -6,8 +6,7 @@ use Rattle.acdm_commands.proofs.saving.write_journal.Given as goal
 abbrev pub invariant-loop-number : goal.invariant-loop-number
 invariant-loop-number g l = record {
   same : l.desk ≡ l.initial.desk;
-  wrote : Saves (first_of l.number l.initial.desk.history) (g.W.Write.contents l.initial.writer)
-      (g.W.Write.contents l.writer);
+  wrote : Saves (first_of l.number l.initial.desk.history) l.initial.writer.log l.writer.log;
   below : l.number ≤ l.count;
 }
 

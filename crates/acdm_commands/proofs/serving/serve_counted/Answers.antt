@@ -3,15 +3,13 @@ use Rattle.acdm_board.specs.Desk.{DeskView}
 use Rattle.acdm_sessions.specs.Run.{ServesAll}
 use Rattle.acdm_commands.proofs.serving.serve_counted.Goals as goal
 
-pub returns : goal.returns
-returns g c =
+pub returns-clause-serves : goal.returns-clause-serves
+returns-clause-serves g c =
     let made = c.in_ok-desk.ensures in
     let d = c.in_ok-desk.desk in (
       d.cells,
-      subst (λ (x : DeskView). ServesAll (g.R.Read.remaining c.args.reader.now.inner)
-          (g.R.Read.remaining c.run.new.reader.inner) x c.run.new.desk
-          (g.W.Write.contents c.args.writer.now.inner)
-          (g.W.Write.contents c.run.new.writer.inner))
+      subst (λ (x : DeskView). ServesAll c.args.reader.now.log c.run.new.reader.log
+          c.run.new.reader.ended x c.run.new.desk c.args.writer.now.log c.run.new.writer.log)
           (λ i. record {
             history = made.empty i;
             capacity = made.capacity i;
