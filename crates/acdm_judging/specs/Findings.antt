@@ -1,7 +1,7 @@
 -- What is told of a journal.
-use Rattle.std.specs.Prelude.{ℕ, List, Option, Result, Ok, Err}
+use Rattle.std.specs.Prelude.{ℕ, List, Result, Ok, Err}
 use Rattle.bpf_helpers.specs.Promise.{Promise}
-use Rattle.acdm_lines.specs.Counted.{Watched}
+use Rattle.acdm_lines.specs.Counted.{SourceView}
 use Rattle.acdm_journal.specs.Whole.{GaveLegal, GaveFaulty, GaveUnended}
 use Rattle.acdm_judging.specs.declared.auditing.Finding.{Finding}
 use Rattle.acdm_judging.specs.declared.auditing.Finding.TheVariants.{Legal, Faulty}
@@ -9,16 +9,14 @@ use Rattle.acdm_failures.specs.declared.failure.Failure.{Failure}
 use Rattle.acdm_failures.specs.declared.failure.Failure.TheVariants.{Read, Memory}
 
 -- what is found in what a reader gives
-abbrev pub Finds : {R : Type 0} → List (ℕ × Promise) → (R → Option (List ℕ)) → Watched R
-    → Watched R → Result Finding Failure → Type 0
-Finds sigs remaining old new (Ok (Legal n)) =
-    GaveLegal sigs (remaining old.inner) (remaining new.inner) n
-Finds sigs remaining old new (Ok (Faulty entry clause)) =
-    GaveFaulty sigs (remaining old.inner) (remaining new.inner) entry clause
-Finds sigs remaining old new (Err Read) =
-    GaveUnended sigs (remaining old.inner) (remaining new.inner) old.faults new.faults
-Finds sigs remaining old new (Err Memory) = Unit {0}
-Finds sigs remaining old new (Err failure) = ⊥
+abbrev pub Finds : {R : Type 0} → List (ℕ × Promise) → SourceView R → SourceView R
+    → Result Finding Failure → Type 0
+Finds sigs old new (Ok (Legal n)) = GaveLegal sigs old.log new.log new.ended n
+Finds sigs old new (Ok (Faulty entry clause)) =
+    GaveFaulty sigs old.log new.log new.ended entry clause
+Finds sigs old new (Err Read) = GaveUnended sigs old.log new.log old.faults new.faults
+Finds sigs old new (Err Memory) = Unit {0}
+Finds sigs old new (Err failure) = ⊥
 
 -- the status of the command
 abbrev pub status_of : Finding → ℕ

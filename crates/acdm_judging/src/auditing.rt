@@ -6,7 +6,7 @@ ghost use Rattle.acdm_judging.specs.Helpers.{helpers};
 use crate::helpers::known_sigs;
 use acdm_failures::Failure;
 use acdm_journal::{Clause, Fault, audit};
-use acdm_lines::Counted;
+use acdm_lines::Source;
 use std::alloc::Global;
 use std::io::{Read, Write};
 
@@ -50,9 +50,9 @@ pub fn audit_on<R: Read + Drop, W: Write + Drop, E: Write + Drop>(
 }
 
 // What is found in the journal that a reader gives.
-fn finding_in<R: Read>(alloc: Global, reader: &mut Counted<R>) -> Result<Finding, Failure>
+fn finding_in<R: Read>(alloc: Global, reader: &mut Source<R>) -> Result<Finding, Failure>
     requires reads { reader.old.faults < 2 ^ 64 - 1 }
-    ensures { Finds helpers R.remaining reader.old reader.new result }
+    ensures { Finds helpers reader.old reader.new result }
 {
     let sigs = known_sigs(alloc)?;
     match audit(alloc, reader, &sigs) {
@@ -69,7 +69,7 @@ fn tell<R: Read + Drop, W: Write + Drop>(
     reader: R,
     mut writer: W,
 ) -> Result<u8, Failure> {
-    let mut reader = Counted::new(reader);
+    let mut reader = Source::new(reader);
     let finding = finding_in(alloc, &mut reader)?;
     let told = match finding {
         Finding::Legal(entries) => writeln!(writer, "legal {entries}"),
