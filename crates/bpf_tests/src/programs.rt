@@ -100,3 +100,30 @@ pub(crate) fn is_shown<T: Display>(rt: &impl Abort, alloc: Global, value: &T, te
     let shown = format!(in alloc; "{value}").expect(rt, "a text");
     same_text(rt, shown.as_str(), text);
 }
+
+/// The value of a hexadecimal digit.
+fn digit(byte: u8) -> u64 {
+    if byte < b'a' {
+        byte.saturating_sub(b'0') as u64
+    } else {
+        byte.saturating_sub(b'a' - 10) as u64
+    }
+}
+
+/// The number of these hexadecimal digits.
+fn number(text: &str) -> u64 {
+    let mut number = 0u64;
+    for byte in text.as_bytes() {
+        number = number << 4 | digit(*byte);
+    }
+    number
+}
+
+/// Adds a slot, of whose digits the zeros at the end may be left out.
+pub(crate) fn add_slot(rt: &impl Abort, program: &mut Vec<u8>, text: &str) {
+    let missing = 16usize.saturating_sub(text.len()) as u32;
+    let slot = number(text).wrapping_shl(missing.saturating_mul(4));
+    program
+        .extend_from_slice(&slot.to_be_bytes())
+        .expect(rt, text);
+}

@@ -1,5 +1,12 @@
 //! Worked verdicts.
 
+mod accepted;
+mod accepted_accesses;
+mod accepted_edges;
+mod accepted_limits;
+mod accepted_programs;
+mod accepted_ranges;
+mod accepted_words;
 mod faults;
 mod form_verdicts;
 mod forms;
