@@ -415,7 +415,7 @@ fn served<
 }
 
 // How the first session ended, its calls, and the journal's length.
-fn end_of<H: Helpers + Drop, R: Drop, W: Drop>(
+fn end_of<H: Helpers + Drop, R: Read + Drop, W: Write + Drop>(
     rt: &impl Abort,
     closed: &Closed<H, R, W, Fixed>,
 ) -> (End, u64, u64) {
