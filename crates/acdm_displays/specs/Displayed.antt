@@ -1,17 +1,20 @@
 -- What a display is sent.
-use Rattle.std.specs.Prelude.{ℕ, List, Option, reverse}
-use Rattle.bpf_helpers.specs.Promise.{Promise}
+use Rattle.std.specs.Prelude.{ℕ, ◌≡◌, List, reverse}
 use Rattle.acdm_step.specs.declared.entry.Entry.{Entry}
-use Rattle.acdm_step.specs.Commands.{History}
 use Rattle.acdm_step.specs.History.{IsLegal}
+use Rattle.acdm_row.specs.Views.{RowView}
 use Rattle.acdm_journal.specs.Whole.{Saves}
+use Rattle.acdm_displays.specs.declared.displays.Shown.{Shown}
 
 -- What a watch has seen is written: where the text of what it had seen was written, from a start
 -- on, the text of what it has seen then is.
-abbrev pub Follows : List Entry → List Entry → Option (List ℕ) → Option (List ℕ) → Type 0
-Follows seen later old new = (start : Option (List ℕ)) → Saves (reverse seen) start old
+abbrev pub Follows : List Entry → List Entry → List ℕ → List ℕ → Type 0
+Follows seen later old new = (start : List ℕ) → Saves (reverse seen) start old
     → Saves (reverse later) start new
 
--- the text of a legal history was written
-abbrev pub WritesLegal : List (ℕ × Promise) → Option (List ℕ) → Option (List ℕ) → Type 0
-WritesLegal sigs old new = (J : History) × IsLegal sigs J × Saves J old new
+-- A watch looks at this row, and what it has seen is legal. Behind the bytes that the writer had
+-- taken before it took the text of that, and nothing else.
+pub record WasSent {W : Type 0} (row : RowView) (before : List ℕ) (shown : Shown W) : Type 0 where
+  pub same : shown.watch.row ≡ row
+  pub legal : IsLegal row.sigs (reverse shown.watch.seen)
+  pub text : Saves (reverse shown.watch.seen) before shown.writer.log

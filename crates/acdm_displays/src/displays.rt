@@ -1,11 +1,12 @@
 //! Displays, which are sent the journal as text while partners are served.
-ghost use Rattle.std.specs.Prelude.{◌≡◌, List, ℕ, Option, reverse, OnOk};
+ghost use Rattle.std.specs.Prelude.{◌≡◌, [], IfOk, OnOk};
 ghost use Rattle.std.specs.Arc.{arc_value};
-ghost use Rattle.acdm_journal.specs.Whole.{Saves};
-ghost use Rattle.acdm_displays.specs.Displayed.{Follows, WritesLegal};
+ghost use Rattle.acdm_journal.specs.Handed.{handed};
+ghost use Rattle.acdm_displays.specs.Displayed.{Follows, WasSent};
 
 use acdm_failures::Failure;
 use acdm_journal::write_entry;
+use acdm_lines::Sink;
 use acdm_row::Row;
 use acdm_watch::Watch;
 use std::alloc::Global;
@@ -78,7 +79,9 @@ fn show(
     row: &Arc<Row>,
     closing: &AtomicBool,
     stream: TcpStream,
-) -> Result<(), Failure> {
+) -> Result<Shown<TcpStream>, Failure>
+    ensures { IfOk result (WasSent (arc_value row.now) []) }
+{
     let Ok(mut reader) = stream.try_clone() else {
         return Err(Failure::Watch);
     };
@@ -90,10 +93,7 @@ fn show(
     if stream.set_write_timeout(Some(patience)).is_err() {
         return Err(Failure::Watch);
     }
-    let Ok(mut writer) = BufWriter::with_capacity(alloc, BUFFER, stream) else {
-        return Err(Failure::Memory);
-    };
-    follow(alloc, row, closing, &mut reader, &mut writer)
+    follow(alloc, row, closing, &mut reader, Sink::new(stream))
 }
 
 // The accepting of displays.
@@ -228,40 +228,56 @@ impl Displays {
     }
 }
 
+/// What was shown to a display: the watch that saw it, and the writer that took it.
+#[derive(Drop)]
+pub struct Shown<W: Write> {
+    pub watch: Watch,
+    pub writer: Sink<W>,
+}
+
 /// Writes the entries of a row as text, from the first one on and as they come, until the last one
 /// was made or the reader has ended. It takes no lock, and waits for nothing but the reader, which
 /// is read from after all entries in sight were written; what it gives is dropped.
 ///
+/// It gives back the watch and the writer: the writer took the text of what the watch has seen, and
+/// nothing else, whatever writer it is. What a pass of the same row has seen is the same as far as
+/// the shorter goes, which `Watch::meet` tells.
+///
 /// `Save` where the writer failed, `Memory` where it was refused.
-pub fn follow<R: Read, W: Write>(
+pub fn follow<R: Read, W: Write + Drop>(
     alloc: Global,
     row: &Arc<Row>,
     closing: &AtomicBool,
     reader: &mut R,
-    writer: &mut W,
-) -> Result<(), Failure>
-    ensures { OnOk result
-        (WritesLegal (arc_value row.now).sigs (W.contents writer.old) (W.contents writer.new)) }
+    writer: Sink<W>,
+) -> Result<Shown<W>, Failure>
+    ensures { IfOk result (WasSent (arc_value row.now) writer.log) }
 {
     let mut watch = Watch::new(alloc, row)?;
-    send_on(alloc, &mut watch, row, closing, reader, writer)?;
+    let Ok(mut buffered) = BufWriter::with_capacity(alloc, BUFFER, writer) else {
+        return Err(Failure::Memory);
+    };
+    send_on(alloc, &mut watch, row, closing, reader, &mut buffered)?;
     let _board = watch.board();
-    Ok(())
+    let Ok(writer) = buffered.into_inner() else {
+        return Err(Failure::Save);
+    };
+    Ok(Shown { watch, writer })
 }
 
 // Writes what a watch sees, as it comes, until the last entry was made or the reader has ended.
-fn send_on<R: Read, W: Write>(
+fn send_on<R: Read, W: Write + Drop>(
     alloc: Global,
     watch: &mut Watch,
     row: &Row,
     closing: &AtomicBool,
     reader: &mut R,
-    writer: &mut W,
+    writer: &mut BufWriter<Sink<W>>,
 ) -> Result<(), Failure>
     requires { row.now ≡ watch.old.row }
     ensures row { watch.new.row ≡ watch.old.row }
     ensures sent { OnOk result (Follows watch.old.seen watch.new.seen
-        (W.contents writer.old) (W.contents writer.new)) }
+        (handed writer.old) (handed writer.new)) }
 {
     for _ in 0..u64::MAX {
         let is_last = closing.load(Ordering::SeqCst);
@@ -283,16 +299,16 @@ fn has_left<R: Read>(reader: &mut R) -> bool {
 }
 
 // Writes all entries that are in sight.
-fn send_all<W: Write>(
+fn send_all<W: Write + Drop>(
     alloc: Global,
     watch: &mut Watch,
     row: &Row,
-    writer: &mut W,
+    writer: &mut BufWriter<Sink<W>>,
 ) -> Result<(), Failure>
     requires { row.now ≡ watch.old.row }
     ensures row { watch.new.row ≡ watch.old.row }
     ensures sent { OnOk result (Follows watch.old.seen watch.new.seen
-        (W.contents writer.old) (W.contents writer.new)) }
+        (handed writer.old) (handed writer.new)) }
 {
     for _ in watch.len()..row.len() {
         if !send_next(alloc, watch, row, writer)? {
@@ -306,16 +322,16 @@ fn send_all<W: Write>(
 }
 
 // Writes the next entry, where it is in sight, and says whether it was.
-fn send_next<W: Write>(
+fn send_next<W: Write + Drop>(
     alloc: Global,
     watch: &mut Watch,
     row: &Row,
-    writer: &mut W,
+    writer: &mut BufWriter<Sink<W>>,
 ) -> Result<bool, Failure>
     requires { row.now ≡ watch.old.row }
     ensures row { watch.new.row ≡ watch.old.row }
     ensures sent { OnOk result (Follows watch.old.seen watch.new.seen
-        (W.contents writer.old) (W.contents writer.new)) }
+        (handed writer.old) (handed writer.new)) }
 {
     let Some(entry) = watch.take_next(row)? else {
         return Ok(false);

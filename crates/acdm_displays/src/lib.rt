@@ -3,4 +3,4 @@
 
 mod displays;
 
-pub use displays::{Displays, follow};
+pub use displays::{Displays, Shown, follow};

@@ -1,10 +1,10 @@
 use Rattle.std.proofs.Common.{◌≡◌}
+use Rattle.acdm_journal.specs.Handed.{handed}
 use Rattle.acdm_displays.specs.Displayed.{Follows}
 use Rattle.acdm_displays.proofs.displays.send_on.Given as goal
 
 abbrev pub invariant-loop : goal.invariant-loop
 invariant-loop g l = record {
   row : l.watch.row ≡ l.fn.watch.row;
-  sent : Follows l.fn.watch.seen l.watch.seen (g.W.Write.contents l.fn.writer)
-      (g.W.Write.contents l.writer);
+  sent : Follows l.fn.watch.seen l.watch.seen (handed l.fn.writer) (handed l.writer);
 }
