@@ -1,8 +1,6 @@
 -- A journal, as it is written entry by entry.
 use Rattle.std.proofs.Common.{◌≡◌, ℕ, zero, suc, ◌+◌, List, [], ◌∷◌, ◌++◌, take}
-use Rattle.std.proofs.Common.{Option, Some, sym, ap, subst, ◌∙◌, arith}
-use Rattle.std.specs.Io.KnownBytes.{Appends}
-use Rattle.std.proofs.KnownBytes.{Appends-trans}
+use Rattle.std.proofs.Common.{Some, sym, ap, subst, ◌∙◌, arith, append_assoc}
 use Rattle.std.specs.Prelude.{reverse, slice_get}
 use Rattle.std.proofs.lemmas.List.{reverse-append}
 use Rattle.std.proofs.lemmas.Option.{same_Some}
@@ -30,12 +28,12 @@ one_more J n e h =
     ∙ reverse-append (take n (reverse J)) (e ∷ []))
 
 -- one entry more was written
-pub saves_more : (J : History) (n : ℕ) (e : Entry) (old between new : Option (List ℕ))
+pub saves_more : (J : History) (n : ℕ) (e : Entry) (old between new : List ℕ)
     → slice_get (reverse J) n ≡ Some e → Saves (first_of n J) old between
-    → Appends between new (entry_text e) → FitsTypes e → Saves (first_of (n + 1) J) old new
+    → new ≡ between ++ entry_text e → FitsTypes e → Saves (first_of (n + 1) J) old new
 saves_more J n e old between new there saves added fits =
     subst (λ K. Saves K old new) (sym (one_more J n e there)) (record {
-      text = Appends-trans old between new (history_text (first_of n J)) (entry_text e) saves.text
-          added;
+      text = added ∙ ap (λ l. l ++ entry_text e) saves.text
+          ∙ append_assoc old (history_text (first_of n J)) (entry_text e);
       types = (fits, saves.types);
     })
