@@ -1,5 +1,5 @@
 //! The saving of a desk's journal, as text.
-ghost use Rattle.std.specs.Prelude.{◌≡◌, [], IfOk, OnOk};
+ghost use Rattle.std.specs.Prelude.{◌≡◌, IfOk, OnOk};
 ghost use Rattle.acdm_board.specs.Desk.{row_of};
 ghost use Rattle.acdm_journal.specs.Handed.{handed};
 ghost use Rattle.acdm_journal.specs.Whole.{Saves};
