@@ -1,7 +1,8 @@
 //! Displays, which are sent the journal while partners are served.
 use crate::commands::serve::{Morning, Partner, listening, served_at, talk};
 use acdm_board::Desk;
-use acdm_displays::{Displays, follow};
+use acdm_displays::{Displays, Shown, follow};
+use acdm_lines::Sink;
 use acdm_milestones::Role;
 use acdm_row::Row;
 use acdm_step::Command;
@@ -92,11 +93,16 @@ fn tick<H: Helpers + Drop>(rt: &impl Abort, desk: &mut Desk<H>, moment: u32) {
 // What is sent of the journal to one who has left.
 fn followed<H: Helpers + Drop>(rt: &impl Abort, alloc: Global, desk: &Desk<H>) -> String {
     let closing = AtomicBool::new(false);
-    let mut output = Vec::new(alloc);
+    let output = Sink::new(Vec::new(alloc));
     let mut nobody = "".as_bytes();
-    let is_sent = follow(alloc, desk.row(), &closing, &mut nobody, &mut output).is_ok();
-    assert!(rt; is_sent);
-    String::from_utf8(output).ok().expect(rt, "a text")
+    let shown = follow(alloc, desk.row(), &closing, &mut nobody, output)
+        .ok()
+        .expect(rt, "a display");
+    let Shown { watch, writer } = shown;
+    assert!(rt; watch.len() as u64 == desk.len());
+    String::from_utf8(writer.into_inner())
+        .ok()
+        .expect(rt, "a text")
 }
 
 // What is sent of a journal with these ticks to one who has left.
