@@ -1,1 +1,2 @@
 pub mod Saved
+mod Done

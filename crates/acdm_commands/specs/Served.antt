@@ -73,8 +73,8 @@ pub record HasRun {R W : Type 0} (capacity : ℕ) (read read_after : SourceView 
 
 abbrev pub Does : {R W : Type 0} → Line → SourceView R → SourceView R → SinkView W → SinkView W
     → Type 0
-Does (Run r) read read_after written written_after =
-    HasRun r.journal read read_after written written_after
+Does (Run journal save) read read_after written written_after =
+    HasRun journal read read_after written written_after
 Does _ read read_after written written_after = Unit {0}
 
 -- the words ask for something that was done so

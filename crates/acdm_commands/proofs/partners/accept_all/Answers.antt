@@ -1,4 +1,4 @@
-use Rattle.std.proofs.Common.{◌≡◌, [], ◌++◌, map, length, sym, ap, ◌∙◌, arith, append-nil}
+use Rattle.std.proofs.Common.{◌≡◌, [], ◌++◌, map, sym, ap, ◌∙◌, append-nil}
 use Rattle.std.specs.Vec.Iter.{into_iter_items}
 use Rattle.acdm_sessions.proofs.Seats.{empty_of}
 use Rattle.acdm_sessions.specs.Sessions.{new_session, session_start}
@@ -18,9 +18,8 @@ returns-clause-starts g c =
     let it = c.loop-partner.partner-iterator in
     let none : into_iter_items it ≡ [] =
     empty_of it.rest.items (sym it.rest.ok.0 ∙ c.in-None.ensures.steps.0) in
-    let gives = λ k. g.C.Clock.gives k in
-    sym (append-nil (map (λ s. session_start s.role s.reader s.writer (gives s.clock))
+    sym (append-nil (map (λ s. session_start s.role s.reader s.writer (g.C.Clock.gives s.clock))
     c.loop-partner.sessions.items))
-    ∙ ap (λ xs. map (λ s. session_start s.role s.reader s.writer (gives s.clock))
-    c.loop-partner.sessions.items ++ map (λ p. new_session p.0 (gives p.2)) xs) (sym none)
+    ∙ ap (λ xs. map (λ s. session_start s.role s.reader s.writer (g.C.Clock.gives s.clock))
+    c.loop-partner.sessions.items ++ map (λ p. new_session p.0 (g.C.Clock.gives p.2)) xs) (sym none)
     ∙ c.loop-partner.invariant.starts

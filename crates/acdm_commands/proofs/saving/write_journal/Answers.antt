@@ -1,4 +1,4 @@
-use Rattle.std.proofs.Common.{rules, sym}
+use Rattle.std.proofs.Common.{rules}
 use Rattle.acdm_commands.proofs.Saved.{saves_more}
 use Rattle.acdm_commands.proofs.saving.write_journal.Goals as goal
 

@@ -1,4 +1,4 @@
-use Rattle.std.proofs.Common.{◌≡◌, subst}
+use Rattle.std.proofs.Common.{subst}
 use Rattle.acdm_board.specs.Desk.{DeskView}
 use Rattle.acdm_sessions.specs.Run.{ServesAll}
 use Rattle.acdm_commands.proofs.serving.serve_counted.Goals as goal
