@@ -1,0 +1,7 @@
+//! The rules of the board, by rows whose replies come from the rules and not from the program.
+#![tactic(auto)]
+
+#[cfg(test)]
+mod known;
+#[cfg(test)]
+mod rows;
