@@ -53,14 +53,7 @@ fn day_saved(alloc: Global) -> (u8, Vec<u8>) {
     let mut writer = Sink::new(Vec::new(alloc));
     let mut saved = Some(Sink::new(Vec::new(alloc)));
     let mut errors = Vec::new(alloc);
-    let status = run_on(
-        alloc,
-        10,
-        &mut reader,
-        &mut writer,
-        &mut saved,
-        &mut errors,
-    );
+    let status = run_on(alloc, 10, &mut reader, &mut writer, &mut saved, &mut errors);
     match saved {
         Some(file) => (status, file.into_inner()),
         None => (status, Vec::new(alloc)),
@@ -173,14 +166,7 @@ fn saving_fails(rt: &impl Abort, alloc: Global, complaint: &str) {
     let mut writer = Sink::new(Vec::new(alloc));
     let mut errors = Vec::new(alloc);
     let mut file = Some(Sink::new(Broken));
-    let status = run_on(
-        alloc,
-        10,
-        &mut reader,
-        &mut writer,
-        &mut file,
-        &mut errors,
-    );
+    let status = run_on(alloc, 10, &mut reader, &mut writer, &mut file, &mut errors);
     assert!(rt; status == 2);
     assert!(rt; errors.as_slice() == complaint.as_bytes());
 }

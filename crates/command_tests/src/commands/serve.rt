@@ -1,8 +1,8 @@
 //! The command `serve`, over connections of this machine with itself.
 ghost use Rattle.std.specs.Prelude.{◌≡◌, vec_len};
 
-use acdm_board::Desk;
 use super::status_of;
+use acdm_board::Desk;
 use acdm_commands::serve_on;
 use acdm_milestones::Role;
 use acdm_sessions::Clock;

@@ -3,9 +3,7 @@ use crate::sessions::replies_of;
 use acdm_board::Desk;
 use acdm_milestones::Role;
 use acdm_record::Field;
-use acdm_sessions::{
-    Clock, Closed, End, Ended, Gate, Session, Sink, Source, run_sessions,
-};
+use acdm_sessions::{Clock, Closed, End, Ended, Gate, Session, Sink, Source, run_sessions};
 use bpf_helpers::{Bank, Helpers};
 use std::alloc::Global;
 use std::io::{self, Cursor, Read, Write};
