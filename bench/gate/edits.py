@@ -1,54 +1,47 @@
 #!/usr/bin/env python3
-"""Tries must-fail edits of one crate, and each pair of lines of an edit by itself where the edit asks for that.
+"""Says of each wrong body that must-fail edits put together whether the prover refuses that body.
 
-usage: bench/gate/edits.py CRATE [EDIT..]      as bench/gate/edits.py acdm_step command-commands_tell_other_numbers
+usage: bench/gate/edits.py [--after-ci] [CRATE..]       as bench/gate/edits.py acdm_step; with no CRATE all crates
+       bench/gate/edits.py --left-out [CRATE..]
+       bench/gate/edits.py --alone CRATE [EDIT..]        as bench/gate/edits.py --alone acdm_step command-commands_tell_other_numbers
 
-With no EDIT, all edits of the crate are tried. Each is tried as the gate tries it, by the gate's own code, over a copy
-of what the crate's last check kept (crates/CRATE/out/incremental), so that only what the edit changed is proved again;
-where nothing was kept, the first try proves the whole crate. An edit with the line 'each pair alone' puts several wrong
-bodies together, which saves the gate a check for each; the gate does not read that line. Here each of its pairs of
-'old:' and 'new:' lines is tried alone, and then all of them together. For each try it is said whether the prover refused
-it, and by which message: that has to be a goal of the function that the pair turns, or of one that calls it. The exit
-status is 1 if anything was not refused.
+An edit with the line 'each pair alone' puts several wrong bodies together, a pair of lines 'old:' and 'new:' for each,
+which saves the gate a check for each; it does not read that line, and sees only that one of the bodies is refused. Here
+one check of each crate has all pairs of all such edits at once, and each function that a pair turns has to have a goal of
+its own that is not proved. A function is proved by its own body and by the contracts of those that it calls, so such a
+goal is that pair's alone. The bodies of all other functions are left out, which only saves time: what is asked is not
+whether they are proved, and the gate has proved them. Where two pairs turn one function, the second has a check of its
+own. A pair that turns no function's body (but a constant, a type or a contract) fails: make it an edit of its own. What
+only a name that a proof file misses refuses counts as not refused. The exit status is 1 if anything was not refused.
+
+With --after-ci, as .ci/run has it, the libraries below are taken as the gate has just built them; else they are built
+where they are not. With --left-out the pairs are left out, and no such function may have a goal that is not proved: so it
+is shown that what is refused is refused for its pair.
+
+With --alone, edits of one crate are tried as the gate tries an edit, by the gate's own code, over a copy of what the
+crate's last check kept (crates/CRATE/out/incremental); of an edit with that line each pair alone, and then all together.
 """
 import pathlib
+import re
 import shutil
+import signal
 import sys
 import tempfile
+import threading
 import time
 
+sys.dont_write_bytecode = True
 from kit import crates, gate, is_refusal
+from turned import bared, is_merged, pairs_of
 
-MARK = "each pair alone"
 FLAGS = ["--jobs", "1"]
+SEARCHED = re.compile(r"fn (\S+): no proof: expected answers in \S+; `search` did not prove `([^`]*)`")
+ANSWERED = re.compile(r"(?:\./)?proofs/(\S+)/(?:Answers|Invariants|Proof)\.antt:\d+:\d+: error: (.*)")
+# What a proof file says where it names what an edit took away, which tells nothing of the contract.
+SHAPE = re.compile(r"has no field|is not in scope|has no `|was not admitted")
 
 
-def pairs_of(text):
-    """Returns the pairs of an edit, each as a whole edit of its own: its file, what is replaced, and by what."""
-    file, old, pairs = "", "", []
-    for line in text.split("\n"):
-        if line.startswith("file: "):
-            file = line
-        elif line.startswith("old: "):
-            old = line
-        elif line.startswith("new:"):
-            pairs.append("\n".join([file, old, line, ""]))
-    return pairs
-
-
-def tries(edit, room):
-    """Returns the files to try for an edit, each with what it holds: its pairs alone, where it asks for that, and all of it."""
-    text = edit.read_text(encoding="utf-8")
-    found = []
-    if text.split("\n")[0] == MARK:
-        for at, pair in enumerate(pairs_of(text), 1):
-            alone = room / f"{edit.stem}.{at}.edit"
-            alone.write_text(pair, encoding="utf-8")
-            found.append((alone, pair.split("\n")[2]))
-    return [*found, (edit, "")]
-
-
-def edits_of(rt, crate, names):
+def edits_of(rt, crate, names=()):
     """Returns the edits with these names, or all of the crate's, or stops."""
     good = {pathlib.Path(it).stem: pathlib.Path(it) for it in rt.edits_of(crate)[0]}
     wanted = [it.removesuffix(".edit") for it in names] or [*good]
@@ -58,41 +51,140 @@ def edits_of(rt, crate, names):
     return [good[it] for it in wanted]
 
 
-def try_all(rt, crate, edits, room):
-    """Tries the edits, says what came of each, and returns how many tries were not refused."""
-    kept, own = room / "kept", pathlib.Path(crate.folder) / "out" / "incremental"
-    if own.is_dir():
-        shutil.copytree(own, kept)
+def refusals(said, functions):
+    """Returns the first goal of its own that a check refused, for each of these functions, by what the check said, and those that miss a name alone."""
+    found, shapes = {}, {}
+    for line in said.split("\n"):
+        searched, answered = SEARCHED.match(line), ANSWERED.match(line)
+        of = searched[1] if searched else "::" + answered[1].replace("/", "::") if answered else ""
+        for it in (it for it in functions if of.endswith(f"::{it}")):
+            into = shapes if answered and SHAPE.search(answered[2]) else found
+            into.setdefault(it, (searched or answered)[2])
+    return found, shapes
+
+
+def rounds_of(pairs):
+    """Returns the pairs by the functions that they turn, as many together as turn different ones."""
+    rounds = []
+    for it in pairs:
+        at = sum(it.function in by_function for by_function in rounds)
+        if at == len(rounds):
+            rounds.append({})
+        rounds[at][it.function] = it
+    return rounds
+
+
+def judged(rt, crate, by_function, are_left_out):
+    """Checks the crate with these pairs together, or without them, and returns what is to be said of those that came to something else than they must."""
+    texts, why = rt.edited("".join(it.alone() for it in by_function.values()), crate.folder)
+    if why:
+        return [f"the pairs can't be put together: {why}"]
+    texts = {} if are_left_out else texts
+    for file in sorted(pathlib.Path(crate.folder, "src").rglob("*.rt")):
+        path = str(file.relative_to(crate.folder))
+        texts[path] = bared(path, texts.get(path) or file.read_text(encoding="utf-8"), by_function)
+    only = [word for it in by_function for word in ("--only", it)]
+    ran = rt.checked(crate, texts, [*FLAGS, *only], None)
+    if ran.returncode == -signal.SIGKILL:
+        # most likely for memory
+        ran = rt.checked(crate, texts, [*FLAGS, *only], None)
+    lines = ran.stdout.rstrip("\n").split("\n")
+    if ran.returncode not in (0, 1) or not lines[-1].startswith("only="):
+        told = [it for it in lines if "error" in it][:4] or lines[-2:]
+        return [f"the check with all pairs ended with {ran.returncode} and no verdict:", *told]
+    found, shapes = refusals(ran.stdout, by_function)
+    wrong = []
+    for function, pair in by_function.items():
+        if are_left_out and function in {**shapes, **found}:
+            wrong.append(f"{pair}: {function} is refused without it: {({**shapes, **found})[function]}")
+        if not are_left_out and function not in found:
+            how = f" (only a proof file misses a name: {shapes[function]})" if function in shapes else ""
+            wrong.append(f"{pair}: NOT REFUSED by a goal of {function}{how}: {pair.old.strip()}")
+    return wrong
+
+
+def judge_all(rt, every, are_left_out):
+    """Judges the merged edits of these crates, side by side, and returns how many pairs were judged, and what came to something else than it must."""
+    printing, tasks, count, bad = threading.Lock(), {}, 0, []
+    well = ", nothing refused without them" if are_left_out else ", each refused by a goal of its own"
+
+    def tell(began, crate, number, wrong):
+        with printing:
+            print(f"{time.monotonic() - began:5.0f} s  {crate.name}: {number} wrong bodies{'' if wrong else well}", flush=True)
+            for it in wrong:
+                print(f"         {it}", flush=True)
+        bad.extend(wrong)
+
+    def judge(crate, by_function):
+        began = time.monotonic()
+        tell(began, crate, len(by_function), judged(rt, crate, by_function, are_left_out))
+
+    for crate in every:
+        pairs = [it for edit in edits_of(rt, crate) if is_merged(edit) for it in pairs_of(crate, edit)]
+        count += len(pairs)
+        lost = [f"{it}: it turns no function's body, so make it an edit of its own: {it.old.strip()}" for it in pairs if not it.function]
+        if lost:
+            tell(time.monotonic(), crate, len(lost), lost)
+        for at, by_function in enumerate(rounds_of(it for it in pairs if it.function)):
+            run = lambda given, jobs, crate=crate, by_function=by_function: judge(crate, by_function)
+            tasks[crate.name, "edits", at] = [], len(by_function), getattr(rt, "OVER", 1) * rt.need(crate), run
+    rt.in_lanes(tasks)
+    return count, bad
+
+
+def try_alone(rt, crate, edits):
+    """Tries the edits, and each pair of a merged one, says what came of each, and returns how many tries were not refused."""
     number, bad = 0, []
-    for edit in edits:
-        for file, told in tries(edit, room):
+    with tempfile.TemporaryDirectory(prefix="edits-") as room:
+        kept, own = f"{room}/kept", pathlib.Path(crate.folder) / "out" / "incremental"
+        if own.is_dir():
+            shutil.copytree(own, kept)
+        tries = []
+        for edit in edits:
+            for it in pairs_of(crate, edit) if is_merged(edit) else []:
+                alone = pathlib.Path(room, f"{edit.stem}.{it.number}.edit")
+                alone.write_text(it.alone(), encoding="utf-8")
+                tries.append((alone, it.old))
+            tries.append((edit, ""))
+        for file, told in tries:
             began = time.monotonic()
-            came_to, said = rt.must_fail(crate, str(file), FLAGS, str(kept))
-            print(f"{time.monotonic() - began:5.0f} s  {said}", flush=True)
-            if told:
-                print(f"         {told}", flush=True)
+            came_to, said = rt.must_fail(crate, str(file), FLAGS, kept)
+            print(f"{time.monotonic() - began:5.0f} s  {said}{told and f'''{chr(10)}         {told}'''}", flush=True)
             number += 1
-            if not is_refusal(rt, came_to):
-                bad.append(file.stem)
+            bad += [] if is_refusal(rt, came_to) else [file.stem]
     print(f"{number - len(bad)} of {number} were refused{': not ' if bad else ''}{', '.join(bad)}")
     return len(bad)
 
 
+def is_there(crate):
+    """Whether a library stands as the gate, or a check, built it."""
+    out = pathlib.Path(crate.folder) / "out" / "rlib"
+    # (the gate leaves no stamp)
+    return crate.is_built() or (out / f"{crate.name}.rlib" / "format").is_file() and not (out / "stamp").exists()
+
+
 def main():
     words = sys.argv[1:]
-    if not words or words[0] in ("-h", "--help"):
+    flags, names = [it for it in words if it.startswith("-")], [it for it in words if not it.startswith("-")]
+    if flags not in ([], ["--alone"], ["--after-ci"], ["--left-out"]) or flags == ["--alone"] and not names:
         print(__doc__)
-        return 0 if words else 2
+        return 0 if words[:1] in (["-h"], ["--help"]) else 2
     rt = gate()
     rt.rtlib.guarded()
-    crate = crates(rt).get(words[0])
-    if crate is None:
-        sys.exit(f"crates.txt names no crate {words[0]}")
-    edits = edits_of(rt, crate, words[1:])
-    if any(it.build_rlib(FLAGS, anew=False) for it in crate.below()):
-        sys.exit("a library below the crate is not proved")
-    with tempfile.TemporaryDirectory(prefix="edits-") as room:
-        return 1 if try_all(rt, crate, edits, pathlib.Path(room)) else 0
+    every = crates(rt)
+    wanted = names[:1] if flags == ["--alone"] else names or [*every]
+    unknown = [it for it in wanted if it not in every]
+    if unknown:
+        sys.exit(f"crates.txt names no crate {unknown[0]}")
+    asked = [every[it] for it in wanted]
+    for it in dict.fromkeys(below for crate in asked if rt.edits_of(crate)[0] for below in crate.below()):
+        if not (flags == ["--after-ci"] and is_there(it)) and it.build_rlib(FLAGS, anew=False):
+            sys.exit(f"the library {it.name} is not proved")
+    if flags == ["--alone"]:
+        return 1 if try_alone(rt, asked[0], edits_of(rt, asked[0], names[1:])) else 0
+    count, bad = judge_all(rt, asked, flags == ["--left-out"])
+    print(f"{count} wrong bodies in edits of several, {len(bad) or 'none'} of them not as it must be")
+    return 1 if bad else 0
 
 
 if __name__ == "__main__":

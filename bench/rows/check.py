@@ -107,11 +107,11 @@ def minute(text):
     return rows.at(f"{clock[1]}:{clock[2]}")
 
 
-def is_written(group):
-    """Whether the file of a group has what rows.py writes, but for the white space that rt fmt changes."""
+def is_written(name, text):
+    """Whether a file has what rows.py writes, but for the white space that rt fmt changes."""
     def words(text):
         return re.sub(r"\s+|,(?=\s*[}\])])", "", text)
-    return words((rows.TARGET / "rows" / f"{group}.rt").read_text()) == words(rows.text_of(group))
+    return words((rows.TARGET / "rows" / f"{name}.rt").read_text()) == words(text)
 
 
 def main():
@@ -125,7 +125,7 @@ def main():
                 wrong.append(f"does not meet {cell}: {row.name}")
             else:
                 met.add(cell)
-    wrong += [f"other rows are written in {it}.rt" for it in rows.GROUPS if not is_written(it)]
+    wrong += [f"other rows are written in {it}.rt" for it, text in rows.texts().items() if not is_written(it, text)]
     still = [it for it in wanted if it not in met]
     for it in wrong + [f"open: {it}" for it in still]:
         print(it)

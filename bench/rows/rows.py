@@ -10,7 +10,7 @@ cells of rules.json that a row meets stand in its first line. check.py says whic
 import json
 import pathlib
 
-from talk import BOTH, PATH, PLANNED, ROLES, SCHEDULE, SCHEDULED, Talk, at, bits, stamp
+from talk import BOTH, PATH, PLANNED, ROLES, SCHEDULE, SCHEDULED, Crowd, Long, Talk, at, bits, stamp
 
 HERE = pathlib.Path(__file__).resolve().parent
 TARGET = HERE.parents[1] / "crates" / "rule_tests" / "src"
@@ -508,9 +508,43 @@ def helper_rows():
         yield talk
 
 
+def limit_rows():
+    """The longest lines and programs, and the most flights."""
+    def fill(name, head, length, reply, *cells):
+        return Long(f"limit: {name}", *cells).long(head, " ", length - len(head), "", reply)
+
+    good, unknown = '1 29000700 APT {"cmd":"tick"}', '1 29000700 APT {"cmd":"tack"}'
+    yield fill("a line of 70,000 bytes", good, 70_000, "ok")
+    yield fill("a line of 70,001 bytes", good, 70_001, "bad 105", "code 105").tick()
+    yield fill("no command in 70,000 bytes", unknown, 70_000, "bad 102").tick()
+    yield fill("no command in 70,001 bytes", unknown, 70_001, "bad 105").tick()
+    yield fill("no prefix in 70,000 bytes", "65 29000700 APT {", 70_000, "bad 100")
+    yield fill("no prefix in 70,001 bytes", "65 29000700 APT {", 70_001, "bad 105", "before 105 100")
+
+    def load(name, part, times, tail, reply, *cells):
+        head = '1 29000700 APT {"cmd":"load","milestone":7,"kind":"tobt","program":"'
+        return Long(f"limit: {name}", *cells).long(head, part, times, tail + '"}', reply)
+
+    zero = "b700000000000000"
+    yield load("4,096 slots", zero, 4095, EXIT, "ok")
+    yield load("4,096 slots without an exit", zero, 4096, "", "bad 307 4095")
+    yield load("no opcode in the last of 4,096 slots", zero, 4095, "ff" * 8, "bad 303 4095")
+    yield load("4,096 slots of no opcode", "ff" * 8, 4096, "", "bad 303 0")
+    yield load("4,097 slots", zero, 4096, EXIT, "bad 302 0", "code 302")
+    yield load("4,097 slots of no opcode", "ff" * 8, 4097, "", "bad 302 0")
+    yield load("a byte less than 4,096 slots", "b7", 32_767, "", "bad 301 0")
+    yield load("a byte more than 4,096 slots", "b7", 32_769, "", "bad 302 0", "before 302 301")
+    crowd = Crowd("limit: 4,096 flights", "code 503", flights=4096, now="7:00")
+    crowd.alerts(";".join(f"{it}:CDM13" for it in range(1, 4097)))
+    crowd.schedule("no 503", flight=4097).schedule(flight=4096).plan("no 503", flight=4098).plan(flight=1)
+    crowd.report(6, reply="no 202", flight=4097).schedule("no 201", "NM", flight=4097).schedule("no 207", flight=1)
+    yield crowd
+
+
 GROUPS = {
     "owners": owner_rows, "needs": need_rows, "bars": bar_rows, "order": order_rows, "fields": field_rows, "alerts": alert_rows, "moments": moment_rows,
     "targets": target_rows, "local": local_rows, "touches": touch_rows, "codes": code_rows, "helpers": helper_rows,
+    "limits": limit_rows,
 }
 ABOUT = {
     "owners": "Who may send what.", "needs": "What a milestone needs.", "bars": "What a milestone bars.",
@@ -518,7 +552,8 @@ ABOUT = {
     "alerts": "Each condition of the alerts up to CDM07a, on both sides.",
     "moments": "Each condition of the alerts from CDM08 on, on both sides.", "targets": "What comes of the answer of a program of kind `tobt`.",
     "local": "Local alerts.", "touches": "When alerts are computed anew.", "codes": "Each code, and which of two comes first.",
-    "helpers": "The entries and limits of the three helpers.",
+    "helpers": "The entries and limits of the three helpers.", "limits": "The longest lines and programs, and the most flights.",
+    "marks": "What one byte stands for in the tables.",
 }
 
 
@@ -528,7 +563,59 @@ def all_rows():
             yield group, row
 
 
-# How many bytes of lines and replies stand in one static at most: a test is proved in more time than its static grows by.
+# One byte each in the tables for a longer text, since the prover takes 2 ms for a byte of a static. A # is the number of the
+# next entry, from 0.
+MARKS = {
+    "!": '1 29000700 APT {"cmd":"', "$": '2 29000700 NM {"cmd":"', "%": '3 29000700 ATC {"cmd":"', "&": '4 29000700 AO {"cmd":"',
+    "*": '5 29000700 GH {"cmd":"', "+": 'report","flight":7,"milestone":', "(": ',"time":"2025-02-20T', ")": ':00Z"}',
+    "/": 'schedule","flight":7,"callsign":"DLH7","type":"A320","reg":"DAIBC","dest":"EDDM","sobt":"2025-02-20T10:00:00Z",'
+         '"mttt":40,"exit":5,"exot":10,"stand":12}',
+    "<": '1,"time":"2025-02-20T10:00:00Z","callsign":"DLH7","type":"A320","reg":"DAIBC","dest":"EDDM"}',
+    "J": '"callsign":"DLH7","type":"A320","reg":"DAIBC","dest":"EDDM"', "K": '"sobt":"2025-02-20T10:00:00Z","mttt":40,"exit":5,"exot":10,',
+    "=": 'alerts"}', ">": 'show","flight":7}', "X": 'tick"}', "S": 'load","milestone":', "?": 'load","milestone":7,"kind":"tobt","program":"',
+    "@": 'load","milestone":6,"kind":"alert","program":"', "V": '9500000000000000"}', "U": "000000000000", "`": "000000",
+    "Y": "0700000000000000444c4837000000004133323041333230444149424300000044414942430000004544444d4544444d",
+    "j": "28000a000c0001053884ba013884ba01", "^": "ok #", "_": "no # ", "|": "alerts #", "~": "rec # ",
+}
+
+
+def marked(text):
+    """The text with a mark in the place of what each mark stands for, those of the longest texts first."""
+    for mark, of in sorted(MARKS.items(), key=lambda it: -len(it[1])):
+        if "#" not in of:
+            text = text.replace(of, mark)
+    return text
+
+
+def meant(text):
+    """What a text in marks stands for, but for the numbers of entries."""
+    return "".join(it if "#" in MARKS.get(it, "#") else MARKS[it] for it in text)
+
+
+def in_marks(lines):
+    """Lines in marks, one a line."""
+    text = joined(lines)
+    assert not {*MARKS, "#"} & {*text}, f"a mark stands in {text}"
+    assert meant(marked(text)) == text
+    return marked(text)
+
+
+def replies_in_marks(replies):
+    """Replies in marks, one a line: those with a number of an entry are numbered from 0."""
+    count, lines = 0, []
+    for reply in replies:
+        kind, _, rest = reply.partition(" ")
+        mark = next((it for it, of in MARKS.items() if of.strip() == f"{kind} #"), None)
+        if mark:
+            number, _, rest = rest.partition(" ")
+            assert number == str(count), reply
+            count += 1
+            reply = mark + ("" if kind in ("ok", "no", "rec") or not rest else " ") + rest
+        lines.append(reply)
+    return marked(joined(lines))
+
+
+# How many bytes of lines and replies stand in one static at most.
 MOST = 5000
 
 
@@ -536,7 +623,7 @@ def parts_of(group):
     """The rows of a group in parts, each with its place from 1."""
     parts, size = [], MOST
     for row in GROUPS[group]():
-        length = len("".join(row.lines[2 * row.starts():] + row.replies))
+        length = len(in_marks(row.lines[2 * row.starts():]) + replies_in_marks(row.replies))
         if size + length > MOST:
             parts.append([])
             size = 0
@@ -545,25 +632,63 @@ def parts_of(group):
     return enumerate(parts, 1)
 
 
-def text_of(group):
-    parts = [f"//! {ABOUT[group]} Written by `bench/rows/rows.py`.\n", "use crate::rows::{Row, is_answered};\n\n"]
+def joined(lines):
+    return "".join(it + "\n" for it in lines)
+
+
+def limit_text():
+    """The table of the longest lines, and that of the most flights, each by its parts."""
+    lines = [it for it in limit_rows() if isinstance(it, Long)]
+    crowds = [it for it in limit_rows() if isinstance(it, Crowd)]
+    parts = ["use crate::rows::{Crowd, Long, is_crowd_answered, is_long_answered};\n\n", f"static LINES: [Long; {len(lines)}] = [\n"]
+    for row in lines:
+        head, part, times, tail = row.parts
+        parts.append(f'    Long {{\n        shows: "{row.name}",\n        head: r#"{head}"#,\n        part: "{part}",\n        times: {times},\n')
+        parts.append(f'        tail: r#"{tail}"#,\n        more: r#"{joined(row.lines[1:])}"#,\n        replies: "{joined(row.replies)}",\n    }},\n')
+    parts.append(f"];\n\nstatic CROWDS: [Crowd; {len(crowds)}] = [\n")
+    for row in crowds:
+        before, behind = row.lines[0].split('"flight":1,')
+        parts.append(f'    Crowd {{\n        shows: "{row.name}",\n        flights: {row.flights},\n        capacity: {row.capacity},\n')
+        parts.append(f'        before: r#"{before}"flight":"#,\n        behind: r#",{behind}"#,\n        alert: ":CDM13",\n')
+        parts.append(f'        more: r#"{joined(row.lines[row.flights + 1:])}"#,\n        replies: "{joined(row.replies[row.flights + 1:])}",\n    }},\n')
+    parts.append("];\n\n")
+    for table, name, asserts in (("LINES", "the_longest_lines", "is_long_answered"), ("CROWDS", "the_most_flights", "is_crowd_answered")):
+        parts.append(f"#[test]\nfn {name}(rt: HostRuntime) {{\n    for row in &{table} {{\n        {asserts}(&rt, rt.alloc(), row);\n    }}\n}}\n\n")
+    return "".join(parts)
+
+
+def table_text(group):
+    parts = ["use crate::rows::{Row, is_answered};\n\n"]
     for place, rows in parts_of(group):
         parts.append(f"static ROWS_{place}: [Row; {len(rows)}] = [\n")
         for row in rows:
-            lines = "".join(it + "\n" for it in row.lines[2 * row.starts():])
-            replies = "".join(it + "\n" for it in row.replies)
             parts.append(f'    Row {{\n        shows: "{row.name}",\n        capacity: {row.capacity},\n')
             parts.append(f"        starts: {str(row.starts()).lower()},\n")
-            parts.append(f'        lines: r#"{lines}"#,\n        replies: "{replies}",\n    }},\n')
+            parts.append(f'        lines: r#"{in_marks(row.lines[2 * row.starts():])}"#,\n')
+            parts.append(f'        replies: r#"{replies_in_marks(row.replies)}"#,\n    }},\n')
         parts.append("];\n\n#[test]\n")
         parts.append(f"fn part_{place}(rt: HostRuntime) {{\n    for row in &ROWS_{place} {{\n")
         parts.append("        is_answered(&rt, rt.alloc(), row);\n    }\n}\n\n")
     return "".join(parts)
 
 
+def marks_text():
+    rows = "".join(f'    (b\'{mark}\', r#"{of}"#),\n' for mark, of in MARKS.items())
+    return f"/// Each mark, and what it stands for.\npub(crate) static MARKS: [(u8, &str); {len(MARKS)}] = [\n{rows}];\n"
+
+
+def texts():
+    """The text of each file, by its name."""
+    made = {"limits": limit_text, "marks": marks_text}
+    return {
+        name: f"//! {ABOUT[name]} Written by `bench/rows/rows.py`.\n" + (made[name]() if name in made else table_text(name))
+        for name in [*GROUPS, "marks"]
+    }
+
+
 def main():
-    for group in GROUPS:
-        (TARGET / "rows" / f"{group}.rt").write_text(text_of(group))
+    for name, text in texts().items():
+        (TARGET / "rows" / f"{name}.rt").write_text(text)
 
 
 if __name__ == "__main__":

@@ -116,6 +116,34 @@ class Talk:
         return self.schedule().plan().reports(*milestones)
 
 
+class Long(Talk):
+    """A row of one line, a part of which is repeated, and of what is sent after it."""
+
+    def __init__(self, name, *cells):
+        super().__init__(name, *cells)
+        self.parts = None
+
+    def long(self, head, part, times, tail, reply):
+        self.parts = head, part, times, tail
+        return self.line(head + part * times + tail, reply)
+
+    def starts(self):
+        return False
+
+
+class Crowd(Talk):
+    """A row of so many flights, each scheduled by one line from flight 1 on, and of what is sent after them."""
+
+    def __init__(self, name, *cells, flights, now):
+        super().__init__(name, *cells, capacity=flights + 10, now=now)
+        self.flights = flights
+        for flight in range(1, flights + 1):
+            self.schedule(flight=flight)
+
+    def starts(self):
+        return False
+
+
 SCHEDULE = {
     "cmd": "schedule", "flight": 7, "callsign": "DLH7", "type": "A320", "reg": "DAIBC", "dest": "EDDM", "sobt": stamp("10:00"),
     "mttt": 40, "exit": 5, "exot": 10, "stand": 12,

@@ -1,7 +1,7 @@
 //! The program `acdm`: the shared board of an A-CDM airport.
 #![tactic(auto)]
 
-use acdm_commands::complete;
+use acdm_commands::{Failure, complete};
 use acdm_lines::{Sink, Source};
 use std::io::BufWriter;
 use std::process::ExitCode;
@@ -14,7 +14,10 @@ fn main(rt: HostRuntime) -> io::Result<ExitCode> {
     let alloc = rt.alloc();
     let words: Vec<String> = env::args(&rt)?.collect(alloc)?;
     let words: Vec<&str> = words.iter().map(|word| word.as_str()).collect(alloc)?;
-    let output = BufWriter::with_capacity(alloc, BUFFER, Sink::new(rt.stdout()))?;
+    let mut errors = Sink::new(rt.stderr());
+    let Ok(output) = BufWriter::with_capacity(alloc, BUFFER, Sink::new(rt.stdout())) else {
+        return Ok(ExitCode::from(Failure::Memory.complain(&mut errors)));
+    };
     let mut input = Source::new(rt.stdin());
     let mut output = Sink::new(output);
     let status = complete(
@@ -23,7 +26,7 @@ fn main(rt: HostRuntime) -> io::Result<ExitCode> {
         words.as_slice(),
         &mut input,
         &mut output,
-        rt.stderr(),
+        &mut errors,
     );
     Ok(ExitCode::from(status))
 }

@@ -55,7 +55,7 @@ impl<H: Helpers + Drop> Desk<H> {
     {
         let sigs = helpers.sigs()?;
         let book = Box::new(alloc, Book::new(alloc, sigs, capacity)?)?;
-        let passes = Passes::new(alloc, Arc::try_clone(book.row())?);
+        let passes = Passes::new(alloc, Arc::try_clone(book.row())?)?;
         Ok(Desk {
             helpers,
             book,

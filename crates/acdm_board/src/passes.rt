@@ -8,7 +8,10 @@ use std::alloc::{AllocError, Global};
 use std::marker::Model;
 use std::sync::Arc;
 
-/// Passes of one row, at most one for each session and role.
+// One for each of 64 sessions in each of five roles.
+const MOST_PASSES: usize = 320;
+
+/// Passes of one row, at most one for each session and role. Room for all is taken at first.
 #[derive(Drop)]
 pub(crate) struct Passes {
     row: Arc<Row>,
@@ -29,13 +32,13 @@ impl Model for Passes {
 }
 
 impl Passes {
-    /// None yet.
-    pub(crate) fn new(alloc: Global, row: Arc<Row>) -> Passes
-        ensures { result ≡ arc_value row }
+    /// None yet, with room for all. `Err` only where memory was refused.
+    pub(crate) fn new(alloc: Global, row: Arc<Row>) -> Result<Passes, AllocError>
+        ensures { IfOk result (λ passes. passes ≡ arc_value row) }
     {
-        Passes {
-            row,
-            items: Vec::new(alloc),
+        match Vec::with_capacity(alloc, MOST_PASSES) {
+            Ok(items) => Ok(Passes { row, items }),
+            Err(error) => Err(error),
         }
     }
 

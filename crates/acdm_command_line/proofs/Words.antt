@@ -3,11 +3,11 @@ use Rattle.std.proofs.Common.{◌≡◌, Bool, true, false, not, cond, List, Opt
 use Rattle.std.proofs.Common.{option_map, refl, ap, subst, ◌∙◌, ◌⊎◌, inl, inr}
 use Rattle.std.specs.Str.{bytes_eq}
 use Rattle.clap.proofs.OnLiterals.{clap_on_literals}
-use Rattle.clap.specs.Words.{Row, Text, first_of, is_simple, subcommand_of}
+use Rattle.clap.specs.Words.{Row, Text, all_of, first_of, is_simple, subcommand_of}
 use Rattle.acdm_command_line.specs.declared.command_line.Line.{Line}
 use Rattle.acdm_command_line.specs.CommandLine.{Answers, AsksNothing, AuditsFile, Explains}
 use Rattle.acdm_command_line.specs.CommandLine.{IsJournal, IsRight, Runs, Serves, Verifies}
-use Rattle.acdm_command_line.specs.CommandLine.{program, value_in}
+use Rattle.acdm_command_line.specs.CommandLine.{program, value_in, values_in}
 
 module _ {X : Type 0} (name : X → Text) (rows : X → List Row) where
   abbrev both : X → Text × List Row
@@ -22,15 +22,21 @@ module _ {X : Type 0} (name : X → Text) (rows : X → List Row) where
       let r_is : rows x ≡ r = cc in
       λ i. Some (n_is i, r_is i)
 
+is_true : (b : Bool) → not b ≡ false → b ≡ true
+is_true true h = refl
+is_true false h = absurd (cc)
+
 -- the value of an argument of the subcommand that has this name
 pub value_found : (o : Option (Text × List Row)) (name id n : Text) (r : List Row) → o ≡ Some (n, r)
     → not (bytes_eq n name) ≡ false → value_in name id o ≡ first_of id r
 value_found o name id n r e h = ap (value_in name id) e
     ∙ ap (λ b. cond b (first_of id r) None) (is_true (bytes_eq n name) h)
-  where
-    is_true : (b : Bool) → not b ≡ false → b ≡ true
-    is_true true h = refl
-    is_true false h = absurd (cc)
+
+-- all values of an argument of the subcommand that has this name
+pub values_found : (o : Option (Text × List Row)) (name id n : Text) (r : List Row)
+    → o ≡ Some (n, r) → not (bytes_eq n name) ≡ false → values_in name id o ≡ all_of id r
+values_found o name id n r e h = ap (values_in name id) e
+    ∙ ap (λ b. cond b (all_of id r) None) (is_true (bytes_eq n name) h)
 
 -- ---- what is asked for
 

@@ -1,9 +1,10 @@
 -- What the words of a command line ask for, as `clap` reads them.
 use Rattle.std.specs.Prelude.{ℕ, ◌≡◌, ◌≤◌, ◌⊎◌, true, List, [], ◌∷◌, codes, Option, Some, None}
-use Rattle.std.specs.Prelude.{option_and_then, option_map, if◌then◌else◌}
+use Rattle.std.specs.Prelude.{map, option_and_then, option_map, if◌then◌else◌}
 use Rattle.std.specs.Str.{bytes_eq}
 use Rattle.std.specs.Str.Parse.{IsNumeral, digits_value, without_leading_plus}
-use Rattle.clap.specs.Words.{App, Row, Rule, Text, first_of, new_app, new_rule, subcommand_of}
+use Rattle.clap.specs.Words.{App, Row, Rule, Text, all_of, first_of, new_app, new_rule}
+use Rattle.clap.specs.Words.{subcommand_of}
 use Rattle.clap.specs.Words.{with_rule, with_subcommand}
 use Rattle.clap.specs.Takes.{takes}
 use Rattle.clap.specs.declared.builder.action.ArgAction.TheVariants.{Append}
@@ -80,6 +81,20 @@ value_in name id found = option_and_then (λ p. if bytes_eq p.0 name then first_
 abbrev pub value_of : List ℕ → List ℕ → List Text → Option Text
 value_of name id words = value_in name id (subcommand_of program words)
 
+-- all values of an argument of the subcommand of a name
+abbrev pub values_in : List ℕ → List ℕ → Option (Text × List Row) → Option (List Text)
+values_in name id found = option_and_then (λ p. if bytes_eq p.0 name then all_of id p.1 else None)
+    found
+
+-- a list, empty where there is none
+abbrev pub listed : Option (List Text) → List Text
+listed (Some texts) = texts
+listed None = []
+
+-- the words that name partners, in their order
+abbrev pub partners_in : Option (Text × List Row) → List Text
+partners_in found = listed (values_in (codes "serve") (codes "partners") found)
+
 -- the number that a text names, as Rust reads one
 abbrev pub number_of : Text → ℕ
 number_of text = digits_value 10 (without_leading_plus text)
@@ -106,8 +121,8 @@ AuditsFile found file = value_in (codes "audit") (codes "file") found ≡ Some f
 abbrev pub Explains : Option (Text × List Row) → Text → Type 0
 Explains found file = value_in (codes "explain") (codes "file") found ≡ Some file
 
--- it is `run` or `serve` with the journal, the file and the address that are named, or `verify`,
--- `audit` or `explain` of the file that is
+-- it is `run` or `serve` with the journal, the file, the address and the partners that are named, or
+-- `verify`, `audit` or `explain` of the file that is
 abbrev pub Asks : Option (Text × List Row) → Line → Type 0
 Asks found (Run journal save) =
     (text : Text) × Runs found text × IsJournal text × (journal ≡ number_of text)
@@ -116,6 +131,7 @@ Asks found (Serve journal save watch partners) =
     (text : Text) × Serves found text × IsJournal text × (journal ≡ number_of text)
     × (option_map (λ s. s.now) save ≡ value_in (codes "serve") (codes "save") found)
     × (option_map (λ s. s.now) watch ≡ value_in (codes "serve") (codes "watch") found)
+    × (map (λ s. s.now) partners.items ≡ partners_in found)
 Asks found (Verify file) = Verifies found file.now
 Asks found (Audit file) = AuditsFile found file.now
 Asks found (Explain file) = Explains found file.now

@@ -1,5 +1,5 @@
 //! The command line.
-ghost use Rattle.std.specs.Prelude.{◌≡◌, false, IfOk, IfErr, IfSome, map, codes};
+ghost use Rattle.std.specs.Prelude.{◌≡◌, false, IfOk, IfErr, OnOk, map, codes};
 ghost use Rattle.std.specs.Prelude.{option_map};
 ghost use Rattle.std.specs.Option.{SomeIff};
 ghost use Rattle.clap.specs.Values.{kind_of};
@@ -8,7 +8,8 @@ ghost use Rattle.clap.specs.declared.builder.Command.TheViews.{out-Command as fi
 ghost use Rattle.acdm_command_line.specs.CommandLine.{program as the_program, file_app, keeping_app};
 ghost use Rattle.acdm_command_line.specs.CommandLine.{bare_app, running_app, serve_app};
 ghost use Rattle.acdm_command_line.specs.CommandLine.{serve_options_app, serving_app};
-ghost use Rattle.acdm_command_line.specs.CommandLine.{journal_rule, save_rule, value_in, watch_rule};
+ghost use Rattle.acdm_command_line.specs.CommandLine.{journal_rule, save_rule, watch_rule};
+ghost use Rattle.acdm_command_line.specs.CommandLine.{partners_in, value_in, values_in};
 ghost use Rattle.acdm_command_line.specs.CommandLine.{number_of, IsJournal, AsksFor, Refuses};
 ghost use Rattle.acdm_command_line.specs.CommandLine.{Answers, AnswersJournal};
 
@@ -216,13 +217,26 @@ fn value<'a>(matches: &ArgMatches<'a>, name: &str, id: &str) -> Option<&'a str>
     inner.get_str(id)
 }
 
-// The words that name partners.
-fn partners_in<'a>(alloc: Global, matches: &ArgMatches<'a>) -> Result<Vec<&'a str>, AllocError> {
+// All values of an argument of the subcommand of this name.
+fn values<'m, 'a>(matches: &'m ArgMatches<'a>, name: &str, id: &str) -> Option<&'m [&'a str]>
+    ensures { option_map (λ ws. map (λ w. w.now) ws.now) result
+        ≡ values_in name.now id.now (subcommand_rows_of matches.now) }
+{
+    let (found, inner) = matches.subcommand()?;
+    if found != name {
+        return None;
+    }
+    inner.get_strs(id)
+}
+
+// The words that name partners, in their order.
+fn partners_of<'a>(alloc: Global, matches: &ArgMatches<'a>) -> Result<Vec<&'a str>, AllocError>
+    ensures { IfOk result (λ partners.
+        map (λ w. w.now) partners.items ≡ partners_in (subcommand_rows_of matches.now)) }
+{
     let mut partners = Vec::new(alloc);
-    if let Some((_, inner)) = matches.subcommand() {
-        if let Some(words) = inner.get_strs("partners") {
-            partners.extend_from_slice(words)?;
-        }
+    if let Some(words) = values(matches, "serve", "partners") {
+        partners.extend_from_slice(words)?;
     }
     Ok(partners)
 }
@@ -257,7 +271,7 @@ fn line_of<'a>(alloc: Global, matches: &ArgMatches<'a>) -> Result<Option<Line<'a
     };
     let save = value(matches, "serve", "save");
     let watch = value(matches, "serve", "watch");
-    let partners = partners_in(alloc, matches)?;
+    let partners = partners_of(alloc, matches)?;
     Ok(Some(Line::Serve {
         journal,
         save,
@@ -302,20 +316,23 @@ pub fn parse<'a>(alloc: Global, words: &'a [&'a str]) -> Result<Line<'a>, Error>
     parse_by(alloc, &mut command, words)
 }
 
-/// What these words ask for. Where they ask for nothing, `clap`'s text on them is written for whoever
-/// gave them; whether it could be written is not told.
-pub fn asked<'a, E: Write + Drop>(
+/// What these words ask for; the first is the program's name. Where they ask for nothing, the answer
+/// is why, and `clap`'s text on them is written for whoever gave them; whether it could be written
+/// is not told.
+pub fn asked<'a, E: Write>(
     alloc: Global,
     words: &'a [&'a str],
-    mut errors: E,
-) -> Option<Line<'a>>
-    ensures { IfSome result (AsksFor (map (λ w. w.now) words.entry.now)) }
+    errors: &mut E,
+) -> Result<Line<'a>, ErrorKind>
+    ensures asks { IfOk result (AsksFor (map (λ w. w.now) words.entry.now)) }
+    ensures refuses { IfErr result (Refuses (map (λ w. w.now) words.entry.now)) }
+    ensures quiet { OnOk result (errors.new ≡ errors.old) }
 {
     match parse(alloc, words) {
-        Ok(line) => Some(line),
+        Ok(line) => Ok(line),
         Err(error) => {
             let _ = write!(errors, "{error}");
-            None
+            Err(error.kind())
         }
     }
 }

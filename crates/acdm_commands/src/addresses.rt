@@ -1,4 +1,8 @@
 //! The words `ROLE=ADDR` of the command `serve`.
+ghost use Rattle.std.specs.Prelude.{◌≡◌, ◌+◌, IfOk, IfErr, OnOk, Some, length, map};
+ghost use Rattle.acdm_commands.specs.Partners.{AddsNamed, FailsToListen, FailsToName, address_in};
+ghost use Rattle.acdm_commands.specs.Partners.{role_in};
+
 use crate::minutes::SystemMinutes;
 use acdm_failures::Failure;
 use acdm_milestones::Role;
@@ -10,7 +14,11 @@ use std::time::Clock as SystemClock;
 pub(crate) type Partner<'r, Rt> = (Role, TcpListener, SystemMinutes<'r, Rt>);
 
 // The role and the address of a word, the `number`-th.
-fn partner_of<'a>(number: usize, word: &'a str) -> Result<(Role, &'a str), Failure> {
+fn partner_of<'a>(number: usize, word: &'a str) -> Result<(Role, &'a str), Failure>
+    ensures role { IfOk result (λ p. role_in word.now ≡ Some p.0) }
+    ensures address { IfOk result (λ p. p.1.now ≡ address_in word.now) }
+    ensures fails { IfErr result (FailsToName number word.now) }
+{
     let Some((role, address)) = word.split_once('=') else {
         return Err(Failure::Role(number));
     };
@@ -25,11 +33,43 @@ fn listener_at<Rt: Net<Listener = TcpListener, Stream = TcpStream>>(
     rt: &Rt,
     number: usize,
     address: &str,
-) -> Result<TcpListener, Failure> {
+) -> Result<TcpListener, Failure>
+    ensures { IfErr result (λ failure. failure ≡ Failure.Address number) }
+{
     let Ok(address) = address.parse::<SocketAddr>() else {
         return Err(Failure::Address(number));
     };
     TcpListener::bind(rt, address).map_err(|_| Failure::Address(number))
+}
+
+// Listens for the partner that a word names, the `number`-th.
+fn listen_for<'r, Rt: Net<Listener = TcpListener, Stream = TcpStream> + SystemClock>(
+    rt: &'r Rt,
+    number: usize,
+    word: &str,
+) -> Result<Partner<'r, Rt>, Failure>
+    ensures role { IfOk result (λ p. role_in word.now ≡ Some p.0) }
+    ensures fails { IfErr result (FailsToName number word.now) }
+{
+    let (role, address) = partner_of(number, word)?;
+    let listener = listener_at(rt, number, address)?;
+    Ok((role, listener, SystemMinutes { system: rt }))
+}
+
+// Listens for the partner that a word names, the next.
+fn add<'r, Rt: Net<Listener = TcpListener, Stream = TcpStream> + SystemClock>(
+    rt: &'r Rt,
+    partners: &mut Vec<Partner<'r, Rt>>,
+    word: &str,
+) -> Result<(), Failure>
+    ensures added { OnOk result (AddsNamed (λ p. p.0) word.now partners.old.items
+        partners.new.items) }
+    ensures fails { IfErr result (FailsToName (length partners.old.items + 1) word.now) }
+{
+    let number = partners.len() + 1;
+    let partner = listen_for(rt, number, word)?;
+    partners.push(partner)?;
+    Ok(())
 }
 
 /// Listens for each partner that the words name, in order, from 1. The first word whose role is not
@@ -38,13 +78,14 @@ pub(crate) fn listen<'r, Rt: Net<Listener = TcpListener, Stream = TcpStream> + S
     rt: &'r Rt,
     alloc: Global,
     words: &[&str],
-) -> Result<Vec<Partner<'r, Rt>>, Failure> {
+) -> Result<Vec<Partner<'r, Rt>>, Failure>
+    ensures roles { IfOk result (λ partners.
+        map role_in (map (λ w. w.now) words.now) ≡ map (λ p. Some p.0) partners.items) }
+    ensures fails { IfErr result (FailsToListen (map (λ w. w.now) words.now)) }
+{
     let mut partners = Vec::new(alloc);
-    for (at, word) in words.iter().enumerate() {
-        let number = at + 1;
-        let (role, address) = partner_of(number, word)?;
-        let listener = listener_at(rt, number, address)?;
-        partners.push((role, listener, SystemMinutes { system: rt }))?;
+    for word in words {
+        add(rt, &mut partners, word)?;
     }
     Ok(partners)
 }

@@ -1,12 +1,14 @@
 //! The commands, over the files, the reader and the writers that they are handed.
-ghost use Rattle.std.specs.Prelude.{◌≡◌, ◌-◌, ◌^◌, ◌<◌, map};
-ghost use Rattle.acdm_commands.specs.Served.{Completes};
+ghost use Rattle.std.specs.Prelude.{◌≡◌, ◌-◌, ◌^◌, ◌<◌, map, option_map};
+ghost use Rattle.acdm_commands.specs.Completed.{AuditsLine, Completes, ExplainsLine, RunsLine};
+ghost use Rattle.acdm_commands.specs.Completed.{ServesLine, VerifiesLine};
+ghost use Rattle.acdm_failures.specs.Failures.{EndsBy};
 
 use crate::saving::file_of;
 use crate::serve_command::serve_words;
 use crate::serving::run_on;
 use acdm_command_line::{Line, asked};
-use acdm_failures::Failure;
+use acdm_failures::{Failure, ended};
 use acdm_judging::{audit_on, explain_on, unread, verify_on};
 use acdm_sessions::{Sink, Source};
 use std::alloc::Global;
@@ -22,8 +24,6 @@ use std::time::Clock as SystemClock;
 /// The status is that of the command, and 2 where the words ask for none or their file can't be
 /// opened. The file of `--save` is made before anything is answered, and in place of one that is
 /// there. What is wrong is told on the errors' writer; where that fails, the status alone says it.
-/// `run` ends with the status 0 only where the input has told its end, and the output took the
-/// replies to all that the input gave, and nothing else.
 pub fn complete<
     Rt: Files
         + Net<Listener = TcpListener, Stream = TcpStream>
@@ -37,57 +37,147 @@ pub fn complete<
         + 'static,
     R: Read,
     W: Write,
-    E: Write + Drop,
+    E: Write,
 >(
     alloc: Global,
     rt: &Rt,
     words: &[&str],
     input: &mut Source<R>,
     output: &mut Sink<W>,
-    mut errors: E,
+    errors: &mut Sink<E>,
 ) -> u8
     requires reads { input.old.faults < 2 ^ 64 - 1 }
     requires writes { output.old.faults < 2 ^ 64 - 1 }
-    ensures { result ≡ 0 → Completes (map (λ w. w.now) words.entry.now) input.old input.new
-        output.old output.new }
+    ensures { Completes (map (λ w. w.now) words.entry.now) input.old input.new output.old output.new
+        result errors.old errors.new }
 {
-    let Some(line) = asked(alloc, words, &mut errors) else {
-        return 2;
+    let line = match asked(alloc, words, errors) {
+        Ok(line) => line,
+        Err(_) => return 2,
     };
     match line {
-        Line::Run { journal, save } => match file_of(rt, alloc, save) {
-            Ok(mut file) => run_on(alloc, journal, input, output, &mut file, errors),
-            Err(failure) => failure.complain(errors),
-        },
+        Line::Run { journal, save } => { run_line(rt, alloc, journal, save, input, output, errors) }
         Line::Serve {
             journal,
             save,
             watch,
             partners,
-        } => match file_of(rt, alloc, save) {
-            Ok(mut file) => serve_words(
-                rt,
-                alloc,
-                journal,
-                watch,
-                partners.as_slice(),
-                output,
-                &mut file,
-                errors,
-            ),
-            Err(failure) => failure.complain(errors),
-        },
-        Line::Audit { file } => match fs::open(rt, file) {
-            Ok(file) => audit_on(alloc, file, output, errors),
-            Err(_) => Failure::Read.complain(errors),
-        },
-        Line::Verify { file } => match fs::open(rt, file) {
-            Ok(file) => verify_on(alloc, file, output, errors),
-            Err(_) => Failure::Read.complain(errors),
-        },
-        Line::Explain { file } => match fs::open(rt, file) {
-            Ok(opened) => explain_on(alloc, file, opened, output, errors),
-            Err(error) => unread(file, error, errors),
-        },
+        } => serve_line(
+            rt,
+            alloc,
+            journal,
+            save,
+            watch,
+            partners.as_slice(),
+            output,
+            errors,
+        ),
+        Line::Audit { file } => audit_line(rt, alloc, file, output, errors),
+        Line::Verify { file } => verify_line(rt, alloc, file, output, errors),
+        Line::Explain { file } => explain_line(rt, alloc, file, output, errors),
+    }
+}
+
+// `run`, with the file that the journal is to be saved in.
+fn run_line<Rt: Files, R: Read, W: Write, E: Write>(
+    rt: &Rt,
+    alloc: Global,
+    journal: usize,
+    save: Option<&str>,
+    input: &mut Source<R>,
+    output: &mut Sink<W>,
+    errors: &mut Sink<E>,
+) -> u8
+    requires reads { input.old.faults < 2 ^ 64 - 1 }
+    requires writes { output.old.faults < 2 ^ 64 - 1 }
+    ensures { EndsBy (RunsLine journal (option_map (λ s. s.now) save.entry) input.old input.new output.old
+        output.new) result errors.old errors.new }
+{
+    match file_of(rt, alloc, save) {
+        Ok(mut file) => run_on(alloc, journal, input, output, &mut file, errors),
+        Err(failure) => ended(Err(failure), errors),
+    }
+}
+
+// `serve`, with the file that the journal is to be saved in.
+fn serve_line<
+    Rt: Files
+        + Net<Listener = TcpListener, Stream = TcpStream>
+        + SystemClock
+        + Threads
+        + Wait
+        + Clone
+        + Drop
+        + Send
+        + Sync
+        + 'static,
+    W: Write,
+    E: Write,
+>(
+    rt: &Rt,
+    alloc: Global,
+    journal: usize,
+    save: Option<&str>,
+    watch: Option<&str>,
+    partners: &[&str],
+    output: &mut Sink<W>,
+    errors: &mut Sink<E>,
+) -> u8
+    ensures { EndsBy (ServesLine journal (option_map (λ s. s.now) save.entry)
+        (map (λ w. w.now) partners.now) output.old output.new) result errors.old errors.new }
+{
+    match file_of(rt, alloc, save) {
+        Ok(mut file) => serve_words(
+            rt, alloc, journal, watch, partners, output, &mut file, errors,
+        ),
+        Err(failure) => ended(Err(failure), errors),
+    }
+}
+
+// `audit`, of the journal in a file.
+fn audit_line<Rt: Files, W: Write, E: Write>(
+    rt: &Rt,
+    alloc: Global,
+    file: &str,
+    output: &mut Sink<W>,
+    errors: &mut Sink<E>,
+) -> u8
+    ensures { EndsBy (AuditsLine output.old output.new) result errors.old errors.new }
+{
+    match fs::open(rt, file) {
+        Ok(file) => audit_on(alloc, &mut Source::new(file), output, errors),
+        Err(_) => ended(Err(Failure::Read), errors),
+    }
+}
+
+// `verify`, of the program in a file.
+fn verify_line<Rt: Files, W: Write, E: Write>(
+    rt: &Rt,
+    alloc: Global,
+    file: &str,
+    output: &mut Sink<W>,
+    errors: &mut Sink<E>,
+) -> u8
+    ensures { EndsBy (VerifiesLine output.old output.new) result errors.old errors.new }
+{
+    match fs::open(rt, file) {
+        Ok(file) => verify_on(alloc, &mut Source::new(file), output, errors),
+        Err(_) => ended(Err(Failure::Read), errors),
+    }
+}
+
+// `explain`, of the program in a file.
+fn explain_line<Rt: Files, W: Write, E: Write>(
+    rt: &Rt,
+    alloc: Global,
+    file: &str,
+    output: &mut Sink<W>,
+    errors: &mut Sink<E>,
+) -> u8
+    ensures { ExplainsLine output.old output.new result errors.old errors.new }
+{
+    match fs::open(rt, file) {
+        Ok(opened) => explain_on(alloc, file, &mut Source::new(opened), output, errors),
+        Err(error) => unread(file, &error, errors),
     }
 }

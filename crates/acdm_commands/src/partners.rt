@@ -1,20 +1,29 @@
 //! The command `serve`, over the listeners that it is handed.
-ghost use Rattle.std.specs.Prelude.{◌≡◌, ◌+◌, ◌≤◌, IfOk, length, map, sum_by, vec_len};
-ghost use Rattle.std.specs.List.{All};
+ghost use Rattle.std.specs.Prelude.{◌≡◌, ◌+◌, ◌≤◌, ◌++◌, false, IfOk, IfErr, OnOk, length, map, sum_by};
+ghost use Rattle.std.specs.Prelude.{vec_len};
+ghost use Rattle.std.specs.List.{All, flat_map};
+ghost use Rattle.std.specs.Net.Text.{socket_text};
 ghost use Rattle.acdm_board.specs.Desk.{row_of};
-ghost use Rattle.acdm_commands.specs.Served.{end_text};
-ghost use Rattle.acdm_sessions.specs.Passes.{BeginsWith, IsShown};
+ghost use Rattle.acdm_commands.specs.Partners.{Announces, AnnouncesOne, FailsToTell, TellsPartners};
+ghost use Rattle.acdm_commands.specs.Partners.{IsOfAccepting, closed_text};
+ghost use Rattle.acdm_commands.specs.Partners.{end_text, listen_text, session_text};
+ghost use Rattle.acdm_failures.specs.declared.failure.ServeError.TheVariants.{Memory};
+ghost use Rattle.acdm_sessions.specs.Passes.{BeginsWith, IsShown, made_since};
 ghost use Rattle.acdm_sessions.specs.Sessions.{HaveEnded, HaveServed, new_session, session_end};
 ghost use Rattle.acdm_sessions.specs.Sessions.{session_left, session_start};
+ghost use Rattle.acdm_wire.specs.Writes.{Writes};
 
 use acdm_board::Desk;
 use acdm_failures::ServeError;
 use acdm_milestones::Role;
-use acdm_sessions::{Clock, Closed, End, Gate, Session, Sink, Source, run_sessions};
+use acdm_sessions::{
+    Clock, Closed, End, Ended, Gate, RunError, Session, Sink, Source, run_sessions,
+};
+use acdm_wire::{Text, write_out, write_whole};
 use bpf_helpers::Helpers;
 use std::alloc::Global;
 use std::io::Write;
-use std::net::{TcpListener, TcpStream};
+use std::net::{SocketAddr, TcpListener, TcpStream};
 use std::sync::Wait;
 use std::thread::Threads;
 
@@ -45,7 +54,7 @@ pub fn serve_on<
     alloc: Global,
     partners: Vec<(Role, TcpListener, C)>,
     desk: Desk<H>,
-    writer: &mut W,
+    writer: &mut Sink<W>,
 ) -> Result<Closed<H, TcpStream, TcpStream, C>, ServeError>
     requires few { vec_len partners ≤ 64 }
     ensures sum { IfOk result (λ c. length c.desk.history
@@ -58,26 +67,41 @@ pub fn serve_on<
     ensures begins { IfOk result (λ c. BeginsWith desk.history c.desk.history) }
     ensures shown { IfOk result (λ c. All (λ e. IsShown (length desk.history) c.desk e.number
         e.role e.calls e.torn e.pass) c.sessions.items) }
+
+    // Where no session is torn, its own entries are all that it has in the closed journal since the
+    // opening.
+    ensures own { IfOk result (λ c. All (λ e. e.torn ≡ false) c.sessions.items → All (λ e. e.pass.own
+        ≡ made_since (length desk.history) c.desk.history e.number) c.sessions.items) }
+    ensures tells { IfOk result (λ c. TellsPartners (map (λ p. p.0) partners.items)
+        (flat_map (λ e. session_text e.number e.calls e.end e.torn) c.sessions.items)
+        (length c.desk.history) writer.old writer.new) }
+    ensures fails { IfErr result (FailsToTell writer.old writer.new) }
 {
     let sessions = arrived(alloc, partners, writer)?;
     let closed = closed_by(rt, alloc, desk, sessions)?;
-    told(closed, writer)
+    match tell(&closed, writer) {
+        Ok(()) => Ok(closed),
+        Err(_) => Err(ServeError::Write),
+    }
 }
 
 // Tells of the listeners, and accepts a partner on each.
 fn arrived<C: Clock + Drop, W: Write>(
     alloc: Global,
     partners: Vec<(Role, TcpListener, C)>,
-    writer: &mut W,
+    writer: &mut Sink<W>,
 ) -> Result<Vec<Session<TcpStream, TcpStream, C>>, ServeError>
+    requires few { vec_len partners ≤ 64 }
     ensures len { IfOk result (λ sessions. vec_len sessions ≡ vec_len partners) }
     ensures roles { IfOk result (λ sessions. map (λ s. s.role) sessions.items
         ≡ map (λ p. p.0) partners.items) }
     ensures starts { IfOk result (λ sessions. map (λ s. session_start s.role s.reader s.writer
         (C.gives s.clock)) sessions.items
         ≡ map (λ p. new_session p.0 (C.gives p.2)) partners.items) }
+    ensures tells { OnOk result (Announces (map (λ p. p.0) partners.items) writer.old writer.new) }
+    ensures fails { IfErr result (FailsToTell writer.old writer.new) }
 {
-    announce(&partners, writer)?;
+    announce(alloc, partners.as_slice(), writer)?;
     accept_all(alloc, partners)
 }
 
@@ -99,6 +123,9 @@ fn closed_by<Rt: Threads + Wait + Sync, H: Helpers + Drop + Send, C: Clock + Dro
     ensures begins { IfOk result (λ c. BeginsWith desk.history c.desk.history) }
     ensures shown { IfOk result (λ c. All (λ e. IsShown (length desk.history) c.desk e.number
         e.role e.calls e.torn e.pass) c.sessions.items) }
+    ensures own { IfOk result (λ c. All (λ e. e.torn ≡ false) c.sessions.items → All (λ e. e.pass.own
+        ≡ made_since (length desk.history) c.desk.history e.number) c.sessions.items) }
+    ensures fails { IfErr result IsOfAccepting }
 {
     match run_sessions(rt, alloc, desk, sessions, &Open) {
         Ok(closed) => Ok(closed),
@@ -106,33 +133,64 @@ fn closed_by<Rt: Threads + Wait + Sync, H: Helpers + Drop + Send, C: Clock + Dro
     }
 }
 
-// Tells of the sessions that have ended.
-fn told<H: Helpers + Drop, C: Drop, W: Write>(
-    closed: Closed<H, TcpStream, TcpStream, C>,
-    writer: &mut W,
-) -> Result<Closed<H, TcpStream, TcpStream, C>, ServeError>
-    ensures same { IfOk result (λ c. c ≡ closed) }
+// The line of a listener.
+fn listen_line(
+    alloc: Global,
+    number: usize,
+    role: Role,
+    address: SocketAddr,
+) -> Result<Vec<u8>, ServeError>
+    ensures text { IfOk result (λ line.
+        line.items ≡ listen_text number role (socket_text address)) }
+    ensures memory { IfErr result (λ error. error ≡ Memory) }
 {
-    tell(&closed, writer)?;
-    Ok(closed)
+    let mut line = Vec::new(alloc);
+    let role = role.name();
+    // A text in memory is written unless there is none.
+    match writeln!(line, "listen {number} {role} {address}") {
+        Ok(()) => Ok(line),
+        Err(_) => Err(ServeError::Memory),
+    }
+}
+
+// Writes the line of a listener.
+fn announce_one<W: Write>(
+    alloc: Global,
+    number: usize,
+    role: Role,
+    listener: &TcpListener,
+    writer: &mut Sink<W>,
+) -> Result<(), ServeError>
+    ensures { AnnouncesOne number role writer.old writer.new result }
+{
+    let Ok(address) = listener.local_addr() else {
+        return Err(ServeError::Accept(number));
+    };
+    let line = listen_line(alloc, number, role, address)?;
+    match write_out(writer, line.as_slice()) {
+        Ok(()) => Ok(()),
+        Err(_) => Err(ServeError::Write),
+    }
 }
 
 // Writes the line of each listener.
 fn announce<C, W: Write>(
+    alloc: Global,
     partners: &[(Role, TcpListener, C)],
-    writer: &mut W,
-) -> Result<(), ServeError> {
-    for (at, (role, listener, _)) in partners.iter().enumerate() {
-        let number = at + 1;
-        let Ok(address) = listener.local_addr() else {
-            return Err(ServeError::Accept(number));
-        };
-        let role = role.name();
-        if writeln!(writer, "listen {number} {role} {address}").is_err() {
-            return Err(ServeError::Write);
-        }
+    writer: &mut Sink<W>,
+) -> Result<(), ServeError>
+    requires few { length partners.now ≤ 64 }
+    ensures tells { OnOk result (Announces (map (λ p. p.0) partners.now) writer.old writer.new) }
+    ensures fails { IfErr result (FailsToTell writer.old writer.new) }
+{
+    let mut number = 1;
+    let mut rest = partners;
+    while let Some(((role, listener, _), more)) = rest.split_first() {
+        announce_one(alloc, number, *role, listener, writer)?;
+        number += 1;
+        rest = more;
     }
-    writer.flush().map_err(|_| ServeError::Write)
+    Ok(())
 }
 
 // Accepts a partner on each listener, in order.
@@ -146,6 +204,7 @@ fn accept_all<C: Clock + Drop>(
     ensures starts { IfOk result (λ sessions. map (λ s. session_start s.role s.reader s.writer
         (C.gives s.clock)) sessions.items
         ≡ map (λ p. new_session p.0 (C.gives p.2)) partners.items) }
+    ensures fails { IfErr result IsOfAccepting }
 {
     let Ok(mut sessions) = Vec::with_capacity(alloc, partners.len()) else {
         return Err(ServeError::Memory);
@@ -165,6 +224,7 @@ fn accept<C: Clock + Drop>(
     ensures role { IfOk result (λ session. session.role ≡ partner.0) }
     ensures start { IfOk result (λ s. session_start s.role s.reader s.writer (C.gives s.clock)
         ≡ new_session partner.0 (C.gives partner.2)) }
+    ensures fails { IfErr result IsOfAccepting }
 {
     let (role, listener, clock) = partner;
     let Ok((stream, _)) = listener.accept() else {
@@ -199,19 +259,60 @@ fn end_name(end: End, torn: bool) -> &'static str
     }
 }
 
+// The line of a session that has ended.
+fn session_line(number: u8, calls: u64, end: End, torn: bool) -> Text
+    ensures { result ≡ session_text number calls end torn }
+{
+    let mut line = Text::new();
+    line.push(b"session ");
+    line.push_number(u64::from(number));
+    line.push(b" ");
+    line.push_number(calls);
+    line.push(b" ");
+    line.push(end_name(end, torn).as_bytes());
+    line.push(b"\n");
+    line
+}
+
+// The last line.
+fn closed_line(entries: u64) -> Text
+    ensures { result ≡ closed_text entries }
+{
+    let mut line = Text::new();
+    line.push(b"closed ");
+    line.push_number(entries);
+    line.push(b"\n");
+    line
+}
+
+// Writes the line of each session.
+fn tell_sessions<C: Drop, W: Write>(
+    sessions: &[Ended<TcpStream, TcpStream, C>],
+    writer: &mut Sink<W>,
+) -> Result<(), RunError>
+    ensures { Writes writer.old writer.new
+        (flat_map (λ e. session_text e.number e.calls e.end e.torn) sessions.now) result }
+{
+    let mut rest = sessions;
+    while let Some((session, more)) = rest.split_first() {
+        let line = session_line(session.number, session.calls, session.end, session.torn);
+        write_whole(writer, line.as_slice())?;
+        rest = more;
+    }
+    Ok(())
+}
+
 // Writes the line of each session, and how many entries there are.
 fn tell<H: Helpers + Drop, C: Drop, W: Write>(
     closed: &Closed<H, TcpStream, TcpStream, C>,
-    writer: &mut W,
-) -> Result<(), ServeError> {
-    for session in &closed.sessions {
-        let end = end_name(session.end, session.torn);
-        if writeln!(writer, "session {} {} {end}", session.number, session.calls).is_err() {
-            return Err(ServeError::Write);
-        }
-    }
-    if writeln!(writer, "closed {}", closed.desk.len()).is_err() {
-        return Err(ServeError::Write);
-    }
-    writer.flush().map_err(|_| ServeError::Write)
+    writer: &mut Sink<W>,
+) -> Result<(), RunError>
+    ensures writes { Writes writer.old writer.new
+        (flat_map (λ e. session_text e.number e.calls e.end e.torn) closed.now.sessions.items
+        ++ closed_text (length closed.now.desk.history)) result }
+    ensures flushed { OnOk result (writer.new.waits ≡ false) }
+{
+    tell_sessions(closed.sessions.as_slice(), writer)?;
+    let line = closed_line(closed.desk.len());
+    write_out(writer, line.as_slice())
 }

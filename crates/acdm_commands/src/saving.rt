@@ -1,8 +1,10 @@
 //! The saving of a desk's journal, as text.
-ghost use Rattle.std.specs.Prelude.{◌≡◌, false, OnOk};
+ghost use Rattle.std.specs.Prelude.{◌≡◌, ◌≤◌, false, Err, IfOk, IfErr, OnOk, Some, option_map};
 ghost use Rattle.acdm_board.specs.Desk.{row_of};
-ghost use Rattle.acdm_commands.specs.Served.{IsSaved};
+ghost use Rattle.acdm_commands.specs.Completed.{FailsToMake, IsUnwritten};
+ghost use Rattle.acdm_commands.specs.Served.{FailsToSave, IsSaved};
 ghost use Rattle.acdm_journal.specs.Whole.{Saves};
+ghost use Rattle.acdm_journal.specs.Written.{HasFailed, SomeFailed};
 
 use acdm_board::Desk;
 use acdm_failures::Failure;
@@ -23,7 +25,10 @@ pub(crate) fn file_of<Rt: Files>(
     rt: &Rt,
     alloc: Global,
     path: Option<&str>,
-) -> Result<Option<Sink<BufWriter<Rt::File>>>, Failure> {
+) -> Result<Option<Sink<BufWriter<Rt::File>>>, Failure>
+    ensures made { IfOk result (IsUnwritten (option_map (λ p. p.now) path.entry)) }
+    ensures fails { IfErr result (FailsToMake (option_map (λ p. p.now) path.entry)) }
+{
     let Some(path) = path else {
         return Ok(None);
     };
@@ -37,13 +42,15 @@ pub(crate) fn file_of<Rt: Files>(
 }
 
 /// Writes the journal of a desk, one line for each entry, to a writer if there is one, and flushes
-/// it.
+/// it. `Save` where that failed, `Memory` where it was refused.
 pub(crate) fn save<H: Helpers + Drop, F: Write + Drop>(
     alloc: Global,
     desk: &mut Desk<H>,
     saved: &mut Option<Sink<F>>,
 ) -> Result<(), Failure>
-    ensures { OnOk result (IsSaved desk.old.history saved.old saved.new) }
+    ensures saves { OnOk result (IsSaved desk.old.history saved.old saved.new) }
+    ensures fails { IfErr result (FailsToSave saved.old) }
+    ensures failed { result ≡ Err Failure.Save → SomeFailed saved.old saved.new }
 {
     let Some(writer) = saved else {
         return Ok(());
@@ -64,6 +71,8 @@ fn write_journal<H: Helpers + Drop, F: Write>(
     requires { row.now ≡ row_of desk.old }
     ensures saves { OnOk result (Saves desk.old.history writer.old.log writer.new.log) }
     ensures flushed { OnOk result (writer.new.waits ≡ false) }
+    ensures fails { IfErr result (FailsToSave (Some writer.old)) }
+    ensures failed { result ≡ Err Failure.Save → HasFailed writer.old writer.new }
 {
     let count = desk.len();
     let mut number = 0;

@@ -1,6 +1,10 @@
 //! The command `serve`, from its words on.
-ghost use Rattle.std.specs.Prelude.{◌≤◌, IfOk, OnOk, vec_len};
-ghost use Rattle.acdm_commands.specs.Served.{Closes};
+ghost use Rattle.std.specs.Prelude.{◌≡◌, ◌≤◌, IfOk, IfErr, OnOk, Some, map, vec_len};
+ghost use Rattle.acdm_commands.specs.Partners.{FailsToOpen, FailsToServe, FailsToServeAll};
+ghost use Rattle.acdm_commands.specs.Partners.{ServesNamed, ServesPartners, ServesWordsTo, role_in};
+ghost use Rattle.acdm_failures.specs.Failures.{EndsBy};
+ghost use Rattle.acdm_judging.specs.Helpers.{helpers as known};
+ghost use Rattle.acdm_sessions.specs.Sessions.{new_session};
 
 use crate::addresses::{Partner, listen};
 use crate::known::{minutes_later, taxi_minutes, turn_round_minutes};
@@ -8,7 +12,7 @@ use crate::partners::serve_on;
 use crate::saving::save;
 use acdm_board::Desk;
 use acdm_displays::Displays;
-use acdm_failures::Failure;
+use acdm_failures::{Failure, ended};
 use acdm_judging::bank_of;
 use acdm_milestones::Role;
 use acdm_row::Row;
@@ -38,23 +42,26 @@ pub(crate) fn serve_words<
         + Send
         + Sync
         + 'static,
-    W: Write + Drop,
+    W: Write,
     F: Write + Drop,
-    E: Write + Drop,
+    E: Write,
 >(
     rt: &Rt,
     alloc: Global,
     journal: usize,
     watch: Option<&str>,
     words: &[&str],
-    writer: W,
+    writer: &mut Sink<W>,
     saved: &mut Option<Sink<F>>,
-    errors: E,
-) -> u8 {
-    match serve(rt, alloc, journal, watch, words, writer, saved) {
-        Ok(()) => 0,
-        Err(failure) => failure.complain(errors),
-    }
+    errors: &mut Sink<E>,
+) -> u8
+    ensures { EndsBy (ServesWordsTo known journal (map (λ w. w.now) words.now) writer.old writer.new
+        saved.old saved.new) result errors.old errors.new }
+{
+    ended(
+        serve(rt, alloc, journal, watch, words, writer, saved),
+        errors,
+    )
 }
 
 // Makes the known helpers.
@@ -68,7 +75,7 @@ fn serve<
         + Send
         + Sync
         + 'static,
-    W: Write + Drop,
+    W: Write,
     F: Write + Drop,
 >(
     rt: &Rt,
@@ -76,9 +83,12 @@ fn serve<
     journal: usize,
     watch: Option<&str>,
     words: &[&str],
-    writer: W,
+    writer: &mut Sink<W>,
     saved: &mut Option<Sink<F>>,
-) -> Result<(), Failure> {
+) -> Result<u8, Failure>
+    ensures { ServesWordsTo known journal (map (λ w. w.now) words.now) writer.old writer.new
+        saved.old saved.new result }
+{
     let kinds: Code = Box::new(alloc, turn_round_minutes)?;
     let stands: Code = Box::new(alloc, taxi_minutes)?;
     let minutes: Code = Box::new(alloc, minutes_later)?;
@@ -98,7 +108,7 @@ fn serve_with<
         + Sync
         + 'static,
     H: Helpers + Drop + Send,
-    W: Write + Drop,
+    W: Write,
     F: Write + Drop,
 >(
     rt: &Rt,
@@ -107,11 +117,15 @@ fn serve_with<
     journal: usize,
     watch: Option<&str>,
     words: &[&str],
-    writer: W,
+    writer: &mut Sink<W>,
     saved: &mut Option<Sink<F>>,
-) -> Result<(), Failure> {
+) -> Result<u8, Failure>
+    ensures { ServesWordsTo (H.entries helpers) journal (map (λ w. w.now) words.now) writer.old
+        writer.new saved.old saved.new result }
+{
     let desk = Desk::new(alloc, helpers, journal)?;
-    serve_at(rt, alloc, desk, watch, words, writer, saved)
+    serve_at(rt, alloc, desk, watch, words, writer, saved)?;
+    Ok(0)
 }
 
 // Serves a desk at the addresses of the words, and of displays.
@@ -126,7 +140,7 @@ fn serve_at<
         + Sync
         + 'static,
     H: Helpers + Drop + Send,
-    W: Write + Drop,
+    W: Write,
     F: Write + Drop,
 >(
     rt: &Rt,
@@ -134,10 +148,13 @@ fn serve_at<
     desk: Desk<H>,
     watch: Option<&str>,
     words: &[&str],
-    writer: W,
+    writer: &mut Sink<W>,
     saved: &mut Option<Sink<F>>,
 ) -> Result<(), Failure>
-    ensures { OnOk result (Closes desk saved.old saved.new) }
+    ensures serves { OnOk result (ServesNamed desk (map (λ w. w.now) words.now) writer.old writer.new
+        saved.old saved.new) }
+    ensures fails { IfErr result (FailsToServe (map (λ w. w.now) words.now) writer.old writer.new
+        saved.old) }
 {
     let (partners, displays) = opened(rt, alloc, desk.row(), watch, words)?;
     let ended = serve_all(rt, alloc, partners, desk, writer, saved);
@@ -151,7 +168,10 @@ fn few_partners<'r, Rt: Net<Listener = TcpListener, Stream = TcpStream> + System
     alloc: Global,
     words: &[&str],
 ) -> Result<Vec<Partner<'r, Rt>>, Failure>
-    ensures { IfOk result (λ partners. vec_len partners ≤ 64) }
+    ensures few { IfOk result (λ partners. vec_len partners ≤ 64) }
+    ensures roles { IfOk result (λ partners.
+        map role_in (map (λ w. w.now) words.now) ≡ map (λ p. Some p.0) partners.items) }
+    ensures fails { IfErr result (FailsToOpen (map (λ w. w.now) words.now)) }
 {
     let partners = listen(rt, alloc, words)?;
     if partners.len() > 64 {
@@ -177,11 +197,17 @@ fn opened<
     watch: Option<&str>,
     words: &[&str],
 ) -> Result<(Vec<Partner<'r, Rt>>, Option<Displays>), Failure>
-    ensures { IfOk result (λ opened. vec_len opened.0 ≤ 64) }
+    ensures few { IfOk result (λ opened. vec_len opened.0 ≤ 64) }
+    ensures roles { IfOk result (λ opened.
+        map role_in (map (λ w. w.now) words.now) ≡ map (λ p. Some p.0) opened.0.items) }
+    ensures fails { IfErr result (FailsToOpen (map (λ w. w.now) words.now)) }
 {
     let partners = few_partners(rt, alloc, words)?;
-    let displays = Displays::open(rt, alloc, watch, row)?;
-    Ok((partners, displays))
+    match Displays::open(rt, alloc, watch, row) {
+        Ok(displays) => Ok((partners, displays)),
+        Err(Failure::Memory) => Err(Failure::Memory),
+        Err(_) => Err(Failure::Watch),
+    }
 }
 
 // Closes displays, where there are any.
@@ -196,19 +222,22 @@ fn serve_all<
     Rt: Threads + Wait + Sync,
     H: Helpers + Drop + Send,
     C: Clock + Drop + Send,
-    W: Write + Drop,
+    W: Write,
     F: Write + Drop,
 >(
     rt: &Rt,
     alloc: Global,
     partners: Vec<(Role, TcpListener, C)>,
     desk: Desk<H>,
-    mut writer: W,
+    writer: &mut Sink<W>,
     saved: &mut Option<Sink<F>>,
 ) -> Result<(), Failure>
     requires { vec_len partners ≤ 64 }
-    ensures { OnOk result (Closes desk saved.old saved.new) }
+    ensures serves { OnOk result (ServesPartners desk (map (λ p. p.0) partners.items)
+        (map (λ p. new_session p.0 (C.gives p.2)) partners.items) writer.old writer.new saved.old
+        saved.new) }
+    ensures fails { IfErr result (FailsToServeAll writer.old writer.new saved.old) }
 {
-    let mut closed = serve_on(rt, alloc, partners, desk, &mut writer)?;
+    let mut closed = serve_on(rt, alloc, partners, desk, writer)?;
     save(alloc, &mut closed.desk, saved)
 }

@@ -1,12 +1,13 @@
 //! The command `run`, over the reader and the writers that it is handed.
-ghost use Rattle.std.specs.Prelude.{◌≡◌, ◌-◌, ◌^◌, ◌<◌, false, IfOk, OnOk};
-ghost use Rattle.acdm_commands.specs.Served.{Runs, ServesFromEmpty};
+ghost use Rattle.std.specs.Prelude.{◌-◌, ◌^◌, ◌<◌, IfOk, IfErr};
+ghost use Rattle.acdm_commands.specs.Served.{RunsTo, ServesDesk, Stops};
+ghost use Rattle.acdm_failures.specs.Failures.{EndsBy};
 ghost use Rattle.acdm_judging.specs.Helpers.{helpers as known};
 
 use crate::known::{minutes_later, taxi_minutes, turn_round_minutes};
 use crate::saving::save;
 use acdm_board::Desk;
-use acdm_failures::Failure;
+use acdm_failures::{Failure, ended};
 use acdm_judging::bank_of;
 use acdm_sessions::{Sink, Source, run};
 use bpf_helpers::{Code, Helpers};
@@ -19,23 +20,20 @@ use std::io::{Read, Write};
 ///
 /// The status is 0 where the input was read to its end and the journal was saved, else 2, with a
 /// line on the errors' writer.
-pub fn run_on<R: Read, W: Write, F: Write + Drop, E: Write + Drop>(
+pub fn run_on<R: Read, W: Write, F: Write + Drop, E: Write>(
     alloc: Global,
     journal: usize,
     reader: &mut Source<R>,
     writer: &mut Sink<W>,
     saved: &mut Option<Sink<F>>,
-    errors: E,
+    errors: &mut Sink<E>,
 ) -> u8
     requires reads { reader.old.faults < 2 ^ 64 - 1 }
     requires writes { writer.old.faults < 2 ^ 64 - 1 }
-    ensures runs { result ≡ 0 → Runs known journal reader.old reader.new writer.old writer.new
-        saved.old saved.new }
+    ensures { EndsBy (RunsTo known journal reader.old reader.new writer.old writer.new saved.old
+        saved.new) result errors.old errors.new }
 {
-    match serve(alloc, journal, reader, writer, saved) {
-        Ok(()) => 0,
-        Err(failure) => failure.complain(errors),
-    }
+    ended(serve(alloc, journal, reader, writer, saved), errors)
 }
 
 // Makes the known helpers.
@@ -45,11 +43,11 @@ fn serve<R: Read, W: Write, F: Write + Drop>(
     reader: &mut Source<R>,
     writer: &mut Sink<W>,
     saved: &mut Option<Sink<F>>,
-) -> Result<(), Failure>
+) -> Result<u8, Failure>
     requires reads { reader.old.faults < 2 ^ 64 - 1 }
     requires writes { writer.old.faults < 2 ^ 64 - 1 }
-    ensures { OnOk result (Runs known journal reader.old reader.new writer.old writer.new
-        saved.old saved.new) }
+    ensures { RunsTo known journal reader.old reader.new writer.old writer.new saved.old saved.new
+        result }
 {
     let kinds: Code = Box::new(alloc, turn_round_minutes)?;
     let stands: Code = Box::new(alloc, taxi_minutes)?;
@@ -66,18 +64,19 @@ fn serve_with<H: Helpers + Drop, R: Read, W: Write, F: Write + Drop>(
     reader: &mut Source<R>,
     writer: &mut Sink<W>,
     saved: &mut Option<Sink<F>>,
-) -> Result<(), Failure>
+) -> Result<u8, Failure>
     requires reads { reader.old.faults < 2 ^ 64 - 1 }
     requires writes { writer.old.faults < 2 ^ 64 - 1 }
-    ensures { OnOk result (Runs (H.entries helpers) journal reader.old reader.new writer.old
-        writer.new saved.old saved.new) }
+    ensures { RunsTo (H.entries helpers) journal reader.old reader.new writer.old writer.new
+        saved.old saved.new result }
 {
-    let mut desk = serve_counted(alloc, helpers, journal, reader, writer)?;
-    save(alloc, &mut desk, saved)
+    let mut desk = serve_desk(alloc, helpers, journal, reader, writer)?;
+    save(alloc, &mut desk, saved)?;
+    Ok(0)
 }
 
 // Serves a desk that is empty at first, and has room for so many entries. Answers that desk.
-fn serve_counted<H: Helpers + Drop, R: Read, W: Write>(
+fn serve_desk<H: Helpers + Drop, R: Read, W: Write>(
     alloc: Global,
     helpers: H,
     journal: usize,
@@ -86,9 +85,10 @@ fn serve_counted<H: Helpers + Drop, R: Read, W: Write>(
 ) -> Result<Desk<H>, Failure>
     requires reads { reader.old.faults < 2 ^ 64 - 1 }
     requires writes { writer.old.faults < 2 ^ 64 - 1 }
-    ensures serves { IfOk result (λ desk. ServesFromEmpty (H.entries helpers) journal desk
-        reader.old.log reader.new.log reader.new.ended writer.old.log writer.new.log) }
-    ensures flushed { OnOk result (writer.old.waits ≡ false → writer.new.waits ≡ false) }
+    ensures serves { IfOk result (λ desk. ServesDesk (H.entries helpers) journal desk
+        reader.old reader.new writer.old writer.new) }
+    ensures stops { IfErr result (Stops (H.entries helpers) journal
+        reader.old reader.new writer.old writer.new) }
 {
     let mut desk = Desk::new(alloc, helpers, journal)?;
     run(alloc, reader, writer, &mut desk)?;

@@ -4,9 +4,15 @@ use denote.Param.Send.{IsSend, sendable}
 use denote.Param.SendFields.{declared_send}
 use Rattle.std.proofs.Crossing.{crosses}
 use Rattle.acdm_row.proofs.Crossing.{row_send, row_sync}
-use Rattle.acdm_displays.proofs.displays.Shared.TheSendSync as shared
+use Rattle.acdm_displays.proofs.places.Shared.TheSendSync as shared
 use Rattle.acdm_displays.specs.contracts.displays.Admission as admission
 use Rattle.acdm_displays.specs.contracts.displays.Showing as showing
+use Rattle.acdm_displays.specs.contracts.places.Place as place
+
+place_send : IsSend place.the_row
+place_send =
+    declared_send place.the_type
+    (search (shared.the_send, shared.the_sync, sendable, crosses) depth 20, tt)
 
 pub showing_send : IsSend showing.the_row
 showing_send =
@@ -14,10 +20,7 @@ showing_send =
       search sendable depth 8,
       (
         search (row_send, row_sync, sendable, crosses) depth 20,
-        (
-          search (shared.the_send, shared.the_sync, sendable, crosses) depth 20,
-          (search (sendable, crosses) depth 12, tt),
-        ),
+        (place_send, (search (sendable, crosses) depth 12, tt)),
       ),
     )
 

@@ -1,1 +1,2 @@
 pub mod Displayed
+pub mod Leaving

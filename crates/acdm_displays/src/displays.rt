@@ -1,27 +1,21 @@
 //! Displays, which are sent the journal as text while partners are served.
-ghost use Rattle.std.specs.Prelude.{◌≡◌, [], IfOk, OnOk};
+ghost use Rattle.std.specs.Prelude.{[], IfOk};
 ghost use Rattle.std.specs.Arc.{arc_value};
-ghost use Rattle.acdm_journal.specs.Handed.{handed};
-ghost use Rattle.acdm_displays.specs.Displayed.{Follows, WasSent};
+ghost use Rattle.acdm_displays.specs.Displayed.{WasSent};
 
+use crate::following::{MOST_REFUSALS, Shown, follow};
+use crate::leaving::has_left;
+use crate::places::{Place, Shared};
 use acdm_failures::Failure;
-use acdm_journal::write_entry;
 use acdm_lines::Sink;
 use acdm_row::Row;
-use acdm_watch::Watch;
 use std::alloc::Global;
-use std::io::{BufWriter, ErrorKind, Read, Write};
-use std::net::{Net, SocketAddr, TcpListener, TcpStream};
+use std::io::{self, ErrorKind};
+use std::net::{Net, Shutdown, SocketAddr, TcpListener, TcpStream};
 use std::sync::Arc;
-use std::sync::atomic::{AtomicBool, AtomicU64, Ordering};
+use std::sync::atomic::{AtomicBool, Ordering};
 use std::thread::{self, JoinHandle, Threads};
 use std::time::{Clock as SystemClock, Duration};
-
-/// How many displays are served at once at most. One more is let go at once.
-const MOST_DISPLAYS: u64 = 64;
-
-/// How many bytes are sent at once at most.
-const BUFFER: usize = 65_536;
 
 /// After how many milliseconds it is looked for more, and for a further display.
 const PAUSE: u64 = 25;
@@ -32,14 +26,11 @@ const PATIENCE: u64 = 30_000;
 /// For how many pauses displays are waited for at the end: 5 seconds.
 const LAST_PAUSES: u64 = 200;
 
-// What the threads of displays share.
-#[derive(Drop)]
-struct Shared {
-    // Whether the last entry was made.
-    closing: AtomicBool,
-    // How many displays are served.
-    served: AtomicU64,
-}
+/// How often it is looked at the end for displays that wait to be accepted, at most.
+const LAST_LOOKS: u64 = 256;
+
+/// For how many pauses a display that was sent all is waited for, until it is let go: a second.
+const PARTING_PAUSES: u64 = 40;
 
 // What a thread does.
 trait Task: Drop + Send {
@@ -56,7 +47,7 @@ fn begin<Rt: Threads, T: Task + 'static>(rt: &Rt, task: T) -> Option<JoinHandle<
 struct Showing {
     alloc: Global,
     row: Arc<Row>,
-    shared: Arc<Shared>,
+    place: Place,
     stream: TcpStream,
 }
 
@@ -65,11 +56,11 @@ impl Task for Showing {
         let Showing {
             alloc,
             row,
-            shared,
+            place,
             stream,
         } = self;
-        let _ = show(alloc, &row, &shared.closing, stream);
-        shared.served.fetch_sub(1, Ordering::SeqCst);
+        let _ = show(alloc, &row, &place.shared.closing, stream);
+        drop(place);
     }
 }
 
@@ -86,14 +77,29 @@ fn show(
         return Err(Failure::Watch);
     };
     let pause = Duration::from_millis(PAUSE);
-    let patience = Duration::from_millis(PATIENCE);
+    let patience = Duration::from_millis(PATIENCE / MOST_REFUSALS);
     if stream.set_read_timeout(Some(pause)).is_err() {
         return Err(Failure::Watch);
     }
     if stream.set_write_timeout(Some(patience)).is_err() {
         return Err(Failure::Watch);
     }
-    follow(alloc, row, closing, &mut reader, Sink::new(stream))
+    let shown = follow(alloc, row, closing, &mut reader, Sink::new(stream))?;
+    part(&mut reader);
+    Ok(shown)
+}
+
+// Tells a display that no more comes, and waits a little for it to leave. A connection that is
+// closed before what the display sent was read is cut off, with what it was not handed yet.
+fn part(stream: &mut TcpStream) {
+    if stream.shutdown(Shutdown::Write).is_err() {
+        return;
+    }
+    for _ in 0..PARTING_PAUSES {
+        if has_left(stream) {
+            return;
+        }
+    }
 }
 
 // The accepting of displays.
@@ -109,6 +115,7 @@ struct Admission<K: Drop> {
 impl<K: SystemClock + Threads + Drop + Send> Task for Admission<K> {
     fn run(self) {
         self.admit();
+        self.admit_last();
     }
 }
 
@@ -119,31 +126,41 @@ impl<K: SystemClock + Threads + Drop> Admission<K> {
             if self.shared.closing.load(Ordering::SeqCst) {
                 return;
             }
-            match self.listener.accept() {
-                Ok((stream, _)) => {
-                    let _ = self.admit_one(stream);
-                }
-                Err(_) => thread::sleep(&self.rt, Duration::from_millis(PAUSE)),
+            if self.accept().is_err() {
+                thread::sleep(&self.rt, Duration::from_millis(PAUSE));
             }
         }
     }
 
-    // Starts a thread for a display, where there are not too many.
-    fn admit_one(&self, stream: TcpStream) -> Result<(), Failure> {
-        if self.shared.served.load(Ordering::SeqCst) >= MOST_DISPLAYS {
-            return Ok(());
+    // Accepts the displays that have connected before.
+    fn admit_last(&self) {
+        for _ in 0..LAST_LOOKS {
+            match self.accept() {
+                Err(error) if error.kind() == ErrorKind::WouldBlock => return,
+                _ => {}
+            }
         }
+    }
+
+    // Accepts a display, if one waits.
+    fn accept(&self) -> io::Result<()> {
+        let (stream, _) = self.listener.accept()?;
+        let _ = self.admit_one(stream);
+        Ok(())
+    }
+
+    // Starts a thread for a display, where a place is left.
+    fn admit_one(&self, stream: TcpStream) -> Result<(), Failure> {
+        let Some(place) = Place::take(&self.shared)? else {
+            return Ok(());
+        };
         let showing = Showing {
             alloc: self.alloc,
             row: Arc::try_clone(&self.row)?,
-            shared: Arc::try_clone(&self.shared)?,
+            place,
             stream,
         };
-        self.shared.served.fetch_add(1, Ordering::SeqCst);
-        let started = begin(&self.rt, showing);
-        if started.is_none() {
-            self.shared.served.fetch_sub(1, Ordering::SeqCst);
-        }
+        let _ = begin(&self.rt, showing);
         Ok(())
     }
 }
@@ -195,11 +212,7 @@ impl Displays {
         if listener.set_nonblocking(true).is_err() {
             return Err(Failure::Watch);
         }
-        let shared = Shared {
-            closing: AtomicBool::new(false),
-            served: AtomicU64::new(0),
-        };
-        let shared = Arc::new(alloc, shared)?;
+        let shared = Shared::new(alloc)?;
         let admission = Admission {
             rt: rt.clone()?,
             alloc,
@@ -213,129 +226,17 @@ impl Displays {
         }
     }
 
-    /// Has displays sent what there is yet, and lets them go. A display that has not taken it after
-    /// 5 seconds is not waited for.
+    /// Has displays sent what there is yet, those too that have connected by now, and lets them go.
+    /// A display that has not taken it after 5 seconds is not waited for.
     pub fn close<Rt: SystemClock + Threads>(self, rt: &Rt) {
         let Displays { shared, admitting } = self;
         shared.closing.store(true, Ordering::SeqCst);
         admitting.join(rt);
         for _ in 0..LAST_PAUSES {
-            if shared.served.load(Ordering::SeqCst) == 0 {
+            if shared.taken.load(Ordering::SeqCst) == 0 {
                 return;
             }
             thread::sleep(rt, Duration::from_millis(PAUSE));
         }
     }
-}
-
-/// What was shown to a display: the watch that saw it, and the writer that took it.
-#[derive(Drop)]
-pub struct Shown<W: Write> {
-    pub watch: Watch,
-    pub writer: Sink<W>,
-}
-
-/// Writes the entries of a row as text, from the first one on and as they come, until the last one
-/// was made or the reader has ended. It takes no lock, and waits for nothing but the reader, which
-/// is read from after all entries in sight were written; what it gives is dropped.
-///
-/// It gives back the watch and the writer: the writer took the text of what the watch has seen, and
-/// nothing else, whatever writer it is. What a pass of the same row has seen is the same as far as
-/// the shorter goes, which `Watch::meet` tells.
-///
-/// `Save` where the writer failed, `Memory` where it was refused.
-pub fn follow<R: Read, W: Write + Drop>(
-    alloc: Global,
-    row: &Arc<Row>,
-    closing: &AtomicBool,
-    reader: &mut R,
-    writer: Sink<W>,
-) -> Result<Shown<W>, Failure>
-    ensures { IfOk result (WasSent (arc_value row.now) writer.log) }
-{
-    let mut watch = Watch::new(alloc, row)?;
-    let Ok(mut buffered) = BufWriter::with_capacity(alloc, BUFFER, writer) else {
-        return Err(Failure::Memory);
-    };
-    send_on(alloc, &mut watch, row, closing, reader, &mut buffered)?;
-    let _board = watch.board();
-    let Ok(writer) = buffered.into_inner() else {
-        return Err(Failure::Save);
-    };
-    Ok(Shown { watch, writer })
-}
-
-// Writes what a watch sees, as it comes, until the last entry was made or the reader has ended.
-fn send_on<R: Read, W: Write + Drop>(
-    alloc: Global,
-    watch: &mut Watch,
-    row: &Row,
-    closing: &AtomicBool,
-    reader: &mut R,
-    writer: &mut BufWriter<Sink<W>>,
-) -> Result<(), Failure>
-    requires { row.now ≡ watch.old.row }
-    ensures row { watch.new.row ≡ watch.old.row }
-    ensures sent { OnOk result (Follows watch.old.seen watch.new.seen
-        (handed writer.old) (handed writer.new)) }
-{
-    for _ in 0..u64::MAX {
-        let is_last = closing.load(Ordering::SeqCst);
-        send_all(alloc, watch, row, writer)?;
-        if is_last || has_left(reader) {
-            return Ok(());
-        }
-    }
-    Ok(())
-}
-
-// Whether a display has left. What it sends is dropped.
-fn has_left<R: Read>(reader: &mut R) -> bool {
-    let mut heard = [0u8; 512];
-    match reader.read(&mut heard) {
-        Ok(count) => count == 0,
-        Err(error) => error.kind() != ErrorKind::WouldBlock,
-    }
-}
-
-// Writes all entries that are in sight.
-fn send_all<W: Write + Drop>(
-    alloc: Global,
-    watch: &mut Watch,
-    row: &Row,
-    writer: &mut BufWriter<Sink<W>>,
-) -> Result<(), Failure>
-    requires { row.now ≡ watch.old.row }
-    ensures row { watch.new.row ≡ watch.old.row }
-    ensures sent { OnOk result (Follows watch.old.seen watch.new.seen
-        (handed writer.old) (handed writer.new)) }
-{
-    for _ in watch.len()..row.len() {
-        if !send_next(alloc, watch, row, writer)? {
-            break;
-        }
-    }
-    if writer.flush().is_err() {
-        return Err(Failure::Save);
-    }
-    Ok(())
-}
-
-// Writes the next entry, where it is in sight, and says whether it was.
-fn send_next<W: Write + Drop>(
-    alloc: Global,
-    watch: &mut Watch,
-    row: &Row,
-    writer: &mut BufWriter<Sink<W>>,
-) -> Result<bool, Failure>
-    requires { row.now ≡ watch.old.row }
-    ensures row { watch.new.row ≡ watch.old.row }
-    ensures sent { OnOk result (Follows watch.old.seen watch.new.seen
-        (handed writer.old) (handed writer.new)) }
-{
-    let Some(entry) = watch.take_next(row)? else {
-        return Ok(false);
-    };
-    write_entry(alloc, entry, writer)?;
-    Ok(true)
 }

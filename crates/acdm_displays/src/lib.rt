@@ -2,5 +2,9 @@
 #![tactic(auto)]
 
 mod displays;
+mod following;
+mod leaving;
+mod places;
 
-pub use displays::{Displays, Shown, follow};
+pub use displays::Displays;
+pub use following::{Shown, follow};

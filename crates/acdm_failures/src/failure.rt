@@ -1,8 +1,11 @@
 //! What keeps a command from its work.
-ghost use Rattle.std.specs.Prelude.{◌≡◌};
+ghost use Rattle.std.specs.Prelude.{◌≡◌, ◌≤◌, ◌++◌, [], ◌∷◌, length};
+ghost use Rattle.std.specs.Fmt.{decimal};
+ghost use Rattle.acdm_failures.specs.Failures.{Complains, Ends, failure_text};
 
 use acdm_journal::WriteError;
-use acdm_lines::RunError;
+use acdm_lines::{RunError, Sink};
+use acdm_wire::{Text, write_out};
 use std::alloc::{AllocError, AllocFailed};
 use std::io::Write;
 
@@ -38,23 +41,67 @@ pub enum ServeError {
     Memory,
 }
 
+// A line of these words.
+fn line(words: &[u8]) -> Text
+    requires { length words.now ≤ 60 }
+    ensures { result ≡ words.now ++ 10 ∷ [] }
+{
+    let mut text = Text::new();
+    text.push(words);
+    text.push(b"\n");
+    text
+}
+
+// A line of these words and a number.
+fn numbered(words: &[u8], number: usize) -> Text
+    requires { length words.now ≤ 60 }
+    ensures { result ≡ words.now ++ decimal number ++ 10 ∷ [] }
+{
+    let mut text = Text::new();
+    text.push(words);
+    text.push_number(number as u64);
+    text.push(b"\n");
+    text
+}
+
 impl Failure {
+    // What is told of it, as one line.
+    fn text(self) -> Text
+        ensures { result ≡ failure_text self }
+    {
+        match self {
+            Failure::Read => line(b"acdm: read failed"),
+            Failure::Write => line(b"acdm: write failed"),
+            Failure::Save => line(b"acdm: save failed"),
+            Failure::Memory => line(b"acdm: no memory"),
+            Failure::Role(number) => numbered(b"acdm: role ", number),
+            Failure::Address(number) => numbered(b"acdm: address ", number),
+            Failure::Accept(number) => numbered(b"acdm: accept ", number),
+            Failure::Watch => line(b"acdm: watch address"),
+        }
+    }
+
     /// Says what failed, as one line, and answers the status 2. Where the line can't be written
     /// either, the status alone says it.
-    pub fn complain<E: Write + Drop>(self, mut errors: E) -> u8
-        ensures { result ≡ 2 }
+    pub fn complain<E: Write>(self, errors: &mut Sink<E>) -> u8
+        ensures status { result ≡ 2 }
+        ensures tells { Complains errors.old errors.new (failure_text self) }
     {
-        let _ = match self {
-            Failure::Read => writeln!(errors, "acdm: read failed"),
-            Failure::Write => writeln!(errors, "acdm: write failed"),
-            Failure::Save => writeln!(errors, "acdm: save failed"),
-            Failure::Memory => writeln!(errors, "acdm: no memory"),
-            Failure::Role(number) => writeln!(errors, "acdm: role {number}"),
-            Failure::Address(number) => writeln!(errors, "acdm: address {number}"),
-            Failure::Accept(number) => writeln!(errors, "acdm: accept {number}"),
-            Failure::Watch => writeln!(errors, "acdm: watch address"),
-        };
-        2
+        let text = self.text();
+        match write_out(errors, text.as_slice()) {
+            Ok(()) | Err(_) => 2,
+        }
+    }
+}
+
+/// The status that a command ends with: that of its work, and 2 where something kept it from it,
+/// with a line on the errors' writer that says what.
+pub fn ended<E: Write>(work: Result<u8, Failure>, errors: &mut Sink<E>) -> u8
+    ensures { Ends work result errors.old errors.new }
+{
+    match work {
+        Ok(status) => status,
+        Err(failure) => failure.complain(errors),
     }
 }
 

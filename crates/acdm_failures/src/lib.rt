@@ -3,4 +3,4 @@
 
 mod failure;
 
-pub use failure::{Failure, ServeError};
+pub use failure::{Failure, ServeError, ended};

@@ -9,6 +9,9 @@ pub mod Unanswered
 pub mod Checked
 pub mod Judging
 pub mod NextEntry
+pub mod Needs
+pub mod MemoryRows
+pub mod CodeRows
 pub mod OneVerdict
 pub mod Sofar
 pub mod OneText
@@ -17,3 +20,4 @@ pub mod LineLength
 pub mod Readable
 pub mod Taken
 pub mod TextRows
+pub mod Further

@@ -1,5 +1,6 @@
 -- A line may be read in one way, which is what it was written for.
 use Rattle.std.proofs.Common.{◌≡◌, ◌≢◌, ℕ, List, [], ◌∷◌, ◌++◌, Some, None, Result, Ok, Err, sym}
+use Rattle.std.proofs.Common.{Bool}
 use Rattle.std.proofs.Common.{ap, subst, ◌∙◌, append-nil}
 use Rattle.std.specs.Fmt.{decimal}
 use Rattle.std.specs.List.{join_with_byte}
@@ -60,13 +61,15 @@ one_line s t p q e =
 pub no_line : (line : List ℕ) → stated_of line ≡ None → (s : Stated) → IsStated s → line ≢ line_of s
 no_line line none s is e = cc (sym none ∙ ap stated_of e ∙ stated_of-line s is)
 
-pub states : (line : List ℕ) (r : Result Stated LineError) → GivesLine r (stated_of line)
+pub states : (line : List ℕ) (needs : Bool) (r : Result Stated LineError)
+    → GivesLine needs r (stated_of line)
     → IfOk r (λ s. (line ≡ line_of s) × IsStated s)
-states line (Ok s) g = line-stated_of line s g
-states line (Err e) g = tt
+states line needs (Ok s) g = line-stated_of line s g
+states line needs (Err e) g = tt
 
-pub states_nothing : (line : List ℕ) (r : Result Stated LineError) → GivesLine r (stated_of line)
+pub states_nothing : (line : List ℕ) (needs : Bool) (r : Result Stated LineError)
+    → GivesLine needs r (stated_of line)
     → r ≡ Err Unreadable → (s : Stated) → IsStated s → line ≢ line_of s
-states_nothing line (Ok s) g e = absurd (cc)
-states_nothing line (Err Memory) g e = absurd (cc)
-states_nothing line (Err Unreadable) g e = no_line line g
+states_nothing line needs (Ok s) g e = absurd (cc)
+states_nothing line needs (Err Memory) g e = absurd (cc)
+states_nothing line needs (Err Unreadable) g e = no_line line g

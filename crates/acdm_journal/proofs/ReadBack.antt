@@ -1,7 +1,7 @@
 -- A line that may stand is read as what it states, and no other line is read.
 use Rattle.std.proofs.Common.{◌≡◌, ℕ, zero, suc, ◌≤◌, true, false, List, [], ◌∷◌, ◌++◌, length, map}
 use Rattle.std.proofs.Common.{codes, Option, Some, None, refl, sym, ap, subst, ◌∙◌, arith, inl, inr}
-use Rattle.std.proofs.Common.{append_assoc, append-nil}
+use Rattle.std.proofs.Common.{append_assoc, append-nil, ◌<◌, ◌-◌}
 use Rattle.std.specs.Fmt.{decimal}
 use Rattle.std.specs.Str.{bytes_eq}
 use Rattle.std.specs.List.{AllByRecursion}
@@ -352,6 +352,15 @@ answers_from-is given (a ∷ more) ws is =
     ∙ answers_from-is (given ++ a ∷ []) more ws is.1
     ∙ ap (λ l. Some (l, ws)) (append_assoc given (a ∷ []) more)
 
+-- an answer is read, and then one less
+pub answers_more : (given : List ℕ) (k : ℕ) (ws : Words) (a : ℕ) (left : Words) → 0 < k
+    → number_at 0 most_word ws ≡ Some (a, left)
+    → answers_from (given ++ a ∷ []) (k - 1) left ≡ answers_from given k ws
+answers_more given zero ws a left h e = absurd (omega arith)
+answers_more given (suc k) ws a left h e =
+    let less : suc k - 1 ≡ k = omega arith in
+    ap (λ n. answers_from (given ++ a ∷ []) n left) less ∙ sym (bind_is _ _ (a, left) e)
+
 pub record ReadsAnswers (given : List ℕ) (k : ℕ) (ws : Words) (all : List ℕ) (left : Words) : Type 0
   where
     pub answers : List ℕ
@@ -383,7 +392,7 @@ answers_from-back given (suc k) ws all left h =
       are = (omega (arith, w.most), r.are);
     }
 
-answers_at-is : (answers : List ℕ) (ws : Words) → IsWord (length answers)
+pub answers_at-is : (answers : List ℕ) (ws : Words) → IsWord (length answers)
     → AllByRecursion IsWord answers
     → answers_at (answer_words answers ++ ws) ≡ Some (answers, ws)
 unfolding answers_at

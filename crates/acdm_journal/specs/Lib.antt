@@ -3,5 +3,6 @@ pub mod Spaced
 pub mod Ranges
 pub mod Reading
 pub mod Audit
+pub mod Memory
 pub mod Whole
-pub mod Handed
+pub mod Written

@@ -1,7 +1,7 @@
 -- How the words of a line are read, one after the other. That this undoes the writing of a line is
 -- the law of `law`.
-use Rattle.std.specs.Prelude.{ℕ, zero, suc, ◌+◌, ◌-◌, ◌*◌, ◌^◌, ◌≡◌, Bool, ◌&&◌, ◌||◌, ◌==◌, nat_le}
-use Rattle.std.specs.Prelude.{nat_lt, if◌then◌else◌, List, [], ◌∷◌, ◌++◌, length, codes}
+use Rattle.std.specs.Prelude.{ℕ, zero, suc, ◌+◌, ◌-◌, ◌*◌, ◌^◌, ◌≡◌, Bool, true, false, ◌&&◌, ◌||◌, ◌==◌}
+use Rattle.std.specs.Prelude.{nat_le, nat_lt, if◌then◌else◌, List, [], ◌∷◌, ◌++◌, length, codes}
 use Rattle.std.specs.Prelude.{slice_index, Option, Some, None, Result, Ok, Err}
 use Rattle.std.specs.List.{slice_split}
 use Rattle.std.specs.Str.{bytes_eq}
@@ -36,18 +36,23 @@ Some x >>= f = f x
 abbrev pub Words : Type 0
 Words = List (List ℕ)
 
--- What a function returned is what reading gives, with these words left, unless memory ran out.
-abbrev pub Gives : {X : Type 0} → Result X LineError → Words → Option (X × Words) → Type 0
-Gives (Ok x) left reading = reading ≡ Some (x, left)
-Gives (Err Memory) left reading = Unit {0}
-Gives (Err Unreadable) left reading = reading ≡ None
+-- What a function returned is what reading gives, with these words left, unless memory ran out,
+-- which it may only where it needs some.
+abbrev pub Gives : {X : Type 0} → Bool → Result X LineError → Words → Option (X × Words) → Type 0
+Gives needs_memory (Ok x) left reading = reading ≡ Some (x, left)
+Gives needs_memory (Err Memory) left reading = needs_memory ≡ true
+Gives needs_memory (Err Unreadable) left reading = reading ≡ None
+
+-- what a function that needs no memory returned
+abbrev pub Reads : {X : Type 0} → Result X LineError → Words → Option (X × Words) → Type 0
+Reads result left reading = Gives false result left reading
 
 -- the same of a value that is seen by view
-abbrev pub GivesView : {X Y : Type 0} → (X → Y) → Result X LineError → Words → Option (Y × Words)
+abbrev pub ReadsView : {X Y : Type 0} → (X → Y) → Result X LineError → Words → Option (Y × Words)
     → Type 0
-GivesView view (Ok x) left reading = reading ≡ Some (view x, left)
-GivesView view (Err Memory) left reading = Unit {0}
-GivesView view (Err Unreadable) left reading = reading ≡ None
+ReadsView view (Ok x) left reading = reading ≡ Some (view x, left)
+ReadsView view (Err Memory) left reading = ⊥
+ReadsView view (Err Unreadable) left reading = reading ≡ None
 
 -- ---- one word
 
@@ -267,8 +272,9 @@ alone (s, w ∷ ws) = None
 unfoldable pub stated_of : List ℕ → Option Stated
 stated_of line = stated_at (words_of line) >>= alone
 
--- What a function returned is the reading of a line, unless memory ran out.
-abbrev pub GivesLine : Result Stated LineError → Option Stated → Type 0
-GivesLine (Ok s) r = r ≡ Some s
-GivesLine (Err Memory) r = Unit {0}
-GivesLine (Err Unreadable) r = r ≡ None
+-- What a function returned is the reading of a line, unless memory ran out, which it may only where
+-- it needs some.
+abbrev pub GivesLine : Bool → Result Stated LineError → Option Stated → Type 0
+GivesLine needs_memory (Ok s) r = r ≡ Some s
+GivesLine needs_memory (Err Memory) r = needs_memory ≡ true
+GivesLine needs_memory (Err Unreadable) r = r ≡ None

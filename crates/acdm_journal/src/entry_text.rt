@@ -1,8 +1,7 @@
 //! The text of an entry, and its writing.
-ghost use Rattle.std.specs.Prelude.{◌≡◌, ◌∷◌, ◌++◌, [], map, Err, OnOk, IfOk};
+ghost use Rattle.std.specs.Prelude.{◌≡◌, ◌≤◌, ◌∷◌, ◌++◌, [], map, Err, OnOk, OnErr, IfOk};
 ghost use Rattle.std.specs.Fmt.{decimal};
 ghost use Rattle.std.specs.List.{AllByRecursion};
-ghost use Rattle.std.specs.Io.KnownBytes.{Appends};
 ghost use Rattle.hex.specs.Hex.{encode_lower};
 ghost use Rattle.bpf_decode.specs.Encoding.{IsProgram, encoding};
 ghost use Rattle.acdm_milestones.specs.Tables.{number as number_in};
@@ -13,7 +12,10 @@ ghost use Rattle.acdm_journal.specs.Text.{asked_in, stated_in, entry_text};
 ghost use Rattle.acdm_journal.specs.Ranges.{IsWord, IsByte, IsPlan, AreTimes, IsScheduleLine};
 ghost use Rattle.acdm_journal.specs.Ranges.{IsReportLine, IsAsked, LoadsProgram, FitsTypes};
 ghost use Rattle.acdm_journal.specs.Spaced.{spaced};
+ghost use Rattle.acdm_journal.specs.Written.{TookPart};
 
+use crate::writing::write_whole;
+use acdm_lines::Sink;
 use acdm_milestones::Milestone;
 use acdm_step::{Command, Entry, FlightCommand, Load, Plan, Report, Schedule, Verdict};
 use bpf_decode::encode;
@@ -201,24 +203,38 @@ fn text_of(alloc: Global, entry: &Entry) -> Result<Vec<u8>, AllocError>
     Ok(text)
 }
 
-/// Writes the text of an entry: `N SESSION MINUTE ROLE OUT K A1 .. AK COMMAND` and a line feed,
-/// with OUT 0 or the number of the refusal and K the count of the answers that its programs used
-/// (this project's profile).
+/// Adds the text of an entry: `N SESSION MINUTE ROLE OUT K A1 .. AK COMMAND` and a line feed, with
+/// OUT 0 or the number of the refusal and K the count of the answers that its programs used (this
+/// project's profile). `Err` only where memory was refused; nothing has changed then.
+pub fn push_entry(text: &mut Vec<u8>, entry: &Entry) -> Result<(), AllocError>
+    ensures text { OnOk result (text.new.items ≡ text.old.items ++ entry_text entry.now) }
+    // What was added has the parts that an entry can have.
+    ensures types { OnOk result (FitsTypes entry.now) }
+    ensures err { OnErr result (text.new.items ≡ text.old.items) }
+{
+    let line = text_of(*text.allocator(), entry)?;
+    text.extend_from_slice(line.as_slice())
+}
+
+/// Writes the text of an entry. A write that a signal interrupts is made once more.
 ///
 /// `Memory` where there was no room for the text, and then nothing was written; `Write` where the
 /// writer failed, which may have taken a part of it.
-pub fn write_entry<W: Write>(alloc: Global, entry: &Entry, writer: &mut W) -> Result<(), WriteError>
-    ensures written { OnOk result
-        (Appends (W.contents writer.old) (W.contents writer.new) (entry_text entry.now)) }
+pub fn write_entry<W: Write>(
+    alloc: Global,
+    entry: &Entry,
+    writer: &mut Sink<W>,
+) -> Result<(), WriteError>
+    ensures written { OnOk result (writer.new.log ≡ writer.old.log ++ entry_text entry.now) }
     // What was written has the parts that an entry can have.
     ensures types { OnOk result (FitsTypes entry.now) }
     ensures memory { result ≡ Err WriteError.Memory → writer.new ≡ writer.old }
+    ensures failed { result ≡ Err WriteError.Write
+        → TookPart writer.old writer.new (entry_text entry.now) }
+    ensures faults { writer.old.faults ≤ writer.new.faults }
 {
     let Ok(text) = text_of(alloc, entry) else {
         return Err(WriteError::Memory);
     };
-    match writer.write_all(text.as_slice()) {
-        Ok(()) => Ok(()),
-        Err(_) => Err(WriteError::Write),
-    }
+    write_whole(writer, text.as_slice(), 1)
 }

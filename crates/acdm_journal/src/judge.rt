@@ -1,11 +1,12 @@
 //! The judging of one line of a journal, after those before it.
-ghost use Rattle.std.specs.Prelude.{◌≡◌, ℕ, List, length, IfOk, IfSome, OnOk};
+ghost use Rattle.std.specs.Prelude.{◌≡◌, ℕ, List, length, IfOk, IfSome, OnOk, OnErr, IsTrue, Err};
 ghost use Rattle.bpf_helpers.specs.Promise.{Promise};
 ghost use Rattle.acdm_step.specs.Commands.{History};
-ghost use Rattle.acdm_step.specs.History.{IsLegal, replay};
+ghost use Rattle.acdm_step.specs.History.{IsLegal, replay, needs_memory};
 ghost use Rattle.acdm_step.specs.Prepared.{Fits, after_change};
 ghost use Rattle.acdm_journal.specs.Audit.{Commands, GivesProgram, lacks_answer, JudgesCommand};
 ghost use Rattle.acdm_journal.specs.Audit.{Judges, PlansWith, UsesAnswers, clause_code};
+ghost use Rattle.acdm_journal.specs.Memory.{JudgingNeedsMemory, is_load_line};
 
 use crate::entry_text::code_of;
 use crate::reading::read_line;
@@ -75,7 +76,8 @@ fn program_of(alloc: Global, load: &LoadLine, sigs: &Sigs) -> Result<Checked, Au
 
 // The command that is asked for.
 fn command_of(alloc: Global, asked: Asked, sigs: &Sigs) -> Result<Command, AuditError>
-    ensures { Commands sigs.now asked result }
+    ensures gives { Commands sigs.now asked result }
+    ensures memory { result ≡ Err AuditError.Memory → IsTrue (is_load_line asked) }
 {
     match asked {
         Asked::Plain(command) => Ok(command),
@@ -102,7 +104,8 @@ fn is_unanswered(verdict: Verdict) -> bool
 /// What would come of a command with these answers of helpers, as `Core::plan` answers it, and
 /// `None` where its programs use others. The answers of a helper that it may not give, answers left
 /// over and a missing one are others; a refused command uses none. The moment is in minutes since
-/// 1970-01-01T00:00Z. `Err` only where memory was refused.
+/// 1970-01-01T00:00Z. `Err` only where memory was refused, which is asked for for a load and for a
+/// list of alerts.
 pub fn plan_with(
     core: &Core,
     role: Role,
@@ -118,6 +121,8 @@ pub fn plan_with(
     ensures misses { result ≡ Ok None → (sigs : List (ℕ × Promise)) (J : History) →
         IsLegal sigs J → core.now ≡ replay sigs J →
         UsesAnswers sigs J role moment command.now answers.now → ⊥ }
+    ensures memory { OnErr result ((sigs : List (ℕ × Promise)) (J : History) → IsLegal sigs J
+        → core.now ≡ replay sigs J → IsTrue (needs_memory sigs J role command.now)) }
 {
     let mut logged = Logged::new(core.sigs(), answers);
     let plan = core.plan(&mut logged, role, moment, command)?;
@@ -143,6 +148,9 @@ fn judge_command(
     ensures judges { (sigs : List (ℕ × Promise)) (J : History) → IsLegal sigs J →
         core.old ≡ replay sigs J →
         JudgesCommand sigs J role moment command.now answers.now outcome core.new result }
+    ensures memory { result ≡ Err AuditError.Memory → (sigs : List (ℕ × Promise)) (J : History)
+        → IsLegal sigs J → core.old ≡ replay sigs J
+        → IsTrue (needs_memory sigs J role command.now) }
     ensures sigs { core.new.slots.sigs ≡ core.old.slots.sigs }
 {
     let Ok(plan) = plan_with(core, role, moment, command, answers) else {
@@ -164,7 +172,9 @@ fn judge_command(
 ///
 /// `Faulty` with the first clause that the entry breaks, in the order of their numbers; the answers
 /// are judged by the outcome that the entries before it give, whatever the line says of it.
-/// `Memory` where there was no room. After an error the board is of no use.
+/// `Memory` where there was no room, which is asked for to read the answers of a line or the
+/// program of a load, and for the list of alerts of an entry with the right number. After an error
+/// the board is of no use.
 pub fn judge_line(
     alloc: Global,
     core: &mut Core,
@@ -175,6 +185,8 @@ pub fn judge_line(
     requires { core.old.slots.sigs ≡ sigs.now }
     ensures judges { (J : History) → IsLegal sigs.now J → length J ≡ number →
         core.old ≡ replay sigs.now J → Judges sigs.now J line.now core.new result }
+    ensures memory { result ≡ Err AuditError.Memory → (J : History) → IsLegal sigs.now J
+        → length J ≡ number → core.old ≡ replay sigs.now J → JudgingNeedsMemory J line.now }
     ensures sigs { core.new.slots.sigs ≡ core.old.slots.sigs }
 {
     let stated = match read_line(alloc, line) {

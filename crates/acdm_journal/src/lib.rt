@@ -9,9 +9,11 @@ pub mod law;
 mod reading;
 mod stated;
 mod words;
+mod writing;
 
 pub use auditing::{Fault, audit};
-pub use entry_text::{WriteError, write_entry};
+pub use entry_text::{WriteError, push_entry, write_entry};
 pub use judge::{AuditError, Clause, judge_line, plan_with};
 pub use reading::read_line;
 pub use stated::{Asked, LineError, LoadLine, ProgramBytes, Stated};
+pub use writing::write_whole;

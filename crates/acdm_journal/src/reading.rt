@@ -1,7 +1,12 @@
 //! The reading of a line.
 ghost use Rattle.std.specs.Prelude.{◌≡◌, ◌≢◌, ◌≤◌, length, IfOk, OnOk, IsTrue, Err};
 ghost use Rattle.acdm_step.specs.Facts.{has_its_plan, has_its_time};
-ghost use Rattle.acdm_journal.specs.Reading.{Gives, GivesLine, natural_of, number_at, text_at};
+ghost use Rattle.acdm_journal.specs.Memory.{bytes_need_memory, load_needs_memory};
+ghost use Rattle.acdm_journal.specs.Memory.{command_needs_memory, asked_needs_memory};
+ghost use Rattle.acdm_journal.specs.Memory.{answers_need_memory, stated_needs_memory};
+ghost use Rattle.acdm_journal.specs.Memory.{line_needs_memory};
+ghost use Rattle.acdm_journal.specs.Reading.{Gives, Reads, GivesLine, words_of, natural_of};
+ghost use Rattle.acdm_journal.specs.Reading.{number_at, text_at};
 ghost use Rattle.acdm_journal.specs.Reading.{role_at, kind_at};
 ghost use Rattle.acdm_journal.specs.Reading.{milestone_at, bytes_at, plan_at, plan_for, least_time};
 ghost use Rattle.acdm_journal.specs.Reading.{schedule_at, report_at, load_at, unload_at, show_at};
@@ -49,7 +54,7 @@ fn natural_in(word: &[u8]) -> Option<u128>
 // A number within these bounds.
 #[tactic(auto, unfolding(crate::specs::Reading::number_at))]
 fn number_in(words: &mut Words<'_>, low: u64, high: u64) -> Result<u64, LineError>
-    ensures reads { Gives result words.new (number_at low high words.old) }
+    ensures reads { Reads result words.new (number_at low high words.old) }
     ensures within { IfOk result (λ n. (low ≤ n) × (n ≤ high)) }
 {
     let word = words.next()?;
@@ -66,7 +71,7 @@ fn number_in(words: &mut Words<'_>, low: u64, high: u64) -> Result<u64, LineErro
 // A text of 1 to N printable bytes.
 #[tactic(auto, unfolding(crate::specs::Reading::text_at))]
 fn text_in<const N: usize>(words: &mut Words<'_>) -> Result<Text<N>, LineError>
-    ensures { Gives result words.new (text_at N words.old) }
+    ensures { Reads result words.new (text_at N words.old) }
 {
     let word = words.next()?;
     let Some(text) = Text::from_bytes(word) else {
@@ -77,7 +82,7 @@ fn text_in<const N: usize>(words: &mut Words<'_>) -> Result<Text<N>, LineError>
 
 #[tactic(auto, unfolding(crate::specs::Reading::role_at))]
 fn role_in(words: &mut Words<'_>) -> Result<Role, LineError>
-    ensures { Gives result words.new (role_at words.old) }
+    ensures { Reads result words.new (role_at words.old) }
 {
     let word = words.next()?;
     let Some(role) = Role::from_name(word) else {
@@ -88,7 +93,7 @@ fn role_in(words: &mut Words<'_>) -> Result<Role, LineError>
 
 #[tactic(auto, unfolding(crate::specs::Reading::kind_at))]
 fn kind_in(words: &mut Words<'_>) -> Result<Kind, LineError>
-    ensures { Gives result words.new (kind_at words.old) }
+    ensures { Reads result words.new (kind_at words.old) }
 {
     let word = words.next()?;
     let Some(kind) = Kind::from_name(word) else {
@@ -99,7 +104,7 @@ fn kind_in(words: &mut Words<'_>) -> Result<Kind, LineError>
 
 #[tactic(auto, unfolding(crate::specs::Reading::milestone_at))]
 fn milestone_in(words: &mut Words<'_>) -> Result<Milestone, LineError>
-    ensures { Gives result words.new (milestone_at words.old) }
+    ensures { Reads result words.new (milestone_at words.old) }
 {
     let number = number_in(words, 1, 16)?;
     let Some(milestone) = Milestone::from_number(number) else {
@@ -109,9 +114,10 @@ fn milestone_in(words: &mut Words<'_>) -> Result<Milestone, LineError>
 }
 
 // The bytes of hexadecimal text in lower case.
-#[tactic(auto, unfolding(crate::specs::Reading::bytes_at))]
+#[tactic(auto, unfolding(crate::specs::Reading::bytes_at, crate::specs::Memory::bytes_need_memory))]
 fn bytes_in(alloc: Global, words: &mut Words<'_>) -> Result<ProgramBytes, LineError>
-    ensures { Gives result words.new (bytes_at words.old) }
+    ensures { Gives (bytes_need_memory words.old) result words.new
+        (bytes_at words.old) }
 {
     let word = words.next()?;
     let bytes = match hex::decode(alloc, word) {
@@ -131,7 +137,7 @@ fn bytes_in(alloc: Global, words: &mut Words<'_>) -> Result<ProgramBytes, LineEr
 
 #[tactic(auto, unfolding(crate::specs::Reading::plan_at))]
 fn plan_in(words: &mut Words<'_>) -> Result<Plan, LineError>
-    ensures { Gives result words.new (plan_at words.old) }
+    ensures { Reads result words.new (plan_at words.old) }
 {
     let callsign = text_in(words)?;
     let aircraft = text_in(words)?;
@@ -147,7 +153,7 @@ fn plan_in(words: &mut Words<'_>) -> Result<Plan, LineError>
 
 // A plan comes with the first milestone alone.
 fn plan_of(words: &mut Words<'_>, milestone: Milestone) -> Result<Option<Plan>, LineError>
-    ensures reads { Gives result words.new (plan_for milestone words.old) }
+    ensures reads { Reads result words.new (plan_for milestone words.old) }
     ensures with_first { IfOk result (λ p. IsTrue (has_its_plan milestone p)) }
 {
     match milestone {
@@ -167,7 +173,7 @@ fn least_time_of(milestone: Milestone) -> u64
 
 #[tactic(auto, unfolding(crate::specs::Reading::schedule_at))]
 fn schedule_in(words: &mut Words<'_>) -> Result<Asked, LineError>
-    ensures { Gives result words.new (schedule_at words.old) }
+    ensures { Reads result words.new (schedule_at words.old) }
 {
     let flight = number_in(words, 1, u64::MAX)?;
     let plan = plan_in(words)?;
@@ -189,7 +195,7 @@ fn schedule_in(words: &mut Words<'_>) -> Result<Asked, LineError>
 
 // The time of a report.
 fn time_in(words: &mut Words<'_>, milestone: Milestone) -> Result<u32, LineError>
-    ensures reads { Gives result words.new (number_at (least_time milestone) 4294967295 words.old) }
+    ensures reads { Reads result words.new (number_at (least_time milestone) 4294967295 words.old) }
     ensures timed { IfOk result (λ t. IsTrue (has_its_time milestone t)) }
 {
     let time = number_in(words, least_time_of(milestone), 4_294_967_295)?;
@@ -198,7 +204,7 @@ fn time_in(words: &mut Words<'_>, milestone: Milestone) -> Result<u32, LineError
 
 #[tactic(auto, unfolding(crate::specs::Reading::report_at))]
 fn report_in(words: &mut Words<'_>) -> Result<Asked, LineError>
-    ensures { Gives result words.new (report_at words.old) }
+    ensures { Reads result words.new (report_at words.old) }
 {
     let flight = number_in(words, 1, u64::MAX)?;
     let milestone = milestone_in(words)?;
@@ -209,9 +215,10 @@ fn report_in(words: &mut Words<'_>) -> Result<Asked, LineError>
     )))))
 }
 
-#[tactic(auto, unfolding(crate::specs::Reading::load_at))]
+#[tactic(auto, unfolding(crate::specs::Reading::load_at, crate::specs::Memory::load_needs_memory))]
 fn load_in(alloc: Global, words: &mut Words<'_>) -> Result<Asked, LineError>
-    ensures { Gives result words.new (load_at words.old) }
+    ensures { Gives (load_needs_memory words.old) result words.new
+        (load_at words.old) }
 {
     let milestone = milestone_in(words)?;
     let kind = kind_in(words)?;
@@ -225,7 +232,7 @@ fn load_in(alloc: Global, words: &mut Words<'_>) -> Result<Asked, LineError>
 
 #[tactic(auto, unfolding(crate::specs::Reading::unload_at))]
 fn unload_in(words: &mut Words<'_>) -> Result<Asked, LineError>
-    ensures { Gives result words.new (unload_at words.old) }
+    ensures { Reads result words.new (unload_at words.old) }
 {
     let milestone = milestone_in(words)?;
     let kind = kind_in(words)?;
@@ -234,16 +241,17 @@ fn unload_in(words: &mut Words<'_>) -> Result<Asked, LineError>
 
 #[tactic(auto, unfolding(crate::specs::Reading::show_at))]
 fn show_in(words: &mut Words<'_>) -> Result<Asked, LineError>
-    ensures { Gives result words.new (show_at words.old) }
+    ensures { Reads result words.new (show_at words.old) }
 {
     let flight = number_in(words, 1, u64::MAX)?;
     Ok(Asked::Plain(Command::Show(FlightNumber::new(flight))))
 }
 
 // The command of this name.
-#[tactic(auto, unfolding(crate::specs::Reading::command_named))]
+#[tactic(auto, unfolding(crate::specs::Reading::command_named, crate::specs::Memory::command_needs_memory))]
 fn command_of(alloc: Global, name: &[u8], words: &mut Words<'_>) -> Result<Asked, LineError>
-    ensures { Gives result words.new (command_named name.now words.old) }
+    ensures { Gives (command_needs_memory name.now words.old) result words.new
+        (command_named name.now words.old) }
 {
     if name == b"schedule".as_slice() {
         schedule_in(words)
@@ -264,18 +272,20 @@ fn command_of(alloc: Global, name: &[u8], words: &mut Words<'_>) -> Result<Asked
     }
 }
 
-#[tactic(auto, unfolding(crate::specs::Reading::asked_at))]
+#[tactic(auto, unfolding(crate::specs::Reading::asked_at, crate::specs::Memory::asked_needs_memory))]
 fn asked_in(alloc: Global, words: &mut Words<'_>) -> Result<Asked, LineError>
-    ensures { Gives result words.new (asked_at words.old) }
+    ensures { Gives (asked_needs_memory words.old) result words.new
+        (asked_at words.old) }
 {
     let name = words.next()?;
     command_of(alloc, name, words)
 }
 
 // How many answers there are, and then each.
-#[tactic(auto, unfolding(crate::specs::Reading::answers_at))]
+#[tactic(auto, unfolding(crate::specs::Reading::answers_at, crate::specs::Memory::answers_need_memory))]
 fn answers_in(alloc: Global, words: &mut Words<'_>) -> Result<Answers, LineError>
-    ensures { Gives result words.new (answers_at words.old) }
+    ensures { Gives (answers_need_memory words.old) result words.new
+        (answers_at words.old) }
 {
     let mut left = number_in(words, 0, u64::MAX)?;
     let mut given = Vec::new(alloc);
@@ -289,9 +299,10 @@ fn answers_in(alloc: Global, words: &mut Words<'_>) -> Result<Answers, LineError
     Ok(Answers::from(given))
 }
 
-#[tactic(auto, unfolding(crate::specs::Reading::stated_at))]
+#[tactic(auto, unfolding(crate::specs::Reading::stated_at, crate::specs::Memory::stated_needs_memory))]
 fn stated_in(alloc: Global, words: &mut Words<'_>) -> Result<Stated, LineError>
-    ensures { Gives result words.new (stated_at words.old) }
+    ensures { Gives (stated_needs_memory words.old) result words.new
+        (stated_at words.old) }
 {
     let number = number_in(words, 0, u64::MAX)?;
     let session = number_in(words, 1, 64)?;
@@ -314,7 +325,7 @@ fn stated_in(alloc: Global, words: &mut Words<'_>) -> Result<Stated, LineError>
 // The reading of a line that is not too long.
 #[tactic(auto, unfolding(crate::specs::Reading::stated_of))]
 fn stated_alone(alloc: Global, line: &[u8]) -> Result<Stated, LineError>
-    ensures { GivesLine result (stated_of line.now) }
+    ensures { GivesLine (stated_needs_memory (words_of line.now)) result (stated_of line.now) }
 {
     let mut words = Words::of(line);
     let stated = stated_in(alloc, &mut words)?;
@@ -330,12 +341,15 @@ fn stated_alone(alloc: Global, line: &[u8]) -> Result<Stated, LineError>
 /// `Unreadable` where it has more than 200,000 bytes or is the line of nothing that may be stated:
 /// numbers are decimal without leading zeros, words have single spaces between them, hexadecimal is
 /// in lower case. `Memory` where there was no room for the answers or the bytes of the program in
-/// it.
+/// it: only where the first answer is read, or the milestone and the kind of a load with an even
+/// number of digits.
+#[tactic(auto, unfolding(crate::specs::Memory::line_needs_memory))]
 pub fn read_line(alloc: Global, line: &[u8]) -> Result<Stated, LineError>
     ensures states { IfOk result (λ s. (line.now ≡ line_of s) × IsStated s) }
     ensures short { OnOk result (length line.now ≤ LONGEST_LINE) }
     ensures nothing { result ≡ Err LineError.Unreadable → length line.now ≤ LONGEST_LINE →
         (s : Stated) → IsStated s → line.now ≢ line_of s }
+    ensures memory { result ≡ Err LineError.Memory → IsTrue (line_needs_memory line.now) }
 {
     if line.len() > LONGEST_LINE {
         return Err(LineError::Unreadable);

@@ -1,7 +1,7 @@
 //! The words of a line, one after the other.
 ghost use Rattle.std.specs.Prelude.{◌≡◌, ◌<◌, ℕ, List, [], ◌∷◌, true, false, length, position};
 ghost use Rattle.std.specs.Prelude.{IfSome};
-ghost use Rattle.acdm_journal.specs.Reading.{GivesView, is_space, words_of, word_at};
+ghost use Rattle.acdm_journal.specs.Reading.{ReadsView, is_space, words_of, word_at};
 
 use crate::stated::LineError;
 use std::marker::Model;
@@ -43,7 +43,7 @@ impl<'a> Words<'a> {
 
     /// Takes the next word. `Unreadable` where there is none.
     pub(crate) fn next(&mut self) -> Result<&'a [u8], LineError>
-        ensures { GivesView (λ w. w.now) result self.new (word_at self.old) }
+        ensures { ReadsView (λ w. w.now) result self.new (word_at self.old) }
     {
         if self.ended {
             return Err(LineError::Unreadable);

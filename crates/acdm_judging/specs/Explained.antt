@@ -1,8 +1,39 @@
--- What is told of the bytes of a program.
-use Rattle.std.specs.Prelude.{ℕ, if◌then◌else◌}
+-- What is told of the bytes of a program with what is known before each slot.
+use Rattle.std.specs.Prelude.{ℕ, ◌≡◌, ◌⊎◌, true, if◌then◌else◌, List, Result, Ok, Err}
 use Rattle.bpf_explain.specs.declared.told.Told.{Told}
-use Rattle.bpf_explain.specs.Told.{is_accepted}
+use Rattle.bpf_explain.specs.Told.{Tells, is_accepted}
+use Rattle.bpf_helpers.specs.Promise.{Promise}
+use Rattle.acdm_lines.specs.Counted.{SinkView, SourceView, faults_after}
+use Rattle.acdm_judging.specs.Gave.{GaveBytes}
+use Rattle.acdm_failures.specs.declared.failure.Failure.{Failure}
+use Rattle.acdm_failures.specs.declared.failure.Failure.TheVariants.{Write, Memory}
 
 -- the status of the command, which is that of `verify`
 abbrev pub status_of : Told → ℕ
 status_of told = if is_accepted told then 0 else 1
+
+-- what is told is of these bytes
+pub record TellsOf (sigs : List (ℕ × Promise)) (bytes : List ℕ) (status : ℕ) : Type 0 where
+  pub told : Told
+  pub tells : Tells sigs bytes told
+  pub status_is : status ≡ status_of told
+
+abbrev pub TellsBytes : List (ℕ × Promise) → List ℕ → Result ℕ Failure → Type 0
+TellsBytes sigs bytes (Ok status) = TellsOf sigs bytes status
+TellsBytes sigs bytes (Err Write) = Unit {0}
+TellsBytes sigs bytes (Err Memory) = Unit {0}
+TellsBytes sigs bytes (Err failure) = ⊥
+
+-- what comes of explaining what a reader gives, where that did not fail
+abbrev pub Explains : {R : Type 0} → List (ℕ × Promise) → SourceView R → SourceView R
+    → Result ℕ Failure → Type 0
+Explains sigs read read_after work =
+    ((bytes : List ℕ) × GaveBytes read read_after bytes × TellsBytes sigs bytes work)
+    ⊎ (work ≡ Err Memory)
+
+-- the reader failed once more, nothing was written, and the status is 2
+pub record FailsToRead {R W : Type 0} (read read_after : SourceView R)
+    (written written_after : SinkView W) (status : ℕ) : Type 0 where
+  pub fault : read_after.faults ≡ faults_after true read.faults
+  pub same : written_after ≡ written
+  pub status_is : status ≡ 2

@@ -1,5 +1,6 @@
 pub mod Explained
 pub mod Findings
+pub mod Gave
 pub mod Helpers
 pub mod Verdicts
 pub use Rattle.acdm_failures.specs.Failures

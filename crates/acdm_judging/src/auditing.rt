@@ -1,18 +1,20 @@
 //! The command `audit`, over the reader and the writers that it is handed.
 ghost use Rattle.std.specs.Prelude.{◌≡◌, ◌-◌, ◌^◌, ◌<◌};
-ghost use Rattle.acdm_judging.specs.Findings.{Finds, status_of};
+ghost use Rattle.acdm_failures.specs.Failures.{EndsBy};
+ghost use Rattle.acdm_judging.specs.Findings.{Audited, Finds, finding_text, status_of};
 ghost use Rattle.acdm_judging.specs.Helpers.{helpers};
 
 use crate::helpers::known_sigs;
-use acdm_failures::Failure;
+use acdm_failures::{Failure, ended};
 use acdm_journal::{Clause, Fault, audit};
-use acdm_lines::Source;
+use acdm_lines::{Sink, Source};
+use acdm_wire::{Text, write_out};
 use std::alloc::Global;
 use std::io::{Read, Write};
 
 /// What is told of a journal.
 #[derive(Clone, Copy)]
-pub(crate) enum Finding {
+pub enum Finding {
     /// It is that of a legal history of so many entries.
     Legal(u64),
     /// Its first faulty entry, from 0, and the first clause that it breaks.
@@ -29,24 +31,57 @@ impl Finding {
             Finding::Faulty { .. } => 1,
         }
     }
+
+    /// How it is told, as one line.
+    fn text(self) -> Text
+        ensures { result ≡ finding_text self }
+    {
+        match self {
+            Finding::Legal(entries) => legal(entries),
+            Finding::Faulty { entry, clause } => faulty(entry, clause),
+        }
+    }
+}
+
+fn legal(entries: u64) -> Text
+    ensures { result ≡ finding_text (Finding.Legal entries) }
+{
+    let mut text = Text::new();
+    text.push(b"legal ");
+    text.push_number(entries);
+    text.push(b"\n");
+    text
+}
+
+fn faulty(entry: u64, clause: Clause) -> Text
+    ensures { result ≡ finding_text (Finding.Faulty entry clause) }
+{
+    let mut text = Text::new();
+    text.push(b"entry ");
+    text.push_number(entry);
+    text.push(b" ");
+    text.push_number(u64::from(clause.code()));
+    text.push(b"\n");
+    text
 }
 
 /// Judges the journal that a reader gives, with the known helpers, and tells what was found: `legal
 /// N` where it has N entries, which are those of a legal history, else `entry N CODE` with the
 /// number of the first faulty entry, from 0, and that of the first clause that it breaks.
 ///
-/// The status is 0 for a legal journal, 1 for another, and 2 where nothing was found, with a line
-/// on the errors' writer.
-pub fn audit_on<R: Read + Drop, W: Write + Drop, E: Write + Drop>(
+/// The status is 0 for a legal journal, 1 for another, and 2 where nothing was found or it could not
+/// be written, with a line on the errors' writer.
+pub fn audit_on<R: Read, W: Write, E: Write>(
     alloc: Global,
-    reader: R,
-    writer: W,
-    errors: E,
-) -> u8 {
-    match tell(alloc, reader, writer) {
-        Ok(status) => status,
-        Err(failure) => failure.complain(errors),
-    }
+    reader: &mut Source<R>,
+    writer: &mut Sink<W>,
+    errors: &mut Sink<E>,
+) -> u8
+    requires reads { reader.old.faults < 2 ^ 64 - 1 }
+    ensures { EndsBy (Audited helpers reader.old reader.new writer.old writer.new) result
+        errors.old errors.new }
+{
+    ended(judge(alloc, reader, writer), errors)
 }
 
 // What is found in the journal that a reader gives.
@@ -63,20 +98,19 @@ fn finding_in<R: Read>(alloc: Global, reader: &mut Source<R>) -> Result<Finding,
     }
 }
 
-// Writes what is found, as one line, and answers the status.
-fn tell<R: Read + Drop, W: Write + Drop>(
+// Writes what is found, and answers the status.
+fn judge<R: Read, W: Write>(
     alloc: Global,
-    reader: R,
-    mut writer: W,
-) -> Result<u8, Failure> {
-    let mut reader = Source::new(reader);
-    let finding = finding_in(alloc, &mut reader)?;
-    let told = match finding {
-        Finding::Legal(entries) => writeln!(writer, "legal {entries}"),
-        Finding::Faulty { entry, clause } => writeln!(writer, "entry {entry} {}", clause.code()),
-    };
-    if told.is_err() || writer.flush().is_err() {
-        return Err(Failure::Write);
+    reader: &mut Source<R>,
+    writer: &mut Sink<W>,
+) -> Result<u8, Failure>
+    requires reads { reader.old.faults < 2 ^ 64 - 1 }
+    ensures { Audited helpers reader.old reader.new writer.old writer.new result }
+{
+    let finding = finding_in(alloc, reader)?;
+    let text = finding.text();
+    match write_out(writer, text.as_slice()) {
+        Ok(()) => Ok(finding.status()),
+        Err(_) => Err(Failure::Write),
     }
-    Ok(finding.status())
 }

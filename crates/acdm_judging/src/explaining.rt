@@ -1,13 +1,16 @@
 //! The command `explain`, over the reader and the writers that it is handed.
-ghost use Rattle.std.specs.Prelude.{◌≡◌};
-ghost use Rattle.acdm_judging.specs.Explained.{status_of};
+ghost use Rattle.std.specs.Prelude.{◌≡◌, ◌⊎◌};
+ghost use Rattle.acdm_failures.specs.Failures.{EndsBy};
+ghost use Rattle.acdm_judging.specs.Explained.{Explains, FailsToRead, TellsBytes, status_of};
+ghost use Rattle.acdm_judging.specs.Helpers.{helpers};
 
+use crate::bytes::{BytesError, bytes_of};
 use crate::helpers::known_sigs;
-use crate::verifying::MOST_READ;
-use acdm_failures::Failure;
+use acdm_failures::{Failure, ended};
+use acdm_lines::{Sink, Source};
 use bpf_explain::{Told, read};
 use std::alloc::Global;
-use std::io::{self, BufWriter, ErrorKind, Read, Write};
+use std::io::{self, Read, Write};
 
 /// Lists the program that the bytes of the file encode, with what is known before each slot, and
 /// its first fault where it may not run with the known helpers; or tells what is wrong with the
@@ -15,33 +18,30 @@ use std::io::{self, BufWriter, ErrorKind, Read, Write};
 ///
 /// The status is 0 for a program that is accepted and 1 for one that is refused, else 2, with a
 /// line on the errors' writer, and one more where the file can't be read.
-pub fn explain_on<R: Read + Drop, W: Write + Drop, E: Write + Drop>(
+pub fn explain_on<R: Read, W: Write, E: Write>(
     alloc: Global,
     file: &str,
-    reader: R,
-    writer: W,
-    errors: E,
-) -> u8 {
-    let mut bytes = Vec::new(alloc);
-    match reader.take(MOST_READ).read_to_end(&mut bytes) {
-        Ok(_) => {}
-        Err(error) if error.kind() == ErrorKind::OutOfMemory => {
-            return Failure::Memory.complain(errors);
-        }
-        Err(error) => return unread(file, error, errors),
-    }
-    match tell(alloc, bytes.as_slice(), writer) {
-        Ok(status) => status,
-        Err(failure) => failure.complain(errors),
-    }
+    reader: &mut Source<R>,
+    writer: &mut Sink<W>,
+    errors: &mut Sink<E>,
+) -> u8
+    ensures { EndsBy (Explains helpers reader.old reader.new) result errors.old errors.new
+        ⊎ FailsToRead reader.old reader.new writer.old writer.new result }
+{
+    let bytes = match bytes_of(alloc, reader) {
+        Ok(bytes) => bytes,
+        Err(BytesError::Read(error)) => return unread(file, &error, errors),
+        Err(BytesError::Memory) => return ended(Err(Failure::Memory), errors),
+    };
+    ended(tell(alloc, bytes.as_slice(), writer), errors)
 }
 
 /// Says that the file can't be read, as `verify` does, and then which file it is, and why. The
 /// status is 2.
-pub fn unread<E: Write + Drop>(file: &str, error: io::Error, mut errors: E) -> u8
+pub fn unread<E: Write>(file: &str, error: &io::Error, errors: &mut Sink<E>) -> u8
     ensures { result ≡ 2 }
 {
-    let status = Failure::Read.complain(&mut errors);
+    let status = Failure::Read.complain(errors);
     let _ = writeln!(errors, "acdm: {file}: {error}");
     status
 }
@@ -53,13 +53,12 @@ fn status_of(told: &Told) -> u8
     if told.is_accepted() { 0 } else { 1 }
 }
 
-fn tell<W: Write + Drop>(alloc: Global, bytes: &[u8], writer: W) -> Result<u8, Failure> {
-    let Ok(mut writer) = BufWriter::new(alloc, writer) else {
-        return Err(Failure::Memory);
-    };
+fn tell<W: Write>(alloc: Global, bytes: &[u8], writer: &mut Sink<W>) -> Result<u8, Failure>
+    ensures { TellsBytes helpers bytes.now result }
+{
     let sigs = known_sigs(alloc)?;
     let told = read(alloc, bytes, &sigs)?;
-    let written = told.write(bytes, &sigs, &mut writer);
+    let written = told.write(bytes, &sigs, writer);
     if written.is_err() || writer.flush().is_err() {
         return Err(Failure::Write);
     }

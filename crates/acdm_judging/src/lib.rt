@@ -3,11 +3,12 @@
 #![tactic(auto)]
 
 mod auditing;
+mod bytes;
 mod explaining;
 mod helpers;
 mod verifying;
 
-pub use auditing::audit_on;
+pub use auditing::{Finding, audit_on};
 pub use explaining::{explain_on, unread};
 pub use helpers::{bank_of, known_sigs, minutes_later, taxi_minutes, turn_round_minutes};
-pub use verifying::verify_on;
+pub use verifying::{Verdict, verify_on};

@@ -1,23 +1,26 @@
 //! The command `verify`, over the reader and the writers that it is handed.
-ghost use Rattle.std.specs.Prelude.{◌≡◌, IfOk, IfErr};
-ghost use Rattle.acdm_judging.specs.Verdicts.{IsVerdict, status_of};
+ghost use Rattle.std.specs.Prelude.{◌≡◌, ◌++◌, [], ◌∷◌, codes, length, IfOk, IfErr, OnOk};
+ghost use Rattle.std.specs.Fmt.{decimal};
+ghost use Rattle.acdm_failures.specs.Failures.{EndsBy};
+ghost use Rattle.acdm_judging.specs.Helpers.{helpers};
+ghost use Rattle.acdm_judging.specs.Verdicts.{IsVerdict, Judges, Verifies, slots_text, status_of};
+ghost use Rattle.acdm_judging.specs.Verdicts.{verdict_text};
 ghost use Rattle.acdm_failures.specs.declared.failure.Failure.TheVariants.{Memory};
 
+use crate::bytes::{BytesError, bytes_of};
 use crate::helpers::known_sigs;
-use acdm_failures::Failure;
-use acdm_wire::{ProgramError, read_program};
+use acdm_failures::{Failure, ended};
+use acdm_lines::{Sink, Source};
+use acdm_wire::{ProgramError, read_program, write_out};
 use bpf_decode::{Program, line};
 use bpf_helpers::Sigs;
 use bpf_verifier::Checked;
 use std::alloc::Global;
-use std::io::{self, BufWriter, ErrorKind, Read, Write};
-
-// More bytes than any program has, so that a longer file is refused by what was read of it.
-pub(crate) const MOST_READ: u64 = 65_537;
+use std::io::{self, Read, Write};
 
 /// What is told of the bytes of a program.
 #[derive(Drop)]
-pub(crate) enum Verdict {
+pub enum Verdict {
     /// They encode this program, which may run.
     Accepted(Checked),
     /// The number of their first fault, 301 to 315, and its slot, counted from 0.
@@ -41,43 +44,45 @@ impl Verdict {
 ///
 /// The status is 0 for a program that is accepted and 1 for one that is refused, else 2, with a
 /// line on the errors' writer.
-pub fn verify_on<R: Read + Drop, W: Write + Drop, E: Write + Drop>(
+pub fn verify_on<R: Read, W: Write, E: Write>(
     alloc: Global,
-    reader: R,
-    writer: W,
-    errors: E,
-) -> u8 {
-    match judge(alloc, reader, writer) {
-        Ok(status) => status,
-        Err(failure) => failure.complain(errors),
+    reader: &mut Source<R>,
+    writer: &mut Sink<W>,
+    errors: &mut Sink<E>,
+) -> u8
+    ensures { EndsBy (Verifies helpers reader.old reader.new writer.old writer.new) result
+        errors.old errors.new }
+{
+    ended(judge(alloc, reader, writer), errors)
+}
+
+// Writes the verdict, and answers the status.
+fn judge<R: Read, W: Write>(
+    alloc: Global,
+    reader: &mut Source<R>,
+    writer: &mut Sink<W>,
+) -> Result<u8, Failure>
+    ensures { Verifies helpers reader.old reader.new writer.old writer.new result }
+{
+    let verdict = verdict_of(alloc, reader)?;
+    let text = text_of(alloc, &verdict)?;
+    match write_out(writer, text.as_slice()) {
+        Ok(()) => Ok(verdict.status()),
+        Err(_) => Err(Failure::Write),
     }
 }
 
-fn judge<R: Read + Drop, W: Write + Drop>(
-    alloc: Global,
-    reader: R,
-    writer: W,
-) -> Result<u8, Failure> {
-    let bytes = bytes_of(alloc, reader)?;
-    let Ok(mut writer) = BufWriter::new(alloc, writer) else {
-        return Err(Failure::Memory);
+// The verdict on the bytes that a reader gives.
+fn verdict_of<R: Read>(alloc: Global, reader: &mut Source<R>) -> Result<Verdict, Failure>
+    ensures { Judges helpers reader.old reader.new result }
+{
+    let bytes = match bytes_of(alloc, reader) {
+        Ok(bytes) => bytes,
+        Err(BytesError::Read(_)) => return Err(Failure::Read),
+        Err(BytesError::Memory) => return Err(Failure::Memory),
     };
     let sigs = known_sigs(alloc)?;
-    let verdict = verdict_on(alloc, bytes.as_slice(), &sigs)?;
-    let written = tell(&verdict, &mut writer);
-    if written.is_err() || writer.flush().is_err() {
-        return Err(Failure::Write);
-    }
-    Ok(verdict.status())
-}
-
-fn bytes_of<R: Read + Drop>(alloc: Global, reader: R) -> Result<Vec<u8>, Failure> {
-    let mut bytes = Vec::new(alloc);
-    match reader.take(MOST_READ).read_to_end(&mut bytes) {
-        Ok(_) => Ok(bytes),
-        Err(error) if error.kind() == ErrorKind::OutOfMemory => Err(Failure::Memory),
-        Err(_) => Err(Failure::Read),
-    }
+    verdict_on(alloc, bytes.as_slice(), &sigs)
 }
 
 /// The verdict on these bytes under these signatures. `Err` only where there was no memory.
@@ -92,18 +97,44 @@ pub(crate) fn verdict_on(alloc: Global, bytes: &[u8], sigs: &Sigs) -> Result<Ver
     }
 }
 
-fn tell<W: Write>(verdict: &Verdict, writer: &mut W) -> io::Result<()> {
-    match verdict {
-        Verdict::Accepted(checked) => list(checked.program(), writer),
-        Verdict::Refused { code, slot } => writeln!(writer, "refused {code} {slot}"),
+// How a verdict is told.
+fn text_of(alloc: Global, verdict: &Verdict) -> Result<Vec<u8>, Failure>
+    ensures text { IfOk result (λ text. text.items ≡ verdict_text verdict.now) }
+    ensures memory { IfErr result (λ failure. failure ≡ Memory) }
+{
+    let mut text = Vec::new(alloc);
+    let written = match verdict {
+        Verdict::Accepted(checked) => list(checked.program(), &mut text),
+        Verdict::Refused { code, slot } => writeln!(text, "refused {code} {slot}"),
+    };
+    // A text in memory is written unless there is none.
+    match written {
+        Ok(()) => Ok(text),
+        Err(_) => Err(Failure::Memory),
     }
 }
 
-fn list<W: Write>(program: &Program, writer: &mut W) -> io::Result<()> {
+// Adds the lines of a program that is accepted.
+fn list(program: &Program, text: &mut Vec<u8>) -> io::Result<()>
+    ensures { OnOk result (text.new.items ≡ text.old.items ++ (slots_text 0 program.now
+        ++ codes "accepted " ++ decimal (length program.now) ++ 10 ∷ [])) }
+{
+    let slots = list_slots(program, text)?;
+    writeln!(text, "accepted {slots}")
+}
+
+// Adds the line of each slot, and says how many there are.
+fn list_slots(program: &Program, text: &mut Vec<u8>) -> io::Result<usize>
+    ensures lines { OnOk result
+        (text.new.items ≡ text.old.items ++ slots_text 0 program.now) }
+    ensures count { IfOk result (λ slots. slots ≡ length program.now) }
+{
     let slots = program.slot_count();
-    for slot in 0..slots {
-        line(program, slot, writer)?;
-        writeln!(writer)?;
+    let mut slot = 0;
+    while slot < slots {
+        line(program, slot, text)?;
+        text.push(b'\n')?;
+        slot += 1;
     }
-    writeln!(writer, "accepted {slots}")
+    Ok(slots)
 }

@@ -10,3 +10,4 @@ pub mod Kept
 pub mod Numbers
 pub mod Planned
 pub mod Rows
+mod Refused

@@ -1,7 +1,8 @@
 //! Laws of histories. Each function does nothing when it runs; its contract is the law.
 
-ghost use Rattle.std.specs.Prelude.{◌≡◌, ℕ, List, ◌∷◌, ◌++◌, Some, true};
-ghost use Rattle.acdm_record.specs.Fields.{Fields};
+ghost use Rattle.std.specs.Prelude.{◌≡◌, ℕ, List, ◌∷◌, ◌++◌, Some, true, false};
+ghost use Rattle.acdm_record.specs.declared.field.Field.TheVariants.{Alerts};
+ghost use Rattle.acdm_record.specs.Fields.{Fields, number_of};
 ghost use Rattle.acdm_milestones.specs.declared.milestone.Milestone.{Milestone};
 ghost use Rattle.bpf_helpers.specs.Promise.{Promise};
 ghost use Rattle.acdm_slots.specs.declared.kind.Kind.{Kind};
@@ -11,8 +12,8 @@ ghost use Rattle.acdm_step.specs.Programs.{Programs, Effect, effect_with};
 ghost use Rattle.acdm_step.specs.Ran.{Ran, HasEffect};
 ghost use Rattle.acdm_step.specs.Commands.{History, is_accepted, flight_of, bit_of};
 ghost use Rattle.acdm_step.specs.InSlots.{program_in, programs_of, slots_of};
-ghost use Rattle.acdm_step.specs.Summaries.{run_record_of};
-ghost use Rattle.acdm_step.specs.History.{IsLegal};
+ghost use Rattle.acdm_step.specs.Summaries.{flights, record_of, run_record_of};
+ghost use Rattle.acdm_step.specs.History.{IsLegal, replay};
 
 /// What a history computes of the programs of a report is what their runs end with.
 pub fn programs_say_what_their_runs_end_with()
@@ -38,4 +39,19 @@ pub fn programs_say_what_their_runs_end_with()
 pub fn slots_are_asked_of_the_history()
     ensures { (sigs : List (ℕ × Promise)) (J : History) (m : Milestone) (kind : Kind) →
         loaded.program_in (slots_of sigs J) m kind ≡ program_in J m kind }
+{}
+
+/// A refused command changes nothing: no flight, no record, no alert word, no program in a slot, and
+/// so not the board.
+pub fn a_refused_command_changes_nothing()
+    ensures flights { (J : History) (e : Entry) → is_accepted e.verdict ≡ false
+        → flights (e ∷ J) ≡ flights J }
+    ensures records { (J : History) (e : Entry) → is_accepted e.verdict ≡ false → (flight : ℕ)
+        → record_of (e ∷ J) flight ≡ record_of J flight }
+    ensures alerts { (J : History) (e : Entry) → is_accepted e.verdict ≡ false → (flight : ℕ)
+        → number_of (record_of (e ∷ J) flight) Alerts ≡ number_of (record_of J flight) Alerts }
+    ensures slots { (J : History) (e : Entry) → is_accepted e.verdict ≡ false → (m : Milestone)
+        (kind : Kind) → program_in (e ∷ J) m kind ≡ program_in J m kind }
+    ensures board { (sigs : List (ℕ × Promise)) (J : History) (e : Entry)
+        → is_accepted e.verdict ≡ false → replay sigs (e ∷ J) ≡ replay sigs J }
 {}

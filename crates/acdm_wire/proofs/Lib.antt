@@ -1,4 +1,6 @@
+pub mod CodeRows
 pub mod Json
 pub mod MeantRows
+pub mod MemoryRows
 pub mod OneReading
 pub mod Writing

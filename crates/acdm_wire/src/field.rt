@@ -1,5 +1,5 @@
 //! The fields of a command.
-ghost use Rattle.std.specs.Prelude.{◌≡◌, ◌≤◌, true, false, IfOk, IsTrue};
+ghost use Rattle.std.specs.Prelude.{◌≡◌, ◌≤◌, true, false, IfOk, OnOk, IsTrue, Err};
 ghost use Rattle.acdm_step.specs.Facts.{has_its_plan, has_its_time};
 ghost use Rattle.acdm_step.specs.Commands.{is_load};
 ghost use Rattle.serde_json.specs.View.{view};
@@ -10,6 +10,8 @@ ghost use Rattle.acdm_wire.specs.Meant.{schedule_field, report_field, show_field
 ghost use Rattle.acdm_wire.specs.Meant.{kind_field, slot_field, program_field, load_field};
 ghost use Rattle.acdm_wire.specs.Meant.{unload_field, plain_named, command_of, is_plain};
 ghost use Rattle.acdm_wire.specs.Meant.{json_of};
+ghost use Rattle.acdm_wire.specs.Memory.{json_needs_memory, program_needs_memory};
+ghost use Rattle.acdm_wire.specs.Memory.{load_needs_memory, command_needs_memory};
 
 use crate::fault::Fault;
 use crate::program::ProgramBytes;
@@ -212,9 +214,11 @@ fn slot_in(value: &Value) -> Result<(Milestone, Kind), Fault>
 }
 
 // The bytes of hexadecimal text.
-#[tactic(auto, unfolding(crate::specs::Meant::program_field))]
+#[tactic(auto, unfolding(crate::specs::Meant::program_field, crate::specs::Memory::program_needs_memory))]
 fn program_in(alloc: Global, value: &Value) -> Result<ProgramBytes, LineError>
-    ensures { Gives result (program_field (view value.now)) }
+    ensures reads { Gives result (program_field (view value.now)) }
+    ensures memory { result ≡ Err LineError.Memory
+        → IsTrue (program_needs_memory (view value.now)) }
 {
     let Some(digits) = value.get("program").and_then(Value::as_str) else {
         return Err(LineError::Fault(Fault::Kind));
@@ -226,9 +230,10 @@ fn program_in(alloc: Global, value: &Value) -> Result<ProgramBytes, LineError>
     }
 }
 
-#[tactic(auto, unfolding(crate::specs::Meant::load_field))]
+#[tactic(auto, unfolding(crate::specs::Meant::load_field, crate::specs::Memory::load_needs_memory))]
 fn load_in(alloc: Global, value: &Value) -> Result<Asked, LineError>
     ensures reads { Gives result (load_field (view value.now)) }
+    ensures memory { result ≡ Err LineError.Memory → IsTrue (load_needs_memory (view value.now)) }
     ensures plain { IfOk result (λ asked. is_plain asked ≡ true) }
 {
     let (milestone, kind) = match slot_in(value) {
@@ -275,9 +280,11 @@ fn plain_in(value: &Value, name: &str) -> Result<Command, Fault>
     }
 }
 
-#[tactic(auto, unfolding(crate::specs::Meant::command_of, crate::specs::Meant::command_named))]
+#[tactic(auto, unfolding(crate::specs::Meant::command_of, crate::specs::Meant::command_named, crate::specs::Memory::command_needs_memory))]
 pub(crate) fn command_in(alloc: Global, value: &Value) -> Result<Asked, LineError>
     ensures reads { Gives result (command_of (view value.now)) }
+    ensures memory { result ≡ Err LineError.Memory
+        → IsTrue (command_needs_memory (view value.now)) }
     ensures plain { IfOk result (λ asked. is_plain asked ≡ true) }
 {
     let Some(name) = value.get("cmd").and_then(Value::as_str) else {
@@ -293,9 +300,14 @@ pub(crate) fn command_in(alloc: Global, value: &Value) -> Result<Asked, LineErro
 }
 
 pub(crate) fn json_in(alloc: Global, bytes: &[u8]) -> Result<Value, LineError>
-    ensures { GivesView view result (json_of bytes.now) }
+    ensures reads { GivesView view result (json_of bytes.now) }
+    ensures memory { result ≡ Err LineError.Memory → IsTrue (json_needs_memory bytes.now) }
+    ensures needs { OnOk result (IsTrue (json_needs_memory bytes.now)) }
 {
-    match Value::from_slice(alloc, bytes) {
+    let Ok(text) = str::from_utf8(bytes) else {
+        return Err(LineError::Fault(Fault::NoJson));
+    };
+    match Value::from_str(alloc, text) {
         Ok(value) => Ok(value),
         Err(error) => {
             if error.is_memory() {

@@ -1,7 +1,8 @@
 //! The words before the JSON of a line.
-ghost use Rattle.std.specs.Prelude.{◌≡◌, ◌<◌, ◌≤◌, length, position, true, IfSome, IfOk};
+ghost use Rattle.std.specs.Prelude.{◌≡◌, ◌<◌, ◌≤◌, length, position, true, IfSome, IfOk, IsTrue, Err};
 ghost use Rattle.acdm_wire.specs.Meant.{Gives, Sees, is_space, word_at, natural_of};
 ghost use Rattle.acdm_wire.specs.Meant.{number_word, head_of, meant, is_plain};
+ghost use Rattle.acdm_wire.specs.Memory.{request_needs_memory};
 
 use crate::fault::Fault;
 use crate::field::{command_in, json_in};
@@ -92,9 +93,13 @@ fn head_in(line: &[u8]) -> Result<Head<'_>, Fault>
 }
 
 /// What a line of `run` asks for, or the first fault in it. The line stands without its line feed.
-#[tactic(auto, unfolding(crate::specs::Meant::meant))]
+///
+/// `Memory` comes only where some was asked for, which is for the JSON: not for a line that is too
+/// long or has another prefix, nor for JSON that is empty or no UTF-8.
+#[tactic(auto, unfolding(crate::specs::Meant::meant, crate::specs::Memory::request_needs_memory))]
 pub fn request_of(alloc: Global, line: &[u8]) -> Result<Request, LineError>
     ensures reads { Gives result (meant line.now) }
+    ensures memory { result ≡ Err LineError.Memory → IsTrue (request_needs_memory line.now) }
     ensures session { IfOk result (λ r. (1 ≤ r.session) × (r.session ≤ 64)) }
     ensures moment { IfOk result (λ r. 1 ≤ r.moment) }
     ensures plain { IfOk result (λ r. is_plain r.asked ≡ true) }

@@ -10,10 +10,12 @@ mod program;
 mod reply;
 mod reply_text;
 mod request;
+mod text;
 
 pub use asked::asked_of;
 pub use fault::{Bad, Fault};
 pub use head::request_of;
 pub use program::{ProgramBytes, ProgramError, read_program};
-pub use reply::{write_entered, write_rejected};
+pub use reply::{write_entered, write_out, write_rejected, write_whole};
 pub use request::{Asked, LONGEST_LINE, LineError, LoadRequest, Request};
+pub use text::Text;

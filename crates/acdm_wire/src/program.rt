@@ -1,8 +1,11 @@
 //! The bytes of a program, and what they mean.
-ghost use Rattle.std.specs.Prelude.{◌≡◌};
+ghost use Rattle.std.specs.Prelude.{◌≡◌, Err, IfSome, IfNone};
+ghost use Rattle.bpf_decode.specs.Encoding.{FirstFault};
+ghost use Rattle.bpf_decode.specs.Faults.{code_of};
+ghost use Rattle.acdm_wire.specs.Memory.{HasSlots};
 ghost use Rattle.acdm_wire.specs.Reading.{Reading, IsReading, GivesReading, AnswersReading};
 
-use bpf_decode::{DecodeError, decode};
+use bpf_decode::{DecodeError, Fault, MOST_SLOTS, decode};
 use bpf_helpers::Sigs;
 use bpf_verifier::{Checked, VerifyError, verify};
 use std::alloc::Global;
@@ -50,15 +53,37 @@ pub enum ProgramError {
 }
 
 /// The program that the bytes encode, if no slot of it has a fault under these signatures, or else
-/// the first fault.
+/// the first fault. `Memory` comes only for some slots, and not too many: others are refused before
+/// any is asked for.
 pub fn read_program(alloc: Global, bytes: &[u8], sigs: &Sigs) -> Result<Checked, ProgramError>
     ensures reads { GivesReading sigs.now bytes.now result }
 
     // There is no other reading.
     ensures only { (reading : Reading) → IsReading sigs.now bytes.now reading
         → AnswersReading reading result }
+    ensures memory { result ≡ Err ProgramError.Memory → HasSlots bytes.now }
 {
+    if let Some(fault) = length_fault(bytes) {
+        return Err(ProgramError::Refused {
+            code: fault.code(),
+            slot: 0,
+        });
+    }
     program_of(alloc, bytes, sigs)
+}
+
+// What is wrong with the number of the bytes, for which nobody asks for memory.
+fn length_fault(bytes: &[u8]) -> Option<Fault>
+    ensures some { IfSome result (λ fault. FirstFault bytes.now (code_of fault) 0) }
+    ensures none { IfNone result (HasSlots bytes.now) }
+{
+    if bytes.len() > 8 * MOST_SLOTS {
+        return Some(Fault::TooLong);
+    }
+    if bytes.is_empty() || bytes.len() % 8 != 0 {
+        return Some(Fault::Length);
+    }
+    None
 }
 
 fn program_of(alloc: Global, bytes: &[u8], sigs: &Sigs) -> Result<Checked, ProgramError>

@@ -1,17 +1,20 @@
 //! Replies, as they are written.
+ghost use Rattle.std.specs.Prelude.{◌≡◌, false, OnOk};
 ghost use Rattle.std.specs.List.{flat_map};
 ghost use Rattle.acdm_wire.specs.Writes.{Writes};
 ghost use Rattle.acdm_wire.specs.Replies.{next_text, list_text, entry_text, bad_text};
 ghost use Rattle.acdm_step.specs.declared.outcome.Outcome.TheVariants.{Listed};
 
 use crate::fault::Bad;
-use crate::reply_text::{ReplyText, done, head, refused, rejected, shown};
+use crate::reply_text::{done, head, refused, rejected, shown};
+use crate::text::Text;
 use acdm_lines::{RunError, Sink};
 use acdm_step::{Alerted, Outcome};
 use std::io::Write;
 
-/// Writes all these bytes.
-fn write_whole<W: Write>(writer: &mut Sink<W>, bytes: &[u8]) -> Result<(), RunError>
+/// Writes all these bytes. The writer is not flushed. `Write` where the writer failed, after some of
+/// the first of them.
+pub fn write_whole<W: Write>(writer: &mut Sink<W>, bytes: &[u8]) -> Result<(), RunError>
     ensures { Writes writer.old writer.new bytes.now result }
 {
     let mut at = 0;
@@ -24,11 +27,24 @@ fn write_whole<W: Write>(writer: &mut Sink<W>, bytes: &[u8]) -> Result<(), RunEr
     Ok(())
 }
 
+/// Writes all these bytes, and lets them go at once. `Write` where the writer failed, after some of
+/// the first of them.
+pub fn write_out<W: Write>(writer: &mut Sink<W>, bytes: &[u8]) -> Result<(), RunError>
+    ensures writes { Writes writer.old writer.new bytes.now result }
+    ensures flushed { OnOk result (writer.new.waits ≡ false) }
+{
+    write_whole(writer, bytes)?;
+    match writer.flush() {
+        Ok(()) => Ok(()),
+        Err(_) => Err(RunError::Write),
+    }
+}
+
 // Writes flights with their alerts after a first one.
 fn write_more<W: Write>(writer: &mut Sink<W>, flights: &[Alerted]) -> Result<(), RunError>
     ensures { Writes writer.old writer.new (flat_map next_text flights.now) result }
 {
-    let mut text = ReplyText::new();
+    let mut text = Text::new();
     let mut rest = flights;
     while let Some((flight, more)) = rest.split_first() {
         text.put_next(flight);
@@ -45,7 +61,7 @@ fn write_flights<W: Write>(writer: &mut Sink<W>, flights: &[Alerted]) -> Result<
     let Some((first, more)) = flights.split_first() else {
         return write_whole(writer, b"-");
     };
-    let mut text = ReplyText::new();
+    let mut text = Text::new();
     text.put_first(first);
     write_whole(writer, text.as_slice())?;
     write_more(writer, more)

@@ -1,6 +1,5 @@
 //! The texts of replies.
-ghost use Rattle.std.specs.Prelude.{◌≡◌, ◌+◌, ◌≤◌, ◌++◌, [], length};
-ghost use Rattle.std.specs.Fmt.{decimal};
+ghost use Rattle.std.specs.Prelude.{◌≡◌, ◌+◌, ◌≤◌, ◌++◌, length};
 ghost use Rattle.hex.specs.Hex.{encode_lower};
 ghost use Rattle.acdm_record.specs.Fields.{bytes_of};
 ghost use Rattle.acdm_step.specs.declared.outcome.Outcome.TheVariants as outcomes;
@@ -8,57 +7,13 @@ ghost use Rattle.acdm_wire.specs.Replies.{alerted_text, next_text, list_head, en
 ghost use Rattle.acdm_wire.specs.Replies.{bad_text};
 
 use crate::fault::Bad;
+use crate::text::Text;
 use acdm_alerts::push_names;
 use acdm_milestones::Refusal;
 use acdm_record::Record;
 use acdm_step::Alerted;
-use arrayvec::ArrayVec;
-use itoa::Buffer;
-use std::marker::Model;
 
-/// A text on its way to a writer, so that it is one write: a reply, or a part of one. It takes no
-/// memory.
-#[derive(Drop)]
-pub(crate) struct ReplyText {
-    bytes: ArrayVec<u8, 320>,
-}
-
-impl Model for ReplyText {
-    ghost use Rattle.std.specs.Prelude.{ℕ, List};
-
-    ghost Value = { List ℕ };
-
-    ghost view = { λ t. t.bytes.items };
-}
-
-impl ReplyText {
-    /// No byte yet.
-    pub(crate) fn new() -> ReplyText
-        ensures { result ≡ [] }
-    {
-        ReplyText {
-            bytes: ArrayVec::new(),
-        }
-    }
-
-    fn push(&mut self, more: &[u8])
-        requires { length self.old + length more.now ≤ 320 }
-        ensures { self.new ≡ self.old ++ more.now }
-    {
-        if self.bytes.try_extend_from_slice(more).is_err() {
-            unreachable!();
-        }
-    }
-
-    fn push_number(&mut self, number: u64)
-        requires { length self.old + 20 ≤ 320 }
-        ensures text { self.new ≡ self.old ++ decimal number }
-        ensures short { length self.new ≤ length self.old + 20 }
-    {
-        let mut digits = Buffer::new();
-        self.push(digits.format(number).as_bytes());
-    }
-
+impl Text {
     fn push_record(&mut self, record: &Record)
         requires { length self.old + 256 ≤ 320 }
         ensures text { self.new ≡ self.old ++ encode_lower (bytes_of «record».now) }
@@ -98,28 +53,22 @@ impl ReplyText {
         self.push(b";");
         self.push_alerted(flight);
     }
-
-    pub(crate) fn as_slice(&self) -> &[u8]
-        ensures { result.now ≡ self.now }
-    {
-        self.bytes.as_slice()
-    }
 }
 
-pub(crate) fn done(number: u64) -> ReplyText
+pub(crate) fn done(number: u64) -> Text
     ensures { result ≡ entry_text number outcomes.Done }
 {
-    let mut text = ReplyText::new();
+    let mut text = Text::new();
     text.push(b"ok ");
     text.push_number(number);
     text.push(b"\n");
     text
 }
 
-pub(crate) fn refused(number: u64, refusal: Refusal) -> ReplyText
+pub(crate) fn refused(number: u64, refusal: Refusal) -> Text
     ensures { result ≡ entry_text number (outcomes.Refused refusal) }
 {
-    let mut text = ReplyText::new();
+    let mut text = Text::new();
     text.push(b"no ");
     text.push_number(number);
     text.push(b" ");
@@ -128,10 +77,10 @@ pub(crate) fn refused(number: u64, refusal: Refusal) -> ReplyText
     text
 }
 
-pub(crate) fn shown(number: u64, record: &Record) -> ReplyText
+pub(crate) fn shown(number: u64, record: &Record) -> Text
     ensures { result ≡ entry_text number (outcomes.Shown «record».now) }
 {
-    let mut text = ReplyText::new();
+    let mut text = Text::new();
     text.push(b"rec ");
     text.push_number(number);
     text.push(b" ");
@@ -141,10 +90,10 @@ pub(crate) fn shown(number: u64, record: &Record) -> ReplyText
 }
 
 /// What stands before the flights with alerts.
-pub(crate) fn head(number: u64) -> ReplyText
+pub(crate) fn head(number: u64) -> Text
     ensures { result ≡ list_head number }
 {
-    let mut text = ReplyText::new();
+    let mut text = Text::new();
     text.push(b"alerts ");
     text.push_number(number);
     text.push(b" ");
@@ -152,10 +101,10 @@ pub(crate) fn head(number: u64) -> ReplyText
 }
 
 // Why a program is not loaded, with the slot of its first fault.
-fn refused_program(code: u16, slot: usize) -> ReplyText
+fn refused_program(code: u16, slot: usize) -> Text
     ensures { result ≡ bad_text (Bad.Program code slot) }
 {
-    let mut text = ReplyText::new();
+    let mut text = Text::new();
     text.push(b"bad ");
     text.push_number(u64::from(code));
     text.push(b" ");
@@ -164,13 +113,13 @@ fn refused_program(code: u16, slot: usize) -> ReplyText
     text
 }
 
-pub(crate) fn rejected(bad: Bad) -> ReplyText
+pub(crate) fn rejected(bad: Bad) -> Text
     ensures { result ≡ bad_text bad }
 {
     if let Bad::Program { code, slot } = bad {
         return refused_program(code, slot);
     }
-    let mut text = ReplyText::new();
+    let mut text = Text::new();
     text.push(b"bad ");
     text.push_number(u64::from(bad.code()));
     text.push(b"\n");

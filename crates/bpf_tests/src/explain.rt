@@ -1,6 +1,6 @@
 //! The words, by hand: first programs that are accepted, then one for each fault.
 
-use crate::programs::same_text;
+use crate::programs::{exited, same_text, slot};
 use bpf_explain::{Told, read};
 use bpf_helpers::{Range, Signature, Sigs};
 use std::alloc::Global;
@@ -364,6 +364,41 @@ fn programs_are_told(rt: HostRuntime) {
     for listing in &LISTINGS {
         is_listed(&rt, rt.alloc(), listing);
     }
+}
+
+/// What is known at each slot of a program that only sets r0.
+const KNOWN: &str = "r1 = record+0, r2 = 128, r3 = 0 to 4294967295, r4 = 1 to 16, r10 = stack+0\n";
+
+/// What is told of a slot of the longest program.
+fn slot_text(rt: &impl Abort, alloc: Global, slot: u64) -> String {
+    let name = if slot == 4_095 { "exit" } else { "mov64 r0, 0" };
+    let known = if slot == 0 { "" } else { "r0 = 0, " };
+    format!(in alloc; "{slot}: {name}\n    {known}{KNOWN}").expect(rt, "a slot")
+}
+
+/// What is told of 4,095 slots that set r0 to 0, and of an exit.
+fn longest_text(rt: &impl Abort, alloc: Global) -> String {
+    let mut text = String::new(alloc);
+    for slot in 0..4_096 {
+        let part = slot_text(rt, alloc, slot);
+        text.push_str(part.as_str()).expect(rt, "room");
+    }
+    text.push_str("accepted 4096\n").expect(rt, "room");
+    text
+}
+
+#[test]
+fn the_longest_program_is_told(rt: HostRuntime) {
+    let bytes = exited(&rt, rt.alloc(), &slot(0xb7, 0, 0, 0), 4_095);
+    let text = longest_text(&rt, rt.alloc());
+    tells(
+        &rt,
+        rt.alloc(),
+        "4,096 slots",
+        bytes.as_slice(),
+        true,
+        text.as_str(),
+    );
 }
 
 /// Bytes that encode no program, and what is told of them.

@@ -2,6 +2,7 @@
 mod audit;
 mod displays;
 mod explain;
+mod files;
 mod serve;
 
 use acdm_board::Desk;
@@ -56,7 +57,7 @@ fn run_ends<R: Read + Drop, W: Write + Drop>(
     writer: W,
     expected: (u8, &str),
 ) {
-    let mut errors = Vec::new(alloc);
+    let mut errors = Sink::new(Vec::new(alloc));
     let mut reader = Source::new(reader);
     let mut writer = Sink::new(writer);
     let status = run_on(
@@ -69,7 +70,7 @@ fn run_ends<R: Read + Drop, W: Write + Drop>(
     );
     let (wanted, complaint) = expected;
     assert!(rt; status == wanted);
-    assert!(rt; errors.as_slice() == complaint.as_bytes());
+    assert!(rt; errors.into_inner().as_slice() == complaint.as_bytes());
 }
 
 #[test]
@@ -105,7 +106,8 @@ fn status_of<
 >(alloc: Global, rt: &Rt, words: &[&str], input: R, output: W, errors: E) -> u8 {
     let mut input = Source::new(input);
     let mut output = Sink::new(output);
-    complete(alloc, rt, words, &mut input, &mut output, errors)
+    let mut errors = Sink::new(errors);
+    complete(alloc, rt, words, &mut input, &mut output, &mut errors)
 }
 
 const TICK: &str = "1 29000580 APT {\"cmd\":\"tick\"}\n";
@@ -260,12 +262,16 @@ fn programs_ask_the_known_helpers(rt: HostRuntime) {
 
 // Of these bytes `verify` writes this, with this status, and no complaint.
 fn is_judged(rt: &impl Abort, alloc: Global, bytes: &[u8], status: u8, text: &str) {
-    let mut written = Vec::new(alloc);
-    let mut errors = Vec::new(alloc);
-    let ended = verify_on(alloc, bytes, &mut written, &mut errors);
+    let mut reader = Source::new(bytes);
+    let mut written = Sink::new(Vec::new(alloc));
+    let mut errors = Sink::new(Vec::new(alloc));
+    let ended = verify_on(alloc, &mut reader, &mut written, &mut errors);
     assert!(rt; ended == status, "{text}");
-    assert!(rt; written.as_slice() == text.as_bytes(), "{text}");
-    assert!(rt; errors.is_empty(), "{text}");
+    assert!(rt;
+        written.into_inner().as_slice() == text.as_bytes(),
+        "{text}"
+    );
+    assert!(rt; errors.into_inner().is_empty(), "{text}");
 }
 
 #[test]
@@ -410,10 +416,12 @@ fn verify_fails<R: Read + Drop, W: Write + Drop>(
     writer: W,
     complaint: &str,
 ) {
-    let mut errors = Vec::new(alloc);
-    let status = verify_on(alloc, reader, writer, &mut errors);
+    let mut errors = Sink::new(Vec::new(alloc));
+    let mut reader = Source::new(reader);
+    let mut writer = Sink::new(writer);
+    let status = verify_on(alloc, &mut reader, &mut writer, &mut errors);
     assert!(rt; status == 2);
-    assert!(rt; errors.as_slice() == complaint.as_bytes());
+    assert!(rt; errors.into_inner().as_slice() == complaint.as_bytes());
 }
 
 #[test]

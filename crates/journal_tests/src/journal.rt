@@ -1,6 +1,7 @@
 //! Entries written, and lines read.
 use crate::fixture::{SEVEN, TEN, planned, reported, same_number, scheduled};
 use acdm_journal::{Asked, LineError, Stated, WriteError, read_line, write_entry};
+use acdm_lines::Sink;
 use acdm_milestones::{Milestone, Refusal, Role};
 use acdm_slots::Kind;
 use acdm_step::{
@@ -54,8 +55,9 @@ fn writes(
         verdict,
         answers,
     };
-    let mut out = Vec::new(alloc);
+    let mut out = Sink::new(Vec::new(alloc));
     let is_written = write_entry(alloc, &entry, &mut out).is_ok();
+    let out = out.into_inner();
     assert!(rt; is_written && out.as_slice() == line.as_bytes(), "{line}");
 }
 
@@ -173,7 +175,7 @@ fn a_writer_that_is_full_fails(rt: HostRuntime) {
         answers: Answers::none(rt.alloc()),
     };
     let mut room = [0; 9];
-    let mut out = room.as_mut_slice();
+    let mut out = Sink::new(room.as_mut_slice());
     let written = write_entry(rt.alloc(), &tick, &mut out);
     assert!(rt; written == Err(WriteError::Write));
     drop(tick);

@@ -5,7 +5,9 @@ mod bars;
 mod codes;
 mod fields;
 mod helpers;
+mod limits;
 mod local;
+mod marks;
 mod moments;
 mod needs;
 mod order;
@@ -14,6 +16,7 @@ mod targets;
 mod touches;
 
 use crate::known::{minutes_later, taxi_minutes, turn_round_minutes};
+use crate::rows::marks::MARKS;
 use acdm_board::Desk;
 use acdm_judging::bank_of;
 use acdm_sessions::{Sink, Source, run};
@@ -27,13 +30,37 @@ const START: &str =
 2 29000700 NM {"cmd":"report","flight":7,"milestone":1,"time":"2025-02-20T10:00:00Z","callsign":"DLH7","type":"A320","reg":"DAIBC","dest":"EDDM"}
 "#;
 
-/// What partners send to an empty board, and are replied.
+/// What partners send to an empty board, and are replied, both in marks.
 pub(crate) struct Row {
     pub(crate) shows: &'static str,
     pub(crate) capacity: usize,
     /// Whether `START` comes before its lines.
     pub(crate) starts: bool,
     pub(crate) lines: &'static str,
+    pub(crate) replies: &'static str,
+}
+
+/// One line, a part of which is repeated, and lines after it.
+pub(crate) struct Long {
+    pub(crate) shows: &'static str,
+    pub(crate) head: &'static str,
+    pub(crate) part: &'static str,
+    pub(crate) times: usize,
+    pub(crate) tail: &'static str,
+    pub(crate) more: &'static str,
+    pub(crate) replies: &'static str,
+}
+
+/// One line for each flight from 1 on, each accepted, then the alerts, one for each flight, and
+/// lines after that.
+pub(crate) struct Crowd {
+    pub(crate) shows: &'static str,
+    pub(crate) flights: u64,
+    pub(crate) capacity: usize,
+    pub(crate) before: &'static str,
+    pub(crate) behind: &'static str,
+    pub(crate) alert: &'static str,
+    pub(crate) more: &'static str,
     pub(crate) replies: &'static str,
 }
 
@@ -44,14 +71,96 @@ fn known_bank(rt: &impl Abort, alloc: Global) -> Bank {
     bank_of(alloc, kinds, stands, minutes).expect(rt, "a bank")
 }
 
+fn push(rt: &impl Abort, text: &mut Vec<u8>, part: &str) {
+    text.extend_from_slice(part.as_bytes())
+        .expect(rt, "room for a part");
+}
+
+fn push_number(rt: &impl Abort, alloc: Global, text: &mut Vec<u8>, number: u64) {
+    let digits = format!(in alloc; "{number}").expect(rt, "a number");
+    push(rt, text, digits.as_str());
+}
+
+// What a byte of a table stands for, if it is a mark.
+fn meant_by(mark: u8) -> Option<&'static str> {
+    for (own, meant) in &MARKS {
+        if *own == mark {
+            return Some(*meant);
+        }
+    }
+    None
+}
+
+// Adds what a table says: each mark by what it stands for, and each # by the number of the next entry.
+fn push_marked(rt: &impl Abort, alloc: Global, text: &mut Vec<u8>, marked: &str) {
+    let mut entry: u64 = 0;
+    for byte in marked.as_bytes() {
+        let Some(meant) = meant_by(*byte) else {
+            text.push(*byte).expect(rt, "room for a byte");
+            continue;
+        };
+        match meant.split_once('#') {
+            None => push(rt, text, meant),
+            Some((before, behind)) => {
+                push(rt, text, before);
+                push_number(rt, alloc, text, entry);
+                push(rt, text, behind);
+                entry = entry.saturating_add(1);
+            }
+        }
+    }
+}
+
 fn text_of(rt: &impl Abort, alloc: Global, row: &Row) -> Vec<u8> {
     let mut text = Vec::new(alloc);
     if row.starts {
-        text.extend_from_slice(START.as_bytes())
-            .expect(rt, "room for the start");
+        push(rt, &mut text, START);
     }
-    text.extend_from_slice(row.lines.as_bytes())
-        .expect(rt, "room for lines");
+    push_marked(rt, alloc, &mut text, row.lines);
+    text
+}
+
+fn long_text(rt: &impl Abort, alloc: Global, row: &Long) -> Vec<u8> {
+    let mut text = Vec::new(alloc);
+    push(rt, &mut text, row.head);
+    for _ in 0..row.times {
+        push(rt, &mut text, row.part);
+    }
+    push(rt, &mut text, row.tail);
+    push(rt, &mut text, "\n");
+    push(rt, &mut text, row.more);
+    text
+}
+
+fn crowd_text(rt: &impl Abort, alloc: Global, row: &Crowd) -> Vec<u8> {
+    let mut text = Vec::new(alloc);
+    for flight in 1..=row.flights {
+        push(rt, &mut text, row.before);
+        push_number(rt, alloc, &mut text, flight);
+        push(rt, &mut text, row.behind);
+        push(rt, &mut text, "\n");
+    }
+    push(rt, &mut text, "1 29000580 APT {\"cmd\":\"alerts\"}\n");
+    push(rt, &mut text, row.more);
+    text
+}
+
+fn crowd_replies(rt: &impl Abort, alloc: Global, row: &Crowd) -> Vec<u8> {
+    let mut text = Vec::new(alloc);
+    for entry in 0..row.flights {
+        push(rt, &mut text, "ok ");
+        push_number(rt, alloc, &mut text, entry);
+        push(rt, &mut text, "\n");
+    }
+    push(rt, &mut text, "alerts ");
+    push_number(rt, alloc, &mut text, row.flights);
+    for flight in 1..=row.flights {
+        push(rt, &mut text, if flight == 1 { " " } else { ";" });
+        push_number(rt, alloc, &mut text, flight);
+        push(rt, &mut text, row.alert);
+    }
+    push(rt, &mut text, "\n");
+    push(rt, &mut text, row.replies);
     text
 }
 
@@ -83,9 +192,33 @@ fn replies_with<H: Helpers + Drop>(
     replies
 }
 
+fn replies_in(rt: &impl Abort, alloc: Global, marked: &str) -> String {
+    let mut text = Vec::new(alloc);
+    push_marked(rt, alloc, &mut text, marked);
+    String::from_utf8(text)
+        .ok()
+        .expect(rt, "replies of a table")
+}
+
 pub(crate) fn is_answered(rt: &impl Abort, alloc: Global, row: &Row) {
     let text = text_of(rt, alloc, row);
+    let replies = replies_in(rt, alloc, row.replies);
     let bank = known_bank(rt, alloc);
     let found = replies_with(rt, alloc, bank, row.capacity, text.as_slice());
+    assert_eq!(rt; found.as_str(), replies.as_str(), "for {}", row.shows);
+}
+
+pub(crate) fn is_long_answered(rt: &impl Abort, alloc: Global, row: &Long) {
+    let text = long_text(rt, alloc, row);
+    let bank = known_bank(rt, alloc);
+    let found = replies_with(rt, alloc, bank, 10, text.as_slice());
     assert_eq!(rt; found.as_str(), row.replies, "for {}", row.shows);
+}
+
+pub(crate) fn is_crowd_answered(rt: &impl Abort, alloc: Global, row: &Crowd) {
+    let text = crowd_text(rt, alloc, row);
+    let wanted = crowd_replies(rt, alloc, row);
+    let bank = known_bank(rt, alloc);
+    let found = replies_with(rt, alloc, bank, row.capacity, text.as_slice());
+    assert!(rt; found.as_bytes() == wanted.as_slice(), "for {}", row.shows);
 }

@@ -1,6 +1,7 @@
 //! Streams of lines, with the replies that the profile's worked examples give.
 mod ample;
 mod board;
+mod codes;
 mod programs;
 mod threads;
 mod wire;

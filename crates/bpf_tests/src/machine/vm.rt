@@ -4,7 +4,7 @@ use crate::fixtures::{
     minutes_later, sum_signature, taxi_helper, turn_round_minutes, turn_round_signature,
 };
 use crate::machine::planned;
-use crate::programs::{bytes_of, is_fault};
+use crate::programs::{EXIT, bytes_of, exited, is_fault, slot};
 use acdm_milestones::Milestone;
 use bpf_helpers::{Code, Helper};
 use bpf_machine::{EbpfVmRaw, Ended};
@@ -130,5 +130,43 @@ fn calls_sum(rt: &impl Abort, alloc: Global, vm: &mut EbpfVmRaw) {
 fn helpers_are_called(rt: HostRuntime) {
     let mut vm = EbpfVmRaw::new(rt.alloc()).expect(&rt, "a machine");
     calls_sum(&rt, rt.alloc(), &mut vm);
+    drop(vm);
+}
+
+/// A program of these bytes is set, and ends with r0 in so many steps.
+fn runs(rt: &impl Abort, vm: &mut EbpfVmRaw, bytes: &[u8], r0: u64, steps: u64) {
+    let is_set = vm.set_program(bytes).is_ok();
+    assert!(rt; is_set, "{steps} slots");
+    ends(rt, vm, 7, r0, steps);
+}
+
+/// r1 = 0 and helper 2, so often, and an exit.
+fn asking(rt: &impl Abort, alloc: Global, times: u16) -> Vec<u8> {
+    let mut bytes = Vec::new(alloc);
+    for _ in 0..times {
+        bytes
+            .extend_from_slice(&slot(0xb7, 1, 0, 0))
+            .expect(rt, "bytes");
+        bytes
+            .extend_from_slice(&slot(0x85, 0, 0, 2))
+            .expect(rt, "bytes");
+    }
+    bytes.extend_from_slice(&EXIT).expect(rt, "bytes");
+    bytes
+}
+
+/// Those of 4,096 slots, and of 2,047 questions.
+fn runs_longest(rt: &impl Abort, alloc: Global, vm: &mut EbpfVmRaw) {
+    let zeros = exited(rt, alloc, &slot(0xb7, 0, 0, 0), 4_095);
+    runs(rt, vm, zeros.as_slice(), 0, 4_096);
+    let asks = asking(rt, alloc, 2_047);
+    runs(rt, vm, asks.as_slice(), 10, 4_095);
+}
+
+#[test]
+fn the_longest_programs_are_run(rt: HostRuntime) {
+    let mut vm = EbpfVmRaw::new(rt.alloc()).expect(&rt, "a machine");
+    adds(&rt, &mut vm, taxi_helper(&rt, rt.alloc()));
+    runs_longest(&rt, rt.alloc(), &mut vm);
     drop(vm);
 }

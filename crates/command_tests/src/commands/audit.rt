@@ -39,12 +39,13 @@ fn joined(rt: &impl Abort, alloc: Global, parts: &[&str]) -> String {
 
 fn audits_to(rt: &impl Abort, alloc: Global, parts: &[&str], status: u8, told: &str) {
     let journal = joined(rt, alloc, parts);
-    let mut output = Vec::new(alloc);
-    let mut errors = Vec::new(alloc);
-    let ended = audit_on(alloc, journal.as_bytes(), &mut output, &mut errors);
+    let mut reader = Source::new(journal.as_bytes());
+    let mut output = Sink::new(Vec::new(alloc));
+    let mut errors = Sink::new(Vec::new(alloc));
+    let ended = audit_on(alloc, &mut reader, &mut output, &mut errors);
     assert!(rt; ended == status, "{told}");
-    assert!(rt; output.as_slice() == told.as_bytes(), "{told}");
-    assert!(rt; errors.is_empty(), "{told}");
+    assert!(rt; output.into_inner().as_slice() == told.as_bytes(), "{told}");
+    assert!(rt; errors.into_inner().is_empty(), "{told}");
 }
 
 // The status of a run over the lines, and what it saved.
@@ -52,7 +53,7 @@ fn day_saved(alloc: Global) -> (u8, Vec<u8>) {
     let mut reader = Source::new(LINES.as_bytes());
     let mut writer = Sink::new(Vec::new(alloc));
     let mut saved = Some(Sink::new(Vec::new(alloc)));
-    let mut errors = Vec::new(alloc);
+    let mut errors = Sink::new(Vec::new(alloc));
     let status = run_on(alloc, 10, &mut reader, &mut writer, &mut saved, &mut errors);
     match saved {
         Some(file) => (status, file.into_inner()),
@@ -154,21 +155,23 @@ fn audit_fails<R: Read + Drop, W: Write + Drop>(
     writer: W,
     complaint: &str,
 ) {
-    let mut errors = Vec::new(alloc);
-    let status = audit_on(alloc, reader, writer, &mut errors);
+    let mut errors = Sink::new(Vec::new(alloc));
+    let mut reader = Source::new(reader);
+    let mut writer = Sink::new(writer);
+    let status = audit_on(alloc, &mut reader, &mut writer, &mut errors);
     assert!(rt; status == 2);
-    assert!(rt; errors.as_slice() == complaint.as_bytes());
+    assert!(rt; errors.into_inner().as_slice() == complaint.as_bytes());
 }
 
 // So does a run over the lines whose journal can't be saved.
 fn saving_fails(rt: &impl Abort, alloc: Global, complaint: &str) {
     let mut reader = Source::new(LINES.as_bytes());
     let mut writer = Sink::new(Vec::new(alloc));
-    let mut errors = Vec::new(alloc);
+    let mut errors = Sink::new(Vec::new(alloc));
     let mut file = Some(Sink::new(Broken));
     let status = run_on(alloc, 10, &mut reader, &mut writer, &mut file, &mut errors);
     assert!(rt; status == 2);
-    assert!(rt; errors.as_slice() == complaint.as_bytes());
+    assert!(rt; errors.into_inner().as_slice() == complaint.as_bytes());
 }
 
 #[test]

@@ -1,6 +1,7 @@
 //! What `explain` tells of files, and its statuses.
 use crate::commands::{Broken, Short, completes};
 use acdm_commands::{explain_on, verify_on};
+use acdm_sessions::{Sink, Source};
 use std::alloc::Global;
 use std::io::{Read, Write};
 use std::process::Abort;
@@ -13,11 +14,14 @@ fn explain_ends<R: Read + Drop, W: Write + Drop>(
     writer: W,
     expected: (u8, &str),
 ) {
-    let mut errors = Vec::new(alloc);
-    let status = explain_on(alloc, "rules/slot.bin", reader, writer, &mut errors);
+    let mut errors = Sink::new(Vec::new(alloc));
+    let mut reader = Source::new(reader);
+    let mut writer = Sink::new(writer);
+    let file = "rules/slot.bin";
+    let status = explain_on(alloc, file, &mut reader, &mut writer, &mut errors);
     let (wanted, complaint) = expected;
     assert!(rt; status == wanted);
-    assert!(rt; errors.as_slice() == complaint.as_bytes());
+    assert!(rt; errors.into_inner().as_slice() == complaint.as_bytes());
 }
 
 // It writes this text.
@@ -59,15 +63,24 @@ refused 313 1
 
 // Both commands have one status and one last line.
 fn both_end_with(rt: &impl Abort, alloc: Global, bytes: &[u8], line: &str) {
-    let mut verdict = Vec::new(alloc);
-    let mut text = Vec::new(alloc);
-    let mut errors = Vec::new(alloc);
-    let wanted = verify_on(alloc, bytes, &mut verdict, &mut errors);
-    let status = explain_on(alloc, "rules/slot.bin", bytes, &mut text, &mut errors);
+    let mut verdict = Sink::new(Vec::new(alloc));
+    let mut text = Sink::new(Vec::new(alloc));
+    let mut errors = Sink::new(Vec::new(alloc));
+    let mut reader = Source::new(bytes);
+    let wanted = verify_on(alloc, &mut reader, &mut verdict, &mut errors);
+    let mut reader = Source::new(bytes);
+    let file = "rules/slot.bin";
+    let status = explain_on(alloc, file, &mut reader, &mut text, &mut errors);
     assert!(rt; status == wanted, "{line}");
-    assert!(rt; verdict.as_slice().ends_with(line.as_bytes()), "{line}");
-    assert!(rt; text.as_slice().ends_with(line.as_bytes()), "{line}");
-    assert!(rt; errors.is_empty(), "{line}");
+    assert!(rt;
+        verdict.into_inner().as_slice().ends_with(line.as_bytes()),
+        "{line}"
+    );
+    assert!(rt;
+        text.into_inner().as_slice().ends_with(line.as_bytes()),
+        "{line}"
+    );
+    assert!(rt; errors.into_inner().is_empty(), "{line}");
 }
 
 // Programs, and the last line on each.

@@ -5,7 +5,7 @@ use super::status_of;
 use acdm_board::Desk;
 use acdm_commands::serve_on;
 use acdm_milestones::Role;
-use acdm_sessions::Clock;
+use acdm_sessions::{Clock, Sink};
 use bpf_helpers::{Bank, Helpers};
 use std::alloc::Global;
 use std::fs::Files;
@@ -100,10 +100,12 @@ pub(crate) fn served_at<H: Helpers + Drop + Send, Rt: Threads + Wait + Abort + S
     second: Partner,
 ) -> String {
     let partners = both(rt, alloc, first, second);
-    let mut output = Vec::new(alloc);
+    let mut output = Sink::new(Vec::new(alloc));
     let is_served = serve_on(rt, alloc, partners, desk, &mut output).is_ok();
     assert!(rt; is_served);
-    String::from_utf8(output).ok().expect(rt, "a text")
+    String::from_utf8(output.into_inner())
+        .ok()
+        .expect(rt, "a text")
 }
 
 // What it tells of them at a desk of their own.

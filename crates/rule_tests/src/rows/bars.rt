@@ -1,404 +1,384 @@
 //! What a milestone bars. Written by `bench/rows/rows.py`.
 use crate::rows::{Row, is_answered};
 
-static ROWS_1: [Row; 8] = [
+static ROWS_1: [Row; 16] = [
     Row {
         shows: "milestone 15 bars 1",
         capacity: 100,
         starts: true,
-        lines: r#"3 29000700 ATC {"cmd":"report","flight":7,"milestone":6,"time":"2025-02-20T09:00:00Z"}
-1 29000700 APT {"cmd":"report","flight":7,"milestone":7,"time":"2025-02-20T09:05:00Z"}
-5 29000700 GH {"cmd":"report","flight":7,"milestone":9,"time":"2025-02-20T10:00:00Z"}
-3 29000700 ATC {"cmd":"report","flight":7,"milestone":10,"time":"2025-02-20T10:01:00Z"}
-3 29000700 ATC {"cmd":"report","flight":7,"milestone":13,"time":"2025-02-20T09:58:00Z"}
-3 29000700 ATC {"cmd":"report","flight":7,"milestone":14,"time":"2025-02-20T10:02:00Z"}
-2 29000700 NM {"cmd":"report","flight":7,"milestone":1,"time":"2025-02-20T10:00:00Z","callsign":"DLH7","type":"A320","reg":"DAIBC","dest":"EDDM"}
-3 29000700 ATC {"cmd":"report","flight":7,"milestone":15,"time":"2025-02-20T10:03:00Z"}
-2 29000700 NM {"cmd":"report","flight":7,"milestone":1,"time":"2025-02-20T10:00:00Z","callsign":"DLH7","type":"A320","reg":"DAIBC","dest":"EDDM"}
+        lines: r#"%+6(09:00)
+!+7(09:05)
+*+9(10:00)
+%+10(10:01)
+%+13(09:58)
+%+14(10:02)
+$+<
+%+15(10:03)
+$+<
 "#,
-        replies: "ok 0
-ok 1
-ok 2
-ok 3
-ok 4
-ok 5
-ok 6
-ok 7
-ok 8
-ok 9
-no 10 204
-",
+        replies: r#"^
+^
+^
+^
+^
+^
+^
+^
+^
+^
+_204
+"#,
     },
     Row {
         shows: "milestone 16 bars 2",
         capacity: 100,
         starts: true,
-        lines: r#"5 29000700 GH {"cmd":"report","flight":7,"milestone":9,"time":"2025-02-20T10:00:00Z"}
-3 29000700 ATC {"cmd":"report","flight":7,"milestone":10,"time":"2025-02-20T10:01:00Z"}
-3 29000700 ATC {"cmd":"report","flight":7,"milestone":13,"time":"2025-02-20T09:58:00Z"}
-3 29000700 ATC {"cmd":"report","flight":7,"milestone":14,"time":"2025-02-20T10:02:00Z"}
-3 29000700 ATC {"cmd":"report","flight":7,"milestone":15,"time":"2025-02-20T10:03:00Z"}
-2 29000700 NM {"cmd":"report","flight":7,"milestone":2,"time":"2025-02-20T10:15:00Z"}
-3 29000700 ATC {"cmd":"report","flight":7,"milestone":16,"time":"2025-02-20T10:12:00Z"}
-2 29000700 NM {"cmd":"report","flight":7,"milestone":2,"time":"2025-02-20T10:15:00Z"}
+        lines: r#"*+9(10:00)
+%+10(10:01)
+%+13(09:58)
+%+14(10:02)
+%+15(10:03)
+$+2(10:15)
+%+16(10:12)
+$+2(10:15)
 "#,
-        replies: "ok 0
-ok 1
-ok 2
-ok 3
-ok 4
-ok 5
-ok 6
-ok 7
-ok 8
-no 9 204
-",
+        replies: r#"^
+^
+^
+^
+^
+^
+^
+^
+^
+_204
+"#,
     },
     Row {
         shows: "milestone 6 bars 3",
         capacity: 100,
         starts: true,
-        lines: r#"2 29000700 NM {"cmd":"report","flight":7,"milestone":3,"time":"2025-02-20T08:00:00Z"}
-3 29000700 ATC {"cmd":"report","flight":7,"milestone":6,"time":"2025-02-20T09:00:00Z"}
-2 29000700 NM {"cmd":"report","flight":7,"milestone":3,"time":"2025-02-20T08:00:00Z"}
+        lines: r#"$+3(08:00)
+%+6(09:00)
+$+3(08:00)
 "#,
-        replies: "ok 0
-ok 1
-ok 2
-ok 3
-no 4 204
-",
+        replies: r#"^
+^
+^
+^
+_204
+"#,
     },
     Row {
         shows: "milestone 6 bars 4",
         capacity: 100,
         starts: true,
-        lines: r#"3 29000700 ATC {"cmd":"report","flight":7,"milestone":4,"time":"2025-02-20T09:10:00Z"}
-3 29000700 ATC {"cmd":"report","flight":7,"milestone":6,"time":"2025-02-20T09:00:00Z"}
-3 29000700 ATC {"cmd":"report","flight":7,"milestone":4,"time":"2025-02-20T09:10:00Z"}
+        lines: r#"%+4(09:10)
+%+6(09:00)
+%+4(09:10)
 "#,
-        replies: "ok 0
-ok 1
-ok 2
-ok 3
-no 4 204
-",
+        replies: r#"^
+^
+^
+^
+_204
+"#,
     },
     Row {
         shows: "milestone 6 bars 5",
         capacity: 100,
         starts: true,
-        lines: r#"3 29000700 ATC {"cmd":"report","flight":7,"milestone":5,"time":"2025-02-20T09:08:00Z"}
-3 29000700 ATC {"cmd":"report","flight":7,"milestone":6,"time":"2025-02-20T09:00:00Z"}
-3 29000700 ATC {"cmd":"report","flight":7,"milestone":5,"time":"2025-02-20T09:08:00Z"}
+        lines: r#"%+5(09:08)
+%+6(09:00)
+%+5(09:08)
 "#,
-        replies: "ok 0
-ok 1
-ok 2
-ok 3
-no 4 204
-",
+        replies: r#"^
+^
+^
+^
+_204
+"#,
     },
     Row {
         shows: "milestone 7 bars 6",
         capacity: 100,
         starts: true,
-        lines: r#"3 29000700 ATC {"cmd":"report","flight":7,"milestone":6,"time":"2025-02-20T09:00:00Z"}
-3 29000700 ATC {"cmd":"report","flight":7,"milestone":6,"time":"2025-02-20T09:00:00Z"}
-1 29000700 APT {"cmd":"report","flight":7,"milestone":7,"time":"2025-02-20T09:05:00Z"}
-3 29000700 ATC {"cmd":"report","flight":7,"milestone":6,"time":"2025-02-20T09:00:00Z"}
+        lines: r#"%+6(09:00)
+%+6(09:00)
+!+7(09:05)
+%+6(09:00)
 "#,
-        replies: "ok 0
-ok 1
-ok 2
-ok 3
-ok 4
-no 5 204
-",
+        replies: r#"^
+^
+^
+^
+^
+_204
+"#,
     },
     Row {
         shows: "milestone 15 bars 7",
         capacity: 100,
         starts: true,
-        lines: r#"3 29000700 ATC {"cmd":"report","flight":7,"milestone":6,"time":"2025-02-20T09:00:00Z"}
-1 29000700 APT {"cmd":"report","flight":7,"milestone":7,"time":"2025-02-20T09:05:00Z"}
-5 29000700 GH {"cmd":"report","flight":7,"milestone":9,"time":"2025-02-20T10:00:00Z"}
-3 29000700 ATC {"cmd":"report","flight":7,"milestone":10,"time":"2025-02-20T10:01:00Z"}
-3 29000700 ATC {"cmd":"report","flight":7,"milestone":13,"time":"2025-02-20T09:58:00Z"}
-3 29000700 ATC {"cmd":"report","flight":7,"milestone":14,"time":"2025-02-20T10:02:00Z"}
-1 29000700 APT {"cmd":"report","flight":7,"milestone":7,"time":"2025-02-20T09:05:00Z"}
-3 29000700 ATC {"cmd":"report","flight":7,"milestone":15,"time":"2025-02-20T10:03:00Z"}
-1 29000700 APT {"cmd":"report","flight":7,"milestone":7,"time":"2025-02-20T09:05:00Z"}
+        lines: r#"%+6(09:00)
+!+7(09:05)
+*+9(10:00)
+%+10(10:01)
+%+13(09:58)
+%+14(10:02)
+!+7(09:05)
+%+15(10:03)
+!+7(09:05)
 "#,
-        replies: "ok 0
-ok 1
-ok 2
-ok 3
-ok 4
-ok 5
-ok 6
-ok 7
-ok 8
-ok 9
-no 10 204
-",
+        replies: r#"^
+^
+^
+^
+^
+^
+^
+^
+^
+^
+_204
+"#,
     },
     Row {
         shows: "milestone 15 bars 8",
         capacity: 100,
         starts: true,
-        lines: r#"3 29000700 ATC {"cmd":"report","flight":7,"milestone":6,"time":"2025-02-20T09:00:00Z"}
-1 29000700 APT {"cmd":"report","flight":7,"milestone":7,"time":"2025-02-20T09:05:00Z"}
-5 29000700 GH {"cmd":"report","flight":7,"milestone":9,"time":"2025-02-20T10:00:00Z"}
-3 29000700 ATC {"cmd":"report","flight":7,"milestone":10,"time":"2025-02-20T10:01:00Z"}
-3 29000700 ATC {"cmd":"report","flight":7,"milestone":13,"time":"2025-02-20T09:58:00Z"}
-3 29000700 ATC {"cmd":"report","flight":7,"milestone":14,"time":"2025-02-20T10:02:00Z"}
-5 29000700 GH {"cmd":"report","flight":7,"milestone":8,"time":"2025-02-20T09:06:00Z"}
-3 29000700 ATC {"cmd":"report","flight":7,"milestone":15,"time":"2025-02-20T10:03:00Z"}
-5 29000700 GH {"cmd":"report","flight":7,"milestone":8,"time":"2025-02-20T09:06:00Z"}
+        lines: r#"%+6(09:00)
+!+7(09:05)
+*+9(10:00)
+%+10(10:01)
+%+13(09:58)
+%+14(10:02)
+*+8(09:06)
+%+15(10:03)
+*+8(09:06)
 "#,
-        replies: "ok 0
-ok 1
-ok 2
-ok 3
-ok 4
-ok 5
-ok 6
-ok 7
-ok 8
-ok 9
-no 10 204
-",
+        replies: r#"^
+^
+^
+^
+^
+^
+^
+^
+^
+^
+_204
+"#,
+    },
+    Row {
+        shows: "milestone 14 bars 9",
+        capacity: 100,
+        starts: true,
+        lines: r#"*+9(10:00)
+%+10(10:01)
+%+13(09:58)
+*+9(10:00)
+%+14(10:02)
+*+9(10:00)
+"#,
+        replies: r#"^
+^
+^
+^
+^
+^
+^
+_204
+"#,
+    },
+    Row {
+        shows: "milestone 15 bars 10",
+        capacity: 100,
+        starts: true,
+        lines: r#"%+6(09:00)
+!+7(09:05)
+*+9(10:00)
+%+10(10:01)
+%+13(09:58)
+%+14(10:02)
+%+10(10:01)
+%+15(10:03)
+%+10(10:01)
+"#,
+        replies: r#"^
+^
+^
+^
+^
+^
+^
+^
+^
+^
+_204
+"#,
+    },
+    Row {
+        shows: "milestone 15 bars 11",
+        capacity: 100,
+        starts: true,
+        lines: r#"%+6(09:00)
+!+7(09:05)
+*+9(10:00)
+%+10(10:01)
+%+13(09:58)
+%+14(10:02)
+*+11(09:40)
+%+15(10:03)
+*+11(09:40)
+"#,
+        replies: r#"^
+^
+^
+^
+^
+^
+^
+^
+^
+^
+_204
+"#,
+    },
+    Row {
+        shows: "milestone 15 bars 12",
+        capacity: 100,
+        starts: true,
+        lines: r#"%+6(09:00)
+!+7(09:05)
+*+9(10:00)
+%+10(10:01)
+%+13(09:58)
+%+14(10:02)
+&+12(09:55)
+%+15(10:03)
+&+12(09:55)
+"#,
+        replies: r#"^
+^
+^
+^
+^
+^
+^
+^
+^
+^
+_204
+"#,
+    },
+    Row {
+        shows: "milestone 15 bars 13",
+        capacity: 100,
+        starts: true,
+        lines: r#"%+6(09:00)
+!+7(09:05)
+*+9(10:00)
+%+10(10:01)
+%+13(09:58)
+%+14(10:02)
+%+13(09:58)
+%+15(10:03)
+%+13(09:58)
+"#,
+        replies: r#"^
+^
+^
+^
+^
+^
+^
+^
+^
+^
+_204
+"#,
+    },
+    Row {
+        shows: "milestone 15 bars 14",
+        capacity: 100,
+        starts: true,
+        lines: r#"%+6(09:00)
+!+7(09:05)
+*+9(10:00)
+%+10(10:01)
+%+13(09:58)
+%+14(10:02)
+%+14(10:02)
+%+15(10:03)
+%+14(10:02)
+"#,
+        replies: r#"^
+^
+^
+^
+^
+^
+^
+^
+^
+^
+_204
+"#,
+    },
+    Row {
+        shows: "milestone 16 bars 15",
+        capacity: 100,
+        starts: true,
+        lines: r#"*+9(10:00)
+%+10(10:01)
+%+13(09:58)
+%+14(10:02)
+%+15(10:03)
+%+15(10:03)
+%+16(10:12)
+%+15(10:03)
+"#,
+        replies: r#"^
+^
+^
+^
+^
+^
+^
+^
+^
+_204
+"#,
+    },
+    Row {
+        shows: "milestone 16 bars 16",
+        capacity: 100,
+        starts: true,
+        lines: r#"*+9(10:00)
+%+10(10:01)
+%+13(09:58)
+%+14(10:02)
+%+15(10:03)
+%+16(10:12)
+%+16(10:12)
+"#,
+        replies: r#"^
+^
+^
+^
+^
+^
+^
+^
+_204
+"#,
     },
 ];
 
 #[test]
 fn part_1(rt: HostRuntime) {
     for row in &ROWS_1 {
-        is_answered(&rt, rt.alloc(), row);
-    }
-}
-
-static ROWS_2: [Row; 6] = [
-    Row {
-        shows: "milestone 14 bars 9",
-        capacity: 100,
-        starts: true,
-        lines: r#"5 29000700 GH {"cmd":"report","flight":7,"milestone":9,"time":"2025-02-20T10:00:00Z"}
-3 29000700 ATC {"cmd":"report","flight":7,"milestone":10,"time":"2025-02-20T10:01:00Z"}
-3 29000700 ATC {"cmd":"report","flight":7,"milestone":13,"time":"2025-02-20T09:58:00Z"}
-5 29000700 GH {"cmd":"report","flight":7,"milestone":9,"time":"2025-02-20T10:00:00Z"}
-3 29000700 ATC {"cmd":"report","flight":7,"milestone":14,"time":"2025-02-20T10:02:00Z"}
-5 29000700 GH {"cmd":"report","flight":7,"milestone":9,"time":"2025-02-20T10:00:00Z"}
-"#,
-        replies: "ok 0
-ok 1
-ok 2
-ok 3
-ok 4
-ok 5
-ok 6
-no 7 204
-",
-    },
-    Row {
-        shows: "milestone 15 bars 10",
-        capacity: 100,
-        starts: true,
-        lines: r#"3 29000700 ATC {"cmd":"report","flight":7,"milestone":6,"time":"2025-02-20T09:00:00Z"}
-1 29000700 APT {"cmd":"report","flight":7,"milestone":7,"time":"2025-02-20T09:05:00Z"}
-5 29000700 GH {"cmd":"report","flight":7,"milestone":9,"time":"2025-02-20T10:00:00Z"}
-3 29000700 ATC {"cmd":"report","flight":7,"milestone":10,"time":"2025-02-20T10:01:00Z"}
-3 29000700 ATC {"cmd":"report","flight":7,"milestone":13,"time":"2025-02-20T09:58:00Z"}
-3 29000700 ATC {"cmd":"report","flight":7,"milestone":14,"time":"2025-02-20T10:02:00Z"}
-3 29000700 ATC {"cmd":"report","flight":7,"milestone":10,"time":"2025-02-20T10:01:00Z"}
-3 29000700 ATC {"cmd":"report","flight":7,"milestone":15,"time":"2025-02-20T10:03:00Z"}
-3 29000700 ATC {"cmd":"report","flight":7,"milestone":10,"time":"2025-02-20T10:01:00Z"}
-"#,
-        replies: "ok 0
-ok 1
-ok 2
-ok 3
-ok 4
-ok 5
-ok 6
-ok 7
-ok 8
-ok 9
-no 10 204
-",
-    },
-    Row {
-        shows: "milestone 15 bars 11",
-        capacity: 100,
-        starts: true,
-        lines: r#"3 29000700 ATC {"cmd":"report","flight":7,"milestone":6,"time":"2025-02-20T09:00:00Z"}
-1 29000700 APT {"cmd":"report","flight":7,"milestone":7,"time":"2025-02-20T09:05:00Z"}
-5 29000700 GH {"cmd":"report","flight":7,"milestone":9,"time":"2025-02-20T10:00:00Z"}
-3 29000700 ATC {"cmd":"report","flight":7,"milestone":10,"time":"2025-02-20T10:01:00Z"}
-3 29000700 ATC {"cmd":"report","flight":7,"milestone":13,"time":"2025-02-20T09:58:00Z"}
-3 29000700 ATC {"cmd":"report","flight":7,"milestone":14,"time":"2025-02-20T10:02:00Z"}
-5 29000700 GH {"cmd":"report","flight":7,"milestone":11,"time":"2025-02-20T09:40:00Z"}
-3 29000700 ATC {"cmd":"report","flight":7,"milestone":15,"time":"2025-02-20T10:03:00Z"}
-5 29000700 GH {"cmd":"report","flight":7,"milestone":11,"time":"2025-02-20T09:40:00Z"}
-"#,
-        replies: "ok 0
-ok 1
-ok 2
-ok 3
-ok 4
-ok 5
-ok 6
-ok 7
-ok 8
-ok 9
-no 10 204
-",
-    },
-    Row {
-        shows: "milestone 15 bars 12",
-        capacity: 100,
-        starts: true,
-        lines: r#"3 29000700 ATC {"cmd":"report","flight":7,"milestone":6,"time":"2025-02-20T09:00:00Z"}
-1 29000700 APT {"cmd":"report","flight":7,"milestone":7,"time":"2025-02-20T09:05:00Z"}
-5 29000700 GH {"cmd":"report","flight":7,"milestone":9,"time":"2025-02-20T10:00:00Z"}
-3 29000700 ATC {"cmd":"report","flight":7,"milestone":10,"time":"2025-02-20T10:01:00Z"}
-3 29000700 ATC {"cmd":"report","flight":7,"milestone":13,"time":"2025-02-20T09:58:00Z"}
-3 29000700 ATC {"cmd":"report","flight":7,"milestone":14,"time":"2025-02-20T10:02:00Z"}
-4 29000700 AO {"cmd":"report","flight":7,"milestone":12,"time":"2025-02-20T09:55:00Z"}
-3 29000700 ATC {"cmd":"report","flight":7,"milestone":15,"time":"2025-02-20T10:03:00Z"}
-4 29000700 AO {"cmd":"report","flight":7,"milestone":12,"time":"2025-02-20T09:55:00Z"}
-"#,
-        replies: "ok 0
-ok 1
-ok 2
-ok 3
-ok 4
-ok 5
-ok 6
-ok 7
-ok 8
-ok 9
-no 10 204
-",
-    },
-    Row {
-        shows: "milestone 15 bars 13",
-        capacity: 100,
-        starts: true,
-        lines: r#"3 29000700 ATC {"cmd":"report","flight":7,"milestone":6,"time":"2025-02-20T09:00:00Z"}
-1 29000700 APT {"cmd":"report","flight":7,"milestone":7,"time":"2025-02-20T09:05:00Z"}
-5 29000700 GH {"cmd":"report","flight":7,"milestone":9,"time":"2025-02-20T10:00:00Z"}
-3 29000700 ATC {"cmd":"report","flight":7,"milestone":10,"time":"2025-02-20T10:01:00Z"}
-3 29000700 ATC {"cmd":"report","flight":7,"milestone":13,"time":"2025-02-20T09:58:00Z"}
-3 29000700 ATC {"cmd":"report","flight":7,"milestone":14,"time":"2025-02-20T10:02:00Z"}
-3 29000700 ATC {"cmd":"report","flight":7,"milestone":13,"time":"2025-02-20T09:58:00Z"}
-3 29000700 ATC {"cmd":"report","flight":7,"milestone":15,"time":"2025-02-20T10:03:00Z"}
-3 29000700 ATC {"cmd":"report","flight":7,"milestone":13,"time":"2025-02-20T09:58:00Z"}
-"#,
-        replies: "ok 0
-ok 1
-ok 2
-ok 3
-ok 4
-ok 5
-ok 6
-ok 7
-ok 8
-ok 9
-no 10 204
-",
-    },
-    Row {
-        shows: "milestone 15 bars 14",
-        capacity: 100,
-        starts: true,
-        lines: r#"3 29000700 ATC {"cmd":"report","flight":7,"milestone":6,"time":"2025-02-20T09:00:00Z"}
-1 29000700 APT {"cmd":"report","flight":7,"milestone":7,"time":"2025-02-20T09:05:00Z"}
-5 29000700 GH {"cmd":"report","flight":7,"milestone":9,"time":"2025-02-20T10:00:00Z"}
-3 29000700 ATC {"cmd":"report","flight":7,"milestone":10,"time":"2025-02-20T10:01:00Z"}
-3 29000700 ATC {"cmd":"report","flight":7,"milestone":13,"time":"2025-02-20T09:58:00Z"}
-3 29000700 ATC {"cmd":"report","flight":7,"milestone":14,"time":"2025-02-20T10:02:00Z"}
-3 29000700 ATC {"cmd":"report","flight":7,"milestone":14,"time":"2025-02-20T10:02:00Z"}
-3 29000700 ATC {"cmd":"report","flight":7,"milestone":15,"time":"2025-02-20T10:03:00Z"}
-3 29000700 ATC {"cmd":"report","flight":7,"milestone":14,"time":"2025-02-20T10:02:00Z"}
-"#,
-        replies: "ok 0
-ok 1
-ok 2
-ok 3
-ok 4
-ok 5
-ok 6
-ok 7
-ok 8
-ok 9
-no 10 204
-",
-    },
-];
-
-#[test]
-fn part_2(rt: HostRuntime) {
-    for row in &ROWS_2 {
-        is_answered(&rt, rt.alloc(), row);
-    }
-}
-
-static ROWS_3: [Row; 2] = [
-    Row {
-        shows: "milestone 16 bars 15",
-        capacity: 100,
-        starts: true,
-        lines: r#"5 29000700 GH {"cmd":"report","flight":7,"milestone":9,"time":"2025-02-20T10:00:00Z"}
-3 29000700 ATC {"cmd":"report","flight":7,"milestone":10,"time":"2025-02-20T10:01:00Z"}
-3 29000700 ATC {"cmd":"report","flight":7,"milestone":13,"time":"2025-02-20T09:58:00Z"}
-3 29000700 ATC {"cmd":"report","flight":7,"milestone":14,"time":"2025-02-20T10:02:00Z"}
-3 29000700 ATC {"cmd":"report","flight":7,"milestone":15,"time":"2025-02-20T10:03:00Z"}
-3 29000700 ATC {"cmd":"report","flight":7,"milestone":15,"time":"2025-02-20T10:03:00Z"}
-3 29000700 ATC {"cmd":"report","flight":7,"milestone":16,"time":"2025-02-20T10:12:00Z"}
-3 29000700 ATC {"cmd":"report","flight":7,"milestone":15,"time":"2025-02-20T10:03:00Z"}
-"#,
-        replies: "ok 0
-ok 1
-ok 2
-ok 3
-ok 4
-ok 5
-ok 6
-ok 7
-ok 8
-no 9 204
-",
-    },
-    Row {
-        shows: "milestone 16 bars 16",
-        capacity: 100,
-        starts: true,
-        lines: r#"5 29000700 GH {"cmd":"report","flight":7,"milestone":9,"time":"2025-02-20T10:00:00Z"}
-3 29000700 ATC {"cmd":"report","flight":7,"milestone":10,"time":"2025-02-20T10:01:00Z"}
-3 29000700 ATC {"cmd":"report","flight":7,"milestone":13,"time":"2025-02-20T09:58:00Z"}
-3 29000700 ATC {"cmd":"report","flight":7,"milestone":14,"time":"2025-02-20T10:02:00Z"}
-3 29000700 ATC {"cmd":"report","flight":7,"milestone":15,"time":"2025-02-20T10:03:00Z"}
-3 29000700 ATC {"cmd":"report","flight":7,"milestone":16,"time":"2025-02-20T10:12:00Z"}
-3 29000700 ATC {"cmd":"report","flight":7,"milestone":16,"time":"2025-02-20T10:12:00Z"}
-"#,
-        replies: "ok 0
-ok 1
-ok 2
-ok 3
-ok 4
-ok 5
-ok 6
-ok 7
-no 8 204
-",
-    },
-];
-
-#[test]
-fn part_3(rt: HostRuntime) {
-    for row in &ROWS_3 {
         is_answered(&rt, rt.alloc(), row);
     }
 }

@@ -6,146 +6,146 @@ static ROWS_1: [Row; 7] = [
         shows: "in-block is not before landed",
         capacity: 100,
         starts: true,
-        lines: r#"3 29000700 ATC {"cmd":"report","flight":7,"milestone":6,"time":"2025-02-20T09:00:00Z"}
-1 29000700 APT {"cmd":"report","flight":7,"milestone":7,"time":"2025-02-20T08:59:00Z"}
-1 29000700 APT {"cmd":"report","flight":7,"milestone":7,"time":"2025-02-20T09:00:00Z"}
+        lines: r#"%+6(09:00)
+!+7(08:59)
+!+7(09:00)
 "#,
-        replies: "ok 0
-ok 1
-ok 2
-no 3 206
-ok 4
-",
+        replies: r#"^
+^
+^
+_206
+^
+"#,
     },
     Row {
         shows: "ground handling is not before in-block",
         capacity: 100,
         starts: true,
-        lines: r#"3 29000700 ATC {"cmd":"report","flight":7,"milestone":6,"time":"2025-02-20T09:00:00Z"}
-1 29000700 APT {"cmd":"report","flight":7,"milestone":7,"time":"2025-02-20T09:05:00Z"}
-5 29000700 GH {"cmd":"report","flight":7,"milestone":8,"time":"2025-02-20T09:04:00Z"}
-5 29000700 GH {"cmd":"report","flight":7,"milestone":8,"time":"2025-02-20T09:05:00Z"}
+        lines: r#"%+6(09:00)
+!+7(09:05)
+*+8(09:04)
+*+8(09:05)
 "#,
-        replies: "ok 0
-ok 1
-ok 2
-ok 3
-no 4 206
-ok 5
-",
+        replies: r#"^
+^
+^
+^
+_206
+^
+"#,
     },
     Row {
         shows: "in-block is not behind ground handling",
         capacity: 100,
         starts: true,
-        lines: r#"3 29000700 ATC {"cmd":"report","flight":7,"milestone":6,"time":"2025-02-20T09:00:00Z"}
-1 29000700 APT {"cmd":"report","flight":7,"milestone":7,"time":"2025-02-20T09:05:00Z"}
-5 29000700 GH {"cmd":"report","flight":7,"milestone":8,"time":"2025-02-20T09:06:00Z"}
-1 29000700 APT {"cmd":"report","flight":7,"milestone":7,"time":"2025-02-20T09:07:00Z"}
-1 29000700 APT {"cmd":"report","flight":7,"milestone":7,"time":"2025-02-20T09:06:00Z"}
+        lines: r#"%+6(09:00)
+!+7(09:05)
+*+8(09:06)
+!+7(09:07)
+!+7(09:06)
 "#,
-        replies: "ok 0
-ok 1
-ok 2
-ok 3
-ok 4
-no 5 206
-ok 6
-",
+        replies: r#"^
+^
+^
+^
+^
+_206
+^
+"#,
     },
     Row {
         shows: "approval is not before the request",
         capacity: 100,
         starts: true,
-        lines: r#"5 29000700 GH {"cmd":"report","flight":7,"milestone":9,"time":"2025-02-20T10:00:00Z"}
-3 29000700 ATC {"cmd":"report","flight":7,"milestone":10,"time":"2025-02-20T10:01:00Z"}
-3 29000700 ATC {"cmd":"report","flight":7,"milestone":13,"time":"2025-02-20T09:58:00Z"}
-3 29000700 ATC {"cmd":"report","flight":7,"milestone":14,"time":"2025-02-20T09:57:00Z"}
-3 29000700 ATC {"cmd":"report","flight":7,"milestone":14,"time":"2025-02-20T09:58:00Z"}
+        lines: r#"*+9(10:00)
+%+10(10:01)
+%+13(09:58)
+%+14(09:57)
+%+14(09:58)
 "#,
-        replies: "ok 0
-ok 1
-ok 2
-ok 3
-ok 4
-no 5 206
-ok 6
-",
+        replies: r#"^
+^
+^
+^
+^
+_206
+^
+"#,
     },
     Row {
         shows: "the request is not behind the approval",
         capacity: 100,
         starts: true,
-        lines: r#"5 29000700 GH {"cmd":"report","flight":7,"milestone":9,"time":"2025-02-20T10:00:00Z"}
-3 29000700 ATC {"cmd":"report","flight":7,"milestone":10,"time":"2025-02-20T10:01:00Z"}
-3 29000700 ATC {"cmd":"report","flight":7,"milestone":13,"time":"2025-02-20T09:58:00Z"}
-3 29000700 ATC {"cmd":"report","flight":7,"milestone":14,"time":"2025-02-20T10:02:00Z"}
-3 29000700 ATC {"cmd":"report","flight":7,"milestone":13,"time":"2025-02-20T10:03:00Z"}
-3 29000700 ATC {"cmd":"report","flight":7,"milestone":13,"time":"2025-02-20T10:02:00Z"}
+        lines: r#"*+9(10:00)
+%+10(10:01)
+%+13(09:58)
+%+14(10:02)
+%+13(10:03)
+%+13(10:02)
 "#,
-        replies: "ok 0
-ok 1
-ok 2
-ok 3
-ok 4
-ok 5
-no 6 206
-ok 7
-",
+        replies: r#"^
+^
+^
+^
+^
+^
+_206
+^
+"#,
     },
     Row {
         shows: "take-off is not before off-block",
         capacity: 100,
         starts: true,
-        lines: r#"5 29000700 GH {"cmd":"report","flight":7,"milestone":9,"time":"2025-02-20T10:00:00Z"}
-3 29000700 ATC {"cmd":"report","flight":7,"milestone":10,"time":"2025-02-20T10:01:00Z"}
-3 29000700 ATC {"cmd":"report","flight":7,"milestone":13,"time":"2025-02-20T09:58:00Z"}
-3 29000700 ATC {"cmd":"report","flight":7,"milestone":14,"time":"2025-02-20T10:02:00Z"}
-3 29000700 ATC {"cmd":"report","flight":7,"milestone":15,"time":"2025-02-20T10:03:00Z"}
-3 29000700 ATC {"cmd":"report","flight":7,"milestone":16,"time":"2025-02-20T10:02:00Z"}
-3 29000700 ATC {"cmd":"report","flight":7,"milestone":16,"time":"2025-02-20T10:03:00Z"}
+        lines: r#"*+9(10:00)
+%+10(10:01)
+%+13(09:58)
+%+14(10:02)
+%+15(10:03)
+%+16(10:02)
+%+16(10:03)
 "#,
-        replies: "ok 0
-ok 1
-ok 2
-ok 3
-ok 4
-ok 5
-ok 6
-no 7 206
-ok 8
-",
+        replies: r#"^
+^
+^
+^
+^
+^
+^
+_206
+^
+"#,
     },
     Row {
         shows: "other times have no order",
         capacity: 100,
         starts: true,
-        lines: r#"3 29000700 ATC {"cmd":"report","flight":7,"milestone":6,"time":"2025-02-20T09:00:00Z"}
-1 29000700 APT {"cmd":"report","flight":7,"milestone":7,"time":"2025-02-20T09:05:00Z"}
-5 29000700 GH {"cmd":"report","flight":7,"milestone":9,"time":"2025-02-20T10:00:00Z"}
-3 29000700 ATC {"cmd":"report","flight":7,"milestone":10,"time":"2025-02-20T10:01:00Z"}
-5 29000700 GH {"cmd":"report","flight":7,"milestone":11,"time":"2025-02-20T01:00:00Z"}
-4 29000700 AO {"cmd":"report","flight":7,"milestone":12,"time":"2025-02-20T00:30:00Z"}
-3 29000700 ATC {"cmd":"report","flight":7,"milestone":13,"time":"2025-02-20T00:20:00Z"}
-3 29000700 ATC {"cmd":"report","flight":7,"milestone":14,"time":"2025-02-20T10:00:00Z"}
-3 29000700 ATC {"cmd":"report","flight":7,"milestone":15,"time":"2025-02-20T00:10:00Z"}
-3 29000700 ATC {"cmd":"report","flight":7,"milestone":16,"time":"2025-02-20T00:10:00Z"}
-2 29000700 NM {"cmd":"report","flight":7,"milestone":2,"time":"2025-02-20T00:01:00Z"}
+        lines: r#"%+6(09:00)
+!+7(09:05)
+*+9(10:00)
+%+10(10:01)
+*+11(01:00)
+&+12(00:30)
+%+13(00:20)
+%+14(10:00)
+%+15(00:10)
+%+16(00:10)
+$+2(00:01)
 "#,
-        replies: "ok 0
-ok 1
-ok 2
-ok 3
-ok 4
-ok 5
-ok 6
-ok 7
-ok 8
-ok 9
-ok 10
-ok 11
-no 12 204
-",
+        replies: r#"^
+^
+^
+^
+^
+^
+^
+^
+^
+^
+^
+^
+_204
+"#,
     },
 ];
 

@@ -1,4 +1,4 @@
-use Rattle.std.proofs.Common.{rules}
+use Rattle.std.proofs.Common.{rules, arith}
 use Rattle.acdm_commands.proofs.Saved.{saves_more}
 use Rattle.acdm_commands.proofs.saving.write_journal.Goals as goal
 
@@ -9,4 +9,5 @@ loop-number-preserved g c = record {
       (search rules) c.loop-number.invariant.wrote c.in_ok-write_entry.ensures.written
       c.in_ok-write_entry.ensures.types;
   below = search rules;
+  faults = omega arith;
 }

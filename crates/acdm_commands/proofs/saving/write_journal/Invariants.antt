@@ -8,6 +8,7 @@ invariant-loop-number g l = record {
   same : l.desk ≡ l.initial.desk;
   wrote : Saves (first_of l.number l.initial.desk.history) l.initial.writer.log l.writer.log;
   below : l.number ≤ l.count;
+  faults : l.initial.writer.faults ≤ l.writer.faults;
 }
 
 abbrev pub decreases-loop-number : goal.decreases-loop-number

@@ -1,5 +1,14 @@
+use Rattle.std.proofs.Common.{Err, inl, sym, subst}
+use Rattle.bpf_decode.specs.Encoding.{FirstFault}
+use Rattle.acdm_wire.specs.declared.program.ProgramError.TheVariants.{Refused}
 use Rattle.acdm_wire.proofs.OneReading.{answers_reading}
 use Rattle.acdm_wire.proofs.program.read_program.Goals as goal
+
+pub returns-in-Some-clause-only : goal.returns-in-Some-clause-only
+returns-in-Some-clause-only c =
+    let bytes = c.args.bytes.now in
+    λ reading p. answers_reading c.args.sigs.now bytes reading (Err (Refused c.code.result 0))
+    (inl (subst (λ code. FirstFault bytes code 0) (sym c.code.ensures) c.in-Some.ensures.some)) p
 
 pub returns-clause-only : goal.returns-clause-only
 returns-clause-only c =

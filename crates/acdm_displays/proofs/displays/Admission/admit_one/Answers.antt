@@ -3,5 +3,5 @@ use denote.Param.Send.{param_send, arg_send}
 use Rattle.acdm_displays.proofs.Crossing.{showing_send}
 use Rattle.acdm_displays.proofs.displays.Admission.admit_one.Goals as goal
 
-pub begin-started-requires-send-T : goal.begin-started-requires-send-T
-begin-started-requires-send-T g c κs within = param_send 1 _ (arg_send _ no _ showing_send)
+pub begin-requires-send-T : goal.begin-requires-send-T
+begin-requires-send-T g c κs within = param_send 1 _ (arg_send _ no _ showing_send)

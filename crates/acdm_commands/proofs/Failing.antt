@@ -1,0 +1,41 @@
+-- Why something was not done, by the result of a call.
+use Rattle.std.proofs.Common.{Result, Ok, Err, IfErr, OnOk}
+use Rattle.acdm_failures.specs.declared.failure.Failure.{Failure}
+use Rattle.acdm_failures.specs.declared.failure.Failure.TheVariants as failures
+use Rattle.acdm_failures.specs.declared.failure.ServeError.{ServeError}
+use Rattle.acdm_failures.specs.declared.failure.ServeError.TheVariants as serve_errors
+use Rattle.acdm_lines.specs.Counted.{SinkView}
+use Rattle.acdm_commands.specs.Partners.{FailsToListen, FailsToOpen, FailsToTell, IsOfAccepting}
+use Rattle.std.proofs.Common.{List, ℕ}
+
+pub untold_error : {W : Type 0} (old new : SinkView W) (error : ServeError) → IsOfAccepting error
+    → FailsToTell old new error
+untold_error old new (serve_errors.Accept n) p = tt
+untold_error old new serve_errors.Write p = absurd p
+untold_error old new serve_errors.Memory p = tt
+
+pub untold : {W T : Type 0} (old new : SinkView W) (result : Result T ServeError)
+    → IfErr result IsOfAccepting → IfErr result (FailsToTell old new)
+untold old new (Ok x) p = p
+untold old new (Err error) p = untold_error old new error p
+
+pub on_ok : {T E A B : Type 0} (result : Result T E) → (A → B) → OnOk result A → OnOk result B
+on_ok (Ok x) f p = f p
+on_ok (Err e) f p = p
+
+pub if_err : {T E : Type 0} {P Q : E → Type 0} (result : Result T E) → ((e : E) → P e → Q e)
+    → IfErr result P → IfErr result Q
+if_err (Ok x) f p = p
+if_err (Err e) f p = f e p
+
+-- nobody listens, so nothing is opened
+pub unopened : (words : List (List ℕ)) (failure : Failure) → FailsToListen words failure
+    → FailsToOpen words failure
+unopened words (failures.Role n) p = p
+unopened words (failures.Address n) p = tt
+unopened words failures.Watch p = tt
+unopened words failures.Memory p = tt
+unopened words failures.Read (front, word, more, split, all, fails) = absurd fails
+unopened words failures.Write (front, word, more, split, all, fails) = absurd fails
+unopened words failures.Save (front, word, more, split, all, fails) = absurd fails
+unopened words (failures.Accept n) (front, word, more, split, all, fails) = absurd fails

@@ -1,0 +1,196 @@
+-- What is done with files, whatever they are.
+use Rattle.std.proofs.Common.{◌⊎◌, ℕ, List, Option, Some, None, Result, Ok, Err, option_map, inl, inr}
+use Rattle.bpf_helpers.specs.Promise.{Promise}
+use Rattle.acdm_step.specs.Commands.{History}
+use Rattle.acdm_failures.specs.Failures.{EndsBy}
+use Rattle.acdm_failures.specs.declared.failure.Failure.{Failure}
+use Rattle.acdm_failures.specs.declared.failure.Failure.TheVariants as failures
+use Rattle.acdm_judging.specs.Explained.{Explains, FailsToRead}
+use Rattle.acdm_judging.specs.Findings.{Audited, Finds}
+use Rattle.acdm_judging.specs.Gave.{GaveBytes}
+use Rattle.acdm_judging.specs.Verdicts.{Judged, Verifies}
+use Rattle.acdm_judging.specs.declared.auditing.Finding.{Finding}
+use Rattle.acdm_judging.specs.declared.auditing.Finding.TheVariants.{Legal, Faulty}
+use Rattle.acdm_judging.specs.declared.verifying.Verdict.{Verdict}
+use Rattle.acdm_lines.specs.Counted.{SinkView, SourceView}
+use Rattle.acdm_judging.specs.Helpers.{helpers}
+use Rattle.acdm_commands.specs.Completed.{ExplainsLine, IsUnread, IsUnwritten, read_from}
+use Rattle.acdm_commands.specs.Completed.{written_to}
+use Rattle.acdm_commands.specs.Served.{FailsToSave, IsSaved, RunsTo}
+use Rattle.acdm_commands.specs.Partners.{FailsToServeAll}
+use Rattle.acdm_commands.specs.Partners.{ServesWordsTo}
+
+-- ---- files that are read
+
+module _ {F : Type 0} (sigs : List (ℕ × Promise)) (file later : SourceView F) where
+  finds_any : (finding : Finding) → Finds sigs file later (Ok finding)
+      → Finds sigs (read_from file) (read_from later) (Ok finding)
+  finds_any (Legal n) p = p
+  finds_any (Faulty entry clause) p = p
+
+  pub audited_any : {W : Type 0} (old new : SinkView W) (work : Result ℕ Failure)
+      → Audited sigs file later old new work
+      → Audited sigs (read_from file) (read_from later) old new work
+  audited_any old new (Ok status) p = record {
+    finding = p.finding;
+    finds = finds_any p.finding p.finds;
+    told = p.told;
+    flushed = p.flushed;
+    status_is = p.status_is;
+  }
+  audited_any old new (Err failures.Write) p = record {
+    finding = p.finding;
+    finds = finds_any p.finding p.finds;
+    told = p.told;
+  }
+  audited_any old new (Err failures.Read) p = p
+  audited_any old new (Err failures.Memory) p = p
+  audited_any old new (Err failures.Save) p = absurd p
+  audited_any old new (Err (failures.Role n)) p = absurd p
+  audited_any old new (Err (failures.Address n)) p = absurd p
+  audited_any old new (Err (failures.Accept n)) p = absurd p
+  audited_any old new (Err failures.Watch) p = absurd p
+
+  gave_any : (bytes : List ℕ) → GaveBytes file later bytes
+      → GaveBytes (read_from file) (read_from later) bytes
+  gave_any bytes p = record { gave = p.gave; enough = p.enough; well = p.well }
+
+  judged_any : (verdict : Verdict) → Judged sigs file later verdict
+      → Judged sigs (read_from file) (read_from later) verdict
+  judged_any verdict p = record { bytes = p.bytes; gave = gave_any p.bytes p.gave; is = p.is }
+
+  pub verified_any : {W : Type 0} (old new : SinkView W) (work : Result ℕ Failure)
+      → Verifies sigs file later old new work
+      → Verifies sigs (read_from file) (read_from later) old new work
+  verified_any old new (Ok status) p = record {
+    verdict = p.verdict;
+    judged = judged_any p.verdict p.judged;
+    told = p.told;
+    flushed = p.flushed;
+    status_is = p.status_is;
+  }
+  verified_any old new (Err failures.Write) p = record {
+    verdict = p.verdict;
+    judged = judged_any p.verdict p.judged;
+    told = p.told;
+  }
+  verified_any old new (Err failures.Read) p = p
+  verified_any old new (Err failures.Memory) p = p
+  verified_any old new (Err failures.Save) p = absurd p
+  verified_any old new (Err (failures.Role n)) p = absurd p
+  verified_any old new (Err (failures.Address n)) p = absurd p
+  verified_any old new (Err (failures.Accept n)) p = absurd p
+  verified_any old new (Err failures.Watch) p = absurd p
+
+  pub explained_any : (work : Result ℕ Failure) → Explains sigs file later work
+      → Explains sigs (read_from file) (read_from later) work
+  explained_any work (inl p) = inl (p.0, gave_any p.0 p.1, p.2)
+  explained_any work (inr p) = inr p
+
+-- a file that could be opened was explained, or could not be read
+pub explained_line : {F W E : Type 0} (file later : SourceView F) (old new : SinkView W) (status : ℕ)
+    (errors errors_after : SinkView E) → IsUnread file
+    → EndsBy (Explains helpers file later) status errors errors_after
+    ⊎ FailsToRead file later old new status
+    → ExplainsLine old new status errors errors_after
+explained_line file later old new status errors errors_after unread (inl e) =
+    inl (
+      read_from file,
+      read_from later,
+      unread,
+      record {
+        work = e.work;
+        comes = explained_any helpers file later e.work e.comes;
+        ends = e.ends;
+      },
+    )
+explained_line file later old new status errors errors_after unread (inr f) =
+    inr (f.status_is, f.same)
+
+-- ---- files that are written
+
+saved_any : {F : Type 0} (J : History) (file later : Option (SinkView F)) → IsSaved J file later
+    → IsSaved J (option_map written_to file) (option_map written_to later)
+saved_any J None None p = p
+saved_any J (Some file) (Some later) p = p
+saved_any J None (Some later) p = absurd p
+saved_any J (Some file) None p = absurd p
+
+fails_any : {F : Type 0} (file : Option (SinkView F)) → FailsToSave file failures.Save
+    → FailsToSave (option_map written_to file) failures.Save
+fails_any None p = absurd p
+fails_any (Some file) p = p
+
+-- nothing was written to a file, whatever it is
+pub unwritten_any : {F : Type 0} (path : Option (List ℕ)) (file : Option (SinkView F))
+    → IsUnwritten path file → IsUnwritten path (option_map written_to file)
+unwritten_any None None p = p
+unwritten_any (Some path) (Some file) p = p
+unwritten_any None (Some file) p = absurd p
+unwritten_any (Some path) None p = absurd p
+
+pub runs_any : {R W F : Type 0} (sigs : List (ℕ × Promise)) (capacity : ℕ)
+    (read read_after : SourceView R) (old new : SinkView W) (file later : Option (SinkView F))
+    (work : Result ℕ Failure) → RunsTo sigs capacity read read_after old new file later work
+    → RunsTo sigs capacity read read_after old new (option_map written_to file)
+    (option_map written_to later) work
+runs_any sigs capacity read read_after old new file later (Ok status) p = (
+  record {
+    desk = p.0.desk;
+    serves = p.0.serves;
+    saves = saved_any p.0.desk.history file later p.0.saves;
+  },
+  p.1,
+)
+runs_any sigs capacity read read_after old new file later (Err failures.Read) p = p
+runs_any sigs capacity read read_after old new file later (Err failures.Write) p = p
+runs_any sigs capacity read read_after old new file later (Err failures.Save) p = fails_any file p
+runs_any sigs capacity read read_after old new file later (Err failures.Memory) p = p
+runs_any sigs capacity read read_after old new file later (Err (failures.Role n)) p = absurd p
+runs_any sigs capacity read read_after old new file later (Err (failures.Address n)) p = absurd p
+runs_any sigs capacity read read_after old new file later (Err (failures.Accept n)) p = absurd p
+runs_any sigs capacity read read_after old new file later (Err failures.Watch) p = absurd p
+
+serves_any : {W F : Type 0} (old new : SinkView W) (file later : Option (SinkView F))
+    (failure : Failure) → FailsToServeAll old new file failure
+    → FailsToServeAll old new (option_map written_to file) failure
+serves_any old new file later failures.Read p = p
+serves_any old new file later failures.Write p = p
+serves_any old new file later failures.Save p = fails_any file p
+serves_any old new file later failures.Memory p = p
+serves_any old new file later (failures.Role n) p = p
+serves_any old new file later (failures.Address n) p = p
+serves_any old new file later (failures.Accept n) p = p
+serves_any old new file later failures.Watch p = p
+
+pub served_any : {W F : Type 0} (sigs : List (ℕ × Promise)) (capacity : ℕ) (words : List (List ℕ))
+    (old new : SinkView W) (file later : Option (SinkView F)) (work : Result ℕ Failure)
+    → ServesWordsTo sigs capacity words old new file later work
+    → ServesWordsTo sigs capacity words old new (option_map written_to file)
+    (option_map written_to later) work
+served_any sigs capacity words old new file later (Ok status) p =
+    let named = p.0.serves in
+    let all = named.partners in (
+      record {
+        cells = p.0.cells;
+        serves = record {
+          roles = named.roles;
+          named = named.named;
+          partners = record {
+            closed = all.closed;
+            sessions = all.sessions;
+            sum = all.sum;
+            begins = all.begins;
+            ended = all.ended;
+            served = all.served;
+            shown = all.shown;
+            saves = saved_any all.closed.history file later all.saves;
+            tells = all.tells;
+          };
+        };
+      },
+      p.1,
+    )
+served_any sigs capacity words old new file later (Err failure) (inl p) = inl p
+served_any sigs capacity words old new file later (Err failure) (inr p) =
+    inr (serves_any old new file later failure p)

@@ -1,0 +1,132 @@
+-- What is told of listeners and of sessions, one after the other.
+use Rattle.std.proofs.Common.{◌≡◌, ℕ, suc, ◌+◌, List, [], ◌∷◌, ◌++◌, length, map, refl, sym, ap}
+use Rattle.std.proofs.Common.{Bool, Option, Some}
+use Rattle.std.proofs.Common.{◌∙◌, append_assoc, append-nil, arith, subst, length-append}
+use Rattle.std.specs.Prelude.{sum_by}
+use Rattle.std.specs.List.{All, flat_map, sum}
+use Rattle.std.proofs.lemmas.List.Elements.{All-map}
+use Rattle.std.proofs.lemmas.List.Sums.{sum-map}
+use Rattle.std.proofs.lemmas.List.{map-append}
+use Rattle.acdm_milestones.specs.declared.role.Role.{Role}
+use Rattle.acdm_lines.specs.Counted.{SinkView}
+use Rattle.acdm_wire.specs.Writes.{Wrote}
+use Rattle.acdm_wire.proofs.Writing.{wrote-both}
+use Rattle.acdm_board.specs.Desk.{DeskView, row_of}
+use Rattle.acdm_sessions.specs.Passes.{BeginsWith, IsShown}
+use Rattle.acdm_sessions.specs.Sessions.{HaveEnded, HaveServed, SessionLeft, SessionStart, new_session}
+use Rattle.acdm_sessions.specs.Sessions.{session_end}
+use Rattle.acdm_sessions.specs.declared.session.End.{End}
+use Rattle.acdm_commands.specs.Minutes.{is_minute}
+use Rattle.acdm_commands.specs.Partners.{ServesNamed, ServesPartners, SessionTold, TellsPartners}
+use Rattle.acdm_commands.specs.Partners.{listen_text, listens_text, role_in, session_text, told_text}
+use Rattle.acdm_commands.specs.Served.{IsSaved}
+
+-- the lines of listeners, and that of one more
+pub one_listener : (n : ℕ) (ps : List (Role × List ℕ)) (role : Role) (address : List ℕ)
+    → listens_text n (ps ++ (role, address) ∷ [])
+    ≡ listens_text n ps ++ listen_text (n + length ps) role address
+one_listener n [] role address =
+    let same : n ≡ n + 0 = omega arith in
+    append-nil (listen_text n role address) ∙ ap (λ k. listen_text k role address) same
+one_listener n (p ∷ ps) role address =
+    let next : (n + 1) + length ps ≡ n + suc (length ps) = omega arith in
+    ap (λ t. listen_text n p.0 p.1 ++ t) (one_listener (n + 1) ps role address
+    ∙ ap (λ k. listens_text (n + 1) ps ++ listen_text k role address) next)
+    ∙ sym (append_assoc (listen_text n p.0 p.1) (listens_text (n + 1) ps)
+    (listen_text (n + suc (length ps)) role address))
+
+-- the line of one listener more was written
+pub announced_more : {W : Type 0} (old mid new : SinkView W) (ps : List (Role × List ℕ)) (n : ℕ)
+    (role : Role) (address : List ℕ) → n ≡ 1 + length ps → Wrote old mid (listens_text 1 ps)
+    → Wrote mid new (listen_text n role address)
+    → Wrote old new (listens_text 1 (ps ++ (role, address) ∷ []))
+announced_more old mid new ps n role address count sofar next =
+    subst (λ t. Wrote old new t)
+    (ap (λ k. listens_text 1 ps ++ listen_text k role address) count
+    ∙ sym (one_listener 1 ps role address))
+    (wrote-both old mid new (listens_text 1 ps) (listen_text n role address) sofar next)
+
+pub count_more : {X : Type 0} (xs : List X) (x : X) (n : ℕ) → n ≡ 1 + length xs
+    → n + 1 ≡ 1 + length (xs ++ x ∷ [])
+count_more xs x n count = ap (λ k. k + 1) count ∙ rw (length-append xs (x ∷ [])) (omega arith)
+
+pub roles_more : {P : Type 0} (role : P → Role) (ps : List (Role × List ℕ)) (address : List ℕ) (p : P)
+    (rest more : List P) (all : List Role) → map (λ q. q.0) ps ++ map role rest ≡ all → rest ≡ p ∷ more
+    → map (λ q. q.0) (ps ++ (role p, address) ∷ []) ++ map role more ≡ all
+roles_more role ps address p rest more all whole next =
+    ap (λ rs. rs ++ map role more) (map-append (λ q. q.0) ps ((role p, address) ∷ []))
+    ∙ append_assoc (map (λ q. q.0) ps) (role p ∷ []) (map role more)
+    ∙ ap (λ xs. map (λ q. q.0) ps ++ map role xs) (sym next)
+    ∙ whole
+
+-- what is told of things that are seen by a function
+module _ {X : Type 0} (f : X → SessionTold) where
+  pub told_map : {Y : Type 0} (g : SessionTold → Y) (xs : List X)
+      → map (λ x. g (f x)) xs ≡ map g (map f xs)
+  told_map g [] = refl
+  told_map g (x ∷ xs) = ap (λ ys. g (f x) ∷ ys) (told_map g xs)
+
+  pub told_sum : (g : SessionTold → ℕ) (xs : List X)
+      → sum_by (λ x. g (f x)) xs ≡ sum_by g (map f xs)
+  told_sum g xs = sym (sum-map (λ x. g (f x)) xs) ∙ ap sum (told_map g xs) ∙ sum-map g (map f xs)
+
+  pub told_texts : (xs : List X) → flat_map (λ x. told_text (f x)) xs ≡ flat_map told_text (map f xs)
+  told_texts [] = refl
+  told_texts (x ∷ xs) = ap (λ t. told_text (f x) ++ t) (told_texts xs)
+
+-- partners were served, by what is said of each of their sessions
+pub serves_partners : {W F X : Type 0} (xs : List X) (number calls : X → ℕ) (role : X → Role)
+    (end : X → End) (torn : X → Bool) (left : X → SessionLeft) (desk closed : DeskView)
+    (roles : List Role) (starts : List SessionStart) (old new : SinkView W)
+    (saved later : Option (SinkView F))
+    → length closed.history ≡ length desk.history + sum_by calls xs
+    → HaveEnded 1 roles (map (λ x. session_end (number x) (role x) (calls x) (end x)) xs)
+    → HaveServed (row_of desk) starts (map left xs)
+    → BeginsWith desk.history closed.history
+    → All (λ x. IsShown (length desk.history) closed (number x) (role x) (calls x) (torn x)
+    (left x).pass) xs
+    → TellsPartners roles (flat_map (λ x. session_text (number x) (calls x) (end x) (torn x)) xs)
+    (length closed.history) old new
+    → IsSaved closed.history saved later
+    → ServesPartners desk roles starts old new saved later
+serves_partners {X = X} xs number calls role end torn left desk closed roles starts old new saved later sums
+    ended served begins shown tells saves =
+    record {
+      closed = closed;
+      sessions = map told xs;
+      sum = sums ∙ ap (λ n. length desk.history + n) (told_sum told (λ t. t.end.calls) xs);
+      begins = begins;
+      ended = subst (λ ts. HaveEnded 1 roles ts) (told_map told (λ t. t.end) xs) ended;
+      served = subst (λ ts. HaveServed (row_of desk) starts ts) (told_map told (λ t. t.left) xs) served;
+      shown = All-map (λ (t : SessionTold). IsShown (length desk.history) closed t.end.number t.end.role
+          t.end.calls t.torn t.left.pass) told xs shown;
+      saves = saves;
+      tells = subst (λ t. TellsPartners roles t (length closed.history) old new)
+          (told_texts told xs) tells;
+    }
+  where
+    told : X → SessionTold
+    told x = record {
+      end = session_end (number x) (role x) (calls x) (end x);
+      torn = torn x;
+      left = left x;
+    }
+
+map_map : {X Y Z : Type 0} (g : Y → Z) (f : X → Y) (xs : List X)
+    → map (λ x. g (f x)) xs ≡ map g (map f xs)
+map_map g f [] = refl
+map_map g f (x ∷ xs) = ap (λ ys. g (f x) ∷ ys) (map_map g f xs)
+
+-- the partners that words name were served
+pub serves_named : {W F P : Type 0} (ps : List P) (role : P → Role) (desk : DeskView)
+    (words : List (List ℕ)) (old new : SinkView W) (saved later : Option (SinkView F))
+    → map role_in words ≡ map (λ p. Some (role p)) ps
+    → ServesPartners desk (map role ps) (map (λ p. new_session (role p) is_minute) ps) old new saved
+    later
+    → ServesNamed desk words old new saved later
+serves_named ps role desk words old new saved later named served = record {
+  roles = map role ps;
+  named = named ∙ map_map Some role ps;
+  partners = subst (λ starts. ServesPartners desk (map role ps) starts old new saved later)
+      (map_map (λ r. new_session r is_minute) role ps) served;
+}

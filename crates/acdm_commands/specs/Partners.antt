@@ -1,0 +1,207 @@
+-- What `serve` does for its partners and tells of them, from its words on.
+use Rattle.std.specs.Prelude.{ℕ, ◌+◌, ◌≡◌, ◌⊎◌, ◌==◌, Bool, true, false, nat_lt}
+use Rattle.std.specs.Prelude.{if◌then◌else◌, List, []}
+use Rattle.std.specs.Prelude.{◌∷◌, ◌++◌, codes, length, map, sum_by, Option, Some, None, Result, Ok, Err}
+use Rattle.std.specs.Prelude.{IsSome}
+use Rattle.std.specs.Fmt.{decimal}
+use Rattle.std.specs.List.{All, AllByRecursion, after_first, before_first, flat_map, position_or_len}
+use Rattle.bpf_helpers.specs.Promise.{Promise}
+use Rattle.acdm_milestones.specs.Names.{role_name, role_named}
+use Rattle.acdm_milestones.specs.declared.role.Role.{Role}
+use Rattle.acdm_board.specs.Desk.{DeskView, row_of}
+use Rattle.acdm_failures.specs.declared.failure.Failure.{Failure}
+use Rattle.acdm_failures.specs.declared.failure.Failure.TheVariants as failures
+use Rattle.acdm_failures.specs.declared.failure.ServeError.{ServeError}
+use Rattle.acdm_failures.specs.declared.failure.ServeError.TheVariants as serve_errors
+use Rattle.acdm_lines.specs.Counted.{SinkView, faults_after}
+use Rattle.acdm_wire.specs.Writes.{Wrote}
+use Rattle.acdm_sessions.specs.Passes.{BeginsWith, IsShown}
+use Rattle.acdm_sessions.specs.Sessions.{HaveEnded, HaveServed, SessionEnd, SessionLeft, SessionStart}
+use Rattle.acdm_sessions.specs.Sessions.{new_session}
+use Rattle.acdm_sessions.specs.declared.session.End.{End}
+use Rattle.acdm_sessions.specs.declared.session.End.TheVariants as ends
+use Rattle.acdm_commands.specs.Minutes.{is_minute}
+use Rattle.acdm_commands.specs.Served.{FailsToSave, IsSaved, empty_desk}
+
+-- ---- the words
+
+abbrev pub is_equals : ℕ → Bool
+is_equals b = b == 61
+
+-- the role and the address of a word `ROLE=ADDR`
+abbrev pub role_in : List ℕ → Option Role
+role_in word =
+    if nat_lt (position_or_len is_equals word) (length word) then
+    role_named (before_first is_equals word)
+    else None
+
+abbrev pub address_in : List ℕ → List ℕ
+address_in word = after_first is_equals word
+
+-- one partner more, whose role is that of a word
+pub record AddsNamed {P : Type 0} (role : P → Role) (word : List ℕ) (old new : List P) : Type 0 where
+  pub partner : P
+  pub added : new ≡ old ++ partner ∷ []
+  pub named : role_in word ≡ Some (role partner)
+
+-- why nobody listens for a word, the one of this number: it names no role; or it names one, and its
+-- address is none or can't be listened at; or memory was refused
+abbrev pub FailsToName : ℕ → List ℕ → Failure → Type 0
+FailsToName number word (failures.Role n) = (n ≡ number) × (role_in word ≡ None)
+FailsToName number word (failures.Address n) = (n ≡ number) × IsSome (role_in word)
+FailsToName number word failures.Memory = Unit {0}
+FailsToName number word failure = ⊥
+
+-- the same of all words, of which those before it name roles
+abbrev pub FailsToListen : List (List ℕ) → Failure → Type 0
+FailsToListen words failures.Memory = Unit {0}
+FailsToListen words failure =
+    (front : List (List ℕ)) × (word : List ℕ) × (more : List (List ℕ))
+    × (words ≡ front ++ word ∷ more) × AllByRecursion (λ w. IsSome (role_in w)) front
+    × FailsToName (length front + 1) word failure
+
+-- ---- what is told
+
+-- how the end of a session is told, as codes
+abbrev pub end_text : End → Bool → List ℕ
+end_text end true = codes "torn"
+end_text ends.End false = codes "end"
+end_text ends.Read false = codes "read"
+end_text ends.Write false = codes "write"
+end_text ends.Memory false = codes "memory"
+end_text ends.Start false = codes "start"
+
+-- `listen K ROLE ADDR`
+abbrev pub listen_text : ℕ → Role → List ℕ → List ℕ
+listen_text number role address =
+    codes "listen " ++ decimal number ++ 32 ∷ role_name role ++ 32 ∷ address ++ 10 ∷ []
+
+-- the lines of all listeners, with their numbers from this one on
+abbrev pub listens_text : ℕ → List (Role × List ℕ) → List ℕ
+listens_text number [] = []
+listens_text number (p ∷ more) = listen_text number p.0 p.1 ++ listens_text (number + 1) more
+
+-- what is told of a session that has ended, and what it leaves
+pub record SessionTold : Type 0 where
+  pub end : SessionEnd
+  pub torn : Bool
+  pub left : SessionLeft
+
+-- `session K CALLS END`
+abbrev pub session_text : ℕ → ℕ → End → Bool → List ℕ
+session_text number calls end torn =
+    codes "session " ++ decimal number ++ 32 ∷ [] ++ decimal calls ++ 32 ∷ [] ++ end_text end torn
+    ++ 10 ∷ []
+
+abbrev pub told_text : SessionTold → List ℕ
+told_text t = session_text t.end.number t.end.calls t.end.end t.torn
+
+-- `closed N`, of N entries
+abbrev pub closed_text : ℕ → List ℕ
+closed_text entries = codes "closed " ++ decimal entries ++ 10 ∷ []
+
+-- the line of a listener was written, and no byte of it waits for a flush; the address is the one that
+-- it listens at, of which nothing is known beforehand
+abbrev pub AnnouncesOne : {W T : Type 0} → ℕ → Role → SinkView W → SinkView W → Result T ServeError
+    → Type 0
+AnnouncesOne number role written written_after (Ok x) =
+    (address : List ℕ) × Wrote written written_after (listen_text number role address)
+AnnouncesOne number role written written_after (Err serve_errors.Write) =
+    written_after.faults ≡ faults_after true written.faults
+AnnouncesOne number role written written_after (Err error) = written_after ≡ written
+
+-- the same of listeners of these roles, in order, numbered from 1
+pub record Announces {W : Type 0} (roles : List Role) (written written_after : SinkView W) : Type 0 where
+  pub listeners : List (Role × List ℕ)
+  pub roles_are : map (λ p. p.0) listeners ≡ roles
+  pub wrote : Wrote written written_after (listens_text 1 listeners)
+
+-- a line could not be written, since the writer failed once more
+abbrev pub FailsToTell : {W : Type 0} → SinkView W → SinkView W → ServeError → Type 0
+FailsToTell written written_after serve_errors.Write =
+    written_after.faults ≡ faults_after true written.faults
+FailsToTell written written_after error = Unit {0}
+
+-- it has nothing to do with lines
+abbrev pub IsOfAccepting : ServeError → Type 0
+IsOfAccepting serve_errors.Write = ⊥
+IsOfAccepting error = Unit {0}
+
+-- the lines of listeners of these roles, in order, the lines of sessions and the last line were written,
+-- and no byte of them waits for a flush
+pub record TellsPartners {W : Type 0} (roles : List Role) (sessions : List ℕ) (entries : ℕ)
+    (written written_after : SinkView W) : Type 0 where
+  pub listeners : List (Role × List ℕ)
+  pub roles_are : map (λ p. p.0) listeners ≡ roles
+  pub wrote : Wrote written written_after
+      (listens_text 1 listeners ++ (sessions ++ closed_text entries))
+  pub flushed : written_after.waits ≡ false
+
+-- ---- what was done
+
+-- Partners of these roles, in order, were served by a desk, from these starts. What their sessions left
+-- is told of the journal that the desk was closed with, which begins with the one it had, and that was
+-- saved where it was to be.
+pub record ServesPartners {W F : Type 0} (desk : DeskView) (roles : List Role)
+    (starts : List SessionStart) (written written_after : SinkView W)
+    (saved saved_after : Option (SinkView F)) : Type 0 where
+  pub closed : DeskView
+  pub sessions : List SessionTold
+  pub sum : length closed.history
+      ≡ length desk.history + sum_by (λ t. t.end.calls) sessions
+  pub begins : BeginsWith desk.history closed.history
+  pub ended : HaveEnded 1 roles (map (λ t. t.end) sessions)
+  pub served : HaveServed (row_of desk) starts (map (λ t. t.left) sessions)
+  pub shown : All (λ t. IsShown (length desk.history) closed t.end.number t.end.role t.end.calls
+      t.torn t.left.pass) sessions
+  pub saves : IsSaved closed.history saved saved_after
+  pub tells : TellsPartners roles (flat_map told_text sessions) (length closed.history) written
+      written_after
+
+-- The partners that the words name, in order, were served so by a desk, on new connections, each with a
+-- clock that may give any minute.
+pub record ServesNamed {W F : Type 0} (desk : DeskView) (words : List (List ℕ))
+    (written written_after : SinkView W) (saved saved_after : Option (SinkView F)) : Type 0 where
+  pub roles : List Role
+  pub named : map role_in words ≡ map Some roles
+  pub partners : ServesPartners desk roles (map (λ role. new_session role is_minute) roles) written
+      written_after saved saved_after
+
+-- that desk was empty at first, with room for so many entries
+pub record ServesWords {W F : Type 0} (sigs : List (ℕ × Promise)) (capacity : ℕ)
+    (words : List (List ℕ)) (written written_after : SinkView W)
+    (saved saved_after : Option (SinkView F)) : Type 0 where
+  pub cells : List ℕ
+  pub serves : ServesNamed (empty_desk sigs capacity cells) words written written_after saved saved_after
+
+-- why no partner was accepted: of the words, one names no role, or its address or that of displays is
+-- none or can't be listened at; or memory was refused
+abbrev pub FailsToOpen : List (List ℕ) → Failure → Type 0
+FailsToOpen words (failures.Role n) = FailsToListen words (failures.Role n)
+FailsToOpen words (failures.Address n) = Unit {0}
+FailsToOpen words failures.Watch = Unit {0}
+FailsToOpen words failures.Memory = Unit {0}
+FailsToOpen words failure = ⊥
+
+-- why partners were not served to their end, or that could not be told or saved
+abbrev pub FailsToServeAll : {W F : Type 0} → SinkView W → SinkView W → Option (SinkView F) → Failure
+    → Type 0
+FailsToServeAll written written_after saved failures.Write =
+    written_after.faults ≡ faults_after true written.faults
+FailsToServeAll written written_after saved failures.Save = FailsToSave saved failures.Save
+FailsToServeAll written written_after saved (failures.Accept n) = Unit {0}
+FailsToServeAll written written_after saved failures.Memory = Unit {0}
+FailsToServeAll written written_after saved failure = ⊥
+
+abbrev pub FailsToServe : {W F : Type 0} → List (List ℕ) → SinkView W → SinkView W
+    → Option (SinkView F) → Failure → Type 0
+FailsToServe words written written_after saved failure =
+    FailsToOpen words failure ⊎ FailsToServeAll written written_after saved failure
+
+-- what comes of the words: all was done, with the status 0, or what kept it from that
+abbrev pub ServesWordsTo : {W F : Type 0} → List (ℕ × Promise) → ℕ → List (List ℕ) → SinkView W
+    → SinkView W → Option (SinkView F) → Option (SinkView F) → Result ℕ Failure → Type 0
+ServesWordsTo sigs capacity words written written_after saved saved_after (Ok status) =
+    ServesWords sigs capacity words written written_after saved saved_after × (status ≡ 0)
+ServesWordsTo sigs capacity words written written_after saved saved_after (Err failure) =
+    FailsToServe words written written_after saved failure

@@ -1,0 +1,9 @@
+use Rattle.std.proofs.Common.{◌≡◌, ◌++◌}
+use Rattle.acdm_displays.specs.Displayed.{Follows}
+use Rattle.acdm_displays.proofs.following.send_all.Given as goal
+
+abbrev pub invariant-loop : goal.invariant-loop
+invariant-loop g l = record {
+  row : l.watch.row ≡ l.fn.watch.row;
+  sent : Follows l.fn.watch.seen l.watch.seen l.fn.writer.log (l.writer.log ++ l.text.items);
+}

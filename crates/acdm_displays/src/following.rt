@@ -1,0 +1,120 @@
+//! The journal of a row as text, written while it grows.
+ghost use Rattle.std.specs.Prelude.{◌≡◌, false, IfOk, OnOk};
+ghost use Rattle.std.specs.Arc.{arc_value};
+ghost use Rattle.acdm_displays.specs.Displayed.{Adds, Follows, WasSent};
+
+use crate::leaving::has_left;
+use acdm_failures::Failure;
+use acdm_journal::{push_entry, write_whole};
+use acdm_lines::Sink;
+use acdm_row::Row;
+use acdm_watch::Watch;
+use std::alloc::Global;
+use std::io::{Read, Write};
+use std::sync::Arc;
+use std::sync::atomic::{AtomicBool, Ordering};
+
+/// How many bytes are gathered until they are sent, where more entries are in sight.
+const BUFFER: usize = 65_536;
+
+/// How often in a row a writer may take nothing in its time, until it is given up.
+pub(crate) const MOST_REFUSALS: u64 = 120;
+
+/// What was shown to a display: the watch that saw it, and the writer that took it.
+#[derive(Drop)]
+pub struct Shown<W: Write> {
+    pub watch: Watch,
+    pub writer: Sink<W>,
+}
+
+/// Writes the entries of a row as text, from the first one on and as they come, until the last one
+/// was made or the reader has ended. It takes no lock. It waits for the reader, which is read from
+/// after all entries in sight were written and flushed, and whose bytes are dropped; and for the
+/// writer, until that has taken nothing 120 times in a row, each time as long as its timeout is.
+///
+/// It gives back the watch and the writer: the writer took the text of what the watch has seen, and
+/// nothing else, whatever writer it is, and all of it was flushed. What a pass of the same row has
+/// seen is the same as far as the shorter goes, which `Watch::meet` tells.
+///
+/// `Save` where the writer failed, `Memory` where it was refused.
+pub fn follow<R: Read, W: Write + Drop>(
+    alloc: Global,
+    row: &Arc<Row>,
+    closing: &AtomicBool,
+    reader: &mut R,
+    mut writer: Sink<W>,
+) -> Result<Shown<W>, Failure>
+    ensures { IfOk result (WasSent (arc_value row.now) writer.log) }
+{
+    let mut watch = Watch::new(alloc, row)?;
+    send_on(alloc, &mut watch, row, closing, reader, &mut writer)?;
+    let _board = watch.board();
+    Ok(Shown { watch, writer })
+}
+
+// Writes what a watch sees, as it comes, until the last entry was made or the reader has ended.
+// What tells the last one is read before the last look, so that no entry comes between.
+fn send_on<R: Read, W: Write + Drop>(
+    alloc: Global,
+    watch: &mut Watch,
+    row: &Row,
+    closing: &AtomicBool,
+    reader: &mut R,
+    writer: &mut Sink<W>,
+) -> Result<(), Failure>
+    requires { row.now ≡ watch.old.row }
+    ensures row { watch.new.row ≡ watch.old.row }
+    ensures sent { OnOk result (Follows watch.old.seen watch.new.seen writer.old.log writer.new.log) }
+    ensures flushed { OnOk result (writer.new.waits ≡ false) }
+{
+    for _ in 0..u64::MAX {
+        let is_last = closing.load(Ordering::SeqCst);
+        send_all(alloc, watch, row, writer)?;
+        if is_last || has_left(reader) {
+            return Ok(());
+        }
+    }
+    send_all(alloc, watch, row, writer)
+}
+
+// Writes all entries that are in sight, and flushes them.
+fn send_all<W: Write + Drop>(
+    alloc: Global,
+    watch: &mut Watch,
+    row: &Row,
+    writer: &mut Sink<W>,
+) -> Result<(), Failure>
+    requires { row.now ≡ watch.old.row }
+    ensures row { watch.new.row ≡ watch.old.row }
+    ensures sent { OnOk result (Follows watch.old.seen watch.new.seen writer.old.log writer.new.log) }
+    ensures flushed { OnOk result (writer.new.waits ≡ false) }
+{
+    let mut text = Vec::new(alloc);
+    for _ in watch.len()..row.len() {
+        if !add_next(watch, row, &mut text)? {
+            break;
+        }
+        if text.len() >= BUFFER {
+            write_whole(writer, text.as_slice(), MOST_REFUSALS)?;
+            text.clear();
+        }
+    }
+    write_whole(writer, text.as_slice(), MOST_REFUSALS)?;
+    if writer.flush().is_err() {
+        return Err(Failure::Save);
+    }
+    Ok(())
+}
+
+// Adds the text of the next entry, where it is in sight, and says whether it was.
+fn add_next(watch: &mut Watch, row: &Row, text: &mut Vec<u8>) -> Result<bool, Failure>
+    requires { row.now ≡ watch.old.row }
+    ensures row { watch.new.row ≡ watch.old.row }
+    ensures added { OnOk result (Adds watch.old.seen watch.new.seen text.old.items text.new.items) }
+{
+    let Some(entry) = watch.take_next(row)? else {
+        return Ok(false);
+    };
+    push_entry(text, entry)?;
+    Ok(true)
+}

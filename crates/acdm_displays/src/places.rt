@@ -1,0 +1,51 @@
+//! The places of displays, and what their threads share.
+use std::alloc::{AllocError, Global};
+use std::sync::Arc;
+use std::sync::atomic::{AtomicBool, AtomicU64, Ordering};
+
+/// How many displays are served at once at most. One more is let go at once.
+const MOST_DISPLAYS: u64 = 64;
+
+/// What the threads of displays share.
+#[derive(Drop)]
+pub(crate) struct Shared {
+    /// Whether the last entry was made.
+    pub(crate) closing: AtomicBool,
+    /// How many places are taken.
+    pub(crate) taken: AtomicU64,
+}
+
+impl Shared {
+    /// No place is taken, and entries are to be made yet.
+    pub(crate) fn new(alloc: Global) -> Result<Arc<Shared>, AllocError> {
+        let shared = Shared {
+            closing: AtomicBool::new(false),
+            taken: AtomicU64::new(0),
+        };
+        Ok(Arc::new(alloc, shared)?)
+    }
+}
+
+/// A place that is taken. It is given back where it is let go, however its display has ended.
+pub(crate) struct Place {
+    pub(crate) shared: Arc<Shared>,
+}
+
+impl Place {
+    /// Takes a place, if one is left. One thread alone takes places.
+    pub(crate) fn take(shared: &Arc<Shared>) -> Result<Option<Place>, AllocError> {
+        let shared = Arc::try_clone(shared)?;
+        if shared.taken.load(Ordering::SeqCst) >= MOST_DISPLAYS {
+            return Ok(None);
+        }
+        shared.taken.fetch_add(1, Ordering::SeqCst);
+        Ok(Some(Place { shared }))
+    }
+}
+
+impl Drop for Place {
+    fn drop(self) {
+        self.shared.taken.fetch_sub(1, Ordering::SeqCst);
+        let Place { shared: _ } = self;
+    }
+}

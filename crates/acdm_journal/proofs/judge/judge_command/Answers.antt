@@ -1,1 +1,0 @@
-use Rattle.acdm_journal.proofs.judge.judge_command.Goals as goal

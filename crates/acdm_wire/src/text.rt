@@ -1,0 +1,60 @@
+//! A text on its way to a writer.
+ghost use Rattle.std.specs.Prelude.{◌≡◌, ◌+◌, ◌≤◌, ◌++◌, [], length};
+ghost use Rattle.std.specs.Fmt.{decimal};
+
+use arrayvec::ArrayVec;
+use itoa::Buffer;
+use std::marker::Model;
+
+/// A text on its way to a writer, so that it is one write: a reply, or a part of one. It takes no
+/// memory, and at most 320 bytes.
+#[derive(Drop)]
+pub struct Text {
+    pub(crate) bytes: ArrayVec<u8, 320>,
+}
+
+impl Model for Text {
+    ghost use Rattle.std.specs.Prelude.{ℕ, List};
+
+    ghost Value = { List ℕ };
+
+    ghost view = { λ t. t.bytes.items };
+}
+
+impl Text {
+    /// No byte yet.
+    pub fn new() -> Text
+        ensures { result ≡ [] }
+    {
+        Text {
+            bytes: ArrayVec::new(),
+        }
+    }
+
+    /// These bytes behind what stands there.
+    pub fn push(&mut self, more: &[u8])
+        requires { length self.old + length more.now ≤ 320 }
+        ensures { self.new ≡ self.old ++ more.now }
+    {
+        if self.bytes.try_extend_from_slice(more).is_err() {
+            unreachable!();
+        }
+    }
+
+    /// A number in decimal digits, at most 20, behind what stands there.
+    pub fn push_number(&mut self, number: u64)
+        requires { length self.old + 20 ≤ 320 }
+        ensures text { self.new ≡ self.old ++ decimal number }
+        ensures short { length self.new ≤ length self.old + 20 }
+    {
+        let mut digits = Buffer::new();
+        self.push(digits.format(number).as_bytes());
+    }
+
+    /// The bytes that stand there.
+    pub fn as_slice(&self) -> &[u8]
+        ensures { result.now ≡ self.now }
+    {
+        self.bytes.as_slice()
+    }
+}

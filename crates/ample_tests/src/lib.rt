@@ -1,0 +1,15 @@
+//! The longest inputs with ample memory: nothing is answered that memory was refused.
+#![tactic(auto)]
+
+#[cfg(test)]
+mod boards;
+#[cfg(test)]
+mod journals;
+#[cfg(test)]
+mod known;
+#[cfg(test)]
+mod readers;
+#[cfg(test)]
+mod sessions;
+#[cfg(test)]
+mod texts;
