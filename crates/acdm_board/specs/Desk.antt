@@ -3,13 +3,12 @@ use Rattle.std.specs.Prelude.{ℕ, ◌≡◌, ◌≤◌, Bool, false, not, List,
 use Rattle.std.specs.Prelude.{take}
 use Rattle.acdm_milestones.specs.declared.role.Role.{Role}
 use Rattle.bpf_helpers.specs.Promise.{Promise}
-use Rattle.bpf_helpers.specs.Same.{same_sigs}
 use Rattle.acdm_step.specs.declared.command.Command.{Command}
 use Rattle.acdm_step.specs.declared.command.Command.TheVariants.{Load}
 use Rattle.acdm_step.specs.declared.entry.Entry.{Entry}
 use Rattle.acdm_step.specs.declared.outcome.Outcome.{Outcome}
 use Rattle.acdm_step.specs.Verdicts.{outcome_of, verdict_of}
-use Rattle.acdm_step.specs.History.{Board, IsLegal, replay, after}
+use Rattle.acdm_step.specs.History.{Board, IsLegal, is_checked, replay, after}
 use Rattle.acdm_row.specs.Views.{JournalView, PassView, RowView}
 
 -- the entries, the newest first, how many there may be, the signatures of the helpers, and the
@@ -45,9 +44,9 @@ entered d session role moment c answers =
           answers;
     }
 
--- a load of a program that was checked against other signatures
+-- a load of a program that was checked against other signatures, or beside records of another length
 abbrev pub is_foreign : List (ℕ × Promise) → Command → Bool
-is_foreign sigs (Load l) = not (same_sigs l.program.sigs sigs)
+is_foreign sigs (Load l) = not (is_checked sigs l.program)
 is_foreign sigs _ = false
 
 -- What a pass had seen was the beginning of the journal. Now it has seen all of it, and its own

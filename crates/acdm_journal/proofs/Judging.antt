@@ -1,6 +1,6 @@
 -- What comes of a command whose answers are those of a list.
 use Rattle.std.proofs.Common.{◌≡◌, ◌≢◌, ℕ, Bool, true, false, not, cond, suc, arith, List, [], ◌∷◌}
-use Rattle.std.proofs.Common.{◌++◌, length, Some, Ok, Err, refl, sym, ap, subst, ◌∙◌, append-nil}
+use Rattle.std.proofs.Common.{◌++◌, length, Option, Some, None, Ok, Err, refl, sym, ap, subst, ◌∙◌, append-nil}
 use Rattle.std.proofs.Common.{inl, inr}
 use Rattle.std.specs.Prelude.{◌==◌, ◌&&◌, nat_lt, slice_get}
 use Rattle.std.specs.List.{list_all}
@@ -13,12 +13,15 @@ use Rattle.bpf_helpers.specs.Oracles.{OracleView, Gained, is_refused, log_of_log
 use Rattle.bpf_helpers.specs.Oracles.{answers_of_logged, view_of_logged}
 use Rattle.acdm_milestones.specs.declared.role.Role.{Role}
 use Rattle.acdm_milestones.specs.declared.milestone.Milestone.{Milestone}
+use Rattle.bpf_helpers.specs.Same.{same_sigs}
+use Rattle.bpf_regstate.specs.Lengths.{same_length}
+use Rattle.bpf_verifier.specs.Verdict.{Verified}
 use Rattle.acdm_milestones.specs.declared.refusal.Refusal.{Refusal}
 use Rattle.acdm_milestones.specs.declared.refusal.Refusal.TheVariants.{NotOwner, UnknownFlight}
 use Rattle.acdm_milestones.specs.declared.refusal.Refusal.TheVariants.{MissingMilestone, Barred}
 use Rattle.acdm_milestones.specs.declared.refusal.Refusal.TheVariants.{NotSet, TimeOrder}
 use Rattle.acdm_milestones.specs.declared.refusal.Refusal.TheVariants.{AlreadyPlanned, FullBoard}
-use Rattle.acdm_milestones.specs.declared.refusal.Refusal.TheVariants.{EmptySlot, OtherSignatures}
+use Rattle.acdm_milestones.specs.declared.refusal.Refusal.TheVariants.{OtherLength, OtherSignatures}
 use Rattle.acdm_milestones.specs.declared.role.Action.TheVariants as actions
 use Rattle.acdm_milestones.specs.Tables.{admission, owns, number, has_reached, needs, bar, is_set}
 use Rattle.acdm_milestones.specs.Tables.{needs_set, is_in_order, times_of}
@@ -34,10 +37,10 @@ use Rattle.acdm_step.specs.Laws.{verdict_in-outcome_of}
 use Rattle.acdm_step.specs.Ran.{Ran}
 use Rattle.acdm_step.specs.Running.{ComesOf, answered_so, unanswered_so}
 use Rattle.acdm_step.specs.Commands.{History, flight_of, bit_of, is_accepted}
-use Rattle.acdm_step.specs.InSlots.{programs_of}
+use Rattle.acdm_step.specs.InSlots.{program_in, programs_of, record_length_after}
 use Rattle.acdm_step.specs.Summaries.{exists, flights, record_of, run_record_of}
 use Rattle.acdm_step.specs.Verdicts.{verdict_of, verdict_for, verdict_in, verdict_from, outcome_of}
-use Rattle.acdm_step.specs.Verdicts.{is_ready}
+use Rattle.acdm_step.specs.Verdicts.{obstacle, refused_by, unload_obstacle}
 use Rattle.acdm_step.specs.History.{IsLegal, left_by, left_after}
 use Rattle.acdm_step.proofs.Saying.{say_said, left_ran, ran_left}
 use Rattle.acdm_journal.specs.Audit.{UsesAnswers, lacks_answer}
@@ -82,37 +85,51 @@ report_tests false true c rest h = refl
 report_tests false false true rest h = refl
 report_tests false false false rest h = h
 
-two_tests : (a b : Bool) (x : Refusal) → lacks_answer (Refused x) ≡ false
-    → lacks_answer (cond a (Refused NotOwner) (cond b (Refused x) Accepted)) ≡ false
-two_tests true b x h = refl
-two_tests false true x h = h
-two_tests false false x h = refl
-
 one_test : (a : Bool) (x y : Verdict) → lacks_answer x ≡ false → lacks_answer y ≡ false
     → lacks_answer (cond a x y) ≡ false
 one_test true x y p q = p
 one_test false x y p q = q
 
-verdict_answers : (there : Bool) (count : ℕ) (r : Fields) (ready : Bool) (role : Role) (c : Command)
-    → lacks_answer (verdict_for there count r ready role c) ≡ false
-verdict_answers there count r ready role (commands.Flight (Schedule s)) =
+verdict_answers : (there : Bool) (count : ℕ) (r : Fields) (against : Option Refusal) (role : Role)
+    (c : Command) → lacks_answer (refused_by against) ≡ false
+    → lacks_answer (verdict_for there count r against role c) ≡ false
+verdict_answers there count r against role (commands.Flight (Schedule s)) h =
     schedule_tests (not (owns role actions.Schedule)) (has_reached r 0 && has_reached r 1)
     (not there && not (nat_lt count MOST_FLIGHTS))
-verdict_answers there count r ready role (commands.Flight (Report p)) =
+verdict_answers there count r against role (commands.Flight (Report p)) h =
     report_tests (not (owns role (actions.Report p.milestone))) (not there
     && not (number p.milestone == 1))
     (not there && not (nat_lt count MOST_FLIGHTS))
     (verdict_from (admission r role p.milestone p.time))
     (admission_answers r role p.milestone p.time)
-verdict_answers there count r ready role (Load l) =
-    two_tests (not (owns role actions.Load)) (not ready) OtherSignatures refl
-verdict_answers there count r ready role (Unload u) =
-    two_tests (not (owns role actions.Unload)) (not ready) EmptySlot refl
-verdict_answers there count r ready role Tick =
+verdict_answers there count r against role (Load l) h =
+    one_test (not (owns role actions.Load)) (Refused NotOwner) (refused_by against) refl h
+verdict_answers there count r against role (Unload u) h =
+    one_test (not (owns role actions.Unload)) (Refused NotOwner) (refused_by against) refl h
+verdict_answers there count r against role Tick h =
     one_test (owns role actions.Tick) Accepted (Refused NotOwner) refl refl
-verdict_answers there count r ready role (Show f) =
+verdict_answers there count r against role (Show f) h =
     one_test there Accepted (Refused UnknownFlight) refl refl
-verdict_answers there count r ready role Alerts = refl
+verdict_answers there count r against role Alerts h = refl
+
+-- nothing that the slots have against a command is that
+load_answers : (long same : Bool) → lacks_answer (refused_by (cond (not long) (Some OtherLength)
+    (cond (not same) (Some OtherSignatures) None))) ≡ false
+load_answers true true = refl
+load_answers true false = refl
+load_answers false same = refl
+
+unload_answers : (p : Option Verified) → lacks_answer (refused_by (unload_obstacle p)) ≡ false
+unload_answers None = refl
+unload_answers (Some p) = refl
+
+obstacle_answers : (sigs : List (ℕ × Promise)) (J : History) (c : Command)
+    → lacks_answer (refused_by (obstacle sigs J c)) ≡ false
+obstacle_answers sigs J (Load l) =
+    load_answers (same_length l.program.record_length (record_length_after J))
+    (same_sigs l.program.sigs sigs)
+obstacle_answers sigs J (Unload u) = unload_answers (program_in J u.milestone u.kind)
+obstacle_answers sigs J _ = refl
 
 -- ---- the oracle
 
@@ -159,7 +176,7 @@ module _ (sigs : List (ℕ × Promise)) (J : History) (role : Role) (moment : �
       clash (lacks_answer (verdict_in outcome)) lacks
       (ap lacks_answer (is_verdict is)
       ∙ verdict_answers (exists J (flight_of c)) (length (flights J)) (record_of J (flight_of c))
-      (is_ready sigs J c) role c)
+      (obstacle sigs J c) role c (obstacle_answers sigs J c))
   asked (unanswered_so is accepted asks) lacks uses =
       not_these sigs answers (programs_of J c) (run_record_of J c) moment (bit_of c) before after
       left

@@ -7,6 +7,7 @@ pub mod OneLine
 pub mod Pieces
 pub mod Unanswered
 pub mod Checked
+pub mod Refusals
 pub mod Judging
 pub mod NextEntry
 pub mod Needs

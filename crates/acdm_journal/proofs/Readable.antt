@@ -38,6 +38,7 @@ refusal_small refusals.AlreadyPlanned = refl
 refusal_small refusals.FullBoard = refl
 refusal_small refusals.EmptySlot = refl
 refusal_small refusals.OtherSignatures = refl
+refusal_small refusals.OtherLength = refl
 refusal_small refusals.Unanswered = refl
 
 outcome_small : (v : Verdict) → IsWord (outcome_code v)
@@ -51,12 +52,16 @@ command_is : (sigs : List (ℕ × Promise)) (c : Command) → IsChecked sigs c �
 command_is sigs (commands.Load l) checked program = (
   l.program.ops,
   record { program = program; bytes_are = refl },
-  checked.1,
-  ap (λ s. commands.Load record {
+  checked.2,
+  λ i. commands.Load record {
     milestone = l.milestone;
     kind = l.kind;
-    program = record { ops = l.program.ops; sigs = s };
-  }) checked.0,
+    program = record {
+      record_length = checked.1 i;
+      ops = l.program.ops;
+      sigs = checked.0 i;
+    };
+  },
 )
 command_is sigs (commands.Flight k) checked program = refl
 command_is sigs (commands.Unload u) checked program = refl

@@ -10,6 +10,7 @@ use Rattle.bpf_decode.specs.declared.op.Op.TheVariants.{Arith, Exit}
 use Rattle.bpf_decode.specs.declared.op.Operand.TheVariants.{Immediate}
 use Rattle.bpf_decode.specs.declared.op.Code.TheVariants.{Mov}
 use Rattle.bpf_decode.specs.declared.op.Width.TheVariants.{W64}
+use Rattle.bpf_regstate.specs.declared.length.Length.TheVariants.{L128}
 use Rattle.std.specs.Prelude.{pos}
 use Rattle.hex.proofs.OnLiterals.{hex_on_literals}
 use Rattle.acdm_slots.specs.declared.kind.Kind.TheVariants.{Alert}
@@ -104,7 +105,11 @@ loaded : entry_text (entry 0 5 AirportOperator 29000580
     (commands.Load record {
       milestone = TobtUpdate;
       kind = Alert;
-      program = record { ops = Arith W64 Mov 0 (Immediate (pos 7)) ∷ Exit ∷ []; sigs = [] };
+      program = record {
+        record_length = L128;
+        ops = Arith W64 Mov 0 (Immediate (pos 7)) ∷ Exit ∷ [];
+        sigs = [];
+      };
     })
     Accepted [])
     ≡ codes "0 5 29000580 APT 0 0 load 9 alert b7000000070000009500000000000000\n"

@@ -4,6 +4,8 @@ use Rattle.std.specs.Prelude.{Result, Ok, Err}
 use Rattle.bpf_decode.specs.declared.op.Op.{Op}
 use Rattle.bpf_decode.specs.Encoding.{Encodes}
 use Rattle.bpf_helpers.specs.Promise.{Promise}
+use Rattle.bpf_regstate.specs.declared.length.Length.TheVariants.{L128}
+use Rattle.bpf_regstate.specs.Lengths.{bytes_in}
 use Rattle.bpf_regstate.specs.States.{Accepts}
 use Rattle.bpf_verifier.specs.Verdict.{Verified}
 use Rattle.acdm_milestones.specs.declared.role.Role.{Role}
@@ -37,15 +39,15 @@ clause_code clauses.Answers = 404
 clause_code clauses.Outcome = 405
 
 -- the command that is asked for; the program of a load is the one that its bytes encode, and no
--- slot of it has a fault
+-- slot of it has a fault beside a record of 128 bytes
 abbrev pub IsCommandOf : List (ℕ × Promise) → Asked → Command → Type 0
 IsCommandOf sigs (Plain c) command = command ≡ c
 IsCommandOf sigs (Load l) command =
-    (ops : List Op) × Encodes l.program ops × Accepts 128 ops sigs
+    (ops : List Op) × Encodes l.program ops × Accepts (bytes_in L128) ops sigs
     × (command ≡ commands.Load record {
       milestone = l.milestone;
       kind = l.kind;
-      program = record { ops = ops; sigs = sigs };
+      program = record { record_length = L128; ops = ops; sigs = sigs };
     })
 
 -- the answers are those that the programs of an accepted command use, and there are none where it
@@ -113,10 +115,12 @@ Judges sigs J line board (Err (Faulty clause)) = Breaks sigs J line clause
 
 -- what comes of reading the bytes of a program
 abbrev pub GivesProgram : List (ℕ × Promise) → List ℕ → Result Verified AuditError → Type 0
-GivesProgram sigs bytes (Ok v) = Encodes bytes v.ops × Accepts 128 v.ops sigs × (v.sigs ≡ sigs)
+GivesProgram sigs bytes (Ok v) = Encodes bytes v.ops × Accepts (bytes_in L128) v.ops sigs
+    × (v.sigs ≡ sigs) × (v.record_length ≡ L128)
 GivesProgram sigs bytes (Err Memory) = Unit {0}
 GivesProgram sigs bytes (Err (Faulty clause)) =
-    (clause ≡ clauses.Program) × ((ops : List Op) → Encodes bytes ops → Accepts 128 ops sigs → ⊥)
+    (clause ≡ clauses.Program)
+    × ((ops : List Op) → Encodes bytes ops → Accepts (bytes_in L128) ops sigs → ⊥)
 
 -- an oracle left a question without an answer
 abbrev pub lacks_answer : Verdict → Bool

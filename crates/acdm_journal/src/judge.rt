@@ -13,9 +13,9 @@ use crate::reading::read_line;
 use crate::stated::{Asked, LineError, LoadLine};
 use acdm_milestones::{Refusal, Role};
 use acdm_step::{Command, Core, Load, Prepared, Verdict};
-use bpf_decode::{DecodeError, decode};
 use bpf_helpers::{Logged, Sigs};
-use bpf_verifier::{Checked, VerifyError, verify};
+use bpf_regstate::Length;
+use bpf_verifier::{Checked, ProgramError, read_program};
 use std::alloc::{AllocError, Global};
 
 /// What an entry of a journal must fulfil, in the order of the tests (this project's profile).
@@ -62,15 +62,10 @@ pub enum AuditError {
 fn program_of(alloc: Global, load: &LoadLine, sigs: &Sigs) -> Result<Checked, AuditError>
     ensures { GivesProgram sigs.now load.now.program result }
 {
-    let program = match decode(alloc, load.program.as_slice()) {
-        Ok(program) => program,
-        Err(DecodeError::Memory) => return Err(AuditError::Memory),
-        Err(DecodeError::Refused { .. }) => return Err(AuditError::Faulty(Clause::Program)),
-    };
-    match verify(alloc, program, sigs) {
+    match read_program(alloc, load.program.as_slice(), sigs, Length::L128) {
         Ok(checked) => Ok(checked),
-        Err(VerifyError::Memory) => Err(AuditError::Memory),
-        Err(VerifyError::Refused { .. }) => Err(AuditError::Faulty(Clause::Program)),
+        Err(ProgramError::Memory) => Err(AuditError::Memory),
+        Err(ProgramError::Refused { .. }) => Err(AuditError::Faulty(Clause::Program)),
     }
 }
 

@@ -7,7 +7,8 @@ use Rattle.bpf_decode.specs.declared.op.Op.{Op}
 use Rattle.bpf_helpers.specs.Promise.{Promise}
 use Rattle.acdm_lines.specs.Counted.{SinkView, SourceView, faults_after}
 use Rattle.acdm_lines.specs.declared.run_error.RunError.TheVariants as errors
-use Rattle.acdm_wire.specs.Reading.{IsReading}
+use Rattle.bpf_regstate.specs.declared.length.Length.TheVariants.{L128}
+use Rattle.bpf_verifier.specs.Reading.{IsReading}
 use Rattle.acdm_wire.specs.Writes.{Wrote, WroteInPart}
 use Rattle.acdm_judging.specs.Gave.{GaveBytes}
 use Rattle.acdm_judging.specs.declared.verifying.Verdict.{Verdict}
@@ -17,8 +18,8 @@ use Rattle.acdm_failures.specs.declared.failure.Failure.TheVariants.{Read, Write
 
 -- the verdict is the one right reading of the bytes
 abbrev pub IsVerdict : List (ℕ × Promise) → List ℕ → Verdict → Type 0
-IsVerdict sigs bytes (Accepted v) = IsReading sigs bytes (Ok v)
-IsVerdict sigs bytes (Refused code slot) = IsReading sigs bytes (Err (code, slot))
+IsVerdict sigs bytes (Accepted v) = IsReading sigs L128 bytes (Ok v)
+IsVerdict sigs bytes (Refused code slot) = IsReading sigs L128 bytes (Err (code, slot))
 
 -- the status of the command
 abbrev pub status_of : Verdict → ℕ

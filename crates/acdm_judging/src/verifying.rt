@@ -11,10 +11,11 @@ use crate::bytes::{BytesError, bytes_of};
 use crate::helpers::known_sigs;
 use acdm_failures::{Failure, ended};
 use acdm_lines::{Sink, Source};
-use acdm_wire::{ProgramError, read_program, write_out};
+use acdm_wire::write_out;
 use bpf_decode::{Program, line};
 use bpf_helpers::Sigs;
-use bpf_verifier::Checked;
+use bpf_regstate::Length;
+use bpf_verifier::{Checked, ProgramError, read_program};
 use std::alloc::Global;
 use std::io::{self, Read, Write};
 
@@ -90,7 +91,7 @@ pub(crate) fn verdict_on(alloc: Global, bytes: &[u8], sigs: &Sigs) -> Result<Ver
     ensures verdict { IfOk result (IsVerdict sigs.now bytes.now) }
     ensures memory { IfErr result (λ failure. failure ≡ Memory) }
 {
-    match read_program(alloc, bytes, sigs) {
+    match read_program(alloc, bytes, sigs, Length::L128) {
         Ok(checked) => Ok(Verdict::Accepted(checked)),
         Err(ProgramError::Refused { code, slot }) => Ok(Verdict::Refused { code, slot }),
         Err(ProgramError::Memory) => Err(Failure::Memory),

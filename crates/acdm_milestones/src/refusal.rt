@@ -25,6 +25,8 @@ pub enum Refusal {
     EmptySlot,
     /// 322: the program was checked against other signatures than the board's.
     OtherSignatures,
+    /// 323: the program was checked beside records of another length than the board's.
+    OtherLength,
     /// 599, which no reply has: an oracle left a question of the report's programs without an
     /// answer.
     Unanswered,
@@ -46,6 +48,7 @@ impl Refusal {
             Refusal::FullBoard => 503,
             Refusal::EmptySlot => 321,
             Refusal::OtherSignatures => 322,
+            Refusal::OtherLength => 323,
             Refusal::Unanswered => 599,
         }
     }

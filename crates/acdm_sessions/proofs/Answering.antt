@@ -10,8 +10,8 @@ use Rattle.acdm_board.specs.Desk.{DeskView, entered}
 use Rattle.acdm_wire.specs.declared.fault.Fault.{Fault}
 use Rattle.acdm_wire.specs.declared.fault.Bad.{Bad}
 use Rattle.acdm_wire.specs.declared.fault.Bad.TheVariants.{Faulty, NoMemory, FullJournal}
-use Rattle.acdm_wire.specs.declared.program.ProgramError.{ProgramError}
-use Rattle.acdm_wire.specs.declared.program.ProgramError.TheVariants.{Memory, Refused}
+use Rattle.bpf_verifier.specs.declared.reading.ProgramError.{ProgramError}
+use Rattle.bpf_verifier.specs.declared.reading.ProgramError.TheVariants.{Memory, Refused}
 use Rattle.acdm_wire.specs.declared.request.LineError.{LineError}
 use Rattle.acdm_wire.specs.declared.request.LineError.TheVariants as errors
 use Rattle.acdm_wire.specs.declared.request.Request.{Request}

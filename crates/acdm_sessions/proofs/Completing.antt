@@ -1,17 +1,18 @@
 -- The command that a line asks for, once the bytes of its program are read.
-use Rattle.std.proofs.Common.{◌≡◌, ℕ, List, false, not, Ok, Err, refl, sym, ap, subst}
+use Rattle.std.proofs.Common.{◌≡◌, ℕ, List, false, not, Ok, Err, refl, sym, subst}
 use Rattle.bpf_helpers.specs.Promise.{Promise}
-use Rattle.bpf_helpers.specs.Same.{same_sigs}
 use Rattle.bpf_helpers.proofs.SameSigs.{same_sigs-decides}
+use Rattle.bpf_regstate.specs.declared.length.Length.TheVariants.{L128}
 use Rattle.bpf_verifier.specs.Verdict.{Verified}
+use Rattle.acdm_step.specs.History.{is_checked}
 use Rattle.acdm_step.specs.declared.command.Command.{Command}
 use Rattle.acdm_step.specs.declared.command.Command.TheVariants as commands
-use Rattle.acdm_wire.specs.declared.program.ProgramError.{ProgramError}
-use Rattle.acdm_wire.specs.declared.program.ProgramError.TheVariants.{Memory, Refused}
+use Rattle.bpf_verifier.specs.declared.reading.ProgramError.{ProgramError}
+use Rattle.bpf_verifier.specs.declared.reading.ProgramError.TheVariants.{Memory, Refused}
 use Rattle.acdm_wire.specs.declared.request.LoadRequest.{LoadRequest}
 use Rattle.acdm_wire.specs.declared.request.Asked.{Asked}
 use Rattle.acdm_wire.specs.declared.request.Asked.TheVariants.{Plain, Load}
-use Rattle.acdm_wire.specs.Reading.{GivesReading}
+use Rattle.bpf_verifier.specs.Reading.{GivesReading}
 use Rattle.acdm_sessions.specs.Output.{Completes}
 
 pub completes_plain : (sigs : List (ℕ × Promise)) (asked : Asked) (c : Command)
@@ -25,26 +26,28 @@ module _ (sigs : List (ℕ × Promise)) (asked : Asked) (l : LoadRequest) (bytes
   loaded : Verified → Command
   loaded v = commands.Load record { milestone = l.milestone; kind = l.kind; program = v }
 
-  pub completes_load : (v : Verified) → GivesReading sigs bytes (Ok v)
+  pub completes_load : (v : Verified) → GivesReading sigs L128 bytes (Ok v)
       → Completes sigs asked
       (Ok (commands.Load record { milestone = l.milestone; kind = l.kind; program = v }))
   unfolding loaded
   completes_load v r =
       subst (λ a. Completes sigs a (Ok (loaded v))) (sym is) (record {
         reading = Ok v;
-        right = subst (λ bs. GivesReading sigs bs (Ok v)) same r;
+        right = subst (λ bs. GivesReading sigs L128 bs (Ok v)) same r;
         command_is = refl;
       })
 
-  pub completes_refused : (e : ProgramError) → GivesReading sigs bytes (Err e)
+  pub completes_refused : (e : ProgramError) → GivesReading sigs L128 bytes (Err e)
       → Completes sigs asked (Err e)
   completes_refused Memory r = tt
   completes_refused (Refused code slot) r =
       subst (λ a. Completes sigs a (Err (Refused code slot))) (sym is) (record {
         reading = Err (code, slot);
-        right = subst (λ bs. GivesReading sigs bs (Err (Refused code slot))) same r;
+        right = subst (λ bs. GivesReading sigs L128 bs (Err (Refused code slot))) same r;
         command_is = refl;
       })
 
-pub same_is_no_other : (a b : List (ℕ × Promise)) → a ≡ b → not (same_sigs a b) ≡ false
-same_is_no_other a b e = ap not ((same_sigs-decides a b).1 e)
+pub checked_is_no_other : (sigs : List (ℕ × Promise)) (v : Verified) → v.sigs ≡ sigs
+    → v.record_length ≡ L128 → not (is_checked sigs v) ≡ false
+checked_is_no_other sigs v same long =
+    rw (long, (same_sigs-decides v.sigs sigs).1 same) refl

@@ -6,8 +6,8 @@ use Rattle.bpf_helpers.specs.Promise.{Promise}
 use Rattle.acdm_step.specs.declared.command.Command.{Command}
 use Rattle.acdm_wire.specs.declared.fault.Fault.{Fault}
 use Rattle.acdm_wire.specs.declared.fault.Bad.TheVariants.{Faulty, NoMinute, NoMemory}
-use Rattle.acdm_wire.specs.declared.program.ProgramError.{ProgramError}
-use Rattle.acdm_wire.specs.declared.program.ProgramError.TheVariants.{Memory, Refused}
+use Rattle.bpf_verifier.specs.declared.reading.ProgramError.{ProgramError}
+use Rattle.bpf_verifier.specs.declared.reading.ProgramError.TheVariants.{Memory, Refused}
 use Rattle.acdm_wire.specs.declared.request.Asked.{Asked}
 use Rattle.acdm_wire.specs.declared.request.LineError.{LineError}
 use Rattle.acdm_wire.specs.declared.request.LineError.TheVariants as errors

@@ -16,8 +16,10 @@ use Rattle.bpf_decode.specs.declared.op.Size.TheVariants.{Half}
 use Rattle.bpf_decode.specs.declared.op.Width.TheVariants.{W64}
 use Rattle.bpf_helpers.specs.Known.{taxi}
 use Rattle.bpf_semantics.specs.Machine.{start}
+use Rattle.bpf_regstate.specs.declared.length.Length.TheVariants.{L128}
+use Rattle.bpf_regstate.specs.Lengths.{bytes_in}
 use Rattle.bpf_regstate.specs.States.{Accepts, states, start_shape}
-use Rattle.acdm_wire.specs.Reading.{Reading, IsReading}
+use Rattle.bpf_verifier.specs.Reading.{Reading, IsReading}
 use Rattle.acdm_wire.specs.Meant.{meant, head_of, natural_of, number_field, text_field}
 use Rattle.acdm_wire.specs.Meant.{time_field, time_or_null, plan_field, schedule_field}
 use Rattle.acdm_wire.specs.Meant.{milestone_field, report_field, show_field, kind_field}
@@ -28,8 +30,8 @@ use Rattle.acdm_sessions.specs.Output.{Supply, no_supply, output}
 -- ---- readings
 
 -- an exit before r0 is set
-exit_alone : IsReading [] (0x95 ∷ 0 ∷ 0 ∷ 0 ∷ 0 ∷ 0 ∷ 0 ∷ 0 ∷ []) (Err (308, 0))
-unfolding states start_shape
+exit_alone : IsReading [] L128 (0x95 ∷ 0 ∷ 0 ∷ 0 ∷ 0 ∷ 0 ∷ 0 ∷ 0 ∷ []) (Err (308, 0))
+unfolding states start_shape bytes_in
 exit_alone = inr record {
   ops = Exit ∷ [];
   encoded =
@@ -56,15 +58,15 @@ the_moment = Arith W64 Mov 0 (From 3) ∷ Exit ∷ []
 abbrev taxi_time : List Op
 taxi_time = Load Half 1 1 (pos 60) ∷ Arith W64 And 1 (Immediate (pos 511)) ∷ Call 2 ∷ Exit ∷ []
 
-the_moment_accepted : Accepts 128 the_moment []
-unfolding states start_shape
+the_moment_accepted : Accepts (bytes_in L128) the_moment []
+unfolding states start_shape bytes_in
 the_moment_accepted zero h = refl
 the_moment_accepted (suc zero) h = refl
 the_moment_accepted (suc (suc k)) h = absurd (omega arith)
 
-the_moment_read : IsReading []
+the_moment_read : IsReading [] L128
     (0xbf ∷ 0x30 ∷ 0 ∷ 0 ∷ 0 ∷ 0 ∷ 0 ∷ 0 ∷ 0x95 ∷ 0 ∷ 0 ∷ 0 ∷ 0 ∷ 0 ∷ 0 ∷ 0 ∷ [])
-    (Ok record { ops = the_moment; sigs = [] })
+    (Ok record { record_length = L128; ops = the_moment; sigs = [] })
 the_moment_read = record {
   encoded =
       record {
@@ -77,6 +79,7 @@ the_moment_read = record {
       };
   accepted = the_moment_accepted;
   checked = refl;
+  long = refl;
 }
 
 -- ---- streams
@@ -112,7 +115,7 @@ unfolding digits meant head_of natural_of number_field text_field time_field pla
 nothing_to_unload = refl
 
 -- a TOBT that cannot be, and then one that can
-suggested_target : output (record { history = []; capacity = 100; sigs = []; cells = [] }) (loading (Ok record { ops = a_minute_before; sigs = [] }) ∷ no_supply ∷ no_supply ∷ no_supply ∷ no_supply ∷ no_supply ∷ loading (Ok record { ops = the_moment; sigs = [] }) ∷ []) (codes "1 29000700 APT {\"cmd\":\"load\",\"milestone\":7,\"kind\":\"tobt\",\"program\":\"bf3000000000000007000000ffffffff9500000000000000\"}\n1 29000700 APT {\"cmd\":\"schedule\",\"flight\":7,\"callsign\":\"DLH7\",\"type\":\"A320\",\"reg\":\"DAIBC\",\"dest\":\"EDDM\",\"sobt\":\"2025-02-20T10:00:00Z\",\"mttt\":40,\"exit\":5,\"exot\":10,\"stand\":12}\n2 29000700 NM {\"cmd\":\"report\",\"flight\":7,\"milestone\":1,\"time\":\"2025-02-20T10:00:00Z\",\"callsign\":\"DLH7\",\"type\":\"A320\",\"reg\":\"DAIBC\",\"dest\":\"EDDM\"}\n3 29000700 ATC {\"cmd\":\"report\",\"flight\":7,\"milestone\":6,\"time\":\"2025-02-20T09:00:00Z\"}\n1 29000700 APT {\"cmd\":\"report\",\"flight\":7,\"milestone\":7,\"time\":\"2025-02-20T09:00:00Z\"}\n1 29000700 APT {\"cmd\":\"alerts\"}\n1 29000700 APT {\"cmd\":\"load\",\"milestone\":7,\"kind\":\"tobt\",\"program\":\"bf300000000000009500000000000000\"}\n1 29000700 APT {\"cmd\":\"report\",\"flight\":7,\"milestone\":7,\"time\":\"2025-02-20T09:00:00Z\"}\n1 29000700 APT {\"cmd\":\"alerts\"}\n") ≡ codes "ok 0\nok 1\nok 2\nok 3\nok 4\nalerts 5 7:CDM14\nok 6\nok 7\nalerts 8 7:CDM08,CDM09,CDM07a\n"
+suggested_target : output (record { history = []; capacity = 100; sigs = []; cells = [] }) (loading (Ok record { record_length = L128; ops = a_minute_before; sigs = [] }) ∷ no_supply ∷ no_supply ∷ no_supply ∷ no_supply ∷ no_supply ∷ loading (Ok record { record_length = L128; ops = the_moment; sigs = [] }) ∷ []) (codes "1 29000700 APT {\"cmd\":\"load\",\"milestone\":7,\"kind\":\"tobt\",\"program\":\"bf3000000000000007000000ffffffff9500000000000000\"}\n1 29000700 APT {\"cmd\":\"schedule\",\"flight\":7,\"callsign\":\"DLH7\",\"type\":\"A320\",\"reg\":\"DAIBC\",\"dest\":\"EDDM\",\"sobt\":\"2025-02-20T10:00:00Z\",\"mttt\":40,\"exit\":5,\"exot\":10,\"stand\":12}\n2 29000700 NM {\"cmd\":\"report\",\"flight\":7,\"milestone\":1,\"time\":\"2025-02-20T10:00:00Z\",\"callsign\":\"DLH7\",\"type\":\"A320\",\"reg\":\"DAIBC\",\"dest\":\"EDDM\"}\n3 29000700 ATC {\"cmd\":\"report\",\"flight\":7,\"milestone\":6,\"time\":\"2025-02-20T09:00:00Z\"}\n1 29000700 APT {\"cmd\":\"report\",\"flight\":7,\"milestone\":7,\"time\":\"2025-02-20T09:00:00Z\"}\n1 29000700 APT {\"cmd\":\"alerts\"}\n1 29000700 APT {\"cmd\":\"load\",\"milestone\":7,\"kind\":\"tobt\",\"program\":\"bf300000000000009500000000000000\"}\n1 29000700 APT {\"cmd\":\"report\",\"flight\":7,\"milestone\":7,\"time\":\"2025-02-20T09:00:00Z\"}\n1 29000700 APT {\"cmd\":\"alerts\"}\n") ≡ codes "ok 0\nok 1\nok 2\nok 3\nok 4\nalerts 5 7:CDM14\nok 6\nok 7\nalerts 8 7:CDM08,CDM09,CDM07a\n"
 unfolding digits bytes_of names_text start meant head_of natural_of number_field text_field
     time_field plan_field schedule_field time_or_null milestone_field report_field show_field
     kind_field program_field load_field unload_field plain_named command_named command_of json_of
@@ -120,7 +123,7 @@ unfolding digits bytes_of names_text start meant head_of natural_of number_field
 suggested_target = refl
 
 -- local alerts stay when their program is gone
-local_alerts_stay : output (record { history = []; capacity = 100; sigs = (2, taxi) ∷ []; cells = [] }) (loading (Ok record { ops = taxi_time; sigs = (2, taxi) ∷ [] }) ∷ no_supply ∷ no_supply ∷ answering (10 ∷ []) ∷ []) (codes "1 29000580 APT {\"cmd\":\"load\",\"milestone\":9,\"kind\":\"alert\",\"program\":\"69113c000000000057010000ff01000085000000020000009500000000000000\"}\n1 29000580 APT {\"cmd\":\"schedule\",\"flight\":7,\"callsign\":\"DLH7\",\"type\":\"A320\",\"reg\":\"DAIBC\",\"dest\":\"EDDM\",\"sobt\":\"2025-02-20T10:00:00Z\",\"mttt\":40,\"exit\":5,\"exot\":10,\"stand\":12}\n2 29000580 NM {\"cmd\":\"report\",\"flight\":7,\"milestone\":1,\"time\":\"2025-02-20T10:00:00Z\",\"callsign\":\"DLH7\",\"type\":\"A320\",\"reg\":\"DAIBC\",\"dest\":\"EDDM\"}\n5 29000580 GH {\"cmd\":\"report\",\"flight\":7,\"milestone\":9,\"time\":\"2025-02-20T10:00:00Z\"}\n1 29000580 APT {\"cmd\":\"alerts\"}\n1 29000580 APT {\"cmd\":\"unload\",\"milestone\":9,\"kind\":\"alert\"}\n5 29000580 GH {\"cmd\":\"report\",\"flight\":7,\"milestone\":9,\"time\":\"2025-02-20T10:00:00Z\"}\n1 29000580 APT {\"cmd\":\"alerts\"}\n") ≡ codes "ok 0\nok 1\nok 2\nok 3\nalerts 4 7:LOC01,LOC03\nok 5\nok 6\nalerts 7 7:LOC01,LOC03\n"
+local_alerts_stay : output (record { history = []; capacity = 100; sigs = (2, taxi) ∷ []; cells = [] }) (loading (Ok record { record_length = L128; ops = taxi_time; sigs = (2, taxi) ∷ [] }) ∷ no_supply ∷ no_supply ∷ answering (10 ∷ []) ∷ []) (codes "1 29000580 APT {\"cmd\":\"load\",\"milestone\":9,\"kind\":\"alert\",\"program\":\"69113c000000000057010000ff01000085000000020000009500000000000000\"}\n1 29000580 APT {\"cmd\":\"schedule\",\"flight\":7,\"callsign\":\"DLH7\",\"type\":\"A320\",\"reg\":\"DAIBC\",\"dest\":\"EDDM\",\"sobt\":\"2025-02-20T10:00:00Z\",\"mttt\":40,\"exit\":5,\"exot\":10,\"stand\":12}\n2 29000580 NM {\"cmd\":\"report\",\"flight\":7,\"milestone\":1,\"time\":\"2025-02-20T10:00:00Z\",\"callsign\":\"DLH7\",\"type\":\"A320\",\"reg\":\"DAIBC\",\"dest\":\"EDDM\"}\n5 29000580 GH {\"cmd\":\"report\",\"flight\":7,\"milestone\":9,\"time\":\"2025-02-20T10:00:00Z\"}\n1 29000580 APT {\"cmd\":\"alerts\"}\n1 29000580 APT {\"cmd\":\"unload\",\"milestone\":9,\"kind\":\"alert\"}\n5 29000580 GH {\"cmd\":\"report\",\"flight\":7,\"milestone\":9,\"time\":\"2025-02-20T10:00:00Z\"}\n1 29000580 APT {\"cmd\":\"alerts\"}\n") ≡ codes "ok 0\nok 1\nok 2\nok 3\nalerts 4 7:LOC01,LOC03\nok 5\nok 6\nalerts 7 7:LOC01,LOC03\n"
 unfolding digits bytes_of names_text start meant head_of natural_of number_field text_field
     time_field plan_field schedule_field time_or_null milestone_field report_field show_field
     kind_field program_field load_field unload_field plain_named command_named command_of json_of

@@ -6,6 +6,5 @@ pub mod Sessions
 pub mod Stream
 pub use Rattle.acdm_wire.specs.Codes
 pub use Rattle.acdm_wire.specs.Meant
-pub use Rattle.acdm_wire.specs.Reading
 pub use Rattle.acdm_wire.specs.Replies
 pub use Rattle.acdm_wire.specs.Writes

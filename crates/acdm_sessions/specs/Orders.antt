@@ -8,7 +8,7 @@ use Rattle.acdm_wire.specs.declared.fault.Bad.{Bad}
 use Rattle.acdm_wire.specs.declared.fault.Bad.TheVariants.{Faulty, NoMinute, NoMemory}
 use Rattle.acdm_wire.specs.declared.request.Asked.{Asked}
 use Rattle.acdm_wire.specs.Meant.{asked_of}
-use Rattle.acdm_wire.specs.Reading.{Reading}
+use Rattle.bpf_verifier.specs.Reading.{Reading}
 use Rattle.acdm_sessions.specs.Output.{IsReadingFor, command_with}
 use Rattle.acdm_sessions.specs.declared.order.Order.{Order}
 

@@ -13,15 +13,16 @@ use Rattle.acdm_wire.specs.declared.fault.Bad.TheVariants.{Faulty, Program, NoMe
 use Rattle.acdm_wire.specs.declared.fault.Bad.TheVariants.{FullJournal}
 use Rattle.acdm_sessions.specs.declared.answer.Answer.{Answer}
 use Rattle.acdm_sessions.specs.declared.answer.Answer.TheVariants.{Entered, Rejected}
-use Rattle.acdm_wire.specs.declared.program.ProgramError.{ProgramError}
-use Rattle.acdm_wire.specs.declared.program.ProgramError.TheVariants as errors
+use Rattle.bpf_verifier.specs.declared.reading.ProgramError.{ProgramError}
+use Rattle.bpf_verifier.specs.declared.reading.ProgramError.TheVariants as errors
 use Rattle.acdm_wire.specs.declared.request.Request.{Request}
 use Rattle.acdm_wire.specs.declared.request.Asked.{Asked}
 use Rattle.acdm_wire.specs.declared.request.Asked.TheVariants.{Plain, Load}
 use Rattle.acdm_wire.specs.Replies.{entry_text, bad_text}
 use Rattle.acdm_lines.specs.Lines.{lines_of}
 use Rattle.acdm_wire.specs.Writes.{AppendsPart}
-use Rattle.acdm_wire.specs.Reading.{Reading, IsReading}
+use Rattle.bpf_regstate.specs.declared.length.Length.TheVariants.{L128}
+use Rattle.bpf_verifier.specs.Reading.{Reading, IsReading}
 use Rattle.acdm_wire.specs.Meant.{meant}
 
 -- What the world supplies to a line: whether memory was refused for it, what the bytes of its
@@ -36,7 +37,7 @@ pub record Supply : Type 0 where
 -- the reading is that of the bytes that are to be loaded, where there are any
 abbrev pub IsReadingFor : List (ℕ × Promise) → Asked → Reading → Type 0
 IsReadingFor sigs (Plain c) reading = Unit {0}
-IsReadingFor sigs (Load l) reading = IsReading sigs l.program reading
+IsReadingFor sigs (Load l) reading = IsReading sigs L128 l.program reading
 
 abbrev pub IsReadingOf : List (ℕ × Promise) → Result Request Fault → Reading → Type 0
 IsReadingOf sigs (Err f) reading = Unit {0}

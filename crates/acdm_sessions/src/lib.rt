@@ -14,10 +14,7 @@ mod sessions;
 mod stream;
 
 pub use acdm_lines::{RunError, Sink, Source};
-pub use acdm_wire::{
-    Asked, Bad, Fault, LineError, LoadRequest, ProgramBytes, ProgramError, Request, read_program,
-    request_of,
-};
+pub use acdm_wire::{Asked, Bad, Fault, LineError, LoadRequest, ProgramBytes, Request, request_of};
 pub use answer::Answer;
 pub use clock::{Clock, Gate};
 pub use session::{Closed, End, Ended, Session};

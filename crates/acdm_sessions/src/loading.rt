@@ -5,8 +5,10 @@ ghost use Rattle.acdm_wire.specs.Meant.{is_plain};
 ghost use Rattle.acdm_sessions.specs.Output.{Completes};
 
 use acdm_step::{Command, Load};
-use acdm_wire::{Asked, ProgramError, read_program};
+use acdm_wire::Asked;
 use bpf_helpers::Sigs;
+use bpf_regstate::Length;
+use bpf_verifier::{ProgramError, read_program};
 use std::alloc::Global;
 
 /// The command that is asked for, with the program that the bytes of a load encode.
@@ -18,7 +20,7 @@ pub(crate) fn command_for(alloc: Global, asked: Asked, sigs: &Sigs) -> Result<Co
     match asked {
         Asked::Plain(command) => Ok(command),
         Asked::Load(load) => {
-            let program = match read_program(alloc, load.program.as_slice(), sigs) {
+            let program = match read_program(alloc, load.program.as_slice(), sigs, Length::L128) {
                 Ok(program) => program,
                 Err(error) => return Err(error),
             };

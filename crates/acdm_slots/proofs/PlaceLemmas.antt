@@ -22,9 +22,14 @@ use Rattle.acdm_milestones.specs.declared.milestone.Milestone.TheVariants.{OffBl
 use Rattle.acdm_milestones.specs.Tables.{milestone_numbered}
 use Rattle.acdm_slots.specs.declared.kind.Kind.{Kind}
 use Rattle.acdm_slots.specs.declared.kind.Kind.TheVariants.{Tobt, Alert}
-use Rattle.acdm_slots.specs.Loaded.{AreFit, IsBoard, Loaded, loaded, place, program_in, table}
+use Rattle.acdm_slots.specs.declared.error.SlotError.TheVariants.{OtherLength, OtherSignatures}
+use Rattle.acdm_slots.specs.Loaded.{AreFit, IsBoard, Loaded, load_error, loaded, place, program_in}
+use Rattle.acdm_slots.specs.Loaded.{table}
+use Rattle.bpf_helpers.specs.Same.{same_sigs}
 use Rattle.acdm_slots.specs.Loaded.{with_program}
 use Rattle.bpf_helpers.specs.Promise.{Promise}
+use Rattle.bpf_regstate.specs.declared.length.Length.{Length}
+use Rattle.bpf_regstate.specs.Lengths.{bytes_in, same_length}
 use Rattle.bpf_regstate.specs.States.{Accepts}
 use Rattle.bpf_verifier.specs.Verdict.{Verified}
 
@@ -110,47 +115,48 @@ same_place m n kind other e =
 -- ---- the map
 
 -- each slot has what the function gives
-pub given : (sigs : List (ℕ × Promise)) (f : Milestone → Kind
-    → Option Verified) (m : Milestone) (kind : Kind) → program_in (loaded sigs f) m kind ≡ f m kind
+pub given : (sigs : List (ℕ × Promise)) (record_length : Length) (f : Milestone → Kind
+    → Option Verified) (m : Milestone) (kind : Kind)
+    → program_in (loaded sigs record_length f) m kind ≡ f m kind
 unfolding table
-given sigs f FlightPlanActivated Tobt = refl
-given sigs f FlightPlanActivated Alert = refl
-given sigs f TwoHoursBeforeEobt Tobt = refl
-given sigs f TwoHoursBeforeEobt Alert = refl
-given sigs f TakeOffFromOutstation Tobt = refl
-given sigs f TakeOffFromOutstation Alert = refl
-given sigs f LocalRadarUpdate Tobt = refl
-given sigs f LocalRadarUpdate Alert = refl
-given sigs f FinalApproach Tobt = refl
-given sigs f FinalApproach Alert = refl
-given sigs f Landed Tobt = refl
-given sigs f Landed Alert = refl
-given sigs f InBlock Tobt = refl
-given sigs f InBlock Alert = refl
-given sigs f GroundHandlingStarts Tobt = refl
-given sigs f GroundHandlingStarts Alert = refl
-given sigs f TobtUpdate Tobt = refl
-given sigs f TobtUpdate Alert = refl
-given sigs f TsatIssue Tobt = refl
-given sigs f TsatIssue Alert = refl
-given sigs f BoardingStarts Tobt = refl
-given sigs f BoardingStarts Alert = refl
-given sigs f AircraftReady Tobt = refl
-given sigs f AircraftReady Alert = refl
-given sigs f StartUpRequest Tobt = refl
-given sigs f StartUpRequest Alert = refl
-given sigs f StartUpApproved Tobt = refl
-given sigs f StartUpApproved Alert = refl
-given sigs f OffBlock Tobt = refl
-given sigs f OffBlock Alert = refl
-given sigs f TakeOff Tobt = refl
-given sigs f TakeOff Alert = refl
+given sigs record_length f FlightPlanActivated Tobt = refl
+given sigs record_length f FlightPlanActivated Alert = refl
+given sigs record_length f TwoHoursBeforeEobt Tobt = refl
+given sigs record_length f TwoHoursBeforeEobt Alert = refl
+given sigs record_length f TakeOffFromOutstation Tobt = refl
+given sigs record_length f TakeOffFromOutstation Alert = refl
+given sigs record_length f LocalRadarUpdate Tobt = refl
+given sigs record_length f LocalRadarUpdate Alert = refl
+given sigs record_length f FinalApproach Tobt = refl
+given sigs record_length f FinalApproach Alert = refl
+given sigs record_length f Landed Tobt = refl
+given sigs record_length f Landed Alert = refl
+given sigs record_length f InBlock Tobt = refl
+given sigs record_length f InBlock Alert = refl
+given sigs record_length f GroundHandlingStarts Tobt = refl
+given sigs record_length f GroundHandlingStarts Alert = refl
+given sigs record_length f TobtUpdate Tobt = refl
+given sigs record_length f TobtUpdate Alert = refl
+given sigs record_length f TsatIssue Tobt = refl
+given sigs record_length f TsatIssue Alert = refl
+given sigs record_length f BoardingStarts Tobt = refl
+given sigs record_length f BoardingStarts Alert = refl
+given sigs record_length f AircraftReady Tobt = refl
+given sigs record_length f AircraftReady Alert = refl
+given sigs record_length f StartUpRequest Tobt = refl
+given sigs record_length f StartUpRequest Alert = refl
+given sigs record_length f StartUpApproved Tobt = refl
+given sigs record_length f StartUpApproved Alert = refl
+given sigs record_length f OffBlock Tobt = refl
+given sigs record_length f OffBlock Alert = refl
+given sigs record_length f TakeOff Tobt = refl
+given sigs record_length f TakeOff Alert = refl
 
 pub program_after : (l : Loaded) (m n : Milestone) (kind other : Kind) (p : Option Verified)
     → program_in (with_program l m kind p) n other
     ≡ (if place m kind == place n other then p else program_in l n other)
 program_after l m n kind other p =
-    given l.sigs (λ n other. if place m kind == place n other then p else program_in l n other) n
+    given l.sigs l.record_length (λ n other. if place m kind == place n other then p else program_in l n other) n
     other
 
 -- a change is seen in its slot
@@ -179,39 +185,61 @@ elsewhere_after l m n kind other p apart = program_after l m n kind other p
 
 -- ---- what is loaded fits
 
--- a program that there may be was checked under these signatures and is accepted under them
-abbrev pub Fits : List (ℕ × Promise) → Option Verified → Type 0
-Fits sigs p = (v : Verified) → p ≡ Some v → (v.sigs ≡ sigs) × Accepts 128 v.ops sigs
+-- a program that there may be was checked under these signatures beside records of this length, and is
+-- accepted so
+abbrev pub Suits : List (ℕ × Promise) → Length → Verified → Type 0
+Suits sigs record_length v = (v.sigs ≡ sigs) × (v.record_length ≡ record_length)
+    × Accepts (bytes_in record_length) v.ops sigs
 
-pub stays_fit : (l : Loaded) (m : Milestone) (kind : Kind) (p : Option Verified) → Fits l.sigs p
-    → AreFit l → AreFit (with_program l m kind p)
+abbrev pub Fits : List (ℕ × Promise) → Length → Option Verified → Type 0
+Fits sigs record_length p = (v : Verified) → p ≡ Some v → Suits sigs record_length v
+
+pub stays_fit : (l : Loaded) (m : Milestone) (kind : Kind) (p : Option Verified)
+    → Fits l.sigs l.record_length p → AreFit l → AreFit (with_program l m kind p)
 stays_fit l m kind p fits fit n other v e =
     at (nat_eq (place m kind) (place n other)) (sym (program_after l m n kind other p) ∙ e)
   where
     at : (t : Bool) → (if t then p else program_in l n other) ≡ Some v
-        → (v.sigs ≡ l.sigs) × Accepts 128 v.ops l.sigs
+        → Suits l.sigs l.record_length v
     at true h = fits v h
     at false h = fit n other v h
 
 -- a checked program fits, and so does none
-pub some_fits : (sigs : List (ℕ × Promise)) (p : Verified) → p.sigs ≡ sigs
-    → Accepts 128 p.ops p.sigs → Fits sigs (Some p)
-some_fits sigs p same accepted v e =
+pub some_fits : (sigs : List (ℕ × Promise)) (record_length : Length) (p : Verified) → p.sigs ≡ sigs
+    → p.record_length ≡ record_length → Accepts (bytes_in p.record_length) p.ops p.sigs
+    → Fits sigs record_length (Some p)
+some_fits sigs record_length p same long accepted v e =
     let is : p ≡ v = ap (λ (o : Option Verified). unwrap_or o p) e in
-    subst (λ (x : Verified). (x.sigs ≡ sigs) × Accepts 128 x.ops sigs) is (
+    subst (λ (x : Verified). Suits sigs record_length x) is (
       same,
-      subst (λ (xs : List (ℕ × Promise)). Accepts 128 p.ops xs) same accepted,
+      long,
+      rw (← same, ← long) accepted,
     )
 
-pub none_fits : (sigs : List (ℕ × Promise)) → Fits sigs None
-none_fits sigs v e = absurd (cc)
+pub none_fits : (sigs : List (ℕ × Promise)) (record_length : Length)
+    → Fits sigs record_length None
+none_fits sigs record_length v e = absurd (cc)
+
+-- ---- what is not loaded
+
+pub other_length : (l : Loaded) (p : Verified)
+    → same_length p.record_length l.record_length ≡ false → load_error l p ≡ Some OtherLength
+other_length l p e = rw e refl
+
+pub other_sigs : (l : Loaded) (p : Verified) → same_length p.record_length l.record_length ≡ true
+    → same_sigs p.sigs l.sigs ≡ false → load_error l p ≡ Some OtherSignatures
+other_sigs l p e f = rw (e, f) refl
 
 -- ---- a store in the list of all places
 
 -- what is loaded after the store
 pub stored_as : (l : Loaded) (m : Milestone) (kind : Kind) (p : Option Verified) (n : ℕ)
     → n ≡ place m kind → n < 32 → IsBoard l
-    → record { sigs = l.sigs; programs = slice_set l.programs n p } ≡ with_program l m kind p
+    → record {
+      sigs = l.sigs;
+      record_length = l.record_length;
+      programs = slice_set l.programs n p;
+    } ≡ with_program l m kind p
 unfolding table
 stored_as l m kind p n is within board =
     let whole : slice_set l.programs n p
@@ -224,7 +252,7 @@ stored_as l m kind p n is within board =
     program_in l other_m other) =
     ap table (λ i other_m other. each other_m other i) in
     let as_loaded : List (Option Verified) → Loaded =
-    λ xs. record { sigs = l.sigs; programs = xs } in
+    λ xs. record { sigs = l.sigs; record_length = l.record_length; programs = xs } in
     ap as_loaded (whole ∙ asked)
   where
     at : (o : ℕ) (t : Bool) → nat_eq (place m kind) o ≡ t
@@ -243,8 +271,13 @@ stored_as l m kind p n is within board =
 
 -- it keeps what is true of a board
 pub board_after : (l : Loaded) (m : Milestone) (kind : Kind) (p : Option Verified) (n : ℕ)
-    → n ≡ place m kind → n < 32 → IsBoard l → Fits l.sigs p
-    → IsBoard (record { sigs = l.sigs; programs = slice_set l.programs n p })
+    → n ≡ place m kind → n < 32 → IsBoard l
+    → Fits l.sigs l.record_length p
+    → IsBoard (record {
+      sigs = l.sigs;
+      record_length = l.record_length;
+      programs = slice_set l.programs n p;
+    })
 board_after l m kind p n at within board fits = record {
   places = length-set l.programs n p ∙ board.places;
   fit = subst AreFit (sym (stored_as l m kind p n at within board))

@@ -2,12 +2,14 @@
 
 ghost use Rattle.std.specs.Prelude.{◌≡◌, ◌↔◌, ◌<◌, Some, None, IfOk, IfErr, IsOk, IsErr, OnOk};
 ghost use Rattle.std.specs.Prelude.{OnErr, MatchOption};
-ghost use Rattle.acdm_slots.specs.Loaded.{AreFit, nothing_loaded, place, program_in, with_program};
+ghost use Rattle.acdm_slots.specs.Loaded.{AreFit, load_error, nothing_loaded, place, program_in};
+ghost use Rattle.acdm_slots.specs.Loaded.{with_program};
 
 use crate::error::SlotError;
 use crate::kind::Kind;
 use acdm_milestones::Milestone;
 use bpf_helpers::Sigs;
+use bpf_regstate::Length;
 use bpf_verifier::Checked;
 use std::alloc::{AllocError, Global};
 use std::marker::Model;
@@ -15,12 +17,14 @@ use std::marker::Model;
 /// The number of places: one for each of sixteen milestones and each of two kinds.
 const PLACES: usize = 32;
 
-/// The programs of a board, at most one for each milestone and kind, and the signatures of the
-/// board's helpers. Each program was checked under exactly these signatures. Contracts see a map
-/// from milestone and kind by the words of `specs/Loaded.antt`.
+/// The programs of a board, at most one for each milestone and kind, the signatures of the board's
+/// helpers, and the length of its records. Each program was checked under exactly these signatures
+/// and beside records of this length. Contracts see a map from milestone and kind by the words of
+/// `specs/Loaded.antt`.
 #[derive(Drop)]
 pub struct Slots {
     sigs: Sigs,
+    record_length: Length,
     programs: Vec<Option<Checked>>,
 }
 
@@ -29,9 +33,17 @@ impl Model for Slots {
 
     ghost Value = { Loaded };
 
-    ghost view = { λ s. record { sigs = s.sigs; programs = s.programs.items } };
+    ghost view = { λ s. record {
+      sigs = s.sigs;
+      record_length = s.record_length;
+      programs = s.programs.items;
+    } };
 
-    ghost invariant = { λ s. IsBoard (record { sigs = s.sigs; programs = s.programs.items }) };
+    ghost invariant = { λ s. IsBoard (record {
+      sigs = s.sigs;
+      record_length = s.record_length;
+      programs = s.programs.items;
+    }) };
 }
 
 /// The place of a milestone's program of a kind, below 32.
@@ -47,16 +59,21 @@ fn place_of(milestone: Milestone, kind: Kind) -> usize
 }
 
 impl Slots {
-    /// No program is loaded yet; there is room for all. `Err` only where there is no memory.
+    /// No program is loaded yet, beside records of this length; there is room for all. `Err` only
+    /// where there is no memory.
     #[tactic(auto, unfolding(crate::specs::Loaded::table))]
-    pub fn new(alloc: Global, sigs: Sigs) -> Result<Slots, AllocError>
-        ensures { IfOk result (λ slots. slots ≡ nothing_loaded sigs) }
+    pub fn new(alloc: Global, sigs: Sigs, record_length: Length) -> Result<Slots, AllocError>
+        ensures { IfOk result (λ slots. slots ≡ nothing_loaded sigs record_length) }
     {
         let mut programs = Vec::with_capacity(alloc, PLACES)?;
         for _ in 0..PLACES {
             programs.push(None)?;
         }
-        Ok(Slots { sigs, programs })
+        Ok(Slots {
+            sigs,
+            record_length,
+            programs,
+        })
     }
 
     /// The signatures under which programs are checked before they are loaded.
@@ -65,6 +82,13 @@ impl Slots {
         ensures fit { AreFit self.now }
     {
         &self.sigs
+    }
+
+    /// The length of the records beside which programs are checked before they are loaded.
+    pub fn record_length(&self) -> Length
+        ensures { result ≡ self.now.record_length }
+    {
+        self.record_length
     }
 
     /// The program of a kind at a milestone.
@@ -77,19 +101,23 @@ impl Slots {
     }
 
     /// Loads a program in place of what stands there. It takes no memory. A program that was
-    /// checked under other signatures is dropped.
+    /// checked beside records of another length, or else under other signatures, is dropped.
     pub fn load(
         &mut self,
         milestone: Milestone,
         kind: Kind,
         program: Checked,
     ) -> Result<(), SlotError>
-        ensures same { IsOk result ↔ (program.sigs ≡ self.old.sigs) }
+        ensures same { IsOk result
+            ↔ (program.record_length ≡ self.old.record_length) × (program.sigs ≡ self.old.sigs) }
         ensures loaded { OnOk result (self.new
             ≡ with_program self.old milestone kind (Some program)) }
-        ensures other { IfErr result (λ e. e ≡ SlotError.OtherSignatures) }
+        ensures told { IfErr result (λ e. load_error self.old program ≡ Some e) }
         ensures kept { OnErr result (self.new ≡ self.old) }
     {
+        if !program.record_length().is(self.record_length) {
+            return Err(SlotError::OtherLength);
+        }
         if !program.sigs().is_same(&self.sigs) {
             return Err(SlotError::OtherSignatures);
         }

@@ -119,7 +119,7 @@ below : (count : ℕ) → nat_lt count MOST_FLIGHTS ≡ true → count < MOST_FL
 below count h = grind (arith, nat_tests)
 
 pub room_left : (c : Command) (count : ℕ) (r : Fields) (role : Role) → changes_flight c ≡ true
-    → is_accepted (verdict_for false count r true role c) ≡ true → count < MOST_FLIGHTS
+    → is_accepted (verdict_for false count r None role c) ≡ true → count < MOST_FLIGHTS
 room_left (commands.Flight (Schedule s)) count r role k h =
     below count (room_of_schedule _ _ (nat_lt count MOST_FLIGHTS) h)
 room_left (commands.Flight (Report p)) count r role k h =

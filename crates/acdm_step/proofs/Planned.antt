@@ -1,12 +1,16 @@
 -- What a plan would do to the board is what comes of its command.
-use Rattle.std.proofs.Common.{◌≡◌, ℕ, Bool, true, false, cond, not, map, Option, Some, None}
-use Rattle.std.proofs.Common.{is_some, refl, sym, ap, subst, ◌∙◌}
+use Rattle.std.proofs.Common.{◌≡◌, ℕ, List, Bool, true, false, cond, not, map, Option, Some, None}
+use Rattle.std.proofs.Common.{refl, sym, ap, subst, ◌∙◌}
 use Rattle.bpf_helpers.specs.Oracles.{OracleView, Unasked}
-use Rattle.bpf_helpers.specs.Same.{same_sigs}
 use Rattle.acdm_milestones.specs.declared.role.Role.{Role}
 use Rattle.acdm_milestones.specs.declared.role.Action.TheVariants as actions
 use Rattle.acdm_milestones.specs.declared.refusal.Refusal.TheVariants.{NotOwner, EmptySlot}
+use Rattle.acdm_milestones.specs.declared.refusal.Refusal.TheVariants.{OtherSignatures}
 use Rattle.acdm_milestones.specs.Tables.{owns}
+use Rattle.bpf_helpers.specs.Promise.{Promise}
+use Rattle.bpf_helpers.specs.Same.{same_sigs}
+use Rattle.bpf_regstate.specs.declared.length.Length.{Length}
+use Rattle.bpf_regstate.specs.Lengths.{same_length}
 use Rattle.bpf_verifier.specs.Verdict.{Verified}
 use Rattle.acdm_slots.specs.Loaded.{program_in}
 use Rattle.acdm_step.specs.declared.command.Command.{Command}
@@ -17,7 +21,7 @@ use Rattle.acdm_step.specs.declared.command.FlightCommand.TheVariants.{Schedule,
 use Rattle.acdm_step.specs.declared.command.Load as command_load
 use Rattle.acdm_step.specs.declared.command.Unload as command_unload
 use Rattle.acdm_step.specs.declared.entry.Verdict.{Verdict}
-use Rattle.acdm_step.specs.declared.entry.Verdict.TheVariants.{Refused}
+use Rattle.acdm_step.specs.declared.entry.Verdict.TheVariants.{Accepted, Refused}
 use Rattle.acdm_step.specs.declared.outcome.Outcome.{Outcome}
 use Rattle.acdm_step.specs.declared.outcome.Outcome.TheVariants as outcomes
 use Rattle.acdm_step.specs.declared.prepare.Change.{Change}
@@ -25,6 +29,7 @@ use Rattle.acdm_step.specs.declared.prepare.Change.TheVariants as changes
 use Rattle.acdm_step.specs.Commands.{is_accepted}
 use Rattle.acdm_step.specs.InSlots.{with_slots}
 use Rattle.acdm_step.specs.Verdicts.{load_verdict, unload_verdict, tick_verdict, outcome_with}
+use Rattle.acdm_step.specs.Verdicts.{load_obstacle, unload_obstacle}
 use Rattle.acdm_step.specs.History.{Board}
 use Rattle.acdm_step.specs.Board.{board_of, touched, board_verdict}
 use Rattle.acdm_step.specs.Running.{Comes}
@@ -84,12 +89,12 @@ module _ (b : Board) (role : Role) (moment : ℕ) (from to : OracleView) (outcom
 
   pub plans_load : (l : command_load.Load) (change : Change)
       → outcome ≡ outcome_with outcomes.Done
-      (load_verdict (same_sigs l.program.sigs b.slots.sigs) role)
-      → change ≡ cond (is_accepted (load_verdict (same_sigs l.program.sigs b.slots.sigs) role))
+      (load_verdict (load_obstacle b.slots.sigs b.slots.record_length l.program) role)
+      → change ≡ cond (is_accepted (load_verdict (load_obstacle b.slots.sigs b.slots.record_length l.program) role))
       (changes.Load l.milestone l.kind l.program) changes.Nothing
       → Comes b role moment (Load l) from to outcome (after_change b change)
   plans_load l change out e =
-      let v : Verdict = load_verdict (same_sigs l.program.sigs b.slots.sigs) role in
+      let v : Verdict = load_verdict (load_obstacle b.slots.sigs b.slots.record_length l.program) role in
       subst (λ x. Comes b role moment (Load l) from to outcome x) (either (is_accepted v)
       ∙ ap (after_change b) (sym e))
       (comes_loaded b role moment from to outcome same l v
@@ -102,12 +107,12 @@ module _ (b : Board) (role : Role) (moment : ℕ) (from to : OracleView) (outcom
 
   pub plans_unload : (u : command_unload.Unload) (change : Change)
       → outcome ≡ outcome_with outcomes.Done
-      (unload_verdict (is_some (program_in b.slots u.milestone u.kind)) role)
-      → change ≡ cond (is_accepted (unload_verdict (is_some (program_in b.slots u.milestone u.kind))
+      (unload_verdict (unload_obstacle (program_in b.slots u.milestone u.kind)) role)
+      → change ≡ cond (is_accepted (unload_verdict (unload_obstacle (program_in b.slots u.milestone u.kind))
       role)) (changes.Unload u.milestone u.kind) changes.Nothing
       → Comes b role moment (Unload u) from to outcome (after_change b change)
   plans_unload u change out e =
-      let v : Verdict = unload_verdict (is_some (program_in b.slots u.milestone u.kind)) role in
+      let v : Verdict = unload_verdict (unload_obstacle (program_in b.slots u.milestone u.kind)) role in
       subst (λ x. Comes b role moment (Unload u) from to outcome x) (either (is_accepted v)
       ∙ ap (after_change b) (sym e))
       (comes_unloaded b role moment from to outcome same u v
@@ -118,26 +123,41 @@ module _ (b : Board) (role : Role) (moment : ℕ) (from to : OracleView) (outcom
       either true = refl
       either false = refl
 
+-- ---- the verdict on a load
+
+module _ (role : Role) (sigs : List (ℕ × Promise)) (record_length : Length) (p : Verified)
+    (own : owns role actions.Load ≡ true) (long : same_length p.record_length record_length ≡ true)
+  where
+    pub same_is_loaded : same_sigs p.sigs sigs ≡ true
+        → Accepted ≡ load_verdict (load_obstacle sigs record_length p) role
+    same_is_loaded same = rw (own, long, same) refl
+
+    pub other_is_refused : same_sigs p.sigs sigs ≡ false
+        → Refused OtherSignatures ≡ load_verdict (load_obstacle sigs record_length p) role
+    other_is_refused other = rw (own, long, other) refl
+
 -- ---- what a plan asks of its board
 
 pub fits_load : (b : Board) (l : command_load.Load) (t : Bool) (change : Change)
     → change ≡ cond t (changes.Load l.milestone l.kind l.program) changes.Nothing
+    → (t ≡ true → l.program.record_length ≡ b.slots.record_length)
     → (t ≡ true → l.program.sigs ≡ b.slots.sigs) → Fits b change
-fits_load b l true change e h = subst (Fits b) (sym e) (h refl)
-fits_load b l false change e h = subst (Fits b) (sym e) tt
+fits_load b l true change e long same = subst (Fits b) (sym e) (long refl, same refl)
+fits_load b l false change e long same = subst (Fits b) (sym e) tt
 
 none_filled : (own : Bool) → is_accepted (cond (not own) (Refused NotOwner) (Refused EmptySlot))
     ≡ false
 none_filled true = refl
 none_filled false = refl
 
-filled : (p : Option Verified) (role : Role) → is_accepted (unload_verdict (is_some p) role) ≡ true
+filled : (p : Option Verified) (role : Role)
+    → is_accepted (unload_verdict (unload_obstacle p) role) ≡ true
     → p ≡ None → ⊥
 filled (Some p) role h e = absurd (cc)
 filled None role h e = absurd (cc (h, none_filled (owns role actions.Unload)))
 
 pub fits_unload : (b : Board) (u : command_unload.Unload) (role : Role) (t : Bool) (change : Change)
-    → t ≡ is_accepted (unload_verdict (is_some (program_in b.slots u.milestone u.kind)) role)
+    → t ≡ is_accepted (unload_verdict (unload_obstacle (program_in b.slots u.milestone u.kind)) role)
     → change ≡ cond t (changes.Unload u.milestone u.kind) changes.Nothing → Fits b change
 fits_unload b u role true change s e =
     subst (Fits b) (sym e) (filled (program_in b.slots u.milestone u.kind) role (sym s))

@@ -6,7 +6,8 @@ use Rattle.acdm_slots.specs.declared.kind.Kind.{Kind}
 use Rattle.acdm_slots.specs.Loaded as loaded
 use Rattle.acdm_step.specs.declared.entry.Entry.{Entry}
 use Rattle.acdm_step.specs.Commands.{History, creates, flight_of, is_accepted}
-use Rattle.acdm_step.specs.InSlots.{changed_or, program_in, slot_change, slots_of}
+use Rattle.acdm_step.specs.InSlots.{changed_or, program_in, record_length_after, slot_change}
+use Rattle.acdm_step.specs.InSlots.{slots_of}
 use Rattle.acdm_step.specs.Summaries.{flights, record_of, with_flight}
 use Rattle.acdm_step.specs.History.{replay}
 use Rattle.acdm_step.proofs.Records.{record_same}
@@ -35,7 +36,7 @@ refused_slot J e none m kind =
 refused_slots : (sigs : List (ℕ × Promise)) (J : History) (e : Entry)
     → is_accepted e.verdict ≡ false → slots_of sigs (e ∷ J) ≡ slots_of sigs J
 refused_slots sigs J e none =
-    ap (λ b. loaded.loaded sigs (λ m k. cond b
+    ap (λ b. loaded.loaded sigs (record_length_after J) (λ m k. cond b
     (changed_or (slot_change m k e.command) (program_in J m k)) (program_in J m k))) none
 
 pub refused_board : (sigs : List (ℕ × Promise)) (J : History) (e : Entry)

@@ -1,16 +1,18 @@
 -- A step on the replay of a legal history is the replay of the longer history.
 use Rattle.std.proofs.Common.{◌≡◌, ◌≢◌, ℕ, eq-eqb, ◌+◌, Bool, true, false, cond, not, ◌&&◌, ◌||◌}
 use Rattle.std.proofs.Common.{◌==◌, nat_lt, List, [], ◌∷◌, ◌++◌, map, length, get_or, set, Option}
-use Rattle.std.proofs.Common.{Some, None, is_some, refl, sym, ap, subst, ◌∙◌, arith, eqb-true}
+use Rattle.std.proofs.Common.{Some, None, refl, sym, ap, subst, ◌∙◌, arith, eqb-true}
 use Rattle.std.proofs.Common.{ne_eqb}
 use Rattle.std.proofs.lemmas.List.{length-map, map_push, get_or_past}
 use Rattle.std.specs.List.{position_or_len}
 use Rattle.acdm_record.specs.Fields.{Fields, new_record}
 use Rattle.acdm_milestones.specs.declared.role.Role.{Role}
 use Rattle.acdm_milestones.specs.declared.role.Action.TheVariants as actions
+use Rattle.acdm_milestones.specs.declared.refusal.Refusal.{Refusal}
 use Rattle.acdm_milestones.specs.declared.refusal.Refusal.TheVariants.{NotOwner, UnknownFlight}
 use Rattle.acdm_milestones.specs.Tables.{number, owns}
 use Rattle.bpf_helpers.specs.Promise.{Promise}
+use Rattle.bpf_regstate.specs.declared.length.Length.{Length}
 use Rattle.bpf_verifier.specs.Verdict.{Verified}
 use Rattle.bpf_helpers.specs.Oracles.{OracleView}
 use Rattle.acdm_milestones.specs.declared.milestone.Milestone.{Milestone}
@@ -30,15 +32,15 @@ use Rattle.acdm_step.specs.declared.entry.Entry.{Entry}
 use Rattle.acdm_step.specs.Commands.{History, flight_of, bit_of, changes_flight, is_tick, is_load}
 use Rattle.acdm_step.specs.Commands.{is_of, ticks, is_accepted, creates, created, is_alerts}
 use Rattle.acdm_step.specs.InSlots.{slot_change, changed_or, program_in, programs_of, size_of}
-use Rattle.acdm_step.specs.InSlots.{with_slots, slots_of, may_ask}
+use Rattle.acdm_step.specs.InSlots.{with_slots, slots_of, record_length_after, may_ask}
 use Rattle.acdm_step.specs.Summaries.{empty_summary, with_command, with_tick, summary, effect_on}
 use Rattle.acdm_step.specs.Summaries.{record_from, record_of, with_flight, flights, exists}
 use Rattle.acdm_step.specs.Summaries.{run_record_of}
-use Rattle.acdm_step.specs.Verdicts.{is_ready, verdict_for, verdict_of, answer, outcome_with}
-use Rattle.acdm_step.specs.Verdicts.{outcome_of}
+use Rattle.acdm_step.specs.Verdicts.{obstacle, verdict_for, verdict_of, answer, outcome_with}
+use Rattle.acdm_step.specs.Verdicts.{outcome_of, unload_obstacle}
 use Rattle.acdm_step.specs.History.{IsAnswered, IsLegal, replay, after, needs_memory}
 use Rattle.acdm_step.specs.Board.{record_after, touched, place_of, is_there, record_on, put}
-use Rattle.acdm_step.specs.Board.{assigned_to, programs_on, ready_on, board_verdict}
+use Rattle.acdm_step.specs.Board.{assigned_to, programs_on, obstacle_on, board_verdict}
 use Rattle.acdm_step.specs.Board.{board_loads, board_answer, board_outcome, board_changed}
 use Rattle.acdm_step.specs.Board.{board_after}
 use Rattle.acdm_step.specs.Ran.{Ran}
@@ -60,13 +62,13 @@ first_owned false true rest h = refl
 first_owned false false rest h = h
 
 -- a command that is accepted where its flight is not there creates it
-admitted_creates : (c : Command) (count : ℕ) (r : Fields) (ready : Bool) (role : Role)
-    → changes_flight c ≡ true → is_accepted (verdict_for false count r ready role c) ≡ true
+admitted_creates : (c : Command) (count : ℕ) (r : Fields) (against : Option Refusal) (role : Role)
+    → changes_flight c ≡ true → is_accepted (verdict_for false count r against role c) ≡ true
     → creates c ≡ true
-admitted_creates (commands.Flight (Schedule s)) count r ready role k h = refl
-admitted_creates (commands.Flight (Report p)) count r ready role k h =
+admitted_creates (commands.Flight (Schedule s)) count r against role k h = refl
+admitted_creates (commands.Flight (Report p)) count r against role k h =
     first_owned (owns role (actions.Report p.milestone)) (number p.milestone == 1) _ h
-admitted_creates _ count r ready role k h = absurd (cc)
+admitted_creates _ count r against role k h = absurd (cc)
 
 -- what an accepted entry creates
 creates_or_not : (fs : List ℕ) (b : Bool) (f : ℕ) → has f fs ≡ true
@@ -111,12 +113,12 @@ module _ (sigs : List (ℕ × Promise)) (f : ℕ) (e : Entry) (J : History)
       let there : exists J (flight_of e.command) ≡ false =
       subst (λ g. has g (flights J) ≡ false) (sym same) before in
       let done' : is_accepted (verdict_for false (length (flights J))
-      (record_of J (flight_of e.command)) (is_ready sigs J e.command) e.role e.command) ≡ true =
+      (record_of J (flight_of e.command)) (obstacle sigs J e.command) e.role e.command) ≡ true =
       sym (ap (λ b. is_accepted (verdict_for b (length (flights J))
-      (record_of J (flight_of e.command)) (is_ready sigs J e.command) e.role e.command)) there)
+      (record_of J (flight_of e.command)) (obstacle sigs J e.command) e.role e.command)) there)
       ∙ right d in
       let makes = admitted_creates e.command (length (flights J))
-      (record_of J (flight_of e.command)) (is_ready sigs J e.command) e.role k done' in
+      (record_of J (flight_of e.command)) (obstacle sigs J e.command) e.role k done' in
       let made : created e ≡ Some f =
       ap (λ b. cond (b && creates e.command) (Some (flight_of e.command)) None) d
       ∙ ap (λ b. cond b (Some (flight_of e.command)) None) makes ∙ ap Some same in
@@ -157,23 +159,24 @@ either_slot false after before = refl
 -- the program that stands in a slot is that of the last load or unload
 pub slot-replay : (sigs : List (ℕ × Promise)) (J : History) (m : Milestone) (k : Kind)
     → loaded.program_in (slots_of sigs J) m k ≡ program_in J m k
-slot-replay sigs J m k = given sigs (program_in J) m k
+slot-replay sigs J m k = given sigs (record_length_after J) (program_in J) m k
 
 -- a command changes what a slot is said to have
-module _ (sigs : List (ℕ × Promise)) (f : Milestone → Kind → Option Verified) where
+module _ (sigs : List (ℕ × Promise)) (record_length : Length) (f : Milestone → Kind
+    → Option Verified) where
   put_there : (m n : Milestone) (kind other : Kind) (after : Option Verified)
       → cond (place m kind == place n other) after
-      (loaded.program_in (loaded.loaded sigs f) n other)
+      (loaded.program_in (loaded.loaded sigs record_length f) n other)
       ≡ changed_or (cond (place m kind == place n other) (Some after) None) (f n other)
   put_there m n kind other after =
-      ap (λ before. cond (place m kind == place n other) after before) (given sigs f n other)
+      ap (λ before. cond (place m kind == place n other) after before) (given sigs record_length f n other)
       ∙ either_slot (place m kind == place n other) after (f n other)
 
-  changed_slots : (c : Command) → with_slots c (loaded.loaded sigs f)
-      ≡ loaded.loaded sigs (λ m k. changed_or (slot_change m k c) (f m k))
-  changed_slots (Load c) = ap (loaded.loaded sigs)
+  changed_slots : (c : Command) → with_slots c (loaded.loaded sigs record_length f)
+      ≡ loaded.loaded sigs record_length (λ m k. changed_or (slot_change m k c) (f m k))
+  changed_slots (Load c) = ap (loaded.loaded sigs record_length)
       (λ i m k. put_there c.milestone m c.kind k (Some c.program) i)
-  changed_slots (Unload c) = ap (loaded.loaded sigs)
+  changed_slots (Unload c) = ap (loaded.loaded sigs record_length)
       (λ i m k. put_there c.milestone m c.kind k None i)
   changed_slots _ = refl
 
@@ -182,15 +185,15 @@ pub accepted-slots : (sigs : List (ℕ × Promise)) (e : Entry) (J : History)
     → is_accepted e.verdict ≡ true
     → with_slots e.command (slots_of sigs J) ≡ slots_of sigs (e ∷ J)
 accepted-slots sigs e J d =
-    changed_slots sigs (program_in J) e.command
-    ∙ sym (ap (λ b. loaded.loaded sigs
+    changed_slots sigs (record_length_after J) (program_in J) e.command
+    ∙ sym (ap (λ b. loaded.loaded sigs (record_length_after J)
     (λ m k. cond b (changed_or (slot_change m k e.command) (program_in J m k))
     (program_in J m k))) d)
 
 refused-slots : (sigs : List (ℕ × Promise)) (e : Entry) (J : History)
     → is_accepted e.verdict ≡ false → slots_of sigs (e ∷ J) ≡ slots_of sigs J
 refused-slots sigs e J d =
-    ap (λ b. loaded.loaded sigs (λ m k. cond b
+    ap (λ b. loaded.loaded sigs (record_length_after J) (λ m k. cond b
     (changed_or (slot_change m k e.command) (program_in J m k)) (program_in J m k))) d
 
 pub with_slots-sigs : (c : Command) (l : Loaded) → (with_slots c l).sigs ≡ l.sigs
@@ -206,11 +209,11 @@ programs-replay sigs J (commands.Flight (Report r)) =
     λ i. record { tobt = tobt i; alert = alert i }
 programs-replay sigs J _ = refl
 
-ready-replay : (sigs : List (ℕ × Promise)) (J : History) (c : Command)
-    → ready_on (slots_of sigs J) c ≡ is_ready sigs J c
-ready-replay sigs J (Load c) = refl
-ready-replay sigs J (Unload c) = ap is_some (slot-replay sigs J c.milestone c.kind)
-ready-replay sigs J _ = refl
+obstacle-replay : (sigs : List (ℕ × Promise)) (J : History) (c : Command)
+    → obstacle_on (slots_of sigs J) c ≡ obstacle sigs J c
+obstacle-replay sigs J (Load c) = refl
+obstacle-replay sigs J (Unload c) = ap unload_obstacle (slot-replay sigs J c.milestone c.kind)
+obstacle-replay sigs J _ = refl
 
 pub room-replay : (sigs : List (ℕ × Promise)) (J : History) (m : Milestone) (k : Kind)
     → size_of (loaded.program_in (slots_of sigs J) m k) ≡ size_of (program_in J m k)
@@ -256,13 +259,13 @@ pub verdict-replay : (sigs : List (ℕ × Promise)) (J : History) (role : Role) 
 unfolding board_verdict
 verdict-replay sigs J role c l =
     ap (λ b. verdict_for b (length (records_of J)) (record_on (records_of J) (flight_of c))
-    (ready_on (slots_of sigs J) c) role c) (there-replay J (flight_of c))
+    (obstacle_on (slots_of sigs J) c) role c) (there-replay J (flight_of c))
     ∙ ap (λ n. verdict_for (exists J (flight_of c)) n (record_on (records_of J) (flight_of c))
-    (ready_on (slots_of sigs J) c) role c) (length-map (flights J) (record_of J))
+    (obstacle_on (slots_of sigs J) c) role c) (length-map (flights J) (record_of J))
     ∙ ap (λ r. verdict_for (exists J (flight_of c)) (length (flights J)) r
-    (ready_on (slots_of sigs J) c) role c) (record_on-replay sigs J (flight_of c) l)
+    (obstacle_on (slots_of sigs J) c) role c) (record_on-replay sigs J (flight_of c) l)
     ∙ ap (λ r. verdict_for (exists J (flight_of c)) (length (flights J)) (record_of J (flight_of c))
-    r role c) (ready-replay sigs J c)
+    r role c) (obstacle-replay sigs J c)
 
 -- the record with what a command assigns, on the board and after the history
 assigned-replay : (sigs : List (ℕ × Promise)) (J : History) (c : Command) → IsLegal sigs J
@@ -390,16 +393,16 @@ module _ (sigs : List (ℕ × Promise)) (e : Entry) (J : History) (legal : IsLeg
         → flights (e ∷ J) ≡ flights J ++ flight_of e.command ∷ []
     added d t =
         let done : is_accepted (verdict_for false (length (flights J))
-        (record_of J (flight_of e.command)) (is_ready sigs J e.command) e.role e.command)
+        (record_of J (flight_of e.command)) (obstacle sigs J e.command) e.role e.command)
         ≡ true =
         sym (ap (λ b. is_accepted (verdict_for b (length (flights J))
-        (record_of J (flight_of e.command)) (is_ready sigs J e.command) e.role e.command)) t)
+        (record_of J (flight_of e.command)) (obstacle sigs J e.command) e.role e.command)) t)
         ∙ right d in
         ap (λ b. with_flight (flights J)
         (cond (b && creates e.command) (Some (flight_of e.command)) None)) d
         ∙ ap (λ b. with_flight (flights J) (cond b (Some (flight_of e.command)) None))
         (admitted_creates e.command (length (flights J)) (record_of J (flight_of e.command))
-        (is_ready sigs J e.command) e.role k done)
+        (obstacle sigs J e.command) e.role k done)
         ∙ ap (λ b. cond b (flights J) (flights J ++ flight_of e.command ∷ [])) t
 
     accepted-replay : is_accepted e.verdict ≡ true

@@ -18,6 +18,7 @@ use Rattle.bpf_decode.specs.declared.op.Code.TheVariants.{Add, And, Mov}
 use Rattle.bpf_decode.specs.declared.op.Size.TheVariants.{Half}
 use Rattle.bpf_decode.specs.declared.op.Width.TheVariants.{W64}
 use Rattle.bpf_helpers.specs.Promise.{Promise}
+use Rattle.bpf_regstate.specs.declared.length.Length.TheVariants.{L128}
 use Rattle.bpf_helpers.specs.Known.{taxi}
 use Rattle.bpf_semantics.specs.Machine.{start}
 use Rattle.acdm_slots.specs.declared.kind.Kind.{Kind}
@@ -205,7 +206,7 @@ abbrev loads : List (ℕ × Promise) → Milestone → Kind → List Op → Comm
 loads sigs m k ops = Load record {
   milestone = m;
   kind = k;
-  program = record { ops = ops; sigs = sigs };
+  program = record { record_length = L128; ops = ops; sigs = sigs };
 }
 
 -- r0 is the moment

@@ -1,6 +1,6 @@
 -- What a step on the board is, by what came of the command.
 use Rattle.std.proofs.Common.{◌≡◌, ℕ, ◌<◌, ◌≤◌, Bool, true, false, cond, ◌||◌, nat_lt, List}
-use Rattle.std.proofs.Common.{[], ◌∷◌, ◌++◌, map, length, get_or, set, Some, is_some, refl, Result}
+use Rattle.std.proofs.Common.{[], ◌∷◌, ◌++◌, map, length, get_or, set, Some, None, refl, Result}
 use Rattle.std.proofs.Common.{Ok, Err, is_ok, OnOk, OnErr, sym, ap, subst, ◌∙◌, arith, append-nil}
 use Rattle.std.proofs.lemmas.List.{get_or_default}
 use Rattle.std.proofs.lemmas.Bool.Decides.{nat_tests}
@@ -8,7 +8,6 @@ use Rattle.acdm_record.specs.Fields.{Fields, new_record}
 use Rattle.acdm_milestones.specs.declared.role.Role.{Role}
 use Rattle.acdm_milestones.specs.declared.refusal.Refusal.TheVariants.{Unanswered}
 use Rattle.bpf_helpers.specs.Oracles.{OracleView, Gained, Unasked}
-use Rattle.bpf_helpers.specs.Same.{same_sigs}
 use Rattle.acdm_slots.specs.Loaded.{Loaded, program_in}
 use Rattle.acdm_step.specs.declared.command.Command.{Command}
 use Rattle.acdm_step.specs.declared.command.Command.TheVariants.{Load, Unload, Tick, Show}
@@ -24,9 +23,10 @@ use Rattle.acdm_step.specs.Commands.{is_alerts}
 use Rattle.acdm_step.specs.InSlots.{with_slots}
 use Rattle.acdm_step.specs.Verdicts.{verdict_for, load_verdict, unload_verdict, tick_verdict}
 use Rattle.acdm_step.specs.Verdicts.{show_verdict, alert_list, outcome_with}
+use Rattle.acdm_step.specs.Verdicts.{load_obstacle, unload_obstacle}
 use Rattle.acdm_step.specs.History.{Board}
 use Rattle.acdm_step.specs.Board.{board_of, assigned_to, touched, place_of, is_there, record_on}
-use Rattle.acdm_step.specs.Board.{put, record_after, programs_on, ready_on, board_verdict}
+use Rattle.acdm_step.specs.Board.{put, record_after, programs_on, obstacle_on, board_verdict}
 use Rattle.acdm_step.specs.Board.{board_loads, board_outcome, board_changed}
 use Rattle.acdm_step.specs.Board.{board_after}
 use Rattle.acdm_step.specs.Programs.{no_effect, effect_with, effect_or_none, with_effect}
@@ -75,9 +75,9 @@ change_keeps_slots : (c : Command) (l : Loaded) → changes_flight c ≡ true �
 change_keeps_slots (commands.Flight k) l h = refl
 change_keeps_slots _ l h = absurd (cc)
 
-change_is_ready : (c : Command) (l : Loaded) → changes_flight c ≡ true → ready_on l c ≡ true
-change_is_ready (commands.Flight k) l h = refl
-change_is_ready _ l h = absurd (cc)
+change_is_free : (c : Command) (l : Loaded) → changes_flight c ≡ true → obstacle_on l c ≡ None
+change_is_free (commands.Flight k) l h = refl
+change_is_free _ l h = absurd (cc)
 
 change_outcome_is : (b : Board) (role : Role) (c : Command) → changes_flight c ≡ true
     → outcome_with outcomes.Done (board_verdict b role c) ≡ board_outcome b role c
@@ -265,9 +265,9 @@ module _ (b : Board) (role : Role) (moment : ℕ) (from to : OracleView) (outcom
       ∙ out) (quiet_after b role moment c b.records sl t k refl after)
 
   pub comes_loaded : (l : command_load.Load) (v : Verdict) (sl : Loaded)
-      → v ≡ load_verdict (same_sigs l.program.sigs b.slots.sigs) role
+      → v ≡ load_verdict (load_obstacle b.slots.sigs b.slots.record_length l.program) role
       → outcome ≡ outcome_with outcomes.Done v
-      → sl ≡ cond (is_accepted (load_verdict (same_sigs l.program.sigs b.slots.sigs) role))
+      → sl ≡ cond (is_accepted (load_verdict (load_obstacle b.slots.sigs b.slots.record_length l.program) role))
       (with_slots (Load l) b.slots) b.slots
       → Comes b role moment (Load l) from to outcome (board_of b.records sl)
   unfolding board_outcome board_verdict
@@ -275,9 +275,9 @@ module _ (b : Board) (role : Role) (moment : ℕ) (from to : OracleView) (outcom
       comes_placed (Load l) v sl refl refl e is (ap (outcome_with outcomes.Done) e) after
 
   pub comes_unloaded : (u : command_unload.Unload) (v : Verdict) (sl : Loaded)
-      → v ≡ unload_verdict (is_some (program_in b.slots u.milestone u.kind)) role
+      → v ≡ unload_verdict (unload_obstacle (program_in b.slots u.milestone u.kind)) role
       → outcome ≡ outcome_with outcomes.Done v
-      → sl ≡ cond (is_accepted (unload_verdict (is_some (program_in b.slots u.milestone u.kind))
+      → sl ≡ cond (is_accepted (unload_verdict (unload_obstacle (program_in b.slots u.milestone u.kind))
       role)) (with_slots (Unload u) b.slots) b.slots
       → Comes b role moment (Unload u) from to outcome (board_of b.records sl)
   unfolding board_outcome board_verdict
@@ -294,7 +294,7 @@ comes_left b other role moment c same from to outcome e f h =
 
 -- a load that is taken needs memory
 pub loading : (b : Board) (role : Role) (l : command_load.Load)
-    → is_accepted (load_verdict (same_sigs l.program.sigs b.slots.sigs) role) ≡ true
+    → is_accepted (load_verdict (load_obstacle b.slots.sigs b.slots.record_length l.program) role) ≡ true
     → (is_alerts (Load l) || board_loads b role (Load l)) ≡ true
 unfolding board_verdict
 loading b role l h = h
@@ -318,17 +318,17 @@ module _ (bs : List Fields) (l : Loaded) (role : Role) (c : Command) (place flig
   here = at ∙ ap (place_of bs) of
 
   pub verdict_is : (r : Fields) (o : Verdict) (t : Bool) → t ≡ nat_lt place count
-      → r ≡ record_on bs flight → o ≡ verdict_for t count r true role c
+      → r ≡ record_on bs flight → o ≡ verdict_for t count r None role c
       → o ≡ board_verdict (board_of bs l) role c
   unfolding board_verdict
   verdict_is r o t test is e =
-      e ∙ ap (λ b. verdict_for b count r true role c) (test ∙ ap (λ n. nat_lt n count) here
+      e ∙ ap (λ b. verdict_for b count r None role c) (test ∙ ap (λ n. nat_lt n count) here
       ∙ ap (λ n. nat_lt (place_of bs (flight_of c)) n) many)
-      ∙ ap (λ n. verdict_for (is_there bs (flight_of c)) n r true role c) many
-      ∙ ap (λ x. verdict_for (is_there bs (flight_of c)) (length bs) x true role c) (is
+      ∙ ap (λ n. verdict_for (is_there bs (flight_of c)) n r None role c) many
+      ∙ ap (λ x. verdict_for (is_there bs (flight_of c)) (length bs) x None role c) (is
       ∙ ap (record_on bs) of)
       ∙ ap (λ d. verdict_for (is_there bs (flight_of c)) (length bs) (record_on bs (flight_of c)) d
-      role c) (sym (change_is_ready c l k))
+      role c) (sym (change_is_free c l k))
 
   pub record_is : (r : Fields) → r ≡ record_on bs flight → r ≡ record_on bs (flight_of c)
   record_is r is = is ∙ ap (record_on bs) of
@@ -352,7 +352,7 @@ module _ (bs : List Fields) (l : Loaded) (role : Role) (c : Command) (place flig
 
   -- the record, the verdict on it, and the record of the flight after its programs
   module _ (r : Fields) (o : Verdict) (t : Bool) (test : t ≡ nat_lt place count)
-      (is : r ≡ record_on bs flight) (e : o ≡ verdict_for t count r true role c) (moment : ℕ)
+      (is : r ≡ record_on bs flight) (e : o ≡ verdict_for t count r None role c) (moment : ℕ)
       (from to : OracleView) (outcome : Outcome) where
     right : o ≡ board_verdict (board_of bs l) role c
     right = verdict_is r o t test is e

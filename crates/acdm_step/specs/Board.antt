@@ -1,14 +1,14 @@
 -- One step on the records themselves, in order of creation, and on the slots.
 use Rattle.std.specs.Prelude.{ℕ, Bool, true, ◌&&◌, map, ◌==◌, nat_lt, if◌then◌else◌, List, []}
-use Rattle.std.specs.Prelude.{◌∷◌, ◌++◌, length, slice_index_or, slice_set, is_some}
+use Rattle.std.specs.Prelude.{◌∷◌, ◌++◌, length, slice_index_or, slice_set, Option, None}
 use Rattle.std.specs.List.{position_or_len}
 use Rattle.acdm_record.specs.declared.field.Field.TheVariants.{Flight, Alerts}
 use Rattle.acdm_record.specs.Fields.{Fields, number_of, set_number, new_record}
 use Rattle.acdm_record.specs.Assign.{with_all}
 use Rattle.acdm_alerts.specs.Conditions.{alert_word}
 use Rattle.acdm_milestones.specs.declared.role.Role.{Role}
+use Rattle.acdm_milestones.specs.declared.refusal.Refusal.{Refusal}
 use Rattle.acdm_milestones.specs.Tables.{marked}
-use Rattle.bpf_helpers.specs.Same.{same_sigs}
 use Rattle.acdm_slots.specs.declared.kind.Kind.TheVariants as kinds
 use Rattle.acdm_slots.specs.Loaded.{Loaded}
 use Rattle.acdm_slots.specs.Loaded as slots
@@ -24,6 +24,7 @@ use Rattle.acdm_step.specs.Commands.{assigned_by, bit_of, flight_of, is_tick, is
 use Rattle.acdm_step.specs.Commands.{changes_flight, is_accepted}
 use Rattle.acdm_step.specs.InSlots.{with_slots}
 use Rattle.acdm_step.specs.Verdicts.{verdict_for, alert_list, outcome_with}
+use Rattle.acdm_step.specs.Verdicts.{load_obstacle, unload_obstacle}
 use Rattle.acdm_step.specs.History.{Board}
 
 -- records and slots together
@@ -72,14 +73,14 @@ programs_on l (commands.Flight (Report r)) =
 programs_on l _ = no_programs
 
 -- the last test of a load and of an unload
-abbrev pub ready_on : Loaded → Command → Bool
-ready_on l (Load c) = same_sigs c.program.sigs l.sigs
-ready_on l (Unload c) = is_some (slots.program_in l c.milestone c.kind)
-ready_on l _ = true
+abbrev pub obstacle_on : Loaded → Command → Option Refusal
+obstacle_on l (Load c) = load_obstacle l.sigs l.record_length c.program
+obstacle_on l (Unload c) = unload_obstacle (slots.program_in l c.milestone c.kind)
+obstacle_on l _ = None
 
 unfoldable pub board_verdict : Board → Role → Command → Verdict
 board_verdict b role c = verdict_for (is_there b.records (flight_of c)) (length b.records)
-    (record_on b.records (flight_of c)) (ready_on b.slots c) role c
+    (record_on b.records (flight_of c)) (obstacle_on b.slots c) role c
 
 -- whether it is a load that is taken
 abbrev pub board_loads : Board → Role → Command → Bool

@@ -5,7 +5,11 @@ use Rattle.std.specs.Prelude.{◌∷◌, map, length, Option, Some, option_map}
 use Rattle.acdm_record.specs.Fields.{Fields}
 use Rattle.acdm_milestones.specs.declared.role.Role.{Role}
 use Rattle.bpf_helpers.specs.Promise.{Promise}
+use Rattle.bpf_regstate.specs.declared.length.Length.TheVariants.{L128}
+use Rattle.bpf_helpers.specs.Same.{same_sigs}
+use Rattle.bpf_regstate.specs.Lengths.{bytes_in, same_length}
 use Rattle.bpf_regstate.specs.States.{Accepts}
+use Rattle.bpf_verifier.specs.Verdict.{Verified}
 use Rattle.acdm_slots.specs.Loaded.{Loaded}
 use Rattle.acdm_step.specs.Programs.{Effect, effect_with}
 use Rattle.acdm_step.specs.declared.command.Command.{Command}
@@ -20,10 +24,15 @@ use Rattle.acdm_step.specs.Verdicts.{verdict_of}
 -- ---- histories that the platform may have
 
 -- a program that is loaded was checked against the signatures of the board, and is accepted under
--- them
+-- them beside a record of 128 bytes
 abbrev pub IsChecked : List (ℕ × Promise) → Command → Type 0
-IsChecked sigs (Load l) = (l.program.sigs ≡ sigs) × Accepts 128 l.program.ops sigs
+IsChecked sigs (Load l) = (l.program.sigs ≡ sigs) × (l.program.record_length ≡ L128)
+    × Accepts (bytes_in L128) l.program.ops sigs
 IsChecked sigs _ = Unit {0}
+
+-- whether a program was checked against these signatures beside a record of 128 bytes
+abbrev pub is_checked : List (ℕ × Promise) → Verified → Bool
+is_checked sigs p = same_length p.record_length L128 && same_sigs p.sigs sigs
 
 -- the answers that are left of those that an accepted command was given, once its programs have
 -- ended

@@ -4,6 +4,8 @@ use Rattle.std.specs.Prelude.{false, ◌||◌}
 use Rattle.acdm_milestones.specs.declared.milestone.Milestone.{Milestone}
 use Rattle.bpf_helpers.specs.Promise.{Promise}
 use Rattle.bpf_semantics.specs.Calls.{has_call}
+use Rattle.bpf_regstate.specs.declared.length.Length.{Length}
+use Rattle.bpf_regstate.specs.declared.length.Length.TheVariants.{L128}
 use Rattle.bpf_regstate.specs.States.{instruction_count}
 use Rattle.bpf_verifier.specs.Verdict.{Verified}
 use Rattle.acdm_slots.specs.declared.kind.Kind.{Kind}
@@ -70,6 +72,10 @@ with_slots (Load l) slots = with_program slots l.milestone l.kind (Some l.progra
 with_slots (Unload u) slots = with_program slots u.milestone u.kind None
 with_slots _ slots = slots
 
+-- how long the records of a board are
+abbrev pub record_length_after : History → Length
+record_length_after J = L128
+
 -- the slots of a board: in each the program that the history says
 abbrev pub slots_of : List (ℕ × Promise) → History → Loaded
-slots_of sigs J = loaded sigs (program_in J)
+slots_of sigs J = loaded sigs (record_length_after J) (program_in J)

@@ -34,6 +34,7 @@ abbrev pub Fits : Board → Change → Type 0
 Fits b (changes.Put i r) = (i < length b.records) × Keeps b.records i r
 Fits b (changes.Add r) = (length b.records < MOST_FLIGHTS)
     × (place_of b.records (number_of r Flight) ≡ length b.records)
-Fits b (changes.Load m k p) = p.sigs ≡ b.slots.sigs
+Fits b (changes.Load m k p) = (p.record_length ≡ b.slots.record_length)
+    × (p.sigs ≡ b.slots.sigs)
 Fits b (changes.Unload m k) = program_in b.slots m k ≡ None → ⊥
 Fits b _ = Unit {0}

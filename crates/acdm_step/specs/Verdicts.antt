@@ -1,7 +1,7 @@
 -- Verdicts, by the first refusal that applies, and what comes of a command after a history (this
 -- project's profile).
 use Rattle.std.specs.Prelude.{ℕ, Bool, true, false, ◌&&◌, ◌==◌, not, nat_lt, if◌then◌else◌, List}
-use Rattle.std.specs.Prelude.{[], ◌∷◌, map, length, is_some, Result, Ok, Err}
+use Rattle.std.specs.Prelude.{[], ◌∷◌, map, length, Option, Some, None, Result, Ok, Err}
 use Rattle.std.specs.List.{flat_map}
 use Rattle.acdm_record.specs.declared.field.Field.TheVariants.{Flight, Alerts}
 use Rattle.acdm_record.specs.Fields.{Fields, number_of}
@@ -12,9 +12,13 @@ use Rattle.acdm_milestones.specs.declared.refusal.Refusal.{Refusal}
 use Rattle.acdm_milestones.specs.declared.refusal.Refusal.TheVariants.{UnknownFlight, NotOwner}
 use Rattle.acdm_milestones.specs.declared.refusal.Refusal.TheVariants.{AlreadyPlanned, FullBoard}
 use Rattle.acdm_milestones.specs.declared.refusal.Refusal.TheVariants.{EmptySlot, OtherSignatures}
+use Rattle.acdm_milestones.specs.declared.refusal.Refusal.TheVariants.{OtherLength}
 use Rattle.acdm_milestones.specs.Tables.{number, owns, has_reached, admission}
 use Rattle.bpf_helpers.specs.Promise.{Promise}
 use Rattle.bpf_helpers.specs.Same.{same_sigs}
+use Rattle.bpf_regstate.specs.declared.length.Length.{Length}
+use Rattle.bpf_regstate.specs.Lengths.{same_length}
+use Rattle.bpf_verifier.specs.Verdict.{Verified}
 use Rattle.acdm_step.specs.declared.command.Command.{Command}
 use Rattle.acdm_step.specs.declared.command.Command.TheVariants.{Load, Unload, Tick, Show}
 use Rattle.acdm_step.specs.declared.command.FlightCommand.TheVariants.{Schedule, Report}
@@ -26,7 +30,7 @@ use Rattle.acdm_step.specs.declared.outcome.Outcome.{Outcome}
 use Rattle.acdm_step.specs.declared.outcome.Outcome.TheVariants as outcomes
 use Rattle.acdm_step.specs.Commands.{History, flight_of}
 use Rattle.acdm_step.specs.declared.verdicts.TheConstants.{MOST_FLIGHTS}
-use Rattle.acdm_step.specs.InSlots.{program_in}
+use Rattle.acdm_step.specs.InSlots.{program_in, record_length_after}
 use Rattle.acdm_step.specs.Summaries.{record_of, flights, exists}
 
 -- ---- verdicts, by the first refusal that applies
@@ -57,36 +61,55 @@ tick_verdict role = if owns role actions.Tick then Accepted else Refused NotOwne
 abbrev pub show_verdict : Bool → Verdict
 show_verdict there = if there then Accepted else Refused UnknownFlight
 
--- a program may be loaded that was checked against the signatures of the board
-abbrev pub load_verdict : Bool → Role → Verdict
-load_verdict fits role = if not (owns role actions.Load) then Refused NotOwner else
-    (if not fits then Refused OtherSignatures else Accepted)
+-- ---- what the slots have against a command
 
-abbrev pub unload_verdict : Bool → Role → Verdict
-unload_verdict filled role = if not (owns role actions.Unload) then Refused NotOwner else
-    (if not filled then Refused EmptySlot else Accepted)
+-- a program may be loaded that was checked beside records of the board's length and against its
+-- signatures
+abbrev pub load_obstacle : List (ℕ × Promise) → Length → Verified → Option Refusal
+load_obstacle sigs record_length p =
+    if not (same_length p.record_length record_length) then Some OtherLength
+    else (if not (same_sigs p.sigs sigs) then Some OtherSignatures else None)
+
+-- a program may be taken out that is there
+abbrev pub unload_obstacle : Option Verified → Option Refusal
+unload_obstacle None = Some EmptySlot
+unload_obstacle (Some p) = None
+
+abbrev pub refused_by : Option Refusal → Verdict
+refused_by None = Accepted
+refused_by (Some x) = Refused x
+
+abbrev pub load_verdict : Option Refusal → Role → Verdict
+load_verdict against role =
+    if not (owns role actions.Load) then Refused NotOwner else refused_by against
+
+abbrev pub unload_verdict : Option Refusal → Role → Verdict
+unload_verdict against role =
+    if not (owns role actions.Unload) then Refused NotOwner else refused_by against
 
 -- the last test of a load and of an unload
-abbrev pub is_ready : List (ℕ × Promise) → History → Command → Bool
-is_ready sigs J (Load l) = same_sigs l.program.sigs sigs
-is_ready sigs J (Unload u) = is_some (program_in J u.milestone u.kind)
-is_ready sigs J _ = true
+abbrev pub obstacle : List (ℕ × Promise) → History → Command → Option Refusal
+obstacle sigs J (Load l) = load_obstacle sigs (record_length_after J) l.program
+obstacle sigs J (Unload u) = unload_obstacle (program_in J u.milestone u.kind)
+obstacle sigs J _ = None
 
-abbrev pub verdict_for : Bool → ℕ → Fields → Bool → Role → Command → Verdict
-verdict_for there count r ready role (commands.Flight (Schedule s)) =
+-- ---- of any command
+
+abbrev pub verdict_for : Bool → ℕ → Fields → Option Refusal → Role → Command → Verdict
+verdict_for there count r against role (commands.Flight (Schedule s)) =
     schedule_verdict there count r role
-verdict_for there count r ready role (commands.Flight (Report p)) =
+verdict_for there count r against role (commands.Flight (Report p)) =
     report_verdict there count r role p.milestone p.time
-verdict_for there count r ready role (Load l) = load_verdict ready role
-verdict_for there count r ready role (Unload u) = unload_verdict ready role
-verdict_for there count r ready role Tick = tick_verdict role
-verdict_for there count r ready role (Show f) = show_verdict there
-verdict_for there count r ready role commands.Alerts = Accepted
+verdict_for there count r against role (Load l) = load_verdict against role
+verdict_for there count r against role (Unload u) = unload_verdict against role
+verdict_for there count r against role Tick = tick_verdict role
+verdict_for there count r against role (Show f) = show_verdict there
+verdict_for there count r against role commands.Alerts = Accepted
 
 -- the verdict on a command after a history, on a board with these signatures
 abbrev pub verdict_of : List (ℕ × Promise) → History → Role → Command → Verdict
 verdict_of sigs J role c = verdict_for (exists J (flight_of c)) (length (flights J))
-    (record_of J (flight_of c)) (is_ready sigs J c) role c
+    (record_of J (flight_of c)) (obstacle sigs J c) role c
 
 -- ---- what comes of a command
 

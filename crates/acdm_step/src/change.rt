@@ -6,6 +6,7 @@ ghost use Rattle.bpf_helpers.specs.Oracles.{MayBeAsked, SameRule};
 ghost use Rattle.acdm_step.specs.Commands.{bit_of, plan_assignments};
 ghost use Rattle.acdm_step.specs.Board.{assigned_to, programs_on, touched};
 ghost use Rattle.acdm_step.specs.Running.{ChangesTo, AsksIn};
+ghost use Rattle.bpf_regstate.specs.declared.length.Length.TheVariants.{L128};
 
 use crate::command::{Command, FlightCommand, Plan, Report, Schedule};
 use crate::programs::run_programs;
@@ -74,6 +75,7 @@ fn change_reported<O: Oracle>(
     oracle: &mut O,
 ) -> Result<(), BadAnswer>
     requires oracle { MayBeAsked slots.now.sigs (O.view oracle.old) }
+    requires long { slots.now.record_length ≡ L128 }
     ensures changed { OnOk result (ChangesTo
         (programs_on slots.now (Command.Flight (FlightCommand.Report report.now))) record.old moment
         (Command.Flight (FlightCommand.Report report.now)) (O.view oracle.old) (O.view oracle.new)
@@ -100,6 +102,7 @@ pub(crate) fn change<O: Oracle>(
     oracle: &mut O,
 ) -> Result<(), BadAnswer>
     requires oracle { MayBeAsked slots.now.sigs (O.view oracle.old) }
+    requires long { slots.now.record_length ≡ L128 }
     ensures changed { OnOk result (ChangesTo (programs_on slots.now (Command.Flight command.now))
         record.old moment (Command.Flight command.now) (O.view oracle.old) (O.view oracle.new)
         record.new) }

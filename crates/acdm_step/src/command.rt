@@ -7,6 +7,7 @@ use acdm_milestones::Milestone;
 use acdm_record::Text;
 use acdm_slots::Kind;
 use bpf_helpers::Sigs;
+use bpf_regstate::Length;
 use bpf_verifier::Checked;
 use std::marker::Model;
 
@@ -273,15 +274,22 @@ pub struct Load {
 
 impl Load {
     ghost use Rattle.std.specs.Prelude.{◌↔◌};
-    ghost use Rattle.bpf_helpers.specs.Same.{same_sigs};
+    ghost use Rattle.bpf_regstate.specs.declared.length.Length.TheVariants.{L128};
+    ghost use Rattle.bpf_regstate.specs.Lengths.{bytes_in};
+    ghost use Rattle.acdm_step.specs.History.{is_checked};
     ghost use Rattle.bpf_regstate.specs.States.{Accepts};
 
-    /// Whether its program was checked against these signatures, under which it is then accepted.
+    /// Whether its program was checked against these signatures and beside records of 128 bytes,
+    /// with which it is then accepted.
     pub fn was_checked(&self, sigs: &Sigs) -> bool
-        ensures value { result ≡ same_sigs self.now.program.sigs sigs.now }
-        ensures same { IsTrue result ↔ (self.now.program.sigs ≡ sigs.now) }
-        ensures accepts { IsTrue result → Accepts 128 self.now.program.ops sigs.now }
+        ensures value { result ≡ is_checked sigs.now self.now.program }
+        ensures same { IsTrue result ↔ (self.now.program.sigs ≡ sigs.now)
+            × (self.now.program.record_length ≡ L128) }
+        ensures accepts { IsTrue result → Accepts (bytes_in L128) self.now.program.ops sigs.now }
     {
+        if !self.program.record_length().is(Length::L128) {
+            return false;
+        }
         self.program.sigs().is_same(sigs)
     }
 }
@@ -323,7 +331,8 @@ impl Command {
     ghost use Rattle.std.specs.Prelude.{◌↔◌};
     ghost use Rattle.acdm_step.specs.History.{IsChecked};
 
-    /// Whether it loads no program that was checked against other signatures than these.
+    /// Whether it loads no program that was checked against other signatures than these, or beside
+    /// records of another length than 128 bytes.
     pub fn was_checked(&self, sigs: &Sigs) -> bool
         ensures { IsTrue result ↔ IsChecked sigs.now self.now }
     {

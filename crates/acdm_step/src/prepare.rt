@@ -1,11 +1,11 @@
 //! What a command would do to the board, found out before anything changes.
-ghost use Rattle.std.specs.Prelude.{◌≡◌, ◌↔◌, IsTrue, IfOk, OnErr, if◌then◌else◌, is_some};
+ghost use Rattle.std.specs.Prelude.{◌≡◌, ◌↔◌, IsTrue, IfOk, OnErr, if◌then◌else◌};
 ghost use Rattle.bpf_helpers.specs.Oracles.{MayBeAsked, SameRule};
-ghost use Rattle.bpf_helpers.specs.Same.{same_sigs};
+ghost use Rattle.bpf_regstate.specs.declared.length.Length.TheVariants.{L128};
 ghost use Rattle.acdm_slots.specs.Loaded.{program_in};
 ghost use Rattle.acdm_step.specs.Commands.{is_accepted};
 ghost use Rattle.acdm_step.specs.Verdicts.{load_verdict, outcome_with, show_verdict, tick_verdict};
-ghost use Rattle.acdm_step.specs.Verdicts.{unload_verdict};
+ghost use Rattle.acdm_step.specs.Verdicts.{load_obstacle, unload_obstacle, unload_verdict};
 ghost use Rattle.acdm_step.specs.Board.{board_of, is_there, place_of, record_on};
 ghost use Rattle.acdm_step.specs.Running.{Comes};
 ghost use Rattle.acdm_step.specs.Prepared.{Fits, after_change};
@@ -85,6 +85,7 @@ pub(crate) fn prepare_flight<O: Oracle>(
     command: &FlightCommand,
 ) -> Prepared
     requires oracle { MayBeAsked slots.now.sigs (O.view oracle.old) }
+    requires long { slots.now.record_length ≡ L128 }
     ensures comes { Comes (board_of flights.now slots.now) role moment (Command.Flight command.now)
         (O.view oracle.old) (O.view oracle.new)
         result.outcome (after_change (board_of flights.now slots.now) result.change) }
@@ -123,17 +124,19 @@ pub(crate) fn prepare_flight<O: Oracle>(
 
 /// A load: a copy of its program comes into its slot. `Err` only where memory was refused.
 pub(crate) fn prepare_load(slots: &Slots, role: Role, load: &Load) -> Result<Prepared, AllocError>
-    ensures outcome { IfOk result (λ p. p.outcome
-        ≡ outcome_with Outcome.Done (load_verdict (same_sigs load.now.program.sigs slots.now.sigs)
-        role)) }
-    ensures change { IfOk result (λ p. p.change ≡
-        (if is_accepted (load_verdict (same_sigs load.now.program.sigs slots.now.sigs) role)
+    ensures outcome { IfOk result (λ p. p.outcome ≡ outcome_with Outcome.Done
+        (load_verdict (load_obstacle slots.now.sigs slots.now.record_length load.now.program) role)) }
+    ensures change { IfOk result (λ p. p.change ≡ (if is_accepted
+        (load_verdict (load_obstacle slots.now.sigs slots.now.record_length load.now.program) role)
         then Change.Load load.now.milestone load.now.kind load.now.program else Change.Nothing)) }
-    ensures same { IfOk result (λ p. IsTrue
-        (is_accepted (load_verdict (same_sigs load.now.program.sigs slots.now.sigs) role)) →
-        load.now.program.sigs ≡ slots.now.sigs) }
-    ensures loading { OnErr result
-        (IsTrue (is_accepted (load_verdict (same_sigs load.now.program.sigs slots.now.sigs)
+    ensures long { IfOk result (λ p. IsTrue (is_accepted
+        (load_verdict (load_obstacle slots.now.sigs slots.now.record_length load.now.program) role))
+        → load.now.program.record_length ≡ slots.now.record_length) }
+    ensures same { IfOk result (λ p. IsTrue (is_accepted
+        (load_verdict (load_obstacle slots.now.sigs slots.now.record_length load.now.program) role))
+        → load.now.program.sigs ≡ slots.now.sigs) }
+    ensures loading { OnErr result (IsTrue (is_accepted
+        (load_verdict (load_obstacle slots.now.sigs slots.now.record_length load.now.program)
         role))) }
 {
     match verdict_on_load(slots, role, load) {
@@ -152,10 +155,10 @@ pub(crate) fn prepare_load(slots: &Slots, role: Role, load: &Load) -> Result<Pre
 pub(crate) fn prepare_unload(slots: &Slots, role: Role, unload: &Unload) -> Prepared
     ensures outcome { result.outcome
         ≡ outcome_with Outcome.Done (unload_verdict
-        (is_some (program_in slots.now unload.now.milestone unload.now.kind)) role) }
+        (unload_obstacle (program_in slots.now unload.now.milestone unload.now.kind)) role) }
     ensures change { result.change ≡
         (if is_accepted (unload_verdict
-        (is_some (program_in slots.now unload.now.milestone unload.now.kind)) role)
+        (unload_obstacle (program_in slots.now unload.now.milestone unload.now.kind)) role)
         then Change.Unload unload.now.milestone unload.now.kind else Change.Nothing) }
 {
     match verdict_on_unload(slots, role, unload) {

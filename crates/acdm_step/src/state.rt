@@ -25,6 +25,7 @@ use acdm_milestones::Role;
 use acdm_record::Record;
 use acdm_slots::{Kind, Slots};
 use bpf_helpers::{Oracle, Sigs};
+use bpf_regstate::Length;
 use std::alloc::{AllocError, Global};
 use std::marker::Model;
 
@@ -37,11 +38,16 @@ pub struct Core {
 }
 
 impl Model for Core {
+    ghost use Rattle.std.specs.Prelude.{◌≡◌};
+    ghost use Rattle.bpf_regstate.specs.declared.length.Length.TheVariants.{L128};
     ghost use Rattle.acdm_step.specs.History.{Board};
 
     ghost Value = { Board };
 
     ghost view = { λ c. record { records = c.flights; slots = c.slots } };
+
+    // The programs run beside the records.
+    ghost invariant = { λ c. c.slots.record_length ≡ L128 };
 }
 
 impl Core {
@@ -51,7 +57,7 @@ impl Core {
         ensures { IfOk result (λ core. core ≡ replay sigs []) }
     {
         let flights = Flights::new(alloc)?;
-        let slots = Slots::new(alloc, sigs)?;
+        let slots = Slots::new(alloc, sigs, Length::L128)?;
         Ok(Core { flights, slots })
     }
 

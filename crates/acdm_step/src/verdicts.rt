@@ -1,10 +1,10 @@
 //! The verdict on each command: the first refusal that applies.
-ghost use Rattle.std.specs.Prelude.{◌≡◌, ◌↔◌, IsTrue, true, is_some};
-ghost use Rattle.bpf_helpers.specs.Same.{same_sigs};
+ghost use Rattle.std.specs.Prelude.{◌≡◌, ◌↔◌, IsTrue, None};
 ghost use Rattle.acdm_slots.specs.Loaded.{program_in};
 ghost use Rattle.acdm_step.specs.Commands.{flight_of};
 ghost use Rattle.acdm_step.specs.Verdicts.{schedule_verdict, report_verdict, load_verdict};
 ghost use Rattle.acdm_step.specs.Verdicts.{unload_verdict, tick_verdict, show_verdict, verdict_for};
+ghost use Rattle.acdm_step.specs.Verdicts.{load_obstacle, unload_obstacle};
 ghost use Rattle.acdm_step.specs.Prepared.{owns_change};
 
 use crate::command::{Command, FlightCommand, Load, Unload};
@@ -67,15 +67,21 @@ pub(crate) fn verdict_on_tick(role: Role) -> Verdict
     }
 }
 
-/// The verdict on a load. The signatures are those of the board where it is accepted.
+/// The verdict on a load. Length and signatures are those of the board where it is accepted.
 pub(crate) fn verdict_on_load(slots: &Slots, role: Role, load: &Load) -> Verdict
-    ensures value { result ≡ load_verdict (same_sigs load.now.program.sigs slots.now.sigs) role }
+    ensures value { result
+        ≡ load_verdict (load_obstacle slots.now.sigs slots.now.record_length load.now.program) role }
+    ensures long { result ≡ Verdict.Accepted
+        → load.now.program.record_length ≡ slots.now.record_length }
     ensures same { result ≡ Verdict.Accepted → load.now.program.sigs ≡ slots.now.sigs }
 {
     if !owns(role, Action::Load) {
         return Verdict::Refused(Refusal::NotOwner);
     }
-    if !load.was_checked(slots.sigs()) {
+    if !load.program.record_length().is(slots.record_length()) {
+        return Verdict::Refused(Refusal::OtherLength);
+    }
+    if !load.program.sigs().is_same(slots.sigs()) {
         return Verdict::Refused(Refusal::OtherSignatures);
     }
     Verdict::Accepted
@@ -84,7 +90,7 @@ pub(crate) fn verdict_on_load(slots: &Slots, role: Role, load: &Load) -> Verdict
 /// The verdict on an unload.
 pub(crate) fn verdict_on_unload(slots: &Slots, role: Role, unload: &Unload) -> Verdict
     ensures { result ≡ unload_verdict
-        (is_some (program_in slots.now unload.now.milestone unload.now.kind)) role }
+        (unload_obstacle (program_in slots.now unload.now.milestone unload.now.kind)) role }
 {
     if !owns(role, Action::Unload) {
         return Verdict::Refused(Refusal::NotOwner);
@@ -114,7 +120,7 @@ pub(crate) fn verdict(
     role: Role,
     command: &FlightCommand,
 ) -> Verdict
-    ensures { result ≡ verdict_for is_there count record.now true role
+    ensures { result ≡ verdict_for is_there count record.now None role
         (Command.Flight command.now) }
 {
     match command {

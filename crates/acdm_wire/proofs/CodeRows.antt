@@ -4,7 +4,7 @@ use Rattle.acdm_wire.specs.declared.fault.Fault.TheVariants.{Prefix, NoJson, Unk
 use Rattle.acdm_wire.specs.declared.fault.Fault.TheVariants.{Kind, Range, TooLong}
 use Rattle.acdm_wire.specs.declared.fault.Bad.TheVariants.{Faulty, Program, NoMinute, NoMemory}
 use Rattle.acdm_wire.specs.declared.fault.Bad.TheVariants.{FullJournal}
-use Rattle.acdm_wire.specs.declared.program.ProgramError.TheVariants as errors
+use Rattle.bpf_verifier.specs.declared.reading.ProgramError.TheVariants as errors
 use Rattle.acdm_wire.specs.Codes.{fault_code, bad_code, bad_of}
 
 faults : map fault_code

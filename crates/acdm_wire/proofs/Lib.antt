@@ -2,5 +2,4 @@ pub mod CodeRows
 pub mod Json
 pub mod MeantRows
 pub mod MemoryRows
-pub mod OneReading
 pub mod Writing

@@ -5,8 +5,8 @@ use Rattle.acdm_wire.specs.declared.fault.Fault.TheVariants.{Prefix, NoJson, Unk
 use Rattle.acdm_wire.specs.declared.fault.Fault.TheVariants.{Kind, Range, TooLong}
 use Rattle.acdm_wire.specs.declared.fault.Bad.{Bad}
 use Rattle.acdm_wire.specs.declared.fault.Bad.TheVariants as bad
-use Rattle.acdm_wire.specs.declared.program.ProgramError.{ProgramError}
-use Rattle.acdm_wire.specs.declared.program.ProgramError.TheVariants as errors
+use Rattle.bpf_verifier.specs.declared.reading.ProgramError.{ProgramError}
+use Rattle.bpf_verifier.specs.declared.reading.ProgramError.TheVariants as errors
 
 abbrev pub fault_code : Fault → ℕ
 fault_code Prefix = 100

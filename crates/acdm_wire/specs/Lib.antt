@@ -1,6 +1,5 @@
 pub mod Codes
 pub mod Meant
 pub mod Memory
-pub mod Reading
 pub mod Replies
 pub mod Writes

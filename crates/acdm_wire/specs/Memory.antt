@@ -1,12 +1,10 @@
--- Which lines and which bytes need memory to be read. A line that is refused before any is asked for
+-- Which lines need memory to be read. A line that is refused before any is asked for
 -- has that refusal as its one answer, whatever memory there is.
-use Rattle.std.specs.Prelude.{ℕ, ◌*◌, ◌%◌, ◌≤◌, Bool, false, ◌&&◌, ◌==◌, nat_le, nat_lt, List}
+use Rattle.std.specs.Prelude.{ℕ, ◌%◌, Bool, false, ◌&&◌, ◌==◌, nat_le, nat_lt, List}
 use Rattle.std.specs.Prelude.{length, codes, option_and_then, Result, Ok, Err}
 use Rattle.std.specs.Str.{is_utf8, bytes_eq}
 use Rattle.serde_json.specs.Data.{Data}
 use Rattle.serde_json.specs.Find.{get, as_str}
-use Rattle.bpf_decode.specs.Encoding.{AreSlots}
-use Rattle.bpf_decode.specs.declared.program.TheConstants.{MOST_SLOTS}
 use Rattle.acdm_wire.specs.declared.fault.Fault.{Fault}
 use Rattle.acdm_wire.specs.declared.fault.Fault.TheVariants.{UnknownCommand, Kind}
 use Rattle.acdm_wire.specs.declared.request.TheConstants.{LONGEST_LINE}
@@ -52,10 +50,3 @@ unfoldable pub command_needs_memory : Data → Bool
 command_needs_memory d = do
   name ← or_fault UnknownCommand (option_and_then as_str (get (codes "cmd") d))
   bytes_eq name (codes "load") && load_needs_memory d
-
--- ---- the bytes of a program
-
--- Some slots of eight bytes, and not too many. Bytes of another number are refused as that.
-pub record HasSlots (bytes : List ℕ) : Type 0 where
-  pub few : length bytes ≤ 8 * MOST_SLOTS
-  pub slots : AreSlots bytes

@@ -2,7 +2,7 @@
 ghost use Rattle.std.specs.Prelude.{◌≡◌};
 ghost use Rattle.acdm_wire.specs.Codes.{fault_code, bad_code};
 
-use crate::program::ProgramError;
+use bpf_verifier::ProgramError;
 
 /// Why a line asks for nothing: the first reason that applies, in the order of their tests, which
 /// is too long, prefix, JSON, command, and then the fields (this project's profile).

@@ -1,5 +1,4 @@
-//! The wire of partners: what a line asks for, what the bytes of a program mean, and the text of a
-//! reply.
+//! The wire of partners: what a line asks for, and the text of a reply.
 #![tactic(auto)]
 
 mod asked;
@@ -15,7 +14,7 @@ mod text;
 pub use asked::asked_of;
 pub use fault::{Bad, Fault};
 pub use head::request_of;
-pub use program::{ProgramBytes, ProgramError, read_program};
+pub use program::ProgramBytes;
 pub use reply::{write_entered, write_out, write_rejected, write_whole};
 pub use request::{Asked, LONGEST_LINE, LineError, LoadRequest, Request};
 pub use text::Text;

@@ -6,6 +6,7 @@ ghost use Rattle.bpf_helpers.specs.Known.{taxi, taxi_from};
 use acdm_record::{Field, Record};
 use bpf_decode::{Program, decode};
 use bpf_helpers::{Bank, Code, Helper, Range, Signature, Sigs};
+use bpf_regstate::Length;
 use bpf_verifier::{Checked, verify};
 use std::alloc::Global;
 use std::process::Abort;
@@ -75,5 +76,5 @@ fn decoded(rt: &impl Abort, alloc: Global, text: &str) -> Program {
 
 /// The program of these bytes, checked under these signatures.
 pub(crate) fn checked(rt: &impl Abort, alloc: Global, sigs: &Sigs, text: &str) -> Checked {
-    verify(alloc, decoded(rt, alloc, text), sigs).expect(rt, "an accepted program")
+    verify(alloc, decoded(rt, alloc, text), sigs, Length::L128).expect(rt, "an accepted program")
 }

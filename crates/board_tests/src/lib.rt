@@ -8,6 +8,8 @@ mod alerts;
 #[cfg(test)]
 mod fixture;
 #[cfg(test)]
+mod lengths;
+#[cfg(test)]
 mod milestones;
 #[cfg(test)]
 mod record;

@@ -5,6 +5,7 @@ use acdm_milestones::Milestone;
 use acdm_slots::{Kind, SlotError, Slots};
 use bpf_decode::encode;
 use bpf_helpers::Sigs;
+use bpf_regstate::Length;
 use bpf_verifier::Checked;
 use std::alloc::Global;
 use std::process::Abort;
@@ -37,13 +38,14 @@ fn has_bytes(rt: &impl Abort, alloc: Global, program: &Checked, text: &str) {
 
 /// Slots without programs, for programs that were checked under these signatures.
 fn slots_under(rt: &impl Abort, alloc: Global, sigs: &Sigs) -> Slots {
-    Slots::new(alloc, sigs.copy().expect(rt, "signatures")).expect(rt, "slots")
+    Slots::new(alloc, sigs.copy().expect(rt, "signatures"), Length::L128).expect(rt, "slots")
 }
 
 #[test]
 fn errors_have_numbers(rt: HostRuntime) {
     same_number(&rt, u64::from(SlotError::EmptySlot.code()), 321);
     same_number(&rt, u64::from(SlotError::OtherSignatures.code()), 322);
+    same_number(&rt, u64::from(SlotError::OtherLength.code()), 323);
 }
 
 /// The answer to a load of the program of these bytes at milestone 7, as `code_of` tells it.

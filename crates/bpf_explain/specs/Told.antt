@@ -3,6 +3,8 @@ use Rattle.std.specs.Prelude.{ℕ, List, Option, Some, None, Bool, true, false}
 use Rattle.bpf_decode.specs.Encoding.{Encodes, FirstFault}
 use Rattle.bpf_decode.specs.Faults.{code_of}
 use Rattle.bpf_helpers.specs.Promise.{Promise}
+use Rattle.bpf_regstate.specs.declared.length.Length.TheVariants.{L128}
+use Rattle.bpf_regstate.specs.Lengths.{bytes_in}
 use Rattle.bpf_verifier.specs.Explained.{Explains}
 use Rattle.bpf_verifier.specs.declared.fault.Fault.{Fault}
 use Rattle.bpf_explain.specs.declared.told.Told.{Told}
@@ -12,7 +14,7 @@ use Rattle.bpf_explain.specs.declared.told.Told.TheVariants.{Encoded, Unreadable
 -- first fault of the bytes
 abbrev pub Tells : List (ℕ × Promise) → List ℕ → Told → Type 0
 Tells sigs bytes (Encoded program explanation) =
-    Encodes bytes program × Explains program sigs explanation
+    Encodes bytes program × Explains (bytes_in L128) program sigs explanation
 Tells sigs bytes (Unreadable fault slot) = FirstFault bytes (code_of fault) slot
 
 -- whether it is told that no slot has a fault

@@ -8,6 +8,7 @@ use crate::fault_text::write_fault;
 use crate::state_text::write_known;
 use bpf_decode::{DecodeError, Fault, Program, decode, line};
 use bpf_helpers::Sigs;
+use bpf_regstate::Length;
 use bpf_verifier::{Explanation, explain};
 use std::alloc::{AllocError, Global};
 use std::io::{self, Write};
@@ -27,7 +28,7 @@ pub enum Told {
     },
 }
 
-/// What there is to tell of these bytes under these signatures: the program that they encode with
+/// What there is to tell of these bytes under these signatures, beside a record of 128 bytes: the program that they encode with
 /// what `verify` knows before its slots and its verdict, or their first fault. `Err` only where
 /// there is no memory.
 pub fn read(alloc: Global, bytes: &[u8], sigs: &Sigs) -> Result<Told, AllocError>
@@ -38,7 +39,7 @@ pub fn read(alloc: Global, bytes: &[u8], sigs: &Sigs) -> Result<Told, AllocError
         Err(DecodeError::Refused { fault, slot }) => return Ok(Told::Unreadable { fault, slot }),
         Err(DecodeError::Memory) => return Err(AllocError),
     };
-    let explanation = explain(alloc, &program, sigs)?;
+    let explanation = explain(alloc, &program, sigs, Length::L128)?;
     Ok(Told::Encoded {
         program,
         explanation,

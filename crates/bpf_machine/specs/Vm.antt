@@ -3,6 +3,7 @@
 use Rattle.std.specs.Prelude.{ℕ, List, Option, IsSome, IsNone, option_map}
 use Rattle.bpf_decode.specs.declared.op.Op.{Op}
 use Rattle.bpf_helpers.specs.Promise.{Promise}
+use Rattle.bpf_regstate.specs.declared.length.Length.{Length}
 use Rattle.bpf_machine.specs.Registry.{entries_in}
 use Rattle.bpf_machine.specs.declared.vm.EbpfVmRaw.{EbpfVmRaw}
 
@@ -13,6 +14,10 @@ helpers_of vm = entries_in vm.registry
 -- the program that is set
 abbrev pub program_of : {V : _} {F : _} {m : _} → EbpfVmRaw V F m → Option (List Op)
 program_of vm = option_map (λ checked. checked.ops) vm.checked
+
+-- how long the record is beside which it runs
+abbrev pub record_length_of : {V : _} {F : _} {m : _} → EbpfVmRaw V F m → Option Length
+record_length_of vm = option_map (λ checked. checked.record_length) vm.checked
 
 abbrev pub HasProgram : {V : _} {F : _} {m : _} → EbpfVmRaw V F m → Type 0
 HasProgram vm = IsSome (program_of vm)

@@ -1,7 +1,8 @@
 //! An accepted program with the answers of helpers.
 
-ghost use Rattle.std.specs.Prelude.{◌≡◌, IfOk};
+ghost use Rattle.std.specs.Prelude.{◌≡◌, IfOk, length};
 ghost use Rattle.acdm_milestones.specs.Tables.{number as number_of};
+ghost use Rattle.bpf_regstate.specs.Lengths.{bytes_in};
 ghost use Rattle.bpf_machine.specs.Outcome.{EndsWithin};
 
 use crate::outcome::Ended;
@@ -17,11 +18,12 @@ pub(crate) fn execute<H: Helpers>(
     alloc: Global,
     checked: &Checked,
     helpers: &H,
-    record_bytes: &[u8; 128],
+    record_bytes: &[u8],
     moment: u32,
     milestone: Milestone,
 ) -> Result<Ended, NoMemory>
     requires sigs { H.entries helpers.now ≡ checked.now.sigs }
+    requires long { length record_bytes.now ≡ bytes_in checked.now.record_length }
     ensures { IfOk result (EndsWithin checked.now.ops checked.now.sigs record_bytes.now moment
         (number_of milestone)) }
 {

@@ -75,18 +75,22 @@ pub enum ExecuteError {
     /// None is set.
     #[error("no program is set")]
     NoProgram,
+    /// The record is longer or shorter than that beside which the program was accepted.
+    #[error("the record has another length")]
+    OtherLength,
     /// No memory was left.
     #[error("no memory")]
     Memory,
 }
 
 impl ExecuteError {
-    /// The number of this refusal: 334, or 501 for want of memory.
+    /// The number of this refusal: 334, 335, or 501 for want of memory.
     pub fn code(self) -> u16
         ensures { result ≡ execute_code self }
     {
         match self {
             ExecuteError::NoProgram => 334,
+            ExecuteError::OtherLength => 335,
             ExecuteError::Memory => 501,
         }
     }

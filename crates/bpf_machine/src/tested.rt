@@ -46,19 +46,20 @@ fn run_slots<O: Oracle>(
     }
 }
 
-/// Runs a program on a flight's record at a moment (minutes since 1970-01-01T00:00Z), for a
-/// milestone that was reported, with the answers of an oracle. Each step is tested first, so it
+/// Runs a program on a flight's record, of whatever length below 65,536 bytes, which is what r2
+/// starts with, at a moment (minutes since 1970-01-01T00:00Z), for a milestone that was reported, with the answers of an oracle. Each step is tested first, so it
 /// also returns on a program that was never checked: what has no step is `Trap::Stuck`, and a call
 /// that the oracle leaves without an answer is `Trap::Unanswered`. The instructions are those of
 /// RFC 9669, and memory and calls those of this project's profile. It takes no memory.
 pub fn run_tested<O: Oracle>(
     program: &Program,
     sigs: &Sigs,
-    record_bytes: &[u8; 128],
+    record_bytes: &[u8],
     moment: u32,
     milestone: Milestone,
     oracle: &mut O,
 ) -> Result<Ended, Trap>
+    requires short { length record_bytes.now < 2 ^ 16 }
     // The oracle answers by these signatures, and may still count one more call without an answer.
     requires oracle { MayBeAsked sigs.now (O.view oracle.old) }
 

@@ -23,3 +23,5 @@ pub mod Safe
 pub mod RangeRows
 pub mod Marking
 pub mod KeptWords
+pub mod FirstFault
+pub mod FewBytes

@@ -10,3 +10,4 @@ pub mod States
 pub mod Pass
 pub mod Soundness
 pub mod Marks
+pub mod Lengths

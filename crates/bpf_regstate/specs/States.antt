@@ -52,6 +52,17 @@ abbrev pub entering : ℕ → ℕ → List Shape
 entering record_length zero = start_shape record_length ∷ []
 entering record_length (suc slot) = []
 
+-- a fault that was found before, with its slot, else that of this slot
+abbrev pub found_or : Option (ℕ × ℕ) → ℕ → Option ℕ → Option (ℕ × ℕ)
+found_or (Some found) slot fault = Some found
+found_or None slot None = None
+found_or None slot (Some code) = Some (slot, code)
+
+-- the least of the first n slots that has a fault, and its fault
+abbrev pub first_of : (ℕ → Option ℕ) → ℕ → Option (ℕ × ℕ)
+first_of fault zero = None
+first_of fault (suc n) = found_or (first_of fault n) n (fault n)
+
 -- ---- the states of a program's slots, beside a record of this length
 
 module _ (record_length : ℕ) (ops : List Op) (sigs : List (ℕ × Promise)) where
@@ -98,6 +109,10 @@ module _ (record_length : ℕ) (ops : List Op) (sigs : List (ℕ × Promise)) wh
   -- no slot has a fault
   abbrev pub Accepts : Type 0
   Accepts = (slot : ℕ) → slot < length ops → fault_at slot ≡ None
+
+  -- the first fault, computed: its slot and its number
+  abbrev pub first_fault : Option (ℕ × ℕ)
+  first_fault = first_of fault_at (length ops)
 
   -- the least slot with a fault, and its least number
   pub record IsFirstFault (slot code : ℕ) : Type 0 where

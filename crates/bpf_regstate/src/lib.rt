@@ -4,6 +4,7 @@
 
 mod arith;
 pub mod laws;
+mod length;
 mod marks;
 mod narrowing;
 mod places;
@@ -13,6 +14,7 @@ mod state;
 mod words;
 
 pub use bpf_helpers::Range;
+pub use length::Length;
 pub use places::{RECORD_LENGTH, place_of_access};
 pub use reg::Reg;
 pub use state::State;

@@ -10,9 +10,10 @@ ghost use Rattle.bpf_regstate.specs.Narrowing.{immediate_word, is_low, narrows};
 ghost use Rattle.bpf_regstate.specs.declared.reg.Reg.TheVariants.{Uninit};
 
 use crate::arith::{all_of, operate_on_ranges};
+use crate::length::Length;
 use crate::marks::{are_marked, join_words, mark_from};
 use crate::narrowing::{narrow, narrows};
-use crate::places::{RECORD_LENGTH, place_of_access};
+use crate::places::place_of_access;
 use crate::reg::{Reg, join_each};
 use crate::single::{extend_words, negate_words, order_words, single};
 use crate::words::{forget, is_word, join_kept, keep, word_at};
@@ -98,7 +99,7 @@ fn answer_of(sigs: &Sigs, helper: u32) -> Reg
 }
 
 impl State {
-    ghost use Rattle.std.specs.Prelude.{◌≡◌, ◌<◌, ◌≤◌, ◌+◌, ◌-◌, Some, None, if◌then◌else◌};
+    ghost use Rattle.std.specs.Prelude.{◌≡◌, ◌<◌, ◌≤◌, ◌^◌, ◌+◌, ◌-◌, Some, None, if◌then◌else◌};
     ghost use Rattle.std.specs.Prelude.{is_ok, IfOk, OnOk};
     ghost use Rattle.bpf_semantics.specs.Machine.{InStack};
     ghost use Rattle.bpf_decode.specs.declared.op.Op.TheVariants.{Call};
@@ -111,19 +112,20 @@ impl State {
     ghost use Rattle.bpf_regstate.specs.Faults.{all_marked};
     ghost use Rattle.bpf_regstate.specs.Joins.{joined};
     ghost use Rattle.bpf_regstate.specs.Narrowing.{refined};
+    ghost use Rattle.bpf_regstate.specs.Lengths.{bytes_in};
     ghost use Rattle.bpf_regstate.specs.States.{start_shape};
     ghost use Rattle.bpf_regstate.specs.declared.reg.Reg.TheVariants.{Known};
 
     /// What is known before the first instruction (this project's profile): r1 is the first address
-    /// of a record of 128 bytes, r2 is 128, r3 a moment of 32 bits, r4 a milestone from 1 to 16,
+    /// of a record of this length, r2 is the length, r3 a moment of 32 bits, r4 a milestone from 1 to 16,
     /// and r10 the end of the stack, of which no byte is written. It takes no memory.
     #[tactic(auto, unfolding(crate::specs::States::start_shape))]
-    pub fn start(alloc: Global) -> State
-        ensures { result ≡ start_shape 128 }
+    pub fn start(alloc: Global, record_length: Length) -> State
+        ensures { result ≡ start_shape (bytes_in record_length) }
     {
         let none = Reg::Uninit;
         let record = Reg::Known(single(RECORD_BASE));
-        let length = Reg::Known(single(RECORD_LENGTH as u64));
+        let length = Reg::Known(single(record_length.bytes() as u64));
         let moment = Reg::Known(Range {
             lo: 0,
             hi: 0xffff_ffff,
@@ -245,22 +247,24 @@ impl State {
     /// A store: of the words and of the marks of the stack.
     fn store(
         &mut self,
+        record_length: usize,
         address: Range,
         offset: i32,
         count: usize,
         value: Range,
     ) -> Result<(), AllocError>
+        requires short { record_length < 2 ^ 16 }
         requires range { IsRange address }
         requires value { IsRange value }
         requires some { 0 < count }
         requires few { count ≤ 8 }
         ensures { OnOk result (self.new ≡ record {
           registers = self.old.registers;
-          marks = store_marks 128 self.old.marks address offset count;
-          words = store_words 128 self.old.words address offset count value;
+          marks = store_marks record_length self.old.marks address offset count;
+          words = store_words record_length self.old.words address offset count value;
         }) }
     {
-        if let Place::Stack(at) = place_of_access(RECORD_LENGTH, address, offset, count) {
+        if let Place::Stack(at) = place_of_access(record_length, address, offset, count) {
             self.put_word(address, at, count, value)?;
             self.mark(address, at, count);
         }
@@ -268,14 +272,15 @@ impl State {
     }
 
     /// The range of what a load gives.
-    fn load(&self, address: Range, offset: i32, size: Size) -> Range
-        requires { IsRange address }
+    fn load(&self, record_length: usize, address: Range, offset: i32, size: Size) -> Range
+        requires short { record_length < 2 ^ 16 }
+        requires range { IsRange address }
         ensures value { result
-            ≡ load_range 128 self.now.words address offset (byte_len (size_type size)) }
+            ≡ load_range record_length self.now.words address offset (byte_len (size_type size)) }
         ensures range { IsRange result }
     {
         let count = byte_count(size);
-        if let Place::Stack(at) = place_of_access(RECORD_LENGTH, address, offset, count) {
+        if let Place::Stack(at) = place_of_access(record_length, address, offset, count) {
             if is_word(address, at, count) {
                 return range_of(self.word(word_at(at)));
             }
@@ -312,18 +317,20 @@ impl State {
 
     /// What is known after an instruction, of those that are no conditional jumps (this project's
     /// profile). Jumps and the exit change nothing. `Err` only where there is no memory.
-    pub fn transfer(&self, op: Op, sigs: &Sigs) -> Result<State, AllocError>
-        ensures { IfOk result (λ after. after ≡ after_op 128 sigs.now op self.now) }
+    pub fn transfer(&self, record_length: Length, op: Op, sigs: &Sigs) -> Result<State, AllocError>
+        ensures { IfOk result (λ after.
+            after ≡ after_op (bytes_in record_length) sigs.now op self.now) }
     {
         let mut after = self.copy()?;
-        after.advance(op, sigs)?;
+        after.advance(record_length.bytes(), op, sigs)?;
         Ok(after)
     }
 
     /// Goes on to what is known after an instruction, as `transfer` has it, in place. `Err` only
     /// where there is no memory.
-    pub fn advance(&mut self, op: Op, sigs: &Sigs) -> Result<(), AllocError>
-        ensures { OnOk result (self.new ≡ after_op 128 sigs.now op self.old) }
+    pub fn advance(&mut self, record_length: usize, op: Op, sigs: &Sigs) -> Result<(), AllocError>
+        requires { record_length < 2 ^ 16 }
+        ensures { OnOk result (self.new ≡ after_op record_length sigs.now op self.old) }
     {
         match op {
             Op::Arith {
@@ -350,7 +357,10 @@ impl State {
                 dst,
                 base,
                 offset,
-            } => self.set(dst, self.load(self.range_of(base), offset as i32, size)),
+            } => self.set(
+                dst,
+                self.load(record_length, self.range_of(base), offset as i32, size),
+            ),
             Op::LoadSigned { dst, .. } => self.set(dst, all_of(Width::W64)),
             Op::Store {
                 size,
@@ -360,7 +370,13 @@ impl State {
             } => {
                 let address = self.range_of(base);
                 let value = self.operand(value);
-                self.store(address, offset as i32, byte_count(size), value)?
+                self.store(
+                    record_length,
+                    address,
+                    offset as i32,
+                    byte_count(size),
+                    value,
+                )?
             }
             Op::Wide { dst, value } => self.set(dst, single(value)),
             Op::Call { helper } => self.call(sigs, helper),
@@ -375,7 +391,7 @@ impl State {
 
     /// A call: nothing is known of r1 to r5 after it, and r0 has an answer that is promised.
     fn call(&mut self, sigs: &Sigs, helper: u32)
-        ensures { self.new ≡ after_op 128 sigs.now (Call helper) self.old }
+        ensures { self.new ≡ after_op 0 sigs.now (Call helper) self.old }
     {
         after_call(&mut self.registers, answer_of(sigs, helper));
     }

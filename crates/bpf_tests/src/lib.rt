@@ -11,6 +11,8 @@ mod fixtures;
 #[cfg(test)]
 mod helpers;
 #[cfg(test)]
+mod lengths;
+#[cfg(test)]
 mod machine;
 #[cfg(test)]
 mod places;

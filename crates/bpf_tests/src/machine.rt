@@ -12,6 +12,7 @@ use acdm_milestones::Milestone;
 use bpf_decode::Program;
 use bpf_helpers::{Logged, Sigs};
 use bpf_machine::{Ended, Trap, run, run_tested};
+use bpf_regstate::Length;
 use bpf_verifier::{Checked, verify};
 use std::alloc::Global;
 use std::process::Abort;
@@ -68,6 +69,9 @@ fn untested(
     milestone: Milestone,
     answers: &[u64],
 ) -> Result<Ended, Trap> {
+    if record_bytes.len() != checked.record_length().bytes() {
+        return Err(Trap::Stuck);
+    }
     let mut oracle = Logged::new(checked.sigs(), answers);
     match run(checked, record_bytes, 29_000_580, milestone, &mut oracle) {
         Ok(ended) => Ok(ended),
@@ -86,7 +90,7 @@ fn is_agreed(
     answers: &[u64],
     came: &Result<Ended, Trap>,
 ) -> bool {
-    match verify(alloc, program, sigs) {
+    match verify(alloc, program, sigs, Length::L128) {
         Ok(checked) => untested(&checked, record_bytes, milestone, answers) == *came,
         Err(_) => true,
     }

@@ -9,7 +9,7 @@ use crate::fixtures::{no_sigs, range, taxi_sigs};
 use bpf_decode::{Bytes, Code, Condition, Op, Operand, Order, Part, Register, Size, Width};
 use bpf_helpers::{Range, Sigs};
 use bpf_places::Place;
-use bpf_regstate::{Reg, State, place_of_access};
+use bpf_regstate::{Length, Reg, State, place_of_access};
 use std::alloc::Global;
 use std::process::Abort;
 
@@ -93,7 +93,7 @@ fn marks(rt: &impl Abort, state: &State, first: usize, end: usize) {
 
 #[test]
 fn the_start_is_known(rt: HostRuntime) {
-    let start = State::start(rt.alloc());
+    let start = State::start(rt.alloc(), Length::L128);
     lacks(&rt, &start, 0);
     has(&rt, &start, 1, 0x1_0000_0000, 0x1_0000_0000);
     has(&rt, &start, 2, 128, 128);
@@ -108,8 +108,8 @@ fn the_start_is_known(rt: HostRuntime) {
 
 /// What is known after one instruction from the start.
 fn after_one(rt: &impl Abort, alloc: Global, sigs: &Sigs, op: Op) -> State {
-    let start = State::start(alloc);
-    let after = start.transfer(op, sigs).expect(rt, "a state");
+    let start = State::start(alloc, Length::L128);
+    let after = start.transfer(Length::L128, op, sigs).expect(rt, "a state");
     drop(start);
     after
 }
@@ -308,7 +308,9 @@ fn a_store_marks_its_bytes(rt: HostRuntime) {
 fn marks_none(rt: &impl Abort, sigs: &Sigs, somewhere: &State) {
     has(rt, somewhere, 4, 0x2_0000_0201, 0x2_0000_0210);
     let op = store(Size::Byte, reg(4), -17);
-    let stored = somewhere.transfer(op, sigs).expect(rt, "a state");
+    let stored = somewhere
+        .transfer(Length::L128, op, sigs)
+        .expect(rt, "a state");
     marks(rt, &stored, 0, 0);
     drop(stored);
 }
@@ -352,7 +354,7 @@ fn along(rt: &impl Abort, alloc: Global, edge: &Edge) -> Option<State> {
     let (width, condition, number, second, taken) = edge;
     let dst = register(rt, *number);
     let operand = operand(rt, second);
-    let start = State::start(alloc);
+    let start = State::start(alloc, Length::L128);
     let refined = start.refine(*width, *condition, dst, operand, *taken);
     drop(start);
     refined.expect(rt, "a state")
@@ -429,9 +431,11 @@ fn edges_without_words_are_none(rt: HostRuntime) {
 
 /// What is known after these instructions from the start, each by a copy.
 fn transferred(rt: &impl Abort, alloc: Global, sigs: &Sigs, ops: &[Op]) -> State {
-    let mut state = State::start(alloc);
+    let mut state = State::start(alloc, Length::L128);
     for op in ops {
-        state = state.transfer(*op, sigs).expect(rt, "a state");
+        state = state
+            .transfer(Length::L128, *op, sigs)
+            .expect(rt, "a state");
     }
     state
 }

@@ -17,6 +17,7 @@ use crate::programs::{
     bytes_of, encodes_to, exited, is_fault, is_shown, program_of, repeated, same_count,
 };
 use bpf_helpers::Sigs;
+use bpf_regstate::Length;
 use bpf_verifier::{Checked, Explanation, Fault, VerifyError, explain, verify};
 use std::alloc::{AllocError, Global};
 use std::process::Abort;
@@ -27,7 +28,7 @@ const SETS: [u8; 8] = [0xb7, 0, 0, 0, 0, 0, 0, 0];
 /// The program with these bytes, accepted under these signatures.
 fn judged(rt: &impl Abort, alloc: Global, sigs: &Sigs, bytes: &[u8]) -> Checked {
     let program = program_of(rt, alloc, bytes);
-    verify(alloc, program, sigs).expect(rt, "an accepted program")
+    verify(alloc, program, sigs, Length::L128).expect(rt, "an accepted program")
 }
 
 /// The number and the slot of the fault of a program, if it is refused.
@@ -37,7 +38,7 @@ pub(crate) fn refusal(
     sigs: &Sigs,
     bytes: &[u8],
 ) -> Option<(u16, usize)> {
-    match verify(alloc, program_of(rt, alloc, bytes), sigs) {
+    match verify(alloc, program_of(rt, alloc, bytes), sigs, Length::L128) {
         Ok(_) => None,
         Err(error) => Some((error.code(), error.slot())),
     }
@@ -481,7 +482,7 @@ fn states_are_told_up_to_the_first_fault(rt: HostRuntime) {
     let sigs = no_sigs(&rt, rt.alloc());
     let bytes = bytes_of(&rt, rt.alloc(), JUMPS_OVER);
     let program = program_of(&rt, rt.alloc(), bytes.as_slice());
-    let told = explain(rt.alloc(), &program, &sigs).expect(&rt, "what is known");
+    let told = explain(rt.alloc(), &program, &sigs, Length::L128).expect(&rt, "what is known");
     is_told(&rt, &told);
     drop(told);
     drop(program);

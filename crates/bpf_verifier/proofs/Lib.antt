@@ -1,4 +1,5 @@
 pub mod RunRows
 pub mod NeverWrong
+pub mod OneReading
 pub mod PassLemmas
 mod WaitingLemmas

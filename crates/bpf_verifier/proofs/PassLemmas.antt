@@ -67,14 +67,14 @@ sent_row table (e ∷ es) to inside =
 
 -- ---- the pass
 
-module _ (ops : List Op) (sigs : List (ℕ × Promise)) where
+module _ (record_length : ℕ) (ops : List Op) (sigs : List (ℕ × Promise)) where
   -- before a slot: each row from it on has what the edges of earlier slots bring, and none of those
   -- has a fault
   pub record Passed (slot : ℕ) (table : List (Option Shape)) : Type 0 where
     pub long : length table ≡ length ops
     pub rows : (to : ℕ) → slot ≤ to → to < length ops
-        → slice_index_or table to None ≡ so_far 128 ops sigs slot to
-    pub clear : (k : ℕ) → k < slot → fault_at 128 ops sigs k ≡ None
+        → slice_index_or table to None ≡ so_far record_length ops sigs slot to
+    pub clear : (k : ℕ) → k < slot → fault_at record_length ops sigs k ≡ None
 
   abbrev nothing : Option Shape
   nothing = None
@@ -88,17 +88,17 @@ module _ (ops : List Op) (sigs : List (ℕ × Promise)) where
   length_none zero = refl
   length_none (suc n) = ap suc (length_none n)
 
-  first_row : so_far 128 ops sigs 0 0 ≡ Some (start_shape 128)
-      → ((to : ℕ) → so_far 128 ops sigs 0 (to + 1) ≡ None)
-      → (n to : ℕ) → slice_index_or (Some (start_shape 128) ∷ replicate n None) to None
-      ≡ so_far 128 ops sigs 0 to
+  first_row : so_far record_length ops sigs 0 0 ≡ Some (start_shape record_length)
+      → ((to : ℕ) → so_far record_length ops sigs 0 (to + 1) ≡ None)
+      → (n to : ℕ) → slice_index_or (Some (start_shape record_length) ∷ replicate n None) to None
+      ≡ so_far record_length ops sigs 0 to
   first_row start empty n zero = sym start
   first_row start empty n (suc to) = none_in n to
       ∙ sym (let one : to + 1 ≡ suc to = omega arith in rw one at (empty to))
 
-  pub begins : so_far 128 ops sigs 0 0 ≡ Some (start_shape 128)
-      → ((to : ℕ) → so_far 128 ops sigs 0 (to + 1) ≡ None)
-      → 0 < length ops → Passed 0 (Some (start_shape 128) ∷ replicate (length ops - 1) None)
+  pub begins : so_far record_length ops sigs 0 0 ≡ Some (start_shape record_length)
+      → ((to : ℕ) → so_far record_length ops sigs 0 (to + 1) ≡ None)
+      → 0 < length ops → Passed 0 (Some (start_shape record_length) ∷ replicate (length ops - 1) None)
   begins start empty some = record {
     long = omega (arith, length_none (length ops - 1));
     rows = λ to from inside. first_row start empty (length ops - 1) to;
@@ -108,18 +108,18 @@ module _ (ops : List Op) (sigs : List (ℕ × Promise)) where
   -- the fault of a slot, by what the table has there
   here : (slot : ℕ) (table : List (Option Shape)) (op : Op) → Passed slot table → slot < length ops
       → slice_get ops slot ≡ Some op
-      → fault_at 128 ops sigs slot ≡ least
-      (faults 128 ops sigs slot op (slice_index_or table slot None))
+      → fault_at record_length ops sigs slot ≡ least
+      (faults record_length ops sigs slot op (slice_index_or table slot None))
   here slot table op passed inside is =
       let row = passed.rows slot (omega arith) inside in
-      ap (λ (o : Option Op). fault_of 128 ops sigs slot o (state_at 128 ops sigs slot)) is
-      ∙ ap (λ (s : Option Shape). least (faults 128 ops sigs slot op s)) (sym row)
+      ap (λ (o : Option Op). fault_of record_length ops sigs slot o (state_at record_length ops sigs slot)) is
+      ∙ ap (λ (s : Option Shape). least (faults record_length ops sigs slot op s)) (sym row)
 
   -- the first fault is found
   pub found : (slot code : ℕ) (table : List (Option Shape)) (op : Op) → Passed slot table
       → slot < length ops → slice_get ops slot ≡ Some op
-      → Some code ≡ least (faults 128 ops sigs slot op (slice_index_or table slot None))
-      → IsFirstFault 128 ops sigs slot code
+      → Some code ≡ least (faults record_length ops sigs slot op (slice_index_or table slot None))
+      → IsFirstFault record_length ops sigs slot code
   found slot code table op passed inside is least_is = record {
     inside = inside;
     fault = here slot table op passed inside is ∙ sym least_is;
@@ -127,46 +127,46 @@ module _ (ops : List Op) (sigs : List (ℕ × Promise)) where
   }
 
   -- what a slot without a fault sends
-  sends_is : (slot : ℕ) (op : Op) (s : Shape) → least (faults 128 ops sigs slot op (Some s)) ≡ None
+  sends_is : (slot : ℕ) (op : Op) (s : Shape) → least (faults record_length ops sigs slot op (Some s)) ≡ None
       → slice_get ops slot ≡ Some op
-      → sends 128 ops sigs slot (slice_get ops slot) (Some s) ≡ edges 128 sigs slot op s
+      → sends record_length ops sigs slot (slice_get ops slot) (Some s) ≡ edges record_length sigs slot op s
   sends_is slot op s none is =
-      ap (λ (o : Option Op). sends 128 ops sigs slot o (Some s)) is
-      ∙ ap (λ (fault : Option ℕ). unless_fault fault (edges 128 sigs slot op s)) none
+      ap (λ (o : Option Op). sends record_length ops sigs slot o (Some s)) is
+      ∙ ap (λ (fault : Option ℕ). unless_fault fault (edges record_length sigs slot op s)) none
 
   sends_nothing : (slot : ℕ) (op : Op) → slice_get ops slot ≡ Some op
-      → sends 128 ops sigs slot (slice_get ops slot) None ≡ []
-  sends_nothing slot op is = ap (λ (o : Option Op). sends 128 ops sigs slot o None) is
+      → sends record_length ops sigs slot (slice_get ops slot) None ≡ []
+  sends_nothing slot op is = ap (λ (o : Option Op). sends record_length ops sigs slot o None) is
 
   sent_on : (slot to : ℕ) (table : List (Option Shape)) (op : Op) (state : Option Shape)
       → to < length table
-      → least (faults 128 ops sigs slot op state) ≡ None → slice_get ops slot ≡ Some op
-      → slice_index_or (sent_from sigs slot op state table) to None
+      → least (faults record_length ops sigs slot op state) ≡ None → slice_get ops slot ≡ Some op
+      → slice_index_or (sent_from record_length sigs slot op state table) to None
       ≡ with_edges (slice_index_or table to None)
-      (into to (sends 128 ops sigs slot (slice_get ops slot) state))
+      (into to (sends record_length ops sigs slot (slice_get ops slot) state))
   sent_on slot to table op None inside none is =
       ap (λ (es : List (ℕ × Shape)). with_edges (slice_index_or table to None) (into to es))
       (sym (sends_nothing slot op is))
   sent_on slot to table op (Some s) inside none is =
-      sent_row table (edges 128 sigs slot op s) to inside
+      sent_row table (edges record_length sigs slot op s) to inside
       ∙ ap (λ (es : List (ℕ × Shape)). with_edges (slice_index_or table to None) (into to es))
       (sym (sends_is slot op s none is))
 
   kept_length : (slot : ℕ) (table : List (Option Shape)) (op : Op) (state : Option Shape)
-      → length (sent_from sigs slot op state table) ≡ length table
+      → length (sent_from record_length sigs slot op state table) ≡ length table
   kept_length slot table op None = refl
-  kept_length slot table op (Some s) = sent_length table (edges 128 sigs slot op s)
+  kept_length slot table op (Some s) = sent_length table (edges record_length sigs slot op s)
 
   abbrev Step : ℕ → Type 0
-  Step slot = (to : ℕ) → so_far 128 ops sigs (slot + 1) to
-      ≡ with_edges (so_far 128 ops sigs slot to)
-      (into to (sends 128 ops sigs slot (slice_get ops slot) (state_at 128 ops sigs slot)))
+  Step slot = (to : ℕ) → so_far record_length ops sigs (slot + 1) to
+      ≡ with_edges (so_far record_length ops sigs slot to)
+      (into to (sends record_length ops sigs slot (slice_get ops slot) (state_at record_length ops sigs slot)))
 
   -- one more slot
   pub goes_on : (slot : ℕ) (table : List (Option Shape)) (op : Op) → Step slot → Passed slot table
       → slot < length ops → slice_get ops slot ≡ Some op
-      → least (faults 128 ops sigs slot op (slice_index_or table slot None)) ≡ None
-      → Passed (slot + 1) (sent_from sigs slot op (slice_index_or table slot None)
+      → least (faults record_length ops sigs slot op (slice_index_or table slot None)) ≡ None
+      → Passed (slot + 1) (sent_from record_length sigs slot op (slice_index_or table slot None)
       (set table slot None))
   goes_on slot table op step passed inside is none =
       let state = slice_index_or table slot None in
@@ -180,59 +180,59 @@ module _ (ops : List Op) (sigs : List (ℕ × Promise)) where
             let other : to ≢ slot = omega arith in
             sent_on slot to rest op state in_table none is
             ∙ ap (λ (row : Option Shape). with_edges row
-            (into to (sends 128 ops sigs slot (slice_get ops slot) state)))
+            (into to (sends record_length ops sigs slot (slice_get ops slot) state)))
             (get_or-set_other table slot to None None other ∙ passed.rows to later in_ops)
-            ∙ ap (λ (s : Option Shape). with_edges (so_far 128 ops sigs slot to)
-            (into to (sends 128 ops sigs slot (slice_get ops slot) s)))
+            ∙ ap (λ (s : Option Shape). with_edges (so_far record_length ops sigs slot to)
+            (into to (sends record_length ops sigs slot (slice_get ops slot) s)))
             (passed.rows slot (omega arith) inside)
             ∙ sym (step to);
-        clear = below_more (λ k. fault_at 128 ops sigs k ≡ None) slot passed.clear
+        clear = below_more (λ k. fault_at record_length ops sigs k ≡ None) slot passed.clear
             (here slot table op passed inside is ∙ none);
       }
 
   -- ---- the states before a slot, as a list
 
-  pub none_known : states 128 ops sigs 0 ≡ []
+  pub none_known : states record_length ops sigs 0 ≡ []
   unfolding states
   none_known = refl
 
   -- and what waits at the slot
   pub one_known : (slot : ℕ) (table known : List (Option Shape)) (state : Option Shape)
-      → Passed slot table → slot < length ops → known ≡ states 128 ops sigs slot
+      → Passed slot table → slot < length ops → known ≡ states record_length ops sigs slot
       → state ≡ slice_index_or table slot None
-      → known ++ state ∷ [] ≡ states 128 ops sigs (slot + 1)
+      → known ++ state ∷ [] ≡ states record_length ops sigs (slot + 1)
   unfolding states
   one_known slot table known state passed inside is here =
-      let row : state ≡ state_at 128 ops sigs slot =
+      let row : state ≡ state_at record_length ops sigs slot =
       here ∙ passed.rows slot (omega arith) inside in
       let one : slot + 1 ≡ suc slot = add-one slot in
       rw one (ap (λ (l : List (Option Shape)). l ++ state ∷ []) is
-      ∙ ap (λ (s : Option Shape). states 128 ops sigs slot ++ s ∷ []) row)
+      ∙ ap (λ (s : Option Shape). states record_length ops sigs slot ++ s ∷ []) row)
 
-  pub each_known : (n : ℕ) (known : List (Option Shape)) → known ≡ states 128 ops sigs n
+  pub each_known : (n : ℕ) (known : List (Option Shape)) → known ≡ states record_length ops sigs n
       → (slot : ℕ) → slot < length known
-      → slice_get known slot ≡ Some (state_at 128 ops sigs slot)
+      → slice_get known slot ≡ Some (state_at record_length ops sigs slot)
   each_known n known is slot inside =
       let less : slot < n =
-      omega (arith, ap (λ (l : List (Option Shape)). length l) is, length-states 128 ops sigs n) in
-      ap (λ (l : List (Option Shape)). slice_get l slot) is ∙ states_at 128 ops sigs n slot less
+      omega (arith, ap (λ (l : List (Option Shape)). length l) is, length-states record_length ops sigs n) in
+      ap (λ (l : List (Option Shape)). slice_get l slot) is ∙ states_at record_length ops sigs n slot less
 
   -- what is told of as many slots as there are states
   pub explained : (told : Explanation)
-      → told.states.items ≡ states 128 ops sigs (slots_told told.fault (length ops))
-      → MatchOption told.fault (Accepts 128 ops sigs)
-      (λ found. IsFirstFault 128 ops sigs found.1 (code_of found.0)) → Explains ops sigs told
+      → told.states.items ≡ states record_length ops sigs (slots_told told.fault (length ops))
+      → MatchOption told.fault (Accepts record_length ops sigs)
+      (λ found. IsFirstFault record_length ops sigs found.1 (code_of found.0)) → Explains record_length ops sigs told
   explained told is verdict =
       let n = slots_told told.fault (length ops) in
       record {
         states = each_known n told.states.items is;
-        slots = ap (λ (l : List (Option Shape)). length l) is ∙ length-states 128 ops sigs n;
+        slots = ap (λ (l : List (Option Shape)). length l) is ∙ length-states record_length ops sigs n;
         verdict = verdict;
       }
 
   -- ---- the end
 
-  pub all_clear : (table : List (Option Shape)) → Passed (length ops) table → Accepts 128 ops sigs
+  pub all_clear : (table : List (Option Shape)) → Passed (length ops) table → Accepts record_length ops sigs
   all_clear table passed = λ slot inside. passed.clear slot inside
 
 -- an instruction or a tail stands at each slot

@@ -14,6 +14,8 @@ use Rattle.bpf_helpers.specs.Promise.{Promise}
 use Rattle.bpf_helpers.specs.Known.{taxi}
 use Rattle.bpf_semantics.specs.Machine.{Machine, Asks, action, start}
 use Rattle.bpf_semantics.specs.Runs.{Reaches, RunEnds}
+use Rattle.bpf_regstate.specs.Lengths.{bytes_in}
+use Rattle.bpf_regstate.specs.declared.length.Length.TheVariants.{L128}
 use Rattle.bpf_regstate.specs.States.{states, start_shape}
 use Rattle.bpf_regstate.proofs.VerdictRows.{IsAccepted, accepted, no_bytes}
 use Rattle.bpf_verifier.specs.Runs.{IsInput, Leads, MayRun}
@@ -42,10 +44,10 @@ unfolding states start_shape ops sigs
 is_accepted = accepted _ _ refl
 
 the_program : Verified
-the_program = record { ops = ops; sigs = sigs }
+the_program = record { record_length = L128; ops = ops; sigs = sigs }
 
 may_run : MayRun the_program
-unfolding the_program ops sigs
+unfolding the_program ops sigs bytes_in
 may_run = record {
   program = record {
     some = omega arith;
@@ -74,8 +76,8 @@ may_run = record {
   accepted = is_accepted.accepts;
 }
 
-is_input : IsInput zeros 29000580 7
-unfolding zeros
+is_input : IsInput L128 zeros 29000580 7
+unfolding zeros bytes_in
 is_input = record {
   long = length-replicate 128 zero;
   bytes = no_bytes 128;

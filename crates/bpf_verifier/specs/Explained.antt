@@ -15,9 +15,9 @@ slots_told (Some found) slots = found.1 + 1
 
 -- What is told of a slot is the state there, by which the definitions judge it; and the verdict is
 -- theirs.
-pub record Explains (ops : List Op) (sigs : List (ℕ × Promise)) (told : Explanation) : Type 0 where
+pub record Explains (record_length : ℕ) (ops : List Op) (sigs : List (ℕ × Promise)) (told : Explanation) : Type 0 where
   pub states : (slot : ℕ) → slot < length told.states.items
-      → slice_get told.states.items slot ≡ Some (state_at 128 ops sigs slot)
+      → slice_get told.states.items slot ≡ Some (state_at record_length ops sigs slot)
   pub slots : length told.states.items ≡ slots_told told.fault (length ops)
-  pub verdict : MatchOption told.fault (Accepts 128 ops sigs)
-      (λ found. IsFirstFault 128 ops sigs found.1 (code_of found.0))
+  pub verdict : MatchOption told.fault (Accepts record_length ops sigs)
+      (λ found. IsFirstFault record_length ops sigs found.1 (code_of found.0))

@@ -4,20 +4,22 @@ use Rattle.bpf_decode.specs.Encoding.{IsProgram}
 use Rattle.bpf_helpers.specs.Promise.{are_well_formed}
 use Rattle.bpf_semantics.specs.Machine.{Machine, start}
 use Rattle.bpf_semantics.specs.Runs.{Reaches, RunEnds}
+use Rattle.bpf_regstate.specs.declared.length.Length.{Length}
 use Rattle.bpf_regstate.specs.Holds.{AreBytes}
+use Rattle.bpf_regstate.specs.Lengths.{bytes_in}
 use Rattle.bpf_regstate.specs.States.{Accepts, instruction_count}
 use Rattle.bpf_verifier.specs.Verdict.{Verified}
 
--- a program of which no slot has a fault beside a record of 128 bytes, and signatures that promise
+-- a program of which no slot has a fault beside a record of its length, and signatures that promise
 -- something
 pub record MayRun (v : Verified) : Type 0 where
   pub program : IsProgram v.ops
   pub signatures : IsTrue (are_well_formed v.sigs)
-  pub accepted : Accepts 128 v.ops v.sigs
+  pub accepted : Accepts (bytes_in v.record_length) v.ops v.sigs
 
--- a record of 128 bytes, a moment of 32 bits, a milestone from 1 to 16
-pub record IsInput (record_bytes : List ℕ) (moment milestone : ℕ) : Type 0 where
-  pub long : length record_bytes ≡ 128
+-- a record of this length, a moment of 32 bits, a milestone from 1 to 16
+pub record IsInput (record_length : Length) (record_bytes : List ℕ) (moment milestone : ℕ) : Type 0 where
+  pub long : length record_bytes ≡ bytes_in record_length
   pub bytes : AreBytes record_bytes
   pub timely : moment < 2 ^ 32
   pub first_milestone : 1 ≤ milestone
@@ -28,7 +30,7 @@ module _ (v : Verified) (record_bytes : List ℕ) (moment milestone : ℕ) (answ
   -- promised answers
   pub record Leads (n : ℕ) (m : Machine) : Type 0 where
     pub may_run : MayRun v
-    pub input : IsInput record_bytes moment milestone
+    pub input : IsInput v.record_length record_bytes moment milestone
     pub reached : Reaches v.ops v.sigs record_bytes (start (length record_bytes) moment milestone)
         answers n m
 

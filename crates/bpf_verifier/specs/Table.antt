@@ -19,20 +19,20 @@ sent table [] = table
 sent table (e ∷ es) = sent (put_edge table e) es
 
 -- all edges of a slot, by what is known there
-abbrev pub sent_from : List (ℕ × Promise) → ℕ → Op → Option Shape → List (Option Shape)
+abbrev pub sent_from : ℕ → List (ℕ × Promise) → ℕ → Op → Option Shape → List (Option Shape)
     → List (Option Shape)
-sent_from sigs slot op None table = table
-sent_from sigs slot op (Some s) table = sent table (edges 128 sigs slot op s)
+sent_from record_length sigs slot op None table = table
+sent_from record_length sigs slot op (Some s) table = sent table (edges record_length sigs slot op s)
 
 -- the fault of a slot by its row of the table, and without one the table with its edges in the
 -- row's place
-pub record PassesAs (ops : List Op) (sigs : List (ℕ × Promise)) (slot : ℕ)
+pub record PassesAs (record_length : ℕ) (ops : List Op) (sigs : List (ℕ × Promise)) (slot : ℕ)
     (old new : List (Option Shape)) (op : Op) (fault : Option ℕ) : Type 0 where
-  pub found : fault ≡ least (faults 128 ops sigs slot op (slice_index_or old slot None))
+  pub found : fault ≡ least (faults record_length ops sigs slot op (slice_index_or old slot None))
   pub sent_all : fault ≡ None
-      → new ≡ sent_from sigs slot op (slice_index_or old slot None) (slice_set old slot None)
+      → new ≡ sent_from record_length sigs slot op (slice_index_or old slot None) (slice_set old slot None)
 
-abbrev pub Passes : List Op → List (ℕ × Promise) → ℕ → List (Option Shape) → List (Option Shape)
+abbrev pub Passes : ℕ → List Op → List (ℕ × Promise) → ℕ → List (Option Shape) → List (Option Shape)
     → Option ℕ → Type 0
-Passes ops sigs slot old new fault = (op : Op) → slice_get ops slot ≡ Some op
-    → PassesAs ops sigs slot old new op fault
+Passes record_length ops sigs slot old new fault = (op : Op) → slice_get ops slot ≡ Some op
+    → PassesAs record_length ops sigs slot old new op fault

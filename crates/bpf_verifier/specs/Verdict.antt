@@ -3,6 +3,7 @@
 use Rattle.std.specs.Prelude.{◌≡◌, ℕ, List, Result, Ok, Err}
 use Rattle.bpf_decode.specs.declared.op.Op.{Op}
 use Rattle.bpf_helpers.specs.Promise.{Promise}
+use Rattle.bpf_regstate.specs.declared.length.Length.{Length}
 use Rattle.bpf_regstate.specs.States.{IsFirstFault}
 use Rattle.bpf_verifier.specs.declared.fault.Fault.{Fault}
 use Rattle.bpf_verifier.specs.declared.fault.Fault.TheVariants.{Jump, FallsOff, Uninitialised}
@@ -30,8 +31,9 @@ abbrev pub error_slot : VerifyError → ℕ
 error_slot (Refused fault slot) = slot
 error_slot Memory = 0
 
--- a program and signatures
+-- a program, signatures, and the length of the record beside which it runs
 pub record Verified : Type 0 where
+  pub record_length : Length
   pub ops : List Op
   pub sigs : List (ℕ × Promise)
 

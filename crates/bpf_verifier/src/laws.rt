@@ -6,6 +6,7 @@ ghost use Rattle.bpf_decode.specs.declared.op.Op.{Op};
 ghost use Rattle.bpf_helpers.specs.Promise.{is_question};
 ghost use Rattle.bpf_semantics.specs.Machine.{Machine, Asks, action};
 ghost use Rattle.bpf_semantics.specs.Runs.{IsTrapped};
+ghost use Rattle.bpf_regstate.specs.Lengths.{bytes_in};
 ghost use Rattle.bpf_regstate.specs.Edges.{edges};
 ghost use Rattle.bpf_regstate.specs.Holds.{EdgesHold, HoldsAt};
 ghost use Rattle.bpf_regstate.specs.Shape.{Shape};
@@ -13,7 +14,7 @@ ghost use Rattle.bpf_regstate.specs.States.{instruction_count, state_at};
 ghost use Rattle.bpf_verifier.specs.Runs.{GoesToItsEnd, Leads};
 ghost use Rattle.bpf_verifier.specs.Verdict.{Verified};
 
-/// What `verify` answers never goes wrong, on any record of 128 bytes, at any moment of 32 bits and
+/// What `verify` answers never goes wrong, on any record of its length, at any moment of 32 bits and
 /// any milestone from 1 to 16, whatever promised answers its calls are given: of each machine that
 /// it leads to, what is known at its slot is true (`held`), each next machine is held along an edge
 /// of its instruction (`steps`), it isn't trapped (`free`), it asks only what may be asked
@@ -23,13 +24,13 @@ pub fn checked_programs_never_go_wrong()
     ensures held { (v : Verified) (record_bytes : List ℕ) (moment milestone : ℕ) (answers : List ℕ)
         (n : ℕ) (m : Machine) →
         Leads v record_bytes moment milestone answers n m
-        → HoldsAt (state_at 128 v.ops v.sigs m.slot) m }
+        → HoldsAt (state_at (bytes_in v.record_length) v.ops v.sigs m.slot) m }
     ensures steps { (v : Verified) (record_bytes : List ℕ) (moment milestone : ℕ) (answers : List ℕ)
         (n : ℕ) (m : Machine) →
         Leads v record_bytes moment milestone answers n m → (op : Op) (s : Shape)
         → slice_get v.ops m.slot ≡ Some op →
-        state_at 128 v.ops v.sigs m.slot ≡ Some s →
-        EdgesHold v.sigs (edges 128 v.sigs m.slot op s) m (action v.ops v.sigs record_bytes m) }
+        state_at (bytes_in v.record_length) v.ops v.sigs m.slot ≡ Some s →
+        EdgesHold v.sigs (edges (bytes_in v.record_length) v.sigs m.slot op s) m (action v.ops v.sigs record_bytes m) }
     ensures free { (v : Verified) (record_bytes : List ℕ) (moment milestone : ℕ) (answers : List ℕ)
         (n : ℕ) (m : Machine) →
         Leads v record_bytes moment milestone answers n m

@@ -1,6 +1,6 @@
 //! Faults of loads and stores: where they may go, and what they may find there.
 
-ghost use Rattle.std.specs.Prelude.{◌≡◌, ◌≤◌, ◌+◌, ◌-◌};
+ghost use Rattle.std.specs.Prelude.{◌≡◌, ◌<◌, ◌≤◌, ◌^◌, ◌+◌, ◌-◌};
 ghost use Rattle.bpf_places.specs.Places.{PlaceIs};
 ghost use Rattle.bpf_regstate.specs.Shape.{known};
 ghost use Rattle.bpf_regstate.specs.Effect.{access, range_of};
@@ -10,21 +10,23 @@ ghost use Rattle.bpf_regstate.specs.Faults.{stores_in_record};
 use crate::reads::range_of;
 use bpf_decode::{Op, Register};
 use bpf_places::{Place, byte_count, part_byte_count};
-use bpf_regstate::{RECORD_LENGTH, State, place_of_access};
+use bpf_regstate::{State, place_of_access};
 
 /// Where all addresses lie that so many bytes at a register plus the offset may have.
-fn place_at(state: &State, base: Register, offset: i32, count: usize) -> Place
-    requires { count ≤ 8 }
+fn place_at(record_length: usize, state: &State, base: Register, offset: i32, count: usize) -> Place
+    requires short { record_length < 2 ^ 16 }
+    requires few { count ≤ 8 }
     ensures { let range = range_of (known state.now base) in
-        PlaceIs result 128 (range.hi - range.lo + count) (access 128 range offset count) }
+        PlaceIs result record_length (range.hi - range.lo + count) (access record_length range offset count) }
 {
-    place_of_access(RECORD_LENGTH, range_of(state, base), offset, count)
+    place_of_access(record_length, range_of(state, base), offset, count)
 }
 
 /// Whether some address of the slot's load or store lies in no region, or not in that of the
 /// others.
-pub fn misses_memory(state: &State, op: Op) -> bool
-    ensures { result ≡ is_nowhere (access_of 128 state.now op) }
+pub fn misses_memory(record_length: usize, state: &State, op: Op) -> bool
+    requires { record_length < 2 ^ 16 }
+    ensures { result ≡ is_nowhere (access_of record_length state.now op) }
 {
     match op {
         Op::Load {
@@ -32,30 +34,45 @@ pub fn misses_memory(state: &State, op: Op) -> bool
             base,
             offset,
             ..
-        } => place_at(state, base, offset as i32, byte_count(size)) == Place::Nowhere,
+        } => place_at(record_length, state, base, offset as i32, byte_count(size))
+            == Place::Nowhere,
         Op::LoadSigned {
             part,
             base,
             offset,
             ..
-        } => place_at(state, base, offset as i32, part_byte_count(part)) == Place::Nowhere,
+        } => place_at(
+            record_length,
+            state,
+            base,
+            offset as i32,
+            part_byte_count(part),
+        ) == Place::Nowhere,
         Op::Store {
             size,
             base,
             offset,
             ..
-        } => place_at(state, base, offset as i32, byte_count(size)) == Place::Nowhere,
+        } => place_at(record_length, state, base, offset as i32, byte_count(size))
+            == Place::Nowhere,
         _ => false,
     }
 }
 
 /// Whether a load of so many bytes may read a byte of the stack that is not marked.
-fn is_unmarked(state: &State, base: Register, offset: i32, count: usize) -> bool
-    requires { count ≤ 8 }
+fn is_unmarked(
+    record_length: usize,
+    state: &State,
+    base: Register,
+    offset: i32,
+    count: usize,
+) -> bool
+    requires short { record_length < 2 ^ 16 }
+    requires few { count ≤ 8 }
     ensures { let range = range_of (known state.now base) in
-        result ≡ is_unmarked state.now range count (access 128 range offset count) }
+        result ≡ is_unmarked state.now range count (access record_length range offset count) }
 {
-    match place_at(state, base, offset, count) {
+    match place_at(record_length, state, base, offset, count) {
         Place::Stack(at) => {
             let range = range_of(state, base);
             !state.all_marked(at, (range.hi - range.lo) as usize + count)
@@ -65,8 +82,9 @@ fn is_unmarked(state: &State, base: Register, offset: i32, count: usize) -> bool
 }
 
 /// Whether the slot loads a byte of the stack that may be uninitialised.
-pub fn loads_unmarked(state: &State, op: Op) -> bool
-    ensures { result ≡ loads_unmarked 128 state.now op }
+pub fn loads_unmarked(record_length: usize, state: &State, op: Op) -> bool
+    requires { record_length < 2 ^ 16 }
+    ensures { result ≡ loads_unmarked record_length state.now op }
 {
     match op {
         Op::Load {
@@ -74,20 +92,27 @@ pub fn loads_unmarked(state: &State, op: Op) -> bool
             base,
             offset,
             ..
-        } => is_unmarked(state, base, offset as i32, byte_count(size)),
+        } => is_unmarked(record_length, state, base, offset as i32, byte_count(size)),
         Op::LoadSigned {
             part,
             base,
             offset,
             ..
-        } => is_unmarked(state, base, offset as i32, part_byte_count(part)),
+        } => is_unmarked(
+            record_length,
+            state,
+            base,
+            offset as i32,
+            part_byte_count(part),
+        ),
         _ => false,
     }
 }
 
 /// Whether the slot stores to the record.
-pub fn stores_in_record(state: &State, op: Op) -> bool
-    ensures { result ≡ stores_in_record 128 state.now op }
+pub fn stores_in_record(record_length: usize, state: &State, op: Op) -> bool
+    requires { record_length < 2 ^ 16 }
+    ensures { result ≡ stores_in_record record_length state.now op }
 {
     match op {
         Op::Store {
@@ -96,7 +121,7 @@ pub fn stores_in_record(state: &State, op: Op) -> bool
             offset,
             ..
         } => matches!(
-            place_at(state, base, offset as i32, byte_count(size)),
+            place_at(record_length, state, base, offset as i32, byte_count(size)),
             Place::Record(_)
         ),
         _ => false,

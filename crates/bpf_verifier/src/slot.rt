@@ -16,15 +16,17 @@ use bpf_regstate::State;
 /// The fault of the least number that a slot has, by what is known there; nothing is known where no
 /// edge leads.
 pub fn least_fault(
+    record_length: usize,
     ops: &[Op],
     sigs: &Sigs,
     slot: usize,
     op: Op,
     state: &Option<Box<State>>,
 ) -> Option<Fault>
-    requires { slot < 2 ^ 32 }
+    requires short { record_length < 2 ^ 16 }
+    requires few { slot < 2 ^ 32 }
     ensures { option_map code_of result
-        ≡ least (faults 128 ops.now sigs.now slot op (contents state.now)) }
+        ≡ least (faults record_length ops.now sigs.now slot op (contents state.now)) }
 {
     if op == Op::Tail {
         return None;
@@ -39,13 +41,13 @@ pub fn least_fault(
         if reads_uninit(sigs, state, op) {
             return Some(Fault::Uninitialised);
         }
-        if misses_memory(state, op) {
+        if misses_memory(record_length, state, op) {
             return Some(Fault::Address);
         }
-        if loads_unmarked(state, op) {
+        if loads_unmarked(record_length, state, op) {
             return Some(Fault::StackByte);
         }
-        if stores_in_record(state, op) {
+        if stores_in_record(record_length, state, op) {
             return Some(Fault::WritesRecord);
         }
         if calls_unknown(sigs, op) {

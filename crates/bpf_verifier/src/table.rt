@@ -57,16 +57,18 @@ fn send(
     waiting: &mut Waiting,
     ops: &[Op],
     sigs: &Sigs,
+    record_length: usize,
     slot: usize,
     op: &Op,
     state: Box<State>,
 ) -> Result<(), AllocError>
+    requires short { record_length < 2 ^ 16 }
     requires same { length waiting.old ≡ length ops.now }
     requires few { slot < 2 ^ 32 }
     requires jumps { jumps_badly ops.now slot op.now ≡ false }
     requires falls { op.now ≢ Op.Tail → falls_off ops.now slot op.now ≡ false }
     ensures { OnOk result
-        (waiting.new ≡ sent waiting.old (edges 128 sigs.now slot op.now state.value)) }
+        (waiting.new ≡ sent waiting.old (edges record_length sigs.now slot op.now state.value)) }
 {
     match op {
         Op::Ja { offset } => put_edge(waiting, target(slot, *offset as i32), Some(state)),
@@ -88,7 +90,7 @@ fn send(
         Op::Tail => {}
         _ => {
             let mut after = state;
-            after.advance(*op, sigs)?;
+            after.advance(record_length, *op, sigs)?;
             waiting.put(next_slot(slot, *op), after);
         }
     }
@@ -103,21 +105,23 @@ pub fn pass_slot(
     waiting: &mut Waiting,
     ops: &[Op],
     sigs: &Sigs,
+    record_length: usize,
     slot: usize,
 ) -> Result<Option<Fault>, AllocError>
+    requires short { record_length < 2 ^ 16 }
     requires same { length waiting.old ≡ length ops.now }
     requires inside { slot < length ops.now }
     requires few { length ops.now ≤ MOST_SLOTS }
     ensures { IfOk result (λ fault.
-        Passes ops.now sigs.now slot waiting.old waiting.new (option_map code_of fault)) }
+        Passes record_length ops.now sigs.now slot waiting.old waiting.new (option_map code_of fault)) }
 {
     let op = &ops[slot];
     let state = waiting.take(slot);
-    if let Some(fault) = least_fault(ops, sigs, slot, *op, &state) {
+    if let Some(fault) = least_fault(record_length, ops, sigs, slot, *op, &state) {
         return Ok(Some(fault));
     }
     if let Some(state) = state {
-        send(alloc, waiting, ops, sigs, slot, op, state)?;
+        send(alloc, waiting, ops, sigs, record_length, slot, op, state)?;
     }
     Ok(None)
 }

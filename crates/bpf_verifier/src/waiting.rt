@@ -4,7 +4,7 @@ ghost use Rattle.std.specs.Prelude.{◌≡◌, Some, IfOk};
 ghost use Rattle.bpf_regstate.specs.Pass.{with_edge};
 ghost use Rattle.bpf_verifier.specs.Rows.{contents};
 
-use bpf_regstate::State;
+use bpf_regstate::{Length, State};
 use std::alloc::{AllocError, Global};
 use std::marker::Model;
 
@@ -51,18 +51,19 @@ fn copy_of(known: &Option<Box<State>>) -> Result<Option<State>, AllocError>
 impl Waiting {
     ghost use Rattle.std.specs.Prelude.{◌≡◌, ◌<◌, ◌-◌, ◌∷◌, Some, None, length, replicate, IfOk};
     ghost use Rattle.std.specs.Prelude.{slice_index_or, slice_set};
+    ghost use Rattle.bpf_regstate.specs.Lengths.{bytes_in};
     ghost use Rattle.bpf_regstate.specs.States.{start_shape};
     ghost use Rattle.bpf_verifier.specs.Rows.{contents};
     ghost use Rattle.bpf_verifier.specs.Table.{put_edge};
 
     /// So many slots before the first: the start waits at slot 0, and nothing elsewhere.
-    pub fn new(alloc: Global, slots: usize) -> Result<Waiting, AllocError>
+    pub fn new(alloc: Global, record_length: Length, slots: usize) -> Result<Waiting, AllocError>
         requires { 0 < slots }
-        ensures { IfOk result
-            (λ waiting. waiting ≡ Some (start_shape 128) ∷ replicate (slots - 1) None) }
+        ensures { IfOk result (λ waiting. waiting
+            ≡ Some (start_shape (bytes_in record_length)) ∷ replicate (slots - 1) None) }
     {
         let mut rows = Vec::with_capacity(alloc, slots)?;
-        rows.push(Some(Box::new(alloc, State::start(alloc))?))?;
+        rows.push(Some(Box::new(alloc, State::start(alloc, record_length))?))?;
         for _ in 0..slots - 1 {
             rows.push(None)?;
         }

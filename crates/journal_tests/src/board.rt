@@ -10,6 +10,7 @@ use acdm_slots::Kind;
 use acdm_step::{Command, Load, Verdict};
 use bpf_decode::decode;
 use bpf_helpers::{Bank, Code, Helper, Helpers, Range, Signature, Sigs};
+use bpf_regstate::Length;
 use bpf_verifier::verify;
 use std::alloc::Global;
 use std::process::Abort;
@@ -51,7 +52,7 @@ fn loaded(rt: &impl Abort, alloc: Global, bytes: &[u8], sigs: &Sigs) -> Command 
     Command::Load(Load {
         milestone: Milestone::InBlock,
         kind: Kind::Tobt,
-        program: verify(alloc, program, sigs).expect(rt, "an accepted program"),
+        program: verify(alloc, program, sigs, Length::L128).expect(rt, "an accepted program"),
     })
 }
 

@@ -9,6 +9,7 @@ use acdm_step::{
 };
 use bpf_decode::decode;
 use bpf_helpers::Sigs;
+use bpf_regstate::Length;
 use bpf_verifier::{Checked, verify};
 use std::alloc::Global;
 use std::process::Abort;
@@ -17,7 +18,7 @@ use std::process::Abort;
 fn program(rt: &impl Abort, alloc: Global) -> Checked {
     let bytes = [0xb7, 0, 0, 0, 0, 0, 0, 0, 0x95, 0, 0, 0, 0, 0, 0, 0];
     let program = decode(alloc, &bytes).expect(rt, "a program");
-    verify(alloc, program, &Sigs::new(alloc)).expect(rt, "an accepted program")
+    verify(alloc, program, &Sigs::new(alloc), Length::L128).expect(rt, "an accepted program")
 }
 
 fn loaded(rt: &impl Abort, alloc: Global) -> Command {

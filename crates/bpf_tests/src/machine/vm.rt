@@ -8,6 +8,7 @@ use crate::programs::{EXIT, bytes_of, exited, is_fault, slot};
 use acdm_milestones::Milestone;
 use bpf_helpers::{Code, Helper};
 use bpf_machine::{EbpfVmRaw, Ended};
+use bpf_regstate::Length;
 use std::alloc::Global;
 use std::process::Abort;
 
@@ -52,7 +53,7 @@ fn refuses(rt: &impl Abort, vm: &mut EbpfVmRaw, helper: Helper, code: u16, numbe
 /// Sets a program of these digits. Where it is refused: the fault's number and slot.
 fn fault(rt: &impl Abort, alloc: Global, vm: &mut EbpfVmRaw, text: &str) -> Option<(u16, usize)> {
     let bytes = bytes_of(rt, alloc, text);
-    match vm.set_program(bytes.as_slice()) {
+    match vm.set_program(bytes.as_slice(), Length::L128) {
         Ok(()) => None,
         Err(e) => Some((e.code(), e.slot())),
     }
@@ -135,7 +136,7 @@ fn helpers_are_called(rt: HostRuntime) {
 
 /// A program of these bytes is set, and ends with r0 in so many steps.
 fn runs(rt: &impl Abort, vm: &mut EbpfVmRaw, bytes: &[u8], r0: u64, steps: u64) {
-    let is_set = vm.set_program(bytes).is_ok();
+    let is_set = vm.set_program(bytes, Length::L128).is_ok();
     assert!(rt; is_set, "{steps} slots");
     ends(rt, vm, 7, r0, steps);
 }

@@ -6,7 +6,7 @@ use crate::fixtures::{no_sigs, taxi_sigs};
 use crate::states::{ALL, LOW, W64, arith, common, from, has, imm, reg, store};
 use bpf_decode::{Code, Condition, Op, Size};
 use bpf_helpers::Sigs;
-use bpf_regstate::State;
+use bpf_regstate::{Length, State};
 use std::alloc::Global;
 use std::process::Abort;
 
@@ -30,7 +30,9 @@ fn reads(rt: &impl Abort, sigs: &Sigs, state: &State, size: Size, offset: i16, l
         base: reg(10),
         offset,
     };
-    let loaded = state.transfer(load, sigs).expect(rt, "a state");
+    let loaded = state
+        .transfer(Length::L128, load, sigs)
+        .expect(rt, "a state");
     has(rt, &loaded, 0, lo, hi);
     drop(loaded);
 }
@@ -45,9 +47,9 @@ fn read(rt: &impl Abort, sigs: &Sigs, state: &State, rows: &[(Size, i16, u64, u6
 
 /// What is known after these instructions from the start.
 fn after(rt: &impl Abort, alloc: Global, sigs: &Sigs, ops: &[Op]) -> State {
-    let mut state = State::start(alloc);
+    let mut state = State::start(alloc, Length::L128);
     for op in ops {
-        state.advance(*op, sigs).expect(rt, "a state");
+        state.advance(128, *op, sigs).expect(rt, "a state");
     }
     state
 }
@@ -183,7 +185,7 @@ fn joins_keep_words_that_both_keep(rt: HostRuntime) {
 /// A jump and a call keep the last word.
 fn keeps_the_last_word(rt: &impl Abort, sigs: &Sigs, kept: &mut State) {
     assert!(rt; kept.follow(W64, Condition::Above, reg(4), imm(7), true));
-    kept.advance(Op::Call { helper: 2 }, sigs)
+    kept.advance(128, Op::Call { helper: 2 }, sigs)
         .expect(rt, "a state");
     reads(rt, sigs, kept, Size::Double, -8, 1, 16);
 }

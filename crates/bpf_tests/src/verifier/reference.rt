@@ -7,7 +7,7 @@ use crate::verifier::faults::{fault_at, next_slot, target};
 use crate::verifier::refusal;
 use bpf_decode::Op;
 use bpf_helpers::Sigs;
-use bpf_regstate::State;
+use bpf_regstate::{Length, State};
 use std::alloc::Global;
 use std::process::Abort;
 
@@ -69,7 +69,9 @@ fn depart(
         }
         Op::Exit | Op::Tail => {}
         _ => {
-            let after = state.transfer(*op, sigs).expect(rt, "a state");
+            let after = state
+                .transfer(Length::L128, *op, sigs)
+                .expect(rt, "a state");
             arrive(rt, alloc, table, next_slot(slot, op), Some(after));
         }
     }
@@ -81,7 +83,13 @@ fn start(rt: &impl Abort, alloc: Global, slots: usize) -> Table {
     for _ in 0..slots {
         table.push(None).expect(rt, "rows");
     }
-    arrive(rt, alloc, &mut table, Some(0), Some(State::start(alloc)));
+    arrive(
+        rt,
+        alloc,
+        &mut table,
+        Some(0),
+        Some(State::start(alloc, Length::L128)),
+    );
     table
 }
 

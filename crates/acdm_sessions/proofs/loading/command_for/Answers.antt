@@ -1,5 +1,5 @@
 use Rattle.acdm_sessions.proofs.Completing.{completes_plain, completes_load, completes_refused}
-use Rattle.acdm_sessions.proofs.Completing.{same_is_no_other}
+use Rattle.acdm_sessions.proofs.Completing.{checked_is_no_other}
 use Rattle.acdm_sessions.proofs.loading.command_for.Goals as goal
 
 pub returns-in-Err-clause-reads : goal.returns-in-Err-clause-reads
@@ -18,4 +18,5 @@ returns-in-Ok-clause-reads c =
 
 pub returns-in-Ok-clause-checked : goal.returns-in-Ok-clause-checked
 returns-in-Ok-clause-checked c =
-    same_is_no_other c.in-Ok.program.sigs c.args.sigs.now c.in-Ok.ensures.reads.checked
+    checked_is_no_other c.args.sigs.now c.in-Ok.program c.in-Ok.ensures.reads.checked
+    c.in-Ok.ensures.reads.long

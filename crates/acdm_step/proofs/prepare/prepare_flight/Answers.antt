@@ -1,5 +1,5 @@
 use Rattle.std.proofs.Common.{◌<◌, ◌++◌, ◌∷◌, [], true, not, nat_lt, set, refl, ap, sym, ◌∙◌, subst}
-use Rattle.std.proofs.Common.{arith}
+use Rattle.std.proofs.Common.{None, arith}
 use Rattle.bpf_helpers.proofs.OracleLemmas.{unasked}
 use Rattle.acdm_step.specs.declared.command.Command.TheVariants as commands
 use Rattle.acdm_step.specs.declared.outcome.Outcome.TheVariants as outcomes
@@ -110,7 +110,7 @@ returns-else-place-count-clause-fits g c = (
   subst (λ n. n < MOST_FLIGHTS) c.len-count.ensures
       (room_left (commands.Flight c.args.command.now) c.len-count.result c.record_at-record.result
       c.args.role refl
-      (ap (λ t. is_accepted (verdict_for t c.len-count.result c.record_at-record.result true
+      (ap (λ t. is_accepted (verdict_for t c.len-count.result c.record_at-record.result None
       c.args.role (commands.Flight c.args.command.now)))
       (sym (no_lt c.place-place.result c.len-count.result c.if-place-count.false))
       ∙ sym (ap is_accepted c.verdict-verdict.ensures) ∙ sym c.is_accepted.ensures

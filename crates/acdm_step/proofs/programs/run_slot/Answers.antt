@@ -1,4 +1,5 @@
-use Rattle.std.proofs.Common.{refl}
+use Rattle.std.proofs.Common.{refl, ap, sym, ◌∙◌}
+use Rattle.bpf_regstate.specs.Lengths.{bytes_in}
 use Rattle.acdm_step.proofs.Runs.{asks_at, ends_at}
 use Rattle.acdm_step.proofs.Steps.{on_err}
 use Rattle.acdm_step.proofs.programs.run_slot.Goals as goal
@@ -18,3 +19,11 @@ returns-in_err-ended-clause-unanswered g c =
     (g.O.Oracle.view c.args.oracle.now) (g.O.Oracle.view c.run.new.oracle) c.bytes.result.now
     c.in-Some.ensures.value c.bytes.ensures.layout c.in_err-ended.ensures.unanswered
     c.in_err-ended.ensures.few_asked c.in_err-ended.ensures.counted)
+
+-- the program in the slot is for records of the board's length
+pub run-requires-clause-long : goal.run-requires-clause-long
+unfolding bytes_in
+run-requires-clause-long g c =
+    let fits = c.get.ensures.fit c.args.milestone c.args.kind c.in-Some.checked.now
+    c.in-Some.ensures.value in
+    c.bytes.ensures.of_record.whole ∙ sym (ap bytes_in (fits.1 ∙ c.requires.long))

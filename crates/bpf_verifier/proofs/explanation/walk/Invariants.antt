@@ -5,5 +5,5 @@ use Rattle.bpf_verifier.proofs.explanation.walk.Given as goal
 
 -- what waits is that of the pass before this slot, and what is known are the states before it
 abbrev pub invariant-loop-slot : goal.invariant-loop-slot
-invariant-loop-slot l = Passed l.ops l.sigs l.slot l.waiting
-    × (l.known.items ≡ states 128 l.ops l.sigs l.slot)
+invariant-loop-slot l = Passed l.record_length l.ops l.sigs l.slot l.waiting
+    × (l.known.items ≡ states l.record_length l.ops l.sigs l.slot)

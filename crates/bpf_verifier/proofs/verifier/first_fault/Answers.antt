@@ -7,15 +7,15 @@ use Rattle.bpf_verifier.proofs.verifier.first_fault.Goals as goal
 pub loop-slot-init : goal.loop-slot-init
 loop-slot-init c =
     let law = c.one_pass_is_enough.ensures in
-    let passed = begins c.args.ops.now c.args.sigs.now
-    (law.start 128 c.args.ops.now c.args.sigs.now)
-    (law.empty 128 c.args.ops.now c.args.sigs.now) c.requires.some in
+    let passed = begins c.args.record_length c.args.ops.now c.args.sigs.now
+    (law.start c.args.record_length c.args.ops.now c.args.sigs.now)
+    (law.empty c.args.record_length c.args.ops.now c.args.sigs.now) c.requires.some in
     rw c.requires.table passed
 
 pub returns-in-Some : goal.returns-in-Some
 returns-in-Some c =
     let at = op_in c.args.ops.now c.loop-slot.slot c.loop-slot-test.true in
-    found c.args.ops.now c.args.sigs.now c.loop-slot.slot _ c.loop-slot.waiting at.0
+    found c.args.record_length c.args.ops.now c.args.sigs.now c.loop-slot.slot _ c.loop-slot.waiting at.0
     c.loop-slot.invariant c.loop-slot-test.true at.1
     (sym (ap (option_map code_of) c.in-Some.is) ∙ (c.in_ok-fault.ensures at.0 at.1).found)
 
@@ -26,7 +26,7 @@ loop-slot-preserved c =
     let none : option_map code_of c.in_ok-fault.field-0 ≡ None = ap
     (option_map code_of) c.in_default.is in
     let law = c.one_pass_is_enough.ensures in
-    let step = λ (to : ℕ). law.step 128 c.args.ops.now c.args.sigs.now c.loop-slot.slot to in
+    let step = λ (to : ℕ). law.step c.args.record_length c.args.ops.now c.args.sigs.now c.loop-slot.slot to in
     rw (passes.sent_all none)
-    (goes_on c.args.ops.now c.args.sigs.now c.loop-slot.slot c.loop-slot.waiting at.0 step
+    (goes_on c.args.record_length c.args.ops.now c.args.sigs.now c.loop-slot.slot c.loop-slot.waiting at.0 step
     c.loop-slot.invariant c.loop-slot-test.true at.1 (sym passes.found ∙ none))

@@ -1,11 +1,10 @@
 use Rattle.std.proofs.Common.{◌≡◌, true, ◌||◌, refl, ap, sym, subst, ◌∙◌}
 use Rattle.bpf_helpers.proofs.OracleLemmas.{unasked}
 use Rattle.bpf_helpers.specs.Oracles.{OracleView}
-use Rattle.bpf_helpers.specs.Same.{same_sigs}
 use Rattle.acdm_step.specs.declared.command.Command.{Command}
 use Rattle.acdm_step.specs.declared.outcome.Outcome.TheVariants as outcomes
 use Rattle.acdm_step.specs.Commands.{is_accepted, is_alerts}
-use Rattle.acdm_step.specs.Verdicts.{load_verdict, show_verdict, outcome_with}
+use Rattle.acdm_step.specs.Verdicts.{load_obstacle, load_verdict, show_verdict, outcome_with}
 use Rattle.acdm_step.specs.History.{Board}
 use Rattle.acdm_step.specs.Board.{is_there, record_on, board_loads}
 use Rattle.acdm_step.specs.Prepared.{Fits}
@@ -41,8 +40,9 @@ returns-in_ok-prepared-in-Load-clause-fits g c =
     let p = c.in_ok-prepared-in-Load.prepared in
     subst (λ (x : Board). Fits x p.change) c.self.view_is
     (fits_load b c.in-Load.load (is_accepted
-    (load_verdict (same_sigs c.in-Load.load.program.sigs b.slots.sigs) c.args.role)) p.change
-    c.in_ok-prepared-in-Load.ensures.change c.in_ok-prepared-in-Load.ensures.same)
+    (load_verdict (load_obstacle b.slots.sigs b.slots.record_length c.in-Load.load.program) c.args.role))
+    p.change c.in_ok-prepared-in-Load.ensures.change c.in_ok-prepared-in-Load.ensures.long
+    c.in_ok-prepared-in-Load.ensures.same)
 
 pub returns-in-Unload-clause-comes : goal.returns-in-Unload-clause-comes
 returns-in-Unload-clause-comes g c =

@@ -1,4 +1,5 @@
 use Rattle.std.proofs.Common.{◌≡◌, ◌-◌, ◌++◌, ◌∷◌, [], Some, None, replicate, ap, ◌∙◌, arith}
+use Rattle.bpf_regstate.specs.Lengths.{bytes_in}
 use Rattle.bpf_regstate.specs.States.{start_shape}
 use Rattle.bpf_verifier.proofs.WaitingLemmas.{first_waits}
 use Rattle.bpf_verifier.proofs.waiting.Waiting.new.Goals as goal
@@ -7,7 +8,7 @@ pub returns : goal.returns
 returns c =
     let more : c.loop.counter ≡ c.args.slots - 1 = omega
     (arith, c.loop-test.false, c.loop.auto.counter-end) in
-    first_waits c.loop.rows.items c.in_ok-new.field-0 (start_shape 128) (c.args.slots - 1)
+    first_waits c.loop.rows.items c.in_ok-new.field-0 (start_shape (bytes_in c.args.record_length)) (c.args.slots - 1)
     (c.loop.invariant
     ∙ ap (λ n. c.push.new.self.items ++ replicate n None) more
     ∙ ap (λ l. l ++ replicate (c.args.slots - 1) None)

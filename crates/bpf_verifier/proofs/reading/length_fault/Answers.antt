@@ -1,9 +1,9 @@
 use Rattle.std.proofs.Common.{length, sym, arith}
 use Rattle.std.proofs.lemmas.Bool.{eqb-true}
 use Rattle.bpf_decode.specs.Encoding.{too_long, no_slots}
-use Rattle.acdm_wire.proofs.program.length_fault.Goals as goal
-use Rattle.acdm_wire.proofs.program.length_fault.Goals.{then-is_empty-via-then-is_empty}
-use Rattle.acdm_wire.proofs.program.length_fault.Goals.{then-is_empty-via-else-is_empty+then-bytes-ne0}
+use Rattle.bpf_verifier.proofs.reading.length_fault.Goals as goal
+use Rattle.bpf_verifier.proofs.reading.length_fault.Goals.{then-is_empty-via-then-is_empty}
+use Rattle.bpf_verifier.proofs.reading.length_fault.Goals.{then-is_empty-via-else-is_empty+then-bytes-ne0}
 
 pub returns-then-bytes-clause-some : goal.returns-then-bytes-clause-some
 returns-then-bytes-clause-some c = too_long (omega arith)
