@@ -1,17 +1,17 @@
 #!/usr/bin/env python3
-"""Says of each wrong body that must-fail edits put together whether the prover refuses that body.
+"""Says of each wrong body that an edit of several has whether the prover refuses that body.
 
 usage: bench/gate/edits.py [--after-ci] [CRATE..]       as bench/gate/edits.py acdm_step; with no CRATE all crates
        bench/gate/edits.py --left-out [CRATE..]
        bench/gate/edits.py --alone CRATE [EDIT..]        as bench/gate/edits.py --alone acdm_step command-commands_tell_other_numbers
 
-An edit with the line 'each pair alone' puts several wrong bodies together, a pair of lines 'old:' and 'new:' for each,
-which saves the gate a check for each; it does not read that line, and sees only that one of the bodies is refused. Here
+An edit in crates/CRATE/must-fail-each/ puts several wrong bodies together, a pair of lines 'old:' and 'new:' for each.
+rt ci does not try it: it would cost a check, and show only that one of the bodies is refused. Here
 one check of each crate has all pairs of all such edits at once, and each function that a pair turns has to have a goal of
 its own that is not proved. A function is proved by its own body and by the contracts of those that it calls, so such a
 goal is that pair's alone. The bodies of all other functions are left out, which only saves time: what is asked is not
 whether they are proved, and the gate has proved them. Where two pairs turn one function, the second has a check of its
-own. A pair that turns no function's body (but a constant, a type or a contract) fails: make it an edit of its own. What
+own. A pair that turns no function's body (but a constant, a type or a contract) fails: make it an edit of must-fail/. What
 only a name that a proof file misses refuses counts as not refused. The exit status is 1 if anything was not refused.
 
 With --after-ci, as .ci/run has it, the libraries below are taken as the gate has just built them; else they are built
@@ -19,7 +19,7 @@ where they are not. With --left-out the pairs are left out, and no such function
 is shown that what is refused is refused for its pair.
 
 With --alone, edits of one crate are tried as the gate tries an edit, by the gate's own code, over a copy of what the
-crate's last check kept (crates/CRATE/out/incremental); of an edit with that line each pair alone, and then all together.
+crate's last check kept (crates/CRATE/out/incremental); of an edit of several each pair alone, and then all together.
 """
 import pathlib
 import re
@@ -32,7 +32,7 @@ import time
 
 sys.dont_write_bytecode = True
 from kit import crates, gate, is_refusal
-from turned import bared, is_merged, pairs_of
+from turned import bared, is_merged, merged_edits, pairs_of
 
 FLAGS = ["--jobs", "1"]
 SEARCHED = re.compile(r"fn (\S+): no proof: expected answers in \S+; `search` did not prove `([^`]*)`")
@@ -43,7 +43,7 @@ SHAPE = re.compile(r"has no field|is not in scope|has no `|was not admitted")
 
 def edits_of(rt, crate, names=()):
     """Returns the edits with these names, or all of the crate's, or stops."""
-    good = {pathlib.Path(it).stem: pathlib.Path(it) for it in rt.edits_of(crate)[0]}
+    good = {it.stem: it for it in [*map(pathlib.Path, rt.edits_of(crate)[0]), *merged_edits(crate)]}
     wanted = [it.removesuffix(".edit") for it in names] or [*good]
     unknown = [it for it in wanted if it not in good]
     if unknown:
@@ -120,7 +120,7 @@ def judge_all(rt, every, are_left_out):
         tell(began, crate, len(by_function), judged(rt, crate, by_function, are_left_out))
 
     for crate in every:
-        pairs = [it for edit in edits_of(rt, crate) if is_merged(edit) for it in pairs_of(crate, edit)]
+        pairs = [it for edit in merged_edits(crate) for it in pairs_of(crate, edit)]
         count += len(pairs)
         lost = [f"{it}: it turns no function's body, so make it an edit of its own: {it.old.strip()}" for it in pairs if not it.function]
         if lost:
@@ -177,7 +177,7 @@ def main():
     if unknown:
         sys.exit(f"crates.txt names no crate {unknown[0]}")
     asked = [every[it] for it in wanted]
-    for it in dict.fromkeys(below for crate in asked if rt.edits_of(crate)[0] for below in crate.below()):
+    for it in dict.fromkeys(below for crate in asked if edits_of(rt, crate) for below in crate.below()):
         if not (flags == ["--after-ci"] and is_there(it)) and it.build_rlib(FLAGS, anew=False):
             sys.exit(f"the library {it.name} is not proved")
     if flags == ["--alone"]:

@@ -1,9 +1,10 @@
-"""The pairs of must-fail edits that put several wrong bodies together, and the function that each pair turns. It is no script: edits.py uses it."""
+"""The pairs of the edits of several wrong bodies, and the function that each pair turns. It is no script: edits.py uses it."""
 import collections
 import pathlib
 import re
 
-MARK = "each pair alone"
+# The folder of a crate in which such edits stand; the gate of the kit tries those of must-fail/ alone.
+FOLDER = "must-fail-each"
 HEAD = re.compile(r"( *)(?:pub(?:\([^)]*\))? )?fn (\w+)")
 # A type or a trait by its path, without what stands in angle brackets.
 NAME = re.compile(r"(?:&(?:'\w+ )?(?:mut )?)?(?:\w+::)*(\w+)")
@@ -27,7 +28,12 @@ class Pair:
 
 
 def is_merged(edit):
-    return edit.read_text(encoding="utf-8").split("\n")[0] == MARK
+    return edit.parent.name == FOLDER
+
+
+def merged_edits(crate):
+    """Returns the crate's edits of several wrong bodies, by name."""
+    return sorted(pathlib.Path(crate.folder, FOLDER).glob("*.edit"))
 
 
 def pairs_of(crate, edit):
