@@ -1,9 +1,11 @@
--- What a display is sent.
+-- What a display is sent, and why it may get no more.
 use Rattle.std.specs.Prelude.{ℕ, ◌≡◌, ◌++◌, false, List, reverse}
 use Rattle.acdm_step.specs.declared.entry.Entry.{Entry}
 use Rattle.acdm_step.specs.History.{IsLegal}
 use Rattle.acdm_row.specs.Views.{RowView}
 use Rattle.acdm_journal.specs.Whole.{Saves}
+use Rattle.acdm_failures.specs.declared.failure.Failure.{Failure}
+use Rattle.acdm_failures.specs.declared.failure.Failure.TheVariants.{Save, Memory}
 use Rattle.acdm_displays.specs.declared.following.Shown.{Shown}
 
 -- What a watch has seen is written: where the text of what it had seen was written, from a start
@@ -23,3 +25,9 @@ pub record WasSent {W : Type 0} (row : RowView) (before : List ℕ) (shown : Sho
   pub legal : IsLegal row.sigs (reverse shown.watch.seen)
   pub text : Saves (reverse shown.watch.seen) before shown.writer.log
   pub flushed : shown.writer.waits ≡ false
+
+-- Sending ends early where the writer failed, or where memory was refused, and for nothing else.
+abbrev pub CutsShort : Failure → Type 0
+CutsShort Save = Unit {0}
+CutsShort Memory = Unit {0}
+CutsShort _ = ⊥

@@ -1,7 +1,7 @@
 //! The journal of a row as text, written while it grows.
-ghost use Rattle.std.specs.Prelude.{◌≡◌, false, IfOk, OnOk};
+ghost use Rattle.std.specs.Prelude.{◌≡◌, false, IfErr, IfOk, OnOk};
 ghost use Rattle.std.specs.Arc.{arc_value};
-ghost use Rattle.acdm_displays.specs.Displayed.{Adds, Follows, WasSent};
+ghost use Rattle.acdm_displays.specs.Displayed.{Adds, CutsShort, Follows, WasSent};
 
 use crate::leaving::has_left;
 use acdm_failures::Failure;
@@ -44,7 +44,8 @@ pub fn follow<R: Read, W: Write + Drop>(
     reader: &mut R,
     mut writer: Sink<W>,
 ) -> Result<Shown<W>, Failure>
-    ensures { IfOk result (WasSent (arc_value row.now) writer.log) }
+    ensures sent { IfOk result (WasSent (arc_value row.now) writer.log) }
+    ensures failed { IfErr result CutsShort }
 {
     let mut watch = Watch::new(alloc, row)?;
     send_on(alloc, &mut watch, row, closing, reader, &mut writer)?;
@@ -66,6 +67,7 @@ fn send_on<R: Read, W: Write + Drop>(
     ensures row { watch.new.row ≡ watch.old.row }
     ensures sent { OnOk result (Follows watch.old.seen watch.new.seen writer.old.log writer.new.log) }
     ensures flushed { OnOk result (writer.new.waits ≡ false) }
+    ensures failed { IfErr result CutsShort }
 {
     for _ in 0..u64::MAX {
         let is_last = closing.load(Ordering::SeqCst);
@@ -88,6 +90,7 @@ fn send_all<W: Write + Drop>(
     ensures row { watch.new.row ≡ watch.old.row }
     ensures sent { OnOk result (Follows watch.old.seen watch.new.seen writer.old.log writer.new.log) }
     ensures flushed { OnOk result (writer.new.waits ≡ false) }
+    ensures failed { IfErr result CutsShort }
 {
     let mut text = Vec::new(alloc);
     for _ in watch.len()..row.len() {
@@ -111,6 +114,7 @@ fn add_next(watch: &mut Watch, row: &Row, text: &mut Vec<u8>) -> Result<bool, Fa
     requires { row.now ≡ watch.old.row }
     ensures row { watch.new.row ≡ watch.old.row }
     ensures added { OnOk result (Adds watch.old.seen watch.new.seen text.old.items text.new.items) }
+    ensures failed { IfErr result CutsShort }
 {
     let Some(entry) = watch.take_next(row)? else {
         return Ok(false);

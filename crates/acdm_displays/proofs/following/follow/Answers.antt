@@ -2,8 +2,8 @@ use Rattle.std.proofs.Common.{rules}
 use Rattle.acdm_displays.proofs.Written.{written_all}
 use Rattle.acdm_displays.proofs.following.follow.Goals as goal
 
-pub returns : goal.returns
-returns g c = record {
+pub returns-clause-sent : goal.returns-clause-sent
+returns-clause-sent g c = record {
   same = search rules;
   legal = search rules;
   text = written_all c.in_ok-watch.watch.seen c.send_on.new.watch.seen c.args.writer.log
