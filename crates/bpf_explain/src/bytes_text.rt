@@ -1,28 +1,45 @@
 //! Why bytes encode no program, as text.
 
+use crate::slot_text::write_slot;
 use bpf_decode::Fault;
 use std::io::{self, Write};
 
-/// A file of another kind than the bytes of a program. None is accepted.
+/// A file of another kind than the bytes of a program.
 #[derive(Clone, Copy)]
 enum Kind {
     /// As a compiler writes it. Its first bytes (System V ABI, ELF header) are no instruction.
     Object,
-    /// Digits and white space alone, none of which is the opcode of an exit.
+    /// Words of digits, each with or without 0x before it.
     Hexadecimal,
+    /// A line with a member "program", as partners send it.
+    Line,
 }
 
+fn is_hexadecimal(word: &str) -> bool {
+    let digits = word
+        .strip_prefix("0x")
+        .or(word.strip_prefix("0X"))
+        .unwrap_or(word);
+    !digits.is_empty() && digits.bytes().all(|byte| byte.is_ascii_hexdigit())
+}
+
+/// The kind of a file of which the bytes encode no program. No text of ASCII has the byte of an
+/// exit.
 fn kind_of(bytes: &[u8]) -> Option<Kind> {
     if let [0x7f, b'E', b'L', b'F', ..] = bytes {
         return Some(Kind::Object);
     }
-    let digits = bytes.iter().any(|byte| byte.is_ascii_hexdigit());
-    let alone = bytes.iter().all(|byte| byte.is_ascii_hexdigit() || byte.is_ascii_whitespace());
-    if digits && alone {
-        Some(Kind::Hexadecimal)
-    } else {
-        None
+    if !bytes.is_ascii() {
+        return None;
     }
+    let text = str::from_utf8(bytes).ok()?;
+    if text.contains("\"program\"") {
+        return Some(Kind::Line);
+    }
+    if !text.trim().is_empty() && text.split_whitespace().all(is_hexadecimal) {
+        return Some(Kind::Hexadecimal);
+    }
+    None
 }
 
 /// Writes the first fault of bytes, what is known there and what is wanted, and the verdict.
@@ -43,6 +60,10 @@ pub(crate) fn write_unreadable<W: Write>(
             writer,
             "    file: known hexadecimal text, wanted the bytes that it tells (xxd -r -p)"
         )?,
+        Some(Kind::Line) => writeln!(
+            writer,
+            "    file: known a line that loads a program, wanted the bytes that its program tells (xxd -r -p)"
+        )?,
         None => write_reason(fault, slot, bytes, writer)?,
     }
     writeln!(writer, "refused {code} {slot}")
@@ -54,23 +75,12 @@ fn write_reason<W: Write>(
     bytes: &[u8],
     writer: &mut W,
 ) -> io::Result<()> {
-    let wanted = match fault {
+    match fault {
         Fault::Length => {
             let count = bytes.len();
-            return writeln!(writer, "    bytes: known {count}, wanted 8 for each slot");
+            writeln!(writer, "    bytes: known {count}, wanted 8 for each slot")
         }
-        Fault::TooLong => {
-            return writeln!(writer, "    bytes: known over 32768, wanted 32768 at most");
-        }
-        Fault::Opcode => "an opcode that programs may have",
-        Fault::Field => "values that its opcode allows",
-        Fault::Register => "registers up to 10",
-        Fault::CutWide => "a second slot behind it",
-    };
-    write!(writer, "    bytes of the slot: known")?;
-    for byte in bytes.iter().skip(slot.saturating_mul(8)).take(8) {
-        let byte = *byte;
-        write!(writer, " {byte:02x}")?;
+        Fault::TooLong => writeln!(writer, "    bytes: known over 32768, wanted 32768 at most"),
+        _ => write_slot(fault, slot, bytes, writer),
     }
-    writeln!(writer, ", wanted {wanted}")
 }

@@ -1,13 +1,11 @@
 //! The first fault of a program, as text: what is known there, and what is wanted.
 
-ghost use Rattle.std.specs.Prelude.{◌≤◌, IfSome};
-
-use crate::range_text::{Bound, Signed, Span, Words};
-use crate::state_text::{run_of, write_stored};
+use crate::access_text::{write_address, write_bytes};
+use crate::range_text::Words;
+use crate::ways::{Ways, is_unset, target_of};
 use bpf_decode::{Code, Op, Operand, Program, Register};
 use bpf_helpers::{Range, Sigs};
-use bpf_places::{Place, STACK_LENGTH, byte_count, part_byte_count};
-use bpf_regstate::{RECORD_LENGTH, Reg, State, place_of_access};
+use bpf_regstate::{Reg, State};
 use bpf_verifier::{Explanation, Fault};
 use std::io::{self, Write};
 
@@ -28,7 +26,12 @@ pub(crate) fn write_fault<W: Write>(
     if let Some(op) = program.ops().get(slot) {
         write_flow(program, sigs, fault, slot, op, writer)?;
         if let Some(Some(state)) = explanation.states.get(slot) {
-            write_value(sigs, state, fault, op, writer)?;
+            let ways = Ways {
+                program,
+                states: explanation.states.as_slice(),
+                sigs,
+            };
+            write_value(ways, state, fault, slot, op, writer)?;
         }
     }
     writeln!(writer, "refused {code} {slot}")
@@ -53,17 +56,6 @@ fn write_flow<W: Write>(
         Fault::WritesEnd => writeln!(writer, "    destination: known r10, wanted r0 to r9"),
         _ => Ok(()),
     }
-}
-
-/// The slot to which a jump leads, also where there is none of this number.
-fn target_of(slot: usize, op: &Op) -> Option<i64> {
-    let offset = match op {
-        Op::Ja { offset } => *offset as i32,
-        Op::Ja32 { offset } => *offset,
-        Op::Jump { offset, .. } => *offset as i32,
-        _ => return None,
-    };
-    i64::try_from(slot).ok()?.checked_add(offset as i64 + 1)
 }
 
 fn write_target<W: Write>(
@@ -102,17 +94,18 @@ fn write_helpers<W: Write>(sigs: &Sigs, op: &Op, writer: &mut W) -> io::Result<(
 }
 
 /// Writes the reason of a fault that a slot has by what is known there.
-fn write_value<W: Write>(
-    sigs: &Sigs,
+fn write_value<'a, W: Write>(
+    ways: Ways<'a>,
     state: &State,
     fault: Fault,
+    slot: usize,
     op: &Op,
     writer: &mut W,
 ) -> io::Result<()> {
     match fault {
         Fault::Uninitialised | Fault::Argument => match op {
-            Op::Call { helper } => write_argument(sigs, state, fault, *helper, writer),
-            _ => write_unset(state, op, writer),
+            Op::Call { helper } => write_argument(ways, state, fault, slot, *helper, writer),
+            _ => write_unset(ways, state, slot, op, writer),
         },
         Fault::Address | Fault::WritesRecord => write_address(state, fault, op, writer),
         Fault::StackByte => write_bytes(state, op, writer),
@@ -130,14 +123,15 @@ fn is_at_fault(fault: Fault, known: Reg, wanted: Range) -> bool {
     }
 }
 
-fn write_argument<W: Write>(
-    sigs: &Sigs,
+fn write_argument<'a, W: Write>(
+    ways: Ways<'a>,
     state: &State,
     fault: Fault,
+    slot: usize,
     helper: u32,
     writer: &mut W,
 ) -> io::Result<()> {
-    let Some(signature) = sigs.get(helper) else {
+    let Some(signature) = ways.sigs.get(helper) else {
         return Ok(());
     };
     for (index, wanted) in signature.args().iter().enumerate() {
@@ -149,29 +143,23 @@ fn write_argument<W: Write>(
                 writer,
                 "    argument {number} of helper {helper}, {register}: "
             )?;
-            return write_argument_ranges(known, *wanted, writer);
+            let wanted = Words(*wanted);
+            return match known {
+                Reg::Known(range) => write_ranges(range, wanted, writer),
+                Reg::Uninit => {
+                    let loss = ways.loss(slot, register);
+                    writeln!(writer, "known {loss}, wanted {wanted}")
+                }
+            };
         }
     }
     Ok(())
 }
 
 /// Writes what is known of an argument, and what is wanted.
-fn write_argument_ranges<W: Write>(known: Reg, wanted: Range, writer: &mut W) -> io::Result<()> {
-    let wanted = Words(wanted);
-    match known {
-        Reg::Uninit => writeln!(writer, "known nothing, wanted {wanted}"),
-        Reg::Known(range) => {
-            let known = Words(range);
-            writeln!(writer, "known {known}, wanted {wanted}")
-        }
-    }
-}
-
-fn is_unset(state: &State, register: Register) -> bool {
-    match state.register(register) {
-        Reg::Uninit => true,
-        Reg::Known(_) => false,
-    }
+fn write_ranges<W: Write>(known: Range, wanted: Words, writer: &mut W) -> io::Result<()> {
+    let known = Words(known);
+    writeln!(writer, "known {known}, wanted {wanted}")
 }
 
 /// The register of an operand.
@@ -204,7 +192,13 @@ fn registers_read(op: &Op) -> (Option<Register>, Option<Register>) {
     }
 }
 
-fn write_unset<W: Write>(state: &State, op: &Op, writer: &mut W) -> io::Result<()> {
+fn write_unset<'a, W: Write>(
+    ways: Ways<'a>,
+    state: &State,
+    slot: usize,
+    op: &Op,
+    writer: &mut W,
+) -> io::Result<()> {
     let (first, second) = registers_read(op);
     let register = match first {
         Some(register) if is_unset(state, register) => Some(register),
@@ -213,119 +207,9 @@ fn write_unset<W: Write>(state: &State, op: &Op, writer: &mut W) -> io::Result<(
     let Some(register) = register else {
         return Ok(());
     };
+    let loss = ways.loss(slot, register);
     writeln!(
         writer,
-        "    {register}: known nothing, wanted a value on every way here"
+        "    {register}: known {loss}, wanted a value on every way here"
     )
-}
-
-/// The bytes that a load or a store touches.
-#[derive(Clone, Copy)]
-struct Access {
-    base: Register,
-    offset: i16,
-    count: usize,
-}
-
-fn access_of(op: &Op) -> Option<Access>
-    ensures { IfSome result (λ access. access.count ≤ 8) }
-{
-    match op {
-        Op::Load {
-            size,
-            base,
-            offset,
-            ..
-        } => Some(Access {
-            base: *base,
-            offset: *offset,
-            count: byte_count(*size),
-        }),
-        Op::LoadSigned {
-            part,
-            base,
-            offset,
-            ..
-        } => Some(Access {
-            base: *base,
-            offset: *offset,
-            count: part_byte_count(*part),
-        }),
-        Op::Store {
-            size,
-            base,
-            offset,
-            ..
-        } => Some(Access {
-            base: *base,
-            offset: *offset,
-            count: byte_count(*size),
-        }),
-        _ => None,
-    }
-}
-
-/// Writes what is known of an address, and where it is wanted: in the stack, and for a load in the
-/// record too.
-fn write_address<W: Write>(state: &State, fault: Fault, op: &Op, writer: &mut W) -> io::Result<()> {
-    let Some(
-        Access {
-            base,
-            offset,
-            count,
-        },
-    ) = access_of(op)
-    else {
-        return Ok(());
-    };
-    let Reg::Known(range) = state.register(base) else {
-        return Ok(());
-    };
-    let known = Words(range);
-    let distance = Signed(offset as i64);
-    write!(
-        writer,
-        "    {base} in [{base}{distance}], size {count}: known {known}, wanted "
-    )?;
-    if fault == Fault::Address && !matches!(op, Op::Store { .. }) {
-        let record = Span {
-            first: Bound::Record(-(offset as i64)),
-            last: Bound::Record(RECORD_LENGTH as i64 - count as i64 - offset as i64),
-        };
-        write!(writer, "{record} or ")?;
-    }
-    let stack = Span {
-        first: Bound::Stack(-(STACK_LENGTH as i64) - offset as i64),
-        last: Bound::Stack(-(count as i64) - offset as i64),
-    };
-    writeln!(writer, "{stack}")
-}
-
-/// Writes which bytes of the stack a load may touch, and which of them are stored.
-fn write_bytes<W: Write>(state: &State, op: &Op, writer: &mut W) -> io::Result<()> {
-    let Some(
-        Access {
-            base,
-            offset,
-            count,
-        },
-    ) = access_of(op)
-    else {
-        return Ok(());
-    };
-    let Reg::Known(range) = state.register(base) else {
-        return Ok(());
-    };
-    let place = place_of_access(RECORD_LENGTH, range, offset as i32, count);
-    let Place::Stack(first) = place else {
-        return Ok(());
-    };
-    let end = first + (range.hi - range.lo) as usize + count;
-    let distance = Signed(offset as i64);
-    write!(writer, "    bytes at [{base}{distance}]: known as stored ")?;
-    if !write_stored(state, first, end, "", writer)? {
-        write!(writer, "none")?;
-    }
-    let wanted = run_of(first, end);
-    writeln!(writer, ", wanted {wanted}")
 }

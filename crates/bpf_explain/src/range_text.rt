@@ -8,6 +8,9 @@ use std::fmt;
 /// How far from the stack an address is still told by its distance.
 const NEAR: u64 = 0x8000_0000;
 
+/// The least word that is below 0 as a number of 64 bits with a sign.
+const LEAST_NEGATIVE: u64 = 0x8000_0000_0000_0000;
+
 /// The minute of 2000-01-01T00:00Z, and that of 2100-01-01T00:00Z.
 const YEAR_2000: u64 = 15_778_080;
 
@@ -31,7 +34,7 @@ impl fmt::Display for Signed {
 /// A number, or an address by the region that it is told from.
 #[derive(Clone, Copy, PartialEq, Eq)]
 pub(crate) enum Bound {
-    Number(u64),
+    Number(i128),
     /// So many bytes behind the first address of the record.
     Record(i64),
     /// So many bytes behind the end of the stack, so before it where it is negative.
@@ -50,6 +53,17 @@ impl fmt::Display for Bound {
                 let distance = Signed(distance);
                 write!(f, "stack{distance}")
             }
+        }
+    }
+}
+
+impl Bound {
+    /// So many bytes further on.
+    fn moved(self, offset: i16) -> Bound {
+        match self {
+            Bound::Number(number) => Bound::Number(number.wrapping_add(offset as i128)),
+            Bound::Record(distance) => Bound::Record(distance.wrapping_add(offset as i64)),
+            Bound::Stack(distance) => Bound::Stack(distance.wrapping_add(offset as i64)),
         }
     }
 }
@@ -88,13 +102,24 @@ fn from_stack(address: u64) -> Bound {
     Bound::Stack(address.wrapping_sub(end).cast_signed())
 }
 
-/// A range of which both ends are addresses is told by them, any other by its numbers.
+/// A word as a number, with the sign of 64 bits where it has one.
+fn number(word: u64, is_signed: bool) -> Bound {
+    if is_signed {
+        Bound::Number(word.cast_signed() as i128)
+    } else {
+        Bound::Number(word as i128)
+    }
+}
+
+/// A range of which both ends are addresses is told by them, one that lies below 0 in 64 bits with
+/// its sign, and any other by its numbers.
 fn span_of(range: Range) -> Span {
     let Range { lo, hi } = range;
     if lo < RECORD_BASE || hi >= STACK_BASE + NEAR {
+        let is_signed = lo >= LEAST_NEGATIVE;
         Span {
-            first: Bound::Number(lo),
-            last: Bound::Number(hi),
+            first: number(lo, is_signed),
+            last: number(hi, is_signed),
         }
     } else if lo >= STACK_BASE - NEAR {
         Span {
@@ -111,6 +136,32 @@ fn span_of(range: Range) -> Span {
             first: from_record(lo),
             last: from_record(hi),
         }
+    }
+}
+
+/// Whether it has every word.
+fn is_full(range: Range) -> bool {
+    range.lo == 0 && range.hi == u64::MAX
+}
+
+/// The addresses that a register of this range reaches with an offset.
+#[derive(Clone, Copy)]
+pub(crate) struct Reached {
+    pub base: Range,
+    pub offset: i16,
+}
+
+impl fmt::Display for Reached {
+    fn fmt<W: fmt::Write>(&self, f: &mut fmt::Formatter<W>) -> fmt::Result {
+        if is_full(self.base) {
+            return write!(f, "any number");
+        }
+        let span = span_of(self.base);
+        let reached = Span {
+            first: span.first.moved(self.offset),
+            last: span.last.moved(self.offset),
+        };
+        write!(f, "{reached}")
     }
 }
 
@@ -144,7 +195,7 @@ pub(crate) struct Words(pub Range);
 impl fmt::Display for Words {
     fn fmt<W: fmt::Write>(&self, f: &mut fmt::Formatter<W>) -> fmt::Result {
         let range = self.0;
-        if range.lo == 0 && range.hi == u64::MAX {
+        if is_full(range) {
             return write!(f, "any number");
         }
         let span = span_of(range);

@@ -1,5 +1,10 @@
 //! The words, by hand: first programs that are accepted, then one for each fault.
 
+mod addresses;
+mod reasons;
+mod slots;
+mod words;
+
 use crate::programs::{exited, same_text, slot};
 use bpf_explain::{Told, read};
 use bpf_helpers::{Range, Signature, Sigs};
@@ -34,7 +39,25 @@ static LATER: [Range; 2] = [
     Range { lo: 0, hi: 10_000 },
 ];
 
-/// The signatures of both helpers.
+/// What helper 63 takes.
+static FIVE: [Range; 5] = [
+    Range {
+        lo: 0,
+        hi: u64::MAX,
+    },
+    Range {
+        lo: 0,
+        hi: u64::MAX,
+    },
+    Range {
+        lo: 0,
+        hi: u64::MAX,
+    },
+    Range { lo: 2, hi: 16 },
+    Range { lo: 5, hi: 9 },
+];
+
+/// The signatures of these helpers.
 fn signatures(rt: &impl Abort, alloc: Global) -> Sigs {
     let mut sigs = Sigs::new(alloc);
     add(rt, alloc, &mut sigs, 2, &STAND, Range { lo: 1, hi: 60 });
@@ -43,6 +66,7 @@ fn signatures(rt: &impl Abort, alloc: Global) -> Sigs {
         hi: 4_294_977_295,
     };
     add(rt, alloc, &mut sigs, 3, &LATER, answer);
+    add(rt, alloc, &mut sigs, 63, &FIVE, Range { lo: 0, hi: 0 });
     sigs
 }
 
@@ -220,7 +244,7 @@ refused 308 0
 2: call 2
     r0 = 1 to 60, r10 = stack+0
 fault 308 at slot 2: uninitialised register
-    argument 1 of helper 2, r1: known nothing, wanted 0 to 999
+    argument 1 of helper 2, r1: known nothing since the call at slot 1, wanted 0 to 999
 refused 308 2
 "#,
     },
@@ -240,7 +264,8 @@ refused 308 2
 2: ldxh r0, [r5+4]
     r1 = record+0, r2 = 128, r3 = 0 to 4294967295, r4 = 1 to 16, r5 = record+0 to record+65535, r10 = stack+0
 fault 309 at slot 2: address outside the record and the stack
-    r5 in [r5+4], size 2: known record+0 to record+65535, wanted record-4 to record+122 or stack-516 to stack-6
+    address [r5+4], size 2: known record+4 to record+65539, wanted record+0 to record+126 or stack-512 to stack-2
+    r5: known record+0 to record+65535, wanted record-4 to record+122 or stack-516 to stack-6
 refused 309 2
 "#,
     },
@@ -263,7 +288,7 @@ refused 309 2
 3: ldxb r0, [r1+0]
     r1 = record+0 to stack-8, r2 = 128, r3 = 0 to 4294967295, r4 = 1 to 16, r10 = stack+0
 fault 309 at slot 3: address outside the record and the stack
-    r1 in [r1+0], size 1: known record+0 to stack-8, wanted record+0 to record+127 or stack-512 to stack-1
+    address [r1+0], size 1: known record+0 to stack-8, as a whole in neither region, wanted all of it in one: record+0 to record+127 or stack-512 to stack-1
 refused 309 3
 "#,
     },
@@ -288,7 +313,8 @@ refused 310 1
         text: r#"0: stw [r1+96], 0
     r1 = record+0, r2 = 128, r3 = 0 to 4294967295, r4 = 1 to 16, r10 = stack+0
 fault 311 at slot 0: store to the record
-    r1 in [r1+96], size 4: known record+0, wanted stack-608 to stack-100
+    address [r1+96], size 4: known record+96, wanted stack-512 to stack-4
+    r1: known record+0, wanted stack-608 to stack-100
 refused 311 0
 "#,
     },
@@ -299,7 +325,7 @@ refused 311 0
         text: r#"0: call 9
     r1 = record+0, r2 = 128, r3 = 0 to 4294967295, r4 = 1 to 16, r10 = stack+0
 fault 312 at slot 0: unknown helper
-    helper: known 9, wanted one of 2, 3
+    helper: known 9, wanted one of 2, 3, 63
 refused 312 0
 "#,
     },
@@ -415,7 +441,7 @@ refused 301 0
         "an unknown opcode",
         &[0xff, 1, 2, 3, 4, 5, 6, 7],
         r#"fault 303 at slot 0: unknown opcode
-    bytes of the slot: known ff 01 02 03 04 05 06 07, wanted an opcode that programs may have
+    opcode of ff 01 02 03 04 05 06 07: known ff, wanted one that programs may have
 refused 303 0
 "#,
     ),
@@ -423,7 +449,7 @@ refused 303 0
         "a field that is not 0",
         &[0x95, 0, 1, 0, 0, 0, 0, 0],
         r#"fault 304 at slot 0: field value that the opcode does not allow
-    bytes of the slot: known 95 00 01 00 00 00 00 00, wanted values that its opcode allows
+    offset of 95 00 01 00 00 00 00 00, an exit: known 1, wanted 0
 refused 304 0
 "#,
     ),
@@ -431,7 +457,7 @@ refused 304 0
         "a register over 10",
         &[0xb7, 11, 0, 0, 0, 0, 0, 0],
         r#"fault 305 at slot 0: register over 10
-    bytes of the slot: known b7 0b 00 00 00 00 00 00, wanted registers up to 10
+    destination of b7 0b 00 00 00 00 00 00, arithmetic: known 11, wanted 0 to 10
 refused 305 0
 "#,
     ),
@@ -439,7 +465,7 @@ refused 305 0
         "a cut wide load",
         &[0x18, 0, 0, 0, 1, 0, 0, 0],
         r#"fault 315 at slot 0: wide load without its second slot
-    bytes of the slot: known 18 00 00 00 01 00 00 00, wanted a second slot behind it
+    second slot of 18 00 00 00 01 00 00 00, a wide load: known none, wanted one behind it
 refused 315 0
 "#,
     ),
