@@ -1,10 +1,13 @@
 #!/usr/bin/env python3
-"""Compares what `acdm explain` says is known before each slot with the model's own states, on programs by chance.
+"""Compares what `acdm explain` says with the model's own states and reasons, on programs by chance.
 
   bench/explain/compare.py [--programs N] [--seed S] [PROGRAM]    with the proved program
+  bench/explain/compare.py [--programs N] [--seed S] --write FOLDER
+  bench/explain/compare.py [--programs N] [--seed S] --against FILE
 
-The states are those of bench/model/programs.py, and the words are written here from docs/EXPLAIN.md. Status 0 where all is
-alike.
+The states are those of bench/model/programs.py, and the words are those of words.py, from docs/EXPLAIN.md. The second form
+writes the programs, and the third compares with FILE, which is what `rt try --cases FOLDER -- explain {}` printed in the
+folder of the crate `acdm`. Status 0 where all is alike.
 """
 import argparse
 import pathlib
@@ -12,88 +15,61 @@ import random
 import subprocess
 import sys
 import tempfile
-from datetime import datetime, timedelta
+from collections import Counter
 
 TOP = pathlib.Path(__file__).resolve().parents[2]
 sys.path.insert(0, str(TOP / "bench" / "model"))
 
-import programs as model  # noqa: E402
 from random_programs import Programs  # noqa: E402
-
-STACK_END = model.STACK + model.STACK_BYTES
-NEAR = 1 << 31
-EPOCH = datetime(1970, 1, 1)
-YEARS_2000 = range((datetime(2000, 1, 1) - EPOCH) // timedelta(minutes=1), (datetime(2100, 1, 1) - EPOCH) // timedelta(minutes=1))
+from words import explained  # noqa: E402
 
 
-def address(word, least):
-    """A word as an address: from the record where the least word is nearer to it, else from the end of the stack."""
-    of_record = least < model.STACK - NEAR and word < model.STACK
-    return f"record{word - model.RECORD:+}" if of_record else f"stack{word - STACK_END:+}"
-
-
-def minute(number):
-    return (EPOCH + timedelta(minutes=number)).strftime("%Y-%m-%dT%H:%M:%SZ")
-
-
-def span(first, last):
-    return first if first == last else f"{first} to {last}"
-
-
-def words(given):
-    low, high = given
-    if given == model.FULL:
-        return "any number"
-    if low >= model.RECORD and high < model.STACK + NEAR:
-        return span(address(low, low), address(high, low))
-    text = span(str(low), str(high))
-    if low in YEARS_2000 and high in YEARS_2000:
-        text += f" ({span(minute(low), minute(high))})"
-    return text
-
-
-def runs(marks):
-    """The stretches of bytes that are marked, each from its first to behind its last."""
-    ends = [place for place in range(model.STACK_BYTES + 1) if (marks >> place & 1) != (marks << 1 >> place & 1)]
-    return zip(ends[::2], ends[1::2])
-
-
-def known(state):
-    """The lines on a state."""
-    if state is None:
-        return ["no way leads here"]
-    registers = [f"r{number} = {words(given)}" for number, given in enumerate(state.registers) if given]
-    stored = [span(f"stack{first - 512:+}", f"stack{end - 513:+}") for first, end in runs(state.marks)]
-    kept = [f"stack{8 * place - 512:+} = {words(given)}" for place, given in enumerate(state.words) if given][::-1]
-    lines = [", ".join(registers)]
-    lines += ["stored: " + ", ".join(stored)] if stored else []
-    return lines + (["kept: " + ", ".join(kept)] if kept else [])
-
-
-def explained(code):
-    """The lines on the states of a program, and its last line."""
-    program = model.decode(code)
-    states = [model.first_state()] + [None] * (len(program) - 1)
-    lines = []
-    for slot, insn in enumerate(program):
-        if insn is None:
-            continue
-        state = states[slot]
-        lines += known(state)
-        faults = list(model.shape_faults(program, slot, insn, model.HELPERS))
-        faults += model.state_faults(insn, state, model.HELPERS) if state else []
-        if faults:
-            return lines + [f"refused {min(faults)} {slot}"]
-        for goal, after in model.edges(insn, slot, state, model.HELPERS) if state else ():
-            states[goal] = states[goal].join(after) if states[goal] else after
-    return lines + [f"accepted {len(program)}"]
+def mutated(code, chance):
+    """A program, of four in ten with a byte that is another, or as text."""
+    draw = chance.random()
+    if draw < 0.3:
+        changed = bytearray(code)
+        changed[chance.choice((0, 1, 2, 4)) + 8 * chance.randrange(len(code) // 8)] = chance.randrange(256)
+        return bytes(changed)
+    if draw < 0.35:
+        return code.hex().encode() + b"\n"
+    return b"0x" + code.hex().encode() if draw < 0.37 else b'{"program":"%s"}' % code.hex().encode() if draw < 0.4 else code
 
 
 def told(text):
-    """The same lines of what the program prints: those behind four spaces before the line on a fault, and the last."""
+    """What a program prints behind four spaces, and its last line."""
     lines = text.splitlines()
-    end = next((place for place, line in enumerate(lines) if line.startswith("fault ")), len(lines))
-    return [line[4:] for line in lines[:end] if line.startswith("    ")] + lines[-1:]
+    return [line[4:] for line in lines if line.startswith("    ")] + lines[-1:]
+
+
+def printed_each(program, codes):
+    """What the program prints of each."""
+    with tempfile.TemporaryDirectory() as room:
+        file = pathlib.Path(room) / "rule.bin"
+        for code in codes:
+            file.write_bytes(code)
+            yield subprocess.run([program, "explain", file], capture_output=True, text=True).stdout
+
+
+def printed_before(file):
+    """What `rt try` printed of each, in their order."""
+    parts = pathlib.Path(file).read_text().split("== ")[1:]
+    found = {int(part.split(".", 1)[0]): part.split("\n", 1)[1] for part in parts}
+    return [found[place] for place in range(len(found))]
+
+
+def compare(codes, texts):
+    """Tells the first program of which something else is said."""
+    lines, ends = 0, Counter()
+    for code, text in zip(codes, texts, strict=True):
+        owed, found = explained(code), told(text)
+        if found != owed:
+            print(code.hex(), "owed", *owed, "found", *found, sep="\n")
+            return 1
+        lines += len(owed)
+        ends[owed[-1].rsplit(" ", 1)[0] if owed[-1].startswith("refused") else "accepted"] += 1
+    print(f"{len(codes)} programs, {lines} lines alike:", *(f"{end} {count}," for end, count in sorted(ends.items())))
+    return 0
 
 
 def main():
@@ -101,26 +77,18 @@ def main():
     parser.add_argument("program", nargs="?", default=TOP / "crates" / "acdm" / "out" / "acdm")
     parser.add_argument("--programs", type=int, default=1000)
     parser.add_argument("--seed", type=int, default=1)
+    parser.add_argument("--write", type=pathlib.Path, metavar="FOLDER")
+    parser.add_argument("--against", metavar="FILE")
     given = parser.parse_args()
-    draws = Programs(random.Random(given.seed))
-    compared, accepted = 0, 0
-    with tempfile.TemporaryDirectory() as room:
-        file = pathlib.Path(room) / "rule.bin"
-        for _ in range(given.programs):
-            code = draws.program()
-            try:
-                owed = explained(code)
-            except model.Fault as fault:
-                owed = [f"refused {fault.code} {fault.slot}"]
-            file.write_bytes(code)
-            found = told(subprocess.run([given.program, "explain", file], capture_output=True, text=True).stdout)
-            if found != owed:
-                print(code.hex(), "owed", *owed, "found", *found, sep="\n")
-                return 1
-            compared += len(owed)
-            accepted += owed[-1].startswith("accepted")
-    print(f"{given.programs} programs, {accepted} accepted, {compared} lines alike")
-    return 0
+    chance = random.Random(given.seed)
+    draws = Programs(chance)
+    codes = [mutated(draws.program(), chance) for _ in range(given.programs)]
+    if given.write:
+        given.write.mkdir(parents=True, exist_ok=True)
+        for place, code in enumerate(codes):
+            (given.write / f"{place}.bin").write_bytes(code)
+        return 0
+    return compare(codes, printed_before(given.against) if given.against else printed_each(given.program, codes))
 
 
 if __name__ == "__main__":
