@@ -2,7 +2,7 @@
 
 use bpf_decode::{Op, Program, Register};
 use bpf_helpers::Sigs;
-use bpf_regstate::{Reg, State};
+use bpf_regstate::{Length, Reg, State};
 use std::fmt;
 
 /// Where a register that may be uninitialised is left without a word.
@@ -101,7 +101,7 @@ impl<'a> Ways<'a> {
         if !leads(state, from, op, to) {
             return None;
         }
-        let after = state.transfer(*op, self.sigs).ok()?;
+        let after = state.transfer(Length::L128, *op, self.sigs).ok()?;
         Some(!is_unset(&after, register))
     }
 
