@@ -29,7 +29,7 @@ ghost use Rattle.bpf_regstate.specs.Faults.{faults, is_uninit, least, operand_un
 ghost use Rattle.bpf_regstate.specs.Narrowing.{narrowed, refined};
 ghost use Rattle.bpf_regstate.specs.Ranges.{AreLeastOnes, filled};
 ghost use Rattle.bpf_regstate.specs.Joins.{joined};
-ghost use Rattle.bpf_regstate.specs.States.{instruction_count, into, join_all, sends, start_shape};
+ghost use Rattle.bpf_regstate.specs.States.{Accepts, IsFirstFault, first_fault, instruction_count, into, join_all, sends, start_shape};
 ghost use Rattle.bpf_regstate.specs.States.{state_at};
 ghost use Rattle.bpf_regstate.specs.Pass.{with_edges, so_far};
 
@@ -111,6 +111,20 @@ pub fn one_pass_is_enough()
         (state_at record_length ops sigs slot))) }
     ensures turn { (record_length : ℕ) (ops : List Op) (sigs : List (ℕ × Promise)) (slot : ℕ) →
         so_far record_length ops sigs slot slot ≡ state_at record_length ops sigs slot }
+{}
+
+/// The first fault of a program is computed by asking one slot after the other: where none is found
+/// the program is accepted, and where it is accepted none is found; what is found is the least slot
+/// that has a fault, with its least number. So a history can say what becomes of a program that is
+/// judged anew.
+pub fn the_first_fault_is_found()
+    ensures none { (record_length : ℕ) (ops : List Op) (sigs : List (ℕ × Promise)) →
+        first_fault record_length ops sigs ≡ None → Accepts record_length ops sigs }
+    ensures accepted { (record_length : ℕ) (ops : List Op) (sigs : List (ℕ × Promise)) →
+        Accepts record_length ops sigs → first_fault record_length ops sigs ≡ None }
+    ensures found { (record_length : ℕ) (ops : List Op) (sigs : List (ℕ × Promise))
+        (slot code : ℕ) → first_fault record_length ops sigs ≡ Some (slot, code)
+        → IsFirstFault record_length ops sigs slot code }
 {}
 
 /// An accepted program never goes wrong, on any record of bytes, at any moment and milestone,
