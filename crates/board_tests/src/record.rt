@@ -142,12 +142,33 @@ fn shorter(rt: &impl Abort) -> [u8; 127] {
     bytes
 }
 
+// They are a record's.
+fn is_read(rt: &impl Abort, bytes: &[u8; 128]) {
+    let record = Record::from_bytes(bytes).expect(rt, "a record");
+    has_bytes(rt, &record, bytes);
+}
+
+// The last bit of the reached word, and the first and the last of the alert word.
+#[test]
+fn each_bit_with_a_meaning_is_read(rt: HostRuntime) {
+    is_read(&rt, &planned_but(&rt, 50, 1));
+    is_read(&rt, &planned_but(&rt, 52, 2));
+    is_read(&rt, &planned_but(&rt, 55, 128));
+}
+
 #[test]
 fn other_bytes_are_refused_with_their_first_fault(rt: HostRuntime) {
     is_refused(&rt, &shorter(&rt), RecordError::WrongLength, 1);
     is_refused(&rt, &planned_but(&rt, 62, 2), RecordError::UnknownLayout, 2);
     is_refused(&rt, &malformed(&rt), RecordError::MalformedText, 3);
     is_refused(&rt, &planned_but(&rt, 50, 2), RecordError::ReservedBits, 4);
+    is_refused(
+        &rt,
+        &planned_but(&rt, 51, 128),
+        RecordError::ReservedBits,
+        4,
+    );
+    is_refused(&rt, &planned_but(&rt, 52, 1), RecordError::ReservedBits, 4);
     is_refused(&rt, &planned_but(&rt, 52, 64), RecordError::ReservedBits, 4);
 }
 

@@ -91,6 +91,35 @@ fn nothing_is_loaded_at_first(rt: HostRuntime) {
     nothing_is_loaded(&rt, &mut slots);
 }
 
+/// A program comes into a slot, and nothing is refused.
+fn comes(rt: &impl Abort, slots: &mut Slots, milestone: Milestone, kind: Kind, program: &Checked) {
+    let program = program.copy().expect(rt, "a copy");
+    same_number(rt, code_of(slots.load(milestone, kind, program)), 0);
+}
+
+/// A program comes into each slot, and goes from each by itself.
+fn all_come_and_go(rt: &impl Abort, slots: &mut Slots, program: &Checked) {
+    for number in 1..17 {
+        let milestone = Milestone::from_number(number).expect(rt, "a milestone");
+        comes(rt, slots, milestone, Kind::Tobt, program);
+        comes(rt, slots, milestone, Kind::Alert, program);
+    }
+    for number in 1..17 {
+        let milestone = Milestone::from_number(number).expect(rt, "a milestone");
+        same_number(rt, code_of(slots.unload(milestone, Kind::Tobt)), 0);
+        same_number(rt, code_of(slots.unload(milestone, Kind::Alert)), 0);
+    }
+}
+
+#[test]
+fn each_program_has_a_slot_of_its_own(rt: HostRuntime) {
+    let sigs = no_sigs(&rt, rt.alloc());
+    let mut slots = slots_under(&rt, rt.alloc(), &sigs);
+    let program = checked(&rt, rt.alloc(), &sigs, NOTHING);
+    all_come_and_go(&rt, &mut slots, &program);
+    nothing_is_loaded(&rt, &mut slots);
+}
+
 /// A program is loaded at milestone 7, or unloaded with this answer, or a slot has a program.
 #[derive(Clone, Copy)]
 enum Step {

@@ -1,7 +1,7 @@
 //! Alerts and local programs of the board, by the profile's worked examples.
-use crate::fixture::{TAXI, checked, no_sigs, same_number, taxi_sigs};
+use crate::fixture::{TAXI, checked, no_sigs, same_bytes, same_number, taxi_sigs};
 use acdm_milestones::{Milestone, Role};
-use acdm_record::{Field, Text};
+use acdm_record::{Field, Record, Text};
 use acdm_slots::Kind;
 use acdm_step::{
     AlertList, Alerted, Answers, Command, Core, FlightCommand, FlightNumber, Load, Outcome, Plan,
@@ -173,7 +173,9 @@ enum Case {
 
 fn board_for(rt: &impl Abort, alloc: Global, case: Case) -> Core {
     match case {
-        Case::NoAnswer | Case::OtherHelpers | Case::Room(_, _) => asking_board(rt, alloc),
+        Case::Copied | Case::NoAnswer | Case::OtherHelpers | Case::Room(_, _) => {
+            asking_board(rt, alloc)
+        }
         _ => empty_board(rt, alloc),
     }
 }
@@ -186,7 +188,7 @@ fn tells_of(rt: &impl Abort, alloc: Global, core: &mut Core, case: Case) {
         Case::Listed => lists(rt, core),
         Case::EmptySlot => tells_of_an_empty_slot(rt, core),
         Case::OwnPrograms => runs_three(rt, alloc, core),
-        Case::Copied => copies(rt, core),
+        Case::Copied => copies(rt, alloc, core),
         Case::NoAnswer => asks(rt, alloc, core),
         Case::OtherHelpers => refuses_other(rt, alloc, core),
         Case::Room(text, room) => needs_room(rt, alloc, core, text, room),
@@ -264,18 +266,21 @@ pub(crate) fn listed(rt: &impl Abort, core: &mut Core, moment: u32) -> AlertList
     }
 }
 
-// Whether flight 7 alone is listed, with CDM01.
-fn is_of_flight_7(list: &[Alerted]) -> bool {
+// Whether flight 7 alone is listed, with these alerts.
+fn is_of_flight_7(list: &[Alerted], word: u32) -> bool {
     match list.first() {
-        Some(first) => list.len() == 1 && first.flight == 7 && first.alerts.word() == 2,
+        Some(first) => list.len() == 1 && first.flight == 7 && first.alerts.word() == word,
         None => false,
     }
 }
 
-// Whether the list of alerts has that flight alone, and whether it is empty.
+// Whether the list of alerts has that flight alone, with CDM01, and whether it is empty.
 fn list_of(rt: &impl Abort, core: &mut Core) -> (bool, bool) {
     let list = listed(rt, core, 1);
-    (is_of_flight_7(list.as_slice()), list.as_slice().is_empty())
+    (
+        is_of_flight_7(list.as_slice(), 2),
+        list.as_slice().is_empty(),
+    )
 }
 
 fn lists(rt: &impl Abort, core: &mut Core) {
@@ -292,6 +297,9 @@ fn flights_with_alerts_are_listed(rt: HostRuntime) {
 
 // r0 = TOBT of the record.
 const TOBT_OF_RECORD: &str = "61106000000000009500000000000000";
+
+// r0 = 0.
+const NOTHING: &str = "b7000000000000009500000000000000";
 
 // r0 = the milestone.
 const MILESTONE: &str = "bf400000000000009500000000000000";
@@ -332,29 +340,61 @@ fn begin(rt: &impl Abort, core: &mut Core, moment: u32) {
     activate(rt, core, moment);
 }
 
-// A report of milestone 9 whose program gets no answer.
-fn refuses(rt: &impl Abort, core: &mut Core, report: &Command) {
-    let verdict = done(rt, core, Role::GroundHandler, SEVEN, report).verdict();
-    same_number(rt, code_of(verdict), 599);
-    holds(rt, core, Field::Alerts, 0);
-    holds(rt, core, Field::Tobt, 0);
+// Milestone 9 gets two programs: one of three instructions sets the target, and one of four asks
+// helper 2.
+fn load_both(rt: &impl Abort, alloc: Global, core: &mut Core) {
+    let at = Milestone::TobtUpdate;
+    load(rt, alloc, core, SEVEN, at, Kind::Tobt, TEN_LATER);
+    load_asking(rt, alloc, core, TAXI);
+    begin(rt, core, SEVEN);
+    has_both(rt, core);
 }
 
-// The program is still there: with its answer it sets LOC01 and LOC03.
+// Both are still there.
+fn has_both(rt: &impl Abort, core: &Core) {
+    same_number(rt, core.room(&target(rt)), 7);
+}
+
+// A report of milestone 9.
+fn target(rt: &impl Abort) -> Command {
+    reported(rt, Milestone::TobtUpdate, TEN)
+}
+
+fn record_of(rt: &impl Abort, core: &Core) -> Record {
+    core.record_of(7).expect(rt, "no flight").copy()
+}
+
+// The flight's record has the bytes of this one.
+fn stays(rt: &impl Abort, core: &Core, before: &Record) {
+    let now = record_of(rt, core);
+    same_bytes(rt, now.bytes().as_slice(), before.bytes().as_slice());
+}
+
+// A report of milestone 9 whose second program gets no answer.
+fn refuses(rt: &impl Abort, core: &mut Core, report: &Command) {
+    let before = record_of(rt, core);
+    let verdict = done(rt, core, Role::GroundHandler, SEVEN, report).verdict();
+    same_number(rt, code_of(verdict), 599);
+    stays(rt, core, &before);
+    has_both(rt, core);
+}
+
+// With its answer both run: the target is ten minutes later, which is CDM08 and CDM09, and 10 is
+// LOC01 and LOC03.
 fn accepts(rt: &impl Abort, core: &mut Core, report: &Command) {
     answered(rt, core, &[10], Role::GroundHandler, SEVEN, report);
-    holds(rt, core, Field::Alerts, 655_360);
+    holds(rt, core, Field::Alerts, 655_360 + 768);
+    holds(rt, core, Field::Tobt, 29_000_590);
 }
 
 fn refuses_and_accepts(rt: &impl Abort, core: &mut Core, report: &Command) {
-    begin(rt, core, SEVEN);
     refuses(rt, core, report);
     accepts(rt, core, report);
 }
 
 fn asks(rt: &impl Abort, alloc: Global, core: &mut Core) {
-    load_asking(rt, alloc, core, TAXI);
-    refuses_and_accepts(rt, core, &reported(rt, Milestone::TobtUpdate, TEN));
+    load_both(rt, alloc, core);
+    refuses_and_accepts(rt, core, &target(rt));
 }
 
 #[test]
@@ -385,21 +425,26 @@ fn answers_get_room_where_a_helper_is_called(rt: HostRuntime) {
 }
 
 // A load of a program that was checked for no helper.
-fn load_of_other(rt: &impl Abort, alloc: Global) -> Command {
+fn load_of_other(rt: &impl Abort, alloc: Global, kind: Kind) -> Command {
     let others = no_sigs(rt, alloc);
-    loaded(
-        rt,
-        alloc,
-        Milestone::TobtUpdate,
-        Kind::Alert,
-        MILESTONE,
-        &others,
-    )
+    let at = Milestone::TobtUpdate;
+    loaded(rt, alloc, at, kind, NOTHING, &others)
+}
+
+// It comes into neither slot of milestone 9.
+fn refuses_load(rt: &impl Abort, alloc: Global, core: &mut Core, kind: Kind) {
+    let load = load_of_other(rt, alloc, kind);
+    judges(rt, core, Role::AirportOperator, SEVEN, load, 322);
+    has_both(rt, core);
 }
 
 fn refuses_other(rt: &impl Abort, alloc: Global, core: &mut Core) {
-    let load = load_of_other(rt, alloc);
-    judges(rt, core, Role::AirportOperator, SEVEN, load, 322);
+    load_both(rt, alloc, core);
+    let before = record_of(rt, core);
+    refuses_load(rt, alloc, core, Kind::Tobt);
+    refuses_load(rt, alloc, core, Kind::Alert);
+    stays(rt, core, &before);
+    accepts(rt, core, &target(rt));
 }
 
 #[test]
@@ -508,14 +553,17 @@ fn copied(rt: &impl Abort, outcome: &Outcome) -> AlertList {
     }
 }
 
-// Whether a copy of the list of alerts has that flight alone.
+// Whether a copy of the list of alerts has that flight alone, with LOC01 and LOC03.
 fn is_copied(rt: &impl Abort, core: &mut Core) -> bool {
     let listed = entered(rt, core, Role::GroundHandler, 1, Command::Alerts);
-    is_of_flight_7(copied(rt, &listed).as_slice())
+    is_of_flight_7(copied(rt, &listed).as_slice(), 655_360)
 }
 
-fn copies(rt: &impl Abort, core: &mut Core) {
-    activate(rt, core, SEVEN);
+fn copies(rt: &impl Abort, alloc: Global, core: &mut Core) {
+    load_asking(rt, alloc, core, TAXI);
+    begin(rt, core, SEVEN);
+    let report = target(rt);
+    answered(rt, core, &[10], Role::GroundHandler, SEVEN, &report);
     assert!(rt; is_copied(rt, core));
 }
 
