@@ -118,6 +118,10 @@ def field_rows():
         yield row.show(**{**BOTH, **fields, "reached": bits(0, 1, *reached)})
     yield (Talk("a slot time is taken back", "no time 2").start(2).report(2, None)
            .show(**BOTH, reached=bits(0, 1, 2)))
+    yield (Talk("a slot time that never was is taken back", "no time 2").start().report(2, None)
+           .show(**BOTH, reached=bits(0, 1, 2)))
+    yield (Talk("a target that never was is taken back", "no time 9").start().report(9, None)
+           .show(**BOTH, reached=bits(0, 1, 9), alerts=bits(10)))
     yield (Talk("a target is taken back", "no time 9").start(9, 10).report(9, None)
            .show(**BOTH, reached=bits(0, 1, 9, 10), alerts=bits(10)))
     yield (Talk("a radar update and the approach set one field", "sets 4", "sets 5").start(4, 5)
@@ -286,6 +290,8 @@ def target_rows():
            .show(**BOTH, ELDT=PATH[4], TOBT=last, reached=bits(0, 1, 4, 9), alerts=bits(8, 9)))
     yield (row("past the last minute", "2^32", now=last).start().load(4, "tobt", later(1)).report(4)
            .show(**BOTH, ELDT=PATH[4], reached=bits(0, 1, 4), alerts=bits(14)))
+    # The program reads the AIBT that its report sets.
+    yield single("its own report", word_at(88), "9:05", bits(8, 9, 15), "now")
     # With a target that stands, at 10:00.
     stood = {**base, "TOBT": "10:00", "reached": reached | bits(9)}
     yield (row("0 with a target", "0 with one standing").start().load(7, "tobt", answers(0)).reports(6, 9, 7).show(**stood))
@@ -301,6 +307,8 @@ def target_rows():
            .load(7, "tobt", later(60)).report(7).alerts("").show(**stood))
     yield (row("CDM14 stays at other touches", "unusable with CDM14 clear").start().load(7, "tobt", later(-1)).reports(6, 7).tick().alerts("CDM14")
            .unload(7, "tobt").report(7).alerts("CDM14").report(9).alerts("CDM14"))
+    yield (row("CDM14 stays at a schedule", "unusable with CDM14 clear").load(1, "tobt", later(-1)).plan().alerts("CDM01,CDM14")
+           .schedule().alerts("CDM14"))
     # Start-up approval: ASAT is set by milestone 14, AOBT by 15.
     gone = {**BOTH, "TOBT": "10:00", "TSAT": "10:01", "ASRT": "9:58"}
     yield (row("before the approval", "ASAT not set").start().load(13, "tobt", later(50)).reports(9, 10, 13)
@@ -534,11 +542,21 @@ def limit_rows():
     yield load("4,097 slots of no opcode", "ff" * 8, 4097, "", "bad 302 0")
     yield load("a byte less than 4,096 slots", "b7", 32_767, "", "bad 301 0")
     yield load("a byte more than 4,096 slots", "b7", 32_769, "", "bad 302 0", "before 302 301")
-    crowd = Crowd("limit: 4,096 flights", "code 503", flights=4096, now="7:00")
-    crowd.alerts(";".join(f"{it}:CDM13" for it in range(1, 4097)))
+
+    def nested(depth, reply):
+        head = '1 29000700 APT {"cmd":"tick","more":'
+        return Long(f"limit: {depth} lists in the object").long(head, "[", depth, "]" * depth + "}", reply)
+
+    yield nested(100, "ok")
+    yield nested(126, "ok")
+    yield nested(127, "bad 101").tick()
+    yield nested(200, "bad 101").tick()
+    crowd = Crowd("limit: 4,096 flights that are scheduled", "code 503", flights=4096, alert="CDM13", now="7:00")
     crowd.schedule("no 503", flight=4097).schedule(flight=4096).plan("no 503", flight=4098).plan(flight=1)
     crowd.report(6, reply="no 202", flight=4097).schedule("no 201", "NM", flight=4097).schedule("no 207", flight=1)
     yield crowd
+    crowd = Crowd("limit: 4,096 flights that are planned", "code 503", flights=4096, alert="CDM01", now="7:00")
+    yield crowd.plan("no 503", flight=4097).plan(flight=1)
 
 
 GROUPS = {
@@ -649,7 +667,7 @@ def limit_text():
     for row in crowds:
         before, behind = row.lines[0].split('"flight":1,')
         parts.append(f'    Crowd {{\n        shows: "{row.name}",\n        flights: {row.flights},\n        capacity: {row.capacity},\n')
-        parts.append(f'        before: r#"{before}"flight":"#,\n        behind: r#",{behind}"#,\n        alert: ":CDM13",\n')
+        parts.append(f'        before: r#"{before}"flight":"#,\n        behind: r#",{behind}"#,\n        alert: ":{row.alert}",\n')
         parts.append(f'        more: r#"{joined(row.lines[row.flights + 1:])}"#,\n        replies: "{joined(row.replies[row.flights + 1:])}",\n    }},\n')
     parts.append("];\n\n")
     for table, name, asserts in (("LINES", "the_longest_lines", "is_long_answered"), ("CROWDS", "the_most_flights", "is_crowd_answered")):

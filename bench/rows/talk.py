@@ -132,13 +132,14 @@ class Long(Talk):
 
 
 class Crowd(Talk):
-    """A row of so many flights, each scheduled by one line from flight 1 on, and of what is sent after them."""
+    """A row of so many flights, each made by one line from flight 1 on, with one alert each, and of what is sent after them."""
 
-    def __init__(self, name, *cells, flights, now):
+    def __init__(self, name, *cells, flights, alert, now):
         super().__init__(name, *cells, capacity=flights + 10, now=now)
-        self.flights = flights
+        self.flights, self.alert = flights, alert
         for flight in range(1, flights + 1):
-            self.schedule(flight=flight)
+            self.schedule(flight=flight) if alert == "CDM13" else self.plan(flight=flight)
+        self.alerts(";".join(f"{it}:{alert}" for it in range(1, flights + 1)))
 
     def starts(self):
         return False

@@ -129,6 +129,7 @@ fn logged_answers_are_given_where_promised(rt: HostRuntime) {
     sigs.push(2, signature).expect(&rt, "signatures");
     is_logged(&rt, &sigs, &[20], [5, 0, 0, 0, 0], Some(20));
     is_logged(&rt, &sigs, &[61], [5, 0, 0, 0, 0], None);
+    is_logged(&rt, &sigs, &[0], [5, 0, 0, 0, 0], None);
     is_logged(&rt, &sigs, &[], [5, 0, 0, 0, 0], None);
     is_logged(&rt, &sigs, &[20], [12, 0, 0, 0, 0], None);
     is_logged(&rt, &sigs, &[10], [12, 0, 0, 0, 0], Some(10));
@@ -151,12 +152,19 @@ fn is_formed(
 
 const ONE: Range = Range { lo: 0, hi: 9 };
 
+const THREE: Range = Range { lo: 3, hi: 9 };
+
 /// A range without numbers.
 const NONE: Range = Range { lo: 1, hi: 0 };
 
 /// Arguments, answers and tables, and whether a signature may have them.
-static SIGNATURES: [(&[Range], Range, &[(u64, u64)], bool); 8] = [
+static SIGNATURES: [(&[Range], Range, &[(u64, u64)], bool); 13] = [
     (&[ONE, ONE, ONE, ONE, ONE], ONE, &[(0, 9), (9, 0)], true),
+    (&[THREE], THREE, &[(3, 9), (9, 3)], true),
+    (&[THREE], ONE, &[(2, 0)], false),
+    (&[ONE], THREE, &[(0, 2)], false),
+    (&[ONE], ONE, &[(2, 0), (1, 0)], false),
+    (&[ONE, ONE, ONE, ONE, NONE], ONE, &[], false),
     (&[ONE, ONE, ONE, ONE, ONE, ONE], ONE, &[], false),
     (&[NONE], ONE, &[], false),
     (&[ONE], NONE, &[], false),

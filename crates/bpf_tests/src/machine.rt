@@ -147,8 +147,19 @@ fn end(
 }
 
 /// Programs with r0 at their end and their steps, at milestone 7.
-static ENDS: [(&str, u64, u64); 17] = [
+static ENDS: [(&str, u64, u64); 19] = [
     ("b7000000000000009500000000000000", 0, 2),
+    // A jump over a wide load, which is one step, and to it.
+    (
+        "b7000000000000000500020000000000180100000100000000000000000000009500000000000000",
+        0,
+        3,
+    ),
+    (
+        "b7000000000000000500000000000000180100000100000000000000000000009500000000000000",
+        0,
+        4,
+    ),
     (
         "b7000000090000001504010001000000b7000000050000009500000000000000",
         5,
@@ -297,7 +308,18 @@ const STAND_12: &str = "b70100000c00000085000000020000009500000000000000";
 const OF_RECORD: &str = "69113c000000000057010000ff01000085000000020000009500000000000000";
 
 /// Programs that ask helper 2, its answers, and what they come to.
-static ANSWERED: [(&str, &[u64], Result<Ended, Trap>); 9] = [
+static ANSWERED: [(&str, &[u64], Result<Ended, Trap>); 11] = [
+    // Behind the call r1 is read, and r5, which both were set before.
+    (
+        "b7010000050000008500000002000000bf100000000000009500000000000000",
+        &[20],
+        Err(Trap::Stuck),
+    ),
+    (
+        "b705000005000000b7010000050000008500000002000000bf500000000000009500000000000000",
+        &[20],
+        Err(Trap::Stuck),
+    ),
     (STAND_5, &[20], Ok(Ended { r0: 20, steps: 3 })),
     (STAND_5, &[61], Err(Trap::Unanswered)),
     (STAND_5, &[], Err(Trap::Unanswered)),

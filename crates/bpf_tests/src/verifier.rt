@@ -7,6 +7,7 @@ mod accepted_limits;
 mod accepted_programs;
 mod accepted_ranges;
 mod accepted_words;
+mod calls;
 mod faults;
 mod form_verdicts;
 mod forms;

@@ -7,6 +7,7 @@ mod serve;
 
 use acdm_board::Desk;
 use acdm_commands::{complete, run_on, verify_on};
+use acdm_failures::Failure;
 use acdm_sessions::{Sink, Source, run};
 use bpf_helpers::{Bank, Helpers};
 use std::alloc::Global;
@@ -81,6 +82,31 @@ fn a_run_ends_with_its_status(rt: HostRuntime) {
     run_ends(&rt, alloc, Broken, replies, (2, "acdm: read failed\n"));
     let lines = SCHEDULE.as_bytes();
     run_ends(&rt, alloc, lines, Broken, (2, "acdm: write failed\n"));
+}
+
+// Each failure, and the line that tells it.
+static FAILURES: [(Failure, &str); 8] = [
+    (Failure::Read, "acdm: read failed\n"),
+    (Failure::Write, "acdm: write failed\n"),
+    (Failure::Save, "acdm: save failed\n"),
+    (Failure::Memory, "acdm: no memory\n"),
+    (Failure::Role(1), "acdm: role 1\n"),
+    (Failure::Address(64), "acdm: address 64\n"),
+    (Failure::Accept(12), "acdm: accept 12\n"),
+    (Failure::Watch, "acdm: watch address\n"),
+];
+
+fn complains(rt: &impl Abort, alloc: Global, failure: Failure, line: &str) {
+    let mut errors = Sink::new(Vec::new(alloc));
+    assert!(rt; failure.complain(&mut errors) == 2, "{line}");
+    assert!(rt; errors.into_inner().as_slice() == line.as_bytes(), "{line}");
+}
+
+#[test]
+fn each_failure_has_its_line(rt: HostRuntime) {
+    for (failure, line) in &FAILURES {
+        complains(&rt, rt.alloc(), *failure, *line);
+    }
 }
 
 // No journal is to be saved.

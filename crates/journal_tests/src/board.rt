@@ -47,11 +47,11 @@ fn sum_signature(rt: &impl Abort, alloc: Global) -> Signature
 }
 
 // A load of these bytes, checked against these signatures.
-fn loaded(rt: &impl Abort, alloc: Global, bytes: &[u8], sigs: &Sigs) -> Command {
+fn loaded(rt: &impl Abort, alloc: Global, kind: Kind, bytes: &[u8], sigs: &Sigs) -> Command {
     let program = decode(alloc, bytes).expect(rt, "a program");
     Command::Load(Load {
         milestone: Milestone::InBlock,
-        kind: Kind::Tobt,
+        kind,
         program: verify(alloc, program, sigs, Length::L128).expect(rt, "an accepted program"),
     })
 }
@@ -114,7 +114,7 @@ fn in_block<H: Helpers + Drop>(rt: &impl Abort, desk: &mut Desk<H>) -> Reply {
 
 // The TOBT of flight 7 is five minutes after its in-block report, as helper 3 says it.
 fn asks<H: Helpers + Drop>(rt: &impl Abort, alloc: Global, desk: &mut Desk<H>) {
-    let load = loaded(rt, alloc, &FIVE_LATER, desk.sigs());
+    let load = loaded(rt, alloc, Kind::Tobt, &FIVE_LATER, desk.sigs());
     entered(rt, desk, 1, Role::AirportOperator, load);
     let reply = in_block(rt, desk);
     same_number(rt, reply.number, 4);
@@ -124,13 +124,35 @@ fn asks<H: Helpers + Drop>(rt: &impl Abort, alloc: Global, desk: &mut Desk<H>) {
     has_answer(rt, desk, 4, 29_000_705);
 }
 
-// A program that was checked against other signatures, and then a full journal.
-fn refuses<H: Helpers + Drop>(rt: &impl Abort, alloc: Global, desk: &mut Desk<H>) {
-    let foreign = loaded(rt, alloc, &NOTHING, &no_sigs(rt, alloc));
+// The in-block report has the program of four instructions for the target, and no other, and there
+// are so many entries.
+fn has_one_program<H: Helpers + Drop>(rt: &impl Abort, desk: &Desk<H>, entries: u64) {
+    let in_block = reported(rt, Milestone::InBlock, NINE);
+    same_number(rt, desk.core().room(&in_block), 4);
+    same_number(rt, desk.len(), entries);
+}
+
+// A program that was checked against other signatures comes into neither slot.
+fn refuses_foreign<H: Helpers + Drop>(
+    rt: &impl Abort,
+    alloc: Global,
+    desk: &mut Desk<H>,
+    kind: Kind,
+) {
+    let foreign = loaded(rt, alloc, kind, &NOTHING, &no_sigs(rt, alloc));
     refused(rt, desk, foreign, DeskError::OtherSignatures);
-    same_number(rt, desk.len(), 5);
+    has_one_program(rt, desk, 5);
+}
+
+// Such a program, and then a full journal.
+fn refuses<H: Helpers + Drop>(rt: &impl Abort, alloc: Global, desk: &mut Desk<H>) {
+    has_one_program(rt, desk, 5);
+    refuses_foreign(rt, alloc, desk, Kind::Tobt);
+    refuses_foreign(rt, alloc, desk, Kind::Alert);
     entered(rt, desk, 1, Role::AirportOperator, Command::Tick);
     refused(rt, desk, Command::Tick, DeskError::Full);
+    let foreign = loaded(rt, alloc, Kind::Alert, &NOTHING, &no_sigs(rt, alloc));
+    refused(rt, desk, foreign, DeskError::Full);
 }
 
 fn five_minutes_later<H: Helpers + Drop>(rt: &impl Abort, alloc: Global, helpers: H) {

@@ -197,6 +197,9 @@ fn follows<H: Helpers + Drop>(rt: &impl Abort, table: &mut Table<H>) {
     assert!(rt; led(rt, table));
     assert!(rt; led(rt, table));
     assert!(rt; led_at_last(table));
+    // What the session has not seen is seen without it.
+    assert!(rt; led_at_last(table));
+    assert!(rt; !led_at_last(table));
 }
 
 fn watches<H: Helpers + Drop>(rt: &impl Abort, alloc: Global, helpers: H) {

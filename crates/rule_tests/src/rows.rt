@@ -178,6 +178,15 @@ fn replies_of<H: Helpers + Drop>(
         .expect(rt, "replies")
 }
 
+// How many of these replies tell of an entry.
+fn entries_in(replies: &str) -> u64 {
+    replies
+        .lines()
+        .filter(|reply| !reply.starts_with("bad "))
+        .count() as u64
+}
+
+// The replies of a desk of its own, which has the entries that they tell of.
 fn replies_with<H: Helpers + Drop>(
     rt: &impl Abort,
     alloc: Global,
@@ -188,6 +197,7 @@ fn replies_with<H: Helpers + Drop>(
     assert!(rt; capacity >= 1 && capacity <= 1_000_000);
     let mut desk = Desk::new(alloc, helpers, capacity).expect(rt, "a desk");
     let replies = replies_of(rt, alloc, lines, &mut desk);
+    assert!(rt; desk.len() == entries_in(replies.as_str()));
     drop(desk);
     replies
 }

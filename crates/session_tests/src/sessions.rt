@@ -4,6 +4,7 @@ mod board;
 mod codes;
 mod programs;
 mod threads;
+mod watching;
 mod wire;
 
 use acdm_board::Desk;
@@ -21,6 +22,11 @@ const TURN_ROUND: &str =
 3 29000700 ATC {"cmd":"report","flight":7,"milestone":6,"time":"2025-02-20T09:00:00Z"}
 1 29000700 APT {"cmd":"report","flight":7,"milestone":7,"time":"2025-02-20T08:59:00Z"}
 "#;
+
+// The first line of the turn-round, and a part of its second.
+const CUT: &str =
+    r#"1 29000700 APT {"cmd":"schedule","flight":7,"callsign":"DLH7","type":"A320","reg":"DAIBC","dest":"EDDM","sobt":"2025-02-20T10:00:00Z","mttt":40,"exit":5,"exot":10,"stand":12}
+2 29000700 NM {"cmd""#;
 
 const IN_BLOCK: &str =
     r#"1 29000700 APT {"cmd":"report","flight":7,"milestone":7,"time":"2025-02-20T09:00:00Z"}
@@ -56,6 +62,14 @@ pub(crate) fn replies_of<H: Helpers + Drop>(
         .expect(rt, "replies")
 }
 
+// How many of these replies tell of an entry.
+fn entries_in(replies: &str) -> u64 {
+    replies
+        .lines()
+        .filter(|reply| !reply.starts_with("bad "))
+        .count() as u64
+}
+
 fn replies_with<H: Helpers + Drop>(
     rt: &impl Abort,
     alloc: Global,
@@ -65,11 +79,13 @@ fn replies_with<H: Helpers + Drop>(
 ) -> String {
     let mut desk = Desk::new(alloc, helpers, capacity).expect(rt, "a desk");
     let replies = replies_of(rt, alloc, parts, &mut desk);
+    assert!(rt; desk.len() == entries_in(replies.as_str()));
     drop(desk);
     replies
 }
 
-/// A desk without helpers answers these lines so; what that shows is told where it does not.
+/// A desk without helpers answers these lines so, and has the entries that the replies tell of;
+/// what that shows is told where it does not.
 pub(crate) fn are_answered(
     rt: &impl Abort,
     alloc: Global,
@@ -114,6 +130,40 @@ fn lines_are_answered_in_order(rt: HostRuntime) {
         10,
         "ok 0\nok 1\nok 2\nno 3 206\nok 4\n",
     );
+    are_answered(
+        &rt,
+        rt.alloc(),
+        "a line that is cut",
+        &[CUT],
+        10,
+        "ok 0\nbad 101\n",
+    );
+}
+
+// The fronts of a tick without its last brace.
+static CUTS: [&str; 14] = [
+    "",
+    "{",
+    "{\"",
+    "{\"c",
+    "{\"cm",
+    "{\"cmd",
+    "{\"cmd\"",
+    "{\"cmd\":",
+    "{\"cmd\":\"",
+    "{\"cmd\":\"t",
+    "{\"cmd\":\"ti",
+    "{\"cmd\":\"tic",
+    "{\"cmd\":\"tick",
+    "{\"cmd\":\"tick\"",
+];
+
+#[test]
+fn a_tick_that_is_cut_is_no_json(rt: HostRuntime) {
+    for cut in &CUTS {
+        let line = ["1 29000580 APT ", *cut, "\n"];
+        are_answered(&rt, rt.alloc(), *cut, &line, 10, "bad 101\n");
+    }
 }
 
 #[test]
@@ -207,6 +257,9 @@ fn lines_of_up_to_70000_bytes_are_read(rt: HostRuntime) {
     are_answered_padded(&rt, rt.alloc(), 70_000, "bad 102\nno 0 202\n");
     are_answered_padded(&rt, rt.alloc(), 70_001, "bad 105\nno 0 202\n");
     are_answered_padded(&rt, rt.alloc(), 300_000, "bad 105\nno 0 202\n");
+    let endless = padded(&rt, rt.alloc(), "{", 10_000_000);
+    let parts = [endless.as_str()];
+    are_answered(&rt, rt.alloc(), "no line feed", &parts, 10, "bad 105\n");
 }
 
 /// Gives one line in pieces of seven bytes, and then fails.
@@ -227,23 +280,39 @@ impl Read for Failing<'_> {
     }
 }
 
-fn ends_by_the_reader<H: Helpers + Drop>(rt: &impl Abort, alloc: Global, helpers: H) {
-    let text = TURN_ROUND.as_bytes();
-    let mut reader = Source::new(Failing { text });
+// What a run reads before its reader fails, its replies, and how many entries it makes.
+static READ: [(&str, &str, u64); 2] = [
+    (CUT, "ok 0\n", 1),
+    (TURN_ROUND, "ok 0\nok 1\nok 2\nno 3 206\n", 4),
+];
+
+fn ends_by_the_reader<H: Helpers + Drop>(
+    rt: &impl Abort,
+    alloc: Global,
+    helpers: H,
+    row: (&str, &str, u64),
+) {
+    let (text, replies, entries) = row;
+    let mut reader = Source::new(Failing {
+        text: text.as_bytes(),
+    });
     let mut writer = Sink::new(Vec::new(alloc));
     let mut desk = Desk::new(alloc, helpers, 10).expect(rt, "a desk");
     let ended = run(alloc, &mut reader, &mut writer, &mut desk);
+    let length = desk.len();
     drop(desk);
-    assert!(rt; ended == Err(RunError::Read));
+    assert!(rt; ended == Err(RunError::Read) && length == entries);
     assert!(rt; reader.faults() == 1 && writer.faults() == 0);
     let written = writer.into_inner();
-    assert!(rt; written.as_slice() == b"ok 0\nok 1\nok 2\nno 3 206\n".as_slice());
+    assert!(rt; written.as_slice() == replies.as_bytes());
 }
 
 #[test]
 fn a_reader_that_fails_ends_the_run(rt: HostRuntime) {
-    let alloc = rt.alloc();
-    ends_by_the_reader(&rt, alloc, Bank::new(alloc).expect(&rt, "a bank"));
+    for row in &READ {
+        let bank = Bank::new(rt.alloc()).expect(&rt, "a bank");
+        ends_by_the_reader(&rt, rt.alloc(), bank, *row);
+    }
 }
 
 /// Takes so many bytes, and then fails.
@@ -266,25 +335,37 @@ impl Write for Narrow {
     }
 }
 
-fn ends_by_the_writer<H: Helpers + Drop>(rt: &impl Abort, alloc: Global, helpers: H) {
+// How many bytes a writer takes of the replies, these, and how many entries the run makes.
+static WRITTEN: [(usize, &str, u64); 2] = [(3, "ok ", 1), (8, "ok 0\nok ", 2)];
+
+fn ends_by_the_writer<H: Helpers + Drop>(
+    rt: &impl Abort,
+    alloc: Global,
+    helpers: H,
+    row: (usize, &str, u64),
+) {
+    let (room, replies, entries) = row;
     let mut reader = Source::new(TURN_ROUND.as_bytes());
     let mut writer = Sink::new(Narrow {
         taken: Vec::new(alloc),
-        room: 8,
+        room,
     });
     let mut desk = Desk::new(alloc, helpers, 10).expect(rt, "a desk");
     let ended = run(alloc, &mut reader, &mut writer, &mut desk);
+    let length = desk.len();
     drop(desk);
-    assert!(rt; ended == Err(RunError::Write));
+    assert!(rt; ended == Err(RunError::Write) && length == entries);
     assert!(rt; writer.faults() == 1 && reader.faults() == 0);
     let narrow = writer.into_inner();
-    assert!(rt; narrow.taken.as_slice() == b"ok 0\nok ".as_slice());
+    assert!(rt; narrow.taken.as_slice() == replies.as_bytes());
 }
 
 #[test]
 fn a_writer_that_fails_ends_the_run(rt: HostRuntime) {
-    let alloc = rt.alloc();
-    ends_by_the_writer(&rt, alloc, Bank::new(alloc).expect(&rt, "a bank"));
+    for row in &WRITTEN {
+        let bank = Bank::new(rt.alloc()).expect(&rt, "a bank");
+        ends_by_the_writer(&rt, rt.alloc(), bank, *row);
+    }
 }
 
 /// Gives a line for each read, and asks that the earlier ones were answered by then.

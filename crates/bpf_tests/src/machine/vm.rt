@@ -1,12 +1,14 @@
 //! The embeddable machine with the three helpers of this project.
 
+ghost use Rattle.std.specs.Prelude.{◌≡◌};
+
 use crate::fixtures::{
-    minutes_later, sum_signature, taxi_helper, turn_round_minutes, turn_round_signature,
+    minutes_later, range, sum_signature, taxi_helper, turn_round_minutes, turn_round_signature,
 };
 use crate::machine::planned;
 use crate::programs::{EXIT, bytes_of, exited, is_fault, slot};
 use acdm_milestones::Milestone;
-use bpf_helpers::{Code, Helper};
+use bpf_helpers::{Code, Helper, Signature};
 use bpf_machine::{EbpfVmRaw, Ended};
 use bpf_regstate::Length;
 use std::alloc::Global;
@@ -15,6 +17,9 @@ use std::process::Abort;
 /// The aircraft category, and 0 where it is over 124.
 const CATEGORY: &str =
     "71153f0000000000250503007c0000000f5100000000000071100000000000009500000000000000b7000000000000009500000000000000";
+
+/// The milestone of the run.
+const MILESTONE: &str = "bf400000000000009500000000000000";
 
 /// The moment of the run, five minutes later.
 const FIVE_LATER: &str = "bf31000000000000b70200000500000085000000030000009500000000000000";
@@ -29,6 +34,20 @@ fn turn_round_helper(rt: &impl Abort, alloc: Global) -> Helper {
 fn sum_helper(rt: &impl Abort, alloc: Global) -> Helper {
     let code: Code = Box::new(alloc, minutes_later).expect(rt, "code");
     Helper::new(3, sum_signature(rt, alloc), code)
+}
+
+/// Helper 4 takes a number up to 9, and answers the second that it is passed, which is 0.
+fn second_helper(rt: &impl Abort, alloc: Global) -> Helper {
+    let args = vec![in alloc; range(0, 9)].expect(rt, "an argument");
+    let signature = Signature::new(args, range(0, 0), Vec::new(alloc));
+    let code: Code = Box::new(
+        alloc,
+        |_a: u64, b: u64, _c: u64, _d: u64, _e: u64| -> u64
+            ensures { result ≡ b }
+        { b },
+    )
+    .expect(rt, "code");
+    Helper::new(4, signature.expect(rt, "a signature"), code)
 }
 
 /// Registers a helper. Where it is refused: the fault's number, and that of the helper that came
@@ -104,6 +123,8 @@ fn stays(rt: &impl Abort, alloc: Global, vm: &mut EbpfVmRaw) {
     refuses_program(rt, alloc, vm, "9500000000000000", 308, 0);
     refuses_program(rt, alloc, vm, "1800000001000000", 315, 0);
     ends(rt, vm, 29_000_580, 0, 5);
+    sets(rt, alloc, vm, MILESTONE);
+    ends(rt, vm, 29_000_580, 7, 2);
 }
 
 #[test]
@@ -127,10 +148,23 @@ fn calls_sum(rt: &impl Abort, alloc: Global, vm: &mut EbpfVmRaw) {
     ends(rt, vm, 7, 12, 4);
 }
 
+/// Helper 4 is passed 5 alone, though r2 is the record's length.
+fn calls_second(rt: &impl Abort, alloc: Global, vm: &mut EbpfVmRaw) {
+    sets(
+        rt,
+        alloc,
+        vm,
+        "b70100000500000085000000040000009500000000000000",
+    );
+    ends(rt, vm, 7, 0, 3);
+}
+
 #[test]
 fn helpers_are_called(rt: HostRuntime) {
     let mut vm = EbpfVmRaw::new(rt.alloc()).expect(&rt, "a machine");
+    adds(&rt, &mut vm, second_helper(&rt, rt.alloc()));
     calls_sum(&rt, rt.alloc(), &mut vm);
+    calls_second(&rt, rt.alloc(), &mut vm);
     drop(vm);
 }
 

@@ -29,7 +29,7 @@ fn pair(rt: &impl Abort, first: u16, second: u16) -> Pair {
 }
 
 /// Adds a helper that takes and answers these ranges.
-fn add_helper(
+pub(crate) fn add_helper(
     rt: &impl Abort,
     alloc: Global,
     sigs: &mut Sigs,

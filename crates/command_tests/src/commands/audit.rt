@@ -37,15 +37,21 @@ fn joined(rt: &impl Abort, alloc: Global, parts: &[&str]) -> String {
     text
 }
 
-fn audits_to(rt: &impl Abort, alloc: Global, parts: &[&str], status: u8, told: &str) {
+// The status of an audit of this text, what it tells, and whether it complains of nothing.
+fn audited(rt: &impl Abort, alloc: Global, parts: &[&str]) -> (u8, Vec<u8>, bool) {
     let journal = joined(rt, alloc, parts);
     let mut reader = Source::new(journal.as_bytes());
     let mut output = Sink::new(Vec::new(alloc));
     let mut errors = Sink::new(Vec::new(alloc));
     let ended = audit_on(alloc, &mut reader, &mut output, &mut errors);
-    assert!(rt; ended == status, "{told}");
-    assert!(rt; output.into_inner().as_slice() == told.as_bytes(), "{told}");
-    assert!(rt; errors.into_inner().is_empty(), "{told}");
+    let is_quiet = errors.into_inner().is_empty();
+    (ended, output.into_inner(), is_quiet)
+}
+
+fn audits_to(rt: &impl Abort, alloc: Global, parts: &[&str], status: u8, told: &str) {
+    let (ended, output, is_quiet) = audited(rt, alloc, parts);
+    assert!(rt; ended == status && is_quiet, "{told}");
+    assert!(rt; output.as_slice() == told.as_bytes(), "{told}");
 }
 
 // The status of a run over the lines, and what it saved.
@@ -99,6 +105,178 @@ fn an_entry_that_is_none_is_told(rt: HostRuntime) {
     audits_to(&rt, alloc, &parts, 1, "entry 4 401\n");
     audits_to(&rt, alloc, &["\n"], 1, "entry 0 401\n");
     audits_to(&rt, alloc, &[], 0, "legal 0\n");
+}
+
+// First entries of a journal, and the clause that each breaks, or 0: each part at the ends of its
+// range and just outside, numbers below 2^64 that a later clause judges, and which of two clauses
+// comes first.
+static FIRST_ENTRIES: [(&str, u16); 52] = [
+    ("0 64 4294967295 APT 0 0 tick", 0),
+    ("0 65 9 APT 0 0 tick", 401),
+    ("0 0 9 APT 0 0 tick", 401),
+    ("0 1 1 APT 0 0 tick", 0),
+    ("0 1 0 APT 0 0 tick", 401),
+    ("0 1 4294967296 APT 0 0 tick", 401),
+    ("0 1 9 apt 0 0 tick", 401),
+    (
+        "0 1 9 APT 0 0 schedule 18446744073709551615 DLH45678 A320 DAIBCDEF EDDM 4294967295 1440 255 1440 65535",
+        0,
+    ),
+    ("0 1 9 APT 0 0 schedule 1 C A R D 1 0 0 0 0", 0),
+    ("0 1 9 APT 0 0 schedule 0 C A R D 9 40 5 10 12", 401),
+    (
+        "0 1 9 APT 0 0 schedule 18446744073709551616 C A R D 9 40 5 10 12",
+        401,
+    ),
+    ("0 1 9 APT 0 0 schedule 7 DLH456789 A R D 9 40 5 10 12", 401),
+    ("0 1 9 APT 0 0 schedule 7 C A3200 R D 9 40 5 10 12", 401),
+    ("0 1 9 APT 0 0 schedule 7 C A DAIBCDEFG D 9 40 5 10 12", 401),
+    ("0 1 9 APT 0 0 schedule 7 C A R EDDMM 9 40 5 10 12", 401),
+    ("0 1 9 APT 0 0 schedule 7 D\x7f A R D 9 40 5 10 12", 401),
+    ("0 1 9 APT 0 0 schedule 7 C A R D 0 40 5 10 12", 401),
+    (
+        "0 1 9 APT 0 0 schedule 7 C A R D 4294967296 40 5 10 12",
+        401,
+    ),
+    ("0 1 9 APT 0 0 schedule 7 C A R D 9 1441 5 10 12", 401),
+    ("0 1 9 APT 0 0 schedule 7 C A R D 9 40 256 10 12", 401),
+    ("0 1 9 APT 0 0 schedule 7 C A R D 9 40 5 1441 12", 401),
+    ("0 1 9 APT 0 0 schedule 7 C A R D 9 40 5 10 65536", 401),
+    ("0 3 9 ATC 202 0 report 7 16 4294967295", 0),
+    ("0 3 9 ATC 202 0 report 7 17 9", 401),
+    ("0 3 9 ATC 202 0 report 7 0 9", 401),
+    ("0 3 9 ATC 202 0 report 7 6 0", 401),
+    ("0 3 9 ATC 202 0 report 7 6 4294967296", 401),
+    ("0 2 9 NM 202 0 report 7 2 0", 0),
+    ("0 5 9 GH 202 0 report 7 9 0", 0),
+    ("0 2 9 NM 0 0 report 7 1 9", 401),
+    ("0 2 9 NM 0 0 report 7 1 0 C A R D", 401),
+    ("0 5 9 GH 202 0 report 7 9 9 C A R D", 401),
+    ("0 1 9 APT 202 0 show 18446744073709551615", 0),
+    ("0 1 9 APT 202 0 show 0", 401),
+    ("0 1 9 APT 321 0 unload 16 alert", 0),
+    ("0 1 9 APT 321 0 unload 16 Alert", 401),
+    (
+        "0 1 9 APT 0 0 load 9 alert b7000000000000009500000000000000",
+        0,
+    ),
+    (
+        "0 1 9 APT 0 0 load 9 alert B7000000000000009500000000000000",
+        401,
+    ),
+    ("0 1 9 APT 0 0 load 9 alert b70", 401),
+    ("18446744073709551615 1 9 APT 0 0 tick", 402),
+    ("18446744073709551616 1 9 APT 0 0 tick", 401),
+    ("0 1 9 APT 0 1 18446744073709551615 tick", 404),
+    ("0 1 9 APT 0 1 18446744073709551616 tick", 401),
+    ("0 1 9 APT 18446744073709551615 0 tick", 405),
+    ("0 1 9 APT 18446744073709551616 0 tick", 401),
+    ("1 65 9 APT 0 0 tick", 401),
+    ("1 1 9 APT 0 0 load 9 alert 95", 402),
+    ("0 1 9 APT 0 1 5 load 9 alert 95", 403),
+    ("0 2 9 NM 0 0 load 9 alert 95", 403),
+    ("0 1 9 APT 201 1 5 tick", 404),
+    ("0 2 9 NM 201 1 5 tick", 404),
+    ("0 2 9 NM 202 0 tick", 405),
+];
+
+fn is_judged(rt: &impl Abort, alloc: Global, line: &str, clause: u16) {
+    let told = match clause {
+        0 => "legal 1\n",
+        401 => "entry 0 401\n",
+        402 => "entry 0 402\n",
+        403 => "entry 0 403\n",
+        404 => "entry 0 404\n",
+        _ => "entry 0 405\n",
+    };
+    let (ended, output, is_quiet) = audited(rt, alloc, &[line, "\n"]);
+    assert!(rt; ended == u8::from(clause != 0) && is_quiet, "{line}");
+    assert!(rt; output.as_slice() == told.as_bytes(), "{line}");
+}
+
+#[test]
+fn the_first_clause_that_is_broken_is_told(rt: HostRuntime) {
+    for (line, clause) in &FIRST_ENTRIES {
+        is_judged(&rt, rt.alloc(), *line, *clause);
+    }
+}
+
+// A helper, its first argument, an answer, and whether it is promised.
+static PROMISES: [(u32, u32, u64, bool); 23] = [
+    (1, 808_596_289, 45, true),
+    (1, 808_596_289, 46, false),
+    (1, 942_880_578, 45, true),
+    (1, 942_880_578, 44, false),
+    (1, 943_207_233, 120, true),
+    (1, 943_207_233, 119, false),
+    (1, 7, 0, false),
+    (1, 7, 1, true),
+    (1, 7, 1_440, true),
+    (1, 7, 1_441, false),
+    (2, 12, 10, true),
+    (2, 12, 11, false),
+    (2, 120, 15, true),
+    (2, 120, 16, false),
+    (2, 900, 20, true),
+    (2, 900, 21, false),
+    (2, 7, 0, false),
+    (2, 7, 1, true),
+    (2, 7, 60, true),
+    (2, 7, 61, false),
+    (3, 7, 0, true),
+    (3, 7, 4_294_977_295, true),
+    (3, 7, 4_294_977_296, false),
+];
+
+// A program for milestone 1 that calls a helper is loaded, and its entry has this answer.
+fn asked(rt: &impl Abort, alloc: Global, helper: u32, argument: u32, answer: u64) -> String {
+    let helper = helper.swap_bytes();
+    let argument = argument.swap_bytes();
+    format!(in alloc;
+        "0 1 9 APT 0 0 load 1 alert b7010000{argument:08x}85000000{helper:08x}9500000000000000\n1 2 9 NM 0 1 {answer} report 7 1 9 C A R D\n"
+    ).expect(rt, "two lines")
+}
+
+fn is_promised(rt: &impl Abort, alloc: Global, row: (u32, u32, u64, bool)) {
+    let (helper, argument, answer, is_promised) = row;
+    let lines = asked(rt, alloc, helper, argument, answer);
+    let told = if is_promised {
+        "legal 2\n"
+    } else {
+        "entry 1 404\n"
+    };
+    let (ended, output, _) = audited(rt, alloc, &[lines.as_str()]);
+    assert!(rt; ended == u8::from(!is_promised), "{lines}");
+    assert!(rt; output.as_slice() == told.as_bytes(), "{lines}");
+}
+
+#[test]
+fn answers_that_are_not_promised_are_told(rt: HostRuntime) {
+    for row in &PROMISES {
+        is_promised(&rt, rt.alloc(), *row);
+    }
+}
+
+// A load with so many digits 0 for its program, which encode none.
+fn is_long_judged(rt: &impl Abort, alloc: Global, head: &str, digits: usize, told: &str) {
+    let mut line = String::new(alloc);
+    line.push_str(head).expect(rt, "room for a head");
+    for _ in 0..digits {
+        line.push_str("0").expect(rt, "room for a digit");
+    }
+    assert!(rt; line.len() == head.len().saturating_add(digits));
+    audits_to(rt, alloc, &[line.as_str(), "\n"], 1, told);
+}
+
+// Loads of 200,000 bytes, of one less and of one more.
+#[test]
+fn a_line_of_more_than_200_000_bytes_is_told(rt: HostRuntime) {
+    let alloc = rt.alloc();
+    let head = "0 1 29000580 APT 0 0 load 9 alert ";
+    is_long_judged(&rt, alloc, head, 199_966, "entry 0 403\n");
+    let head = "0 10 29000580 APT 0 0 load 9 alert ";
+    is_long_judged(&rt, alloc, head, 199_964, "entry 0 403\n");
+    is_long_judged(&rt, alloc, head, 199_966, "entry 0 401\n");
 }
 
 // Third entries of a journal, with the status and what is told of each.

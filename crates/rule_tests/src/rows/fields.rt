@@ -1,7 +1,7 @@
 //! What a milestone, a schedule and a flight plan set. Written by `bench/rows/rows.py`.
 use crate::rows::{Row, is_answered};
 
-static ROWS_1: [Row; 31] = [
+static ROWS_1: [Row; 33] = [
     Row {
         shows: "what milestone 2 sets",
         capacity: 100,
@@ -250,6 +250,32 @@ $+2,"time":null}
 ^
 ^
 ~Y07U00jUUUUUUUUU0000
+"#,
+    },
+    Row {
+        shows: "a slot time that never was is taken back",
+        capacity: 100,
+        starts: true,
+        lines: r#"$+2,"time":null}
+&>
+"#,
+        replies: r#"^
+^
+^
+~Y07U00jUUUUUUUUU0000
+"#,
+    },
+    Row {
+        shows: "a target that never was is taken back",
+        capacity: 100,
+        starts: true,
+        lines: r#"*+9,"time":null}
+&>
+"#,
+        replies: r#"^
+^
+^
+~Y0302`040000jUUUUUUUUU0000
 "#,
     },
     Row {

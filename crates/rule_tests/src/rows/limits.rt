@@ -1,7 +1,7 @@
 //! The longest lines and programs, and the most flights. Written by `bench/rows/rows.py`.
 use crate::rows::{Crowd, Long, is_crowd_answered, is_long_answered};
 
-static LINES: [Long; 14] = [
+static LINES: [Long; 18] = [
     Long {
         shows: "limit: a line of 70,000 bytes",
         head: r#"1 29000700 APT {"cmd":"tick"}"#,
@@ -148,16 +148,61 @@ ok 0
         replies: "bad 302 0
 ",
     },
+    Long {
+        shows: "limit: 100 lists in the object",
+        head: r#"1 29000700 APT {"cmd":"tick","more":"#,
+        part: "[",
+        times: 100,
+        tail: r#"]]]]]]]]]]]]]]]]]]]]]]]]]]]]]]]]]]]]]]]]]]]]]]]]]]]]]]]]]]]]]]]]]]]]]]]]]]]]]]]]]]]]]]]]]]]]]]]]]]]]}"#,
+        more: r#""#,
+        replies: "ok 0
+",
+    },
+    Long {
+        shows: "limit: 126 lists in the object",
+        head: r#"1 29000700 APT {"cmd":"tick","more":"#,
+        part: "[",
+        times: 126,
+        tail: r#"]]]]]]]]]]]]]]]]]]]]]]]]]]]]]]]]]]]]]]]]]]]]]]]]]]]]]]]]]]]]]]]]]]]]]]]]]]]]]]]]]]]]]]]]]]]]]]]]]]]]]]]]]]]]]]]]]]]]]]]]]]]]]]}"#,
+        more: r#""#,
+        replies: "ok 0
+",
+    },
+    Long {
+        shows: "limit: 127 lists in the object",
+        head: r#"1 29000700 APT {"cmd":"tick","more":"#,
+        part: "[",
+        times: 127,
+        tail: r#"]]]]]]]]]]]]]]]]]]]]]]]]]]]]]]]]]]]]]]]]]]]]]]]]]]]]]]]]]]]]]]]]]]]]]]]]]]]]]]]]]]]]]]]]]]]]]]]]]]]]]]]]]]]]]]]]]]]]]]]]]]]]]]]}"#,
+        more: r#"1 29000700 APT {"cmd":"tick"}
+"#,
+        replies: "bad 101
+ok 0
+",
+    },
+    Long {
+        shows: "limit: 200 lists in the object",
+        head: r#"1 29000700 APT {"cmd":"tick","more":"#,
+        part: "[",
+        times: 200,
+        tail: r#"]]]]]]]]]]]]]]]]]]]]]]]]]]]]]]]]]]]]]]]]]]]]]]]]]]]]]]]]]]]]]]]]]]]]]]]]]]]]]]]]]]]]]]]]]]]]]]]]]]]]]]]]]]]]]]]]]]]]]]]]]]]]]]]]]]]]]]]]]]]]]]]]]]]]]]]]]]]]]]]]]]]]]]]]]]]]]]]]]]]]]]]]]]]]]]]]]]]]]]]]}"#,
+        more: r#"1 29000700 APT {"cmd":"tick"}
+"#,
+        replies: "bad 101
+ok 0
+",
+    },
 ];
 
-static CROWDS: [Crowd; 1] = [Crowd {
-    shows: "limit: 4,096 flights",
-    flights: 4096,
-    capacity: 4106,
-    before: r#"1 29000580 APT {"cmd":"schedule","flight":"#,
-    behind: r#","callsign":"DLH7","type":"A320","reg":"DAIBC","dest":"EDDM","sobt":"2025-02-20T10:00:00Z","mttt":40,"exit":5,"exot":10,"stand":12}"#,
-    alert: ":CDM13",
-    more: r#"1 29000580 APT {"cmd":"schedule","flight":4097,"callsign":"DLH7","type":"A320","reg":"DAIBC","dest":"EDDM","sobt":"2025-02-20T10:00:00Z","mttt":40,"exit":5,"exot":10,"stand":12}
+static CROWDS: [Crowd; 2] = [
+    Crowd {
+        shows: "limit: 4,096 flights that are scheduled",
+        flights: 4096,
+        capacity: 4106,
+        before: r#"1 29000580 APT {"cmd":"schedule","flight":"#,
+        behind: r#","callsign":"DLH7","type":"A320","reg":"DAIBC","dest":"EDDM","sobt":"2025-02-20T10:00:00Z","mttt":40,"exit":5,"exot":10,"stand":12}"#,
+        alert: ":CDM13",
+        more: r#"1 29000580 APT {"cmd":"schedule","flight":4097,"callsign":"DLH7","type":"A320","reg":"DAIBC","dest":"EDDM","sobt":"2025-02-20T10:00:00Z","mttt":40,"exit":5,"exot":10,"stand":12}
 1 29000580 APT {"cmd":"schedule","flight":4096,"callsign":"DLH7","type":"A320","reg":"DAIBC","dest":"EDDM","sobt":"2025-02-20T10:00:00Z","mttt":40,"exit":5,"exot":10,"stand":12}
 2 29000580 NM {"cmd":"report","flight":4098,"milestone":1,"time":"2025-02-20T10:00:00Z","callsign":"DLH7","type":"A320","reg":"DAIBC","dest":"EDDM"}
 2 29000580 NM {"cmd":"report","flight":1,"milestone":1,"time":"2025-02-20T10:00:00Z","callsign":"DLH7","type":"A320","reg":"DAIBC","dest":"EDDM"}
@@ -165,7 +210,7 @@ static CROWDS: [Crowd; 1] = [Crowd {
 2 29000580 NM {"cmd":"schedule","flight":4097,"callsign":"DLH7","type":"A320","reg":"DAIBC","dest":"EDDM","sobt":"2025-02-20T10:00:00Z","mttt":40,"exit":5,"exot":10,"stand":12}
 1 29000580 APT {"cmd":"schedule","flight":1,"callsign":"DLH7","type":"A320","reg":"DAIBC","dest":"EDDM","sobt":"2025-02-20T10:00:00Z","mttt":40,"exit":5,"exot":10,"stand":12}
 "#,
-    replies: "no 4097 503
+        replies: "no 4097 503
 ok 4098
 no 4099 503
 ok 4100
@@ -173,7 +218,22 @@ no 4101 202
 no 4102 201
 no 4103 207
 ",
-}];
+    },
+    Crowd {
+        shows: "limit: 4,096 flights that are planned",
+        flights: 4096,
+        capacity: 4106,
+        before: r#"2 29000580 NM {"cmd":"report","flight":"#,
+        behind: r#","milestone":1,"time":"2025-02-20T10:00:00Z","callsign":"DLH7","type":"A320","reg":"DAIBC","dest":"EDDM"}"#,
+        alert: ":CDM01",
+        more: r#"2 29000580 NM {"cmd":"report","flight":4097,"milestone":1,"time":"2025-02-20T10:00:00Z","callsign":"DLH7","type":"A320","reg":"DAIBC","dest":"EDDM"}
+2 29000580 NM {"cmd":"report","flight":1,"milestone":1,"time":"2025-02-20T10:00:00Z","callsign":"DLH7","type":"A320","reg":"DAIBC","dest":"EDDM"}
+"#,
+        replies: "no 4097 503
+ok 4098
+",
+    },
+];
 
 #[test]
 fn the_longest_lines(rt: HostRuntime) {

@@ -1,7 +1,7 @@
 //! What comes of the answer of a program of kind `tobt`. Written by `bench/rows/rows.py`.
 use crate::rows::{Row, is_answered};
 
-static ROWS_1: [Row; 28] = [
+static ROWS_1: [Row; 30] = [
     Row {
         shows: "target: 0 suggests nothing",
         capacity: 100,
@@ -190,6 +190,23 @@ static ROWS_1: [Row; 28] = [
 "#,
     },
     Row {
+        shows: "target: its own report",
+        capacity: 100,
+        starts: true,
+        lines: r#"!?611058`0000V
+%+6(09:00)
+!+7(09:05)
+&>
+"#,
+        replies: r#"^
+^
+^
+^
+^
+~Yc302`830000jUUfc83ba010184ba01`000184ba01UUUU`00
+"#,
+    },
+    Row {
         shows: "target: 0 with a target",
         capacity: 100,
         starts: true,
@@ -323,6 +340,23 @@ static ROWS_1: [Row; 28] = [
 ^
 ^
 | 7:CDM14
+^
+| 7:CDM14
+"#,
+    },
+    Row {
+        shows: "target: CDM14 stays at a schedule",
+        capacity: 100,
+        starts: false,
+        lines: r#"!S1,"kind":"tobt","program":"bf3U007`ffffffffV
+$+<
+!=
+!/
+!=
+"#,
+        replies: r#"^
+^
+| 7:CDM01,CDM14
 ^
 | 7:CDM14
 "#,

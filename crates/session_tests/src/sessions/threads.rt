@@ -53,62 +53,157 @@ impl Gate for Open {
     fn answered(&self, _session: u8, _call: u64) {}
 }
 
+/// Holds nobody up. Counts the calls of one session and those that were answered, which are
+/// numbered from 1 on.
+#[derive(Drop)]
+struct Count {
+    calls: AtomicU64,
+    answers: AtomicU64,
+    faults: AtomicU64,
+}
+
+impl Count {
+    fn new() -> Count {
+        Count {
+            calls: AtomicU64::new(0),
+            answers: AtomicU64::new(0),
+            faults: AtomicU64::new(0),
+        }
+    }
+
+    // Whether there were so many calls, of which so many were answered.
+    fn is(&self, calls: u64, answers: u64) -> bool {
+        self.calls.load(Ordering::SeqCst) == calls
+            && self.answers.load(Ordering::SeqCst) == answers
+            && self.faults.load(Ordering::SeqCst) == 0
+    }
+}
+
+// Adds one, and whether it is this number then.
+fn counts_to(count: &AtomicU64, number: u64) -> bool {
+    count.fetch_add(1, Ordering::SeqCst).wrapping_add(1) == number
+}
+
+impl Gate for Count {
+    fn enter(&self, _session: u8, call: u64) {
+        if !counts_to(&self.calls, call) {
+            self.faults.fetch_add(1, Ordering::SeqCst);
+        }
+    }
+
+    fn answered(&self, _session: u8, call: u64) {
+        if self.calls.load(Ordering::SeqCst) != call {
+            self.faults.fetch_add(1, Ordering::SeqCst);
+        }
+        if !counts_to(&self.answers, call) {
+            self.faults.fetch_add(1, Ordering::SeqCst);
+        }
+    }
+}
+
 /// Holds the first calls of two sessions until both are there, and that of session 1 until session
 /// 2 was answered.
 #[derive(Drop)]
 struct Meeting {
-    first: AtomicU64,
-    second: AtomicU64,
-    answered: AtomicU64,
+    first: Count,
+    second: Count,
+    // Whether session 1 may go on.
+    freed: AtomicU64,
+    // What was waited for in vain.
+    missed: AtomicU64,
 }
 
 impl Meeting {
     fn new() -> Meeting {
         Meeting {
-            first: AtomicU64::new(0),
-            second: AtomicU64::new(0),
-            answered: AtomicU64::new(0),
+            first: Count::new(),
+            second: Count::new(),
+            freed: AtomicU64::new(0),
+            missed: AtomicU64::new(0),
         }
     }
-}
 
-// Waits until the number is no more 0, for so many turns at most.
-fn wait_for(number: &AtomicU64) {
-    for _ in 0..10_000_000u64 {
-        if number.load(Ordering::SeqCst) > 0 {
-            return;
+    fn free(&self) {
+        self.freed.store(1, Ordering::SeqCst);
+    }
+
+    // Waits until the number is no more 0, for so many turns at most.
+    fn wait_for(&self, number: &AtomicU64) {
+        for _ in 0..10_000_000u64 {
+            if number.load(Ordering::SeqCst) > 0 {
+                return;
+            }
+            yield_now();
         }
-        yield_now();
+        self.missed.fetch_add(1, Ordering::SeqCst);
+    }
+
+    // Whether each session made one call, of which so many of session 2 were answered, and nobody
+    // waited in vain.
+    fn was_met(&self, second_answers: u64) -> bool {
+        self.first.is(1, 1)
+            && self.second.is(1, second_answers)
+            && self.missed.load(Ordering::SeqCst) == 0
     }
 }
 
 impl Gate for Meeting {
-    fn enter(&self, session: u8, _call: u64) {
+    fn enter(&self, session: u8, call: u64) {
         if session == 1 {
-            self.first.fetch_add(1, Ordering::SeqCst);
-            wait_for(&self.second);
-            wait_for(&self.answered);
+            self.first.enter(session, call);
+            self.wait_for(&self.second.calls);
+            self.wait_for(&self.freed);
         } else {
-            self.second.fetch_add(1, Ordering::SeqCst);
-            wait_for(&self.first);
+            self.second.enter(session, call);
+            self.wait_for(&self.first.calls);
         }
     }
 
-    fn answered(&self, session: u8, _call: u64) {
-        if session == 2 {
-            self.answered.fetch_add(1, Ordering::SeqCst);
+    fn answered(&self, session: u8, call: u64) {
+        if session == 1 {
+            self.first.answered(session, call);
+        } else {
+            self.second.answered(session, call);
+            self.free();
         }
     }
 }
 
-type Opened = Session<Cursor<Vec<u8>>, Vec<u8>, Fixed>;
+/// Takes what is written. With a meeting, it takes nothing, and frees session 1 of it.
+#[derive(Drop)]
+struct Freeing<'a>(Option<&'a Meeting>);
+
+impl Write for Freeing<'_> {
+    fn write(&mut self, buf: &[u8]) -> io::Result<usize> {
+        match self.0 {
+            Some(meeting) => {
+                meeting.free();
+                Err(io::Error::from(io::ErrorKind::BrokenPipe))
+            }
+            None => Ok(buf.len()),
+        }
+    }
+
+    fn flush(&mut self) -> io::Result<()> {
+        Ok(())
+    }
+}
+
+type Opened<W> = Session<Cursor<Vec<u8>>, W, Fixed>;
 
 type Left = Ended<Cursor<Vec<u8>>, Vec<u8>, Fixed>;
 
-type Stands<H> = Closed<H, Cursor<Vec<u8>>, Vec<u8>, Fixed>;
+type Stands<H, W> = Closed<H, Cursor<Vec<u8>>, W, Fixed>;
 
-// A session that reads this text, with a clock that tells this minute.
-fn opened(rt: &impl Abort, alloc: Global, role: Role, text: &str, minute: Option<u32>) -> Opened {
+// A session that reads this text and writes to this writer, with a clock that tells this minute.
+fn opened<W: Write + Drop>(
+    rt: &impl Abort,
+    alloc: Global,
+    role: Role,
+    text: &str,
+    minute: Option<u32>,
+    writer: W,
+) -> Opened<W> {
     let mut bytes = Vec::new(alloc);
     bytes
         .extend_from_slice(text.as_bytes())
@@ -116,7 +211,7 @@ fn opened(rt: &impl Abort, alloc: Global, role: Role, text: &str, minute: Option
     Session {
         role,
         reader: Source::new(Cursor::new(bytes)),
-        writer: Sink::new(Vec::new(alloc)),
+        writer: Sink::new(writer),
         clock: Fixed(minute),
     }
 }
@@ -185,19 +280,33 @@ fn target_of<H: Helpers + Drop>(rt: &impl Abort, desk: &Desk<H>) -> u64 {
     flight.get(Field::Tobt)
 }
 
-fn push(rt: &impl Abort, sessions: &mut Vec<Opened>, session: Opened) {
+fn push<W: Write + Drop>(rt: &impl Abort, sessions: &mut Vec<Opened<W>>, session: Opened<W>) {
     let is_pushed = sessions.push(session).is_ok();
     assert!(rt; is_pushed);
 }
 
 // Two sessions that set a target each.
-fn both(rt: &impl Abort, alloc: Global) -> Vec<Opened> {
+fn both<W: Write + Drop>(
+    rt: &impl Abort,
+    alloc: Global,
+    writer: W,
+    other_writer: W,
+) -> Vec<Opened<W>> {
     let mut sessions = Vec::new(alloc);
     let role = Role::AircraftOperator;
-    let first = opened(rt, alloc, role, TARGET_AT_FIVE_PAST, Some(29_000_590));
+    let minute = Some(29_000_590);
+    let first = opened(rt, alloc, role, TARGET_AT_FIVE_PAST, minute, writer);
     push(rt, &mut sessions, first);
     let role = Role::GroundHandler;
-    let second = opened(rt, alloc, role, TARGET_AT_QUARTER_PAST, Some(29_000_585));
+    let minute = Some(29_000_585);
+    let second = opened(
+        rt,
+        alloc,
+        role,
+        TARGET_AT_QUARTER_PAST,
+        minute,
+        other_writer,
+    );
     push(rt, &mut sessions, second);
     sessions
 }
@@ -209,14 +318,15 @@ fn last_of(rt: &impl Abort, alloc: Global, sessions: &mut Vec<Left>) -> String {
 }
 
 // What stands after two sessions that meet.
-fn both_meet<H: Helpers + Drop + Send, Rt: Threads + Wait + Abort + Sync>(
+fn both_meet<H: Helpers + Drop + Send, W: Write + Drop + Send, Rt: Threads + Wait + Abort + Sync>(
     rt: &Rt,
     alloc: Global,
     helpers: H,
-) -> Stands<H> {
-    let sessions = both(rt, alloc);
+    gate: &Meeting,
+    sessions: Vec<Opened<W>>,
+) -> Stands<H, W> {
     let desk = begun(rt, alloc, helpers, 10);
-    closed_by(rt, alloc, desk, sessions, &Meeting::new())
+    closed_by(rt, alloc, desk, sessions, gate)
 }
 
 // Session 2 was answered first, and session 1 after it.
@@ -246,7 +356,10 @@ fn meet<H: Helpers + Drop + Send, Rt: Threads + Wait + Abort + Sync>(
     alloc: Global,
     helpers: H,
 ) {
-    let mut closed = both_meet(rt, alloc, helpers);
+    let gate = Meeting::new();
+    let sessions = both(rt, alloc, Vec::new(alloc), Vec::new(alloc));
+    let mut closed = both_meet(rt, alloc, helpers, &gate, sessions);
+    assert!(rt; gate.was_met(1));
     are_told(rt, alloc, &mut closed.sessions);
     have_set(rt, &mut closed.desk);
     drop(closed);
@@ -258,6 +371,28 @@ fn two_sessions_call_one_desk(rt: HostRuntime) {
     meet(&rt, alloc, Bank::new(alloc).expect(&rt, "a bank"));
 }
 
+// The writer of session 2 fails at its first write, and its entry stands all the same.
+fn meet_in_part<H: Helpers + Drop + Send, Rt: Threads + Wait + Abort + Sync>(
+    rt: &Rt,
+    alloc: Global,
+    helpers: H,
+) {
+    let gate = Meeting::new();
+    let sessions = both(rt, alloc, Freeing(None), Freeing(Some(&gate)));
+    let mut closed = both_meet(rt, alloc, helpers, &gate, sessions);
+    assert!(rt; gate.was_met(0));
+    assert!(rt; end_of(rt, &closed, 0) == (End::End, 1, 4));
+    assert!(rt; end_of(rt, &closed, 1) == (End::Write, 1, 4));
+    have_set(rt, &mut closed.desk);
+    drop(closed);
+}
+
+#[test]
+fn a_session_goes_on_where_another_one_fails(rt: HostRuntime) {
+    let alloc = rt.alloc();
+    meet_in_part(&rt, alloc, Bank::new(alloc).expect(&rt, "a bank"));
+}
+
 // What stands after one session at a desk for so many entries, on which a flight was scheduled and
 // planned.
 fn one_served<H: Helpers + Drop + Send, Rt: Threads + Wait + Abort + Sync>(
@@ -265,12 +400,13 @@ fn one_served<H: Helpers + Drop + Send, Rt: Threads + Wait + Abort + Sync>(
     alloc: Global,
     helpers: H,
     capacity: usize,
-    session: Opened,
-) -> Stands<H> {
+    session: Opened<Vec<u8>>,
+    gate: &Count,
+) -> Stands<H, Vec<u8>> {
     let mut sessions = Vec::new(alloc);
     push(rt, &mut sessions, session);
     let desk = begun(rt, alloc, helpers, capacity);
-    closed_by(rt, alloc, desk, sessions, &Open)
+    closed_by(rt, alloc, desk, sessions, gate)
 }
 
 // What one session is told at such a desk, and the journal's length then.
@@ -279,17 +415,18 @@ fn serves_one<H: Helpers + Drop + Send, Rt: Threads + Wait + Abort + Sync>(
     alloc: Global,
     helpers: H,
     capacity: usize,
-    session: Opened,
+    session: Opened<Vec<u8>>,
+    gate: &Count,
 ) -> (String, u64) {
-    let mut closed = one_served(rt, alloc, helpers, capacity, session);
+    let mut closed = one_served(rt, alloc, helpers, capacity, session, gate);
     let told = last_of(rt, alloc, &mut closed.sessions);
     let length = closed.desk.len();
     drop(closed);
     (told, length)
 }
 
-/// What one session sends to a desk with room for so many entries, what it is told, and the
-/// journal's length then.
+/// What one session sends to a desk with room for so many entries, what it is told, and how many
+/// calls of the desk it made, and the journal's length then.
 struct Alone {
     shows: &'static str,
     role: Role,
@@ -297,6 +434,7 @@ struct Alone {
     minute: Option<u32>,
     capacity: usize,
     told: &'static str,
+    calls: u64,
     length: u64,
 }
 
@@ -311,6 +449,7 @@ static ALONE: [Alone; 4] = [
         minute: None,
         capacity: 10,
         told: "1 0 End: bad 106\n",
+        calls: 0,
         length: 2,
     },
     Alone {
@@ -320,6 +459,7 @@ static ALONE: [Alone; 4] = [
         minute: None,
         capacity: 10,
         told: "1 0 End: bad 101\nbad 102\nbad 103\nbad 104\nbad 106\nbad 101\n",
+        calls: 0,
         length: 2,
     },
     Alone {
@@ -329,25 +469,30 @@ static ALONE: [Alone; 4] = [
         minute: Some(29_000_590),
         capacity: 10,
         told: "1 0 End: bad 101\nbad 102\nbad 103\nbad 104\nbad 301 0\nbad 101\n",
+        calls: 0,
         length: 2,
     },
     Alone {
         shows: "a call that makes no entry is not counted",
         role: Role::NetworkManager,
-        text: "{\"cmd\":\"tick\"}\n{\"cmd\":\"show\",\"flight\":8}\n{\"cmd\":\"tick\"}",
+        text: "{\"cmd\":\"tick\"}\n{}\n{\"cmd\":\"show\",\"flight\":8}\n{\"cmd\":\"tick\"}",
         minute: Some(29_000_590),
         capacity: 4,
-        told: "1 2 End: no 2 201\nno 3 202\nbad 502\n",
+        told: "1 2 End: no 2 201\nbad 102\nno 3 202\nbad 502\n",
+        calls: 3,
         length: 4,
     },
 ];
 
 fn is_served<Rt: Threads + Wait + Abort + Sync>(rt: &Rt, alloc: Global, alone: &Alone) {
-    let session = opened(rt, alloc, alone.role, alone.text, alone.minute);
+    let replies = Vec::new(alloc);
+    let session = opened(rt, alloc, alone.role, alone.text, alone.minute, replies);
     let bank = Bank::new(alloc).expect(rt, "a bank");
-    let (told, length) = serves_one(rt, alloc, bank, alone.capacity, session);
+    let gate = Count::new();
+    let (told, length) = serves_one(rt, alloc, bank, alone.capacity, session, &gate);
     assert_eq!(rt; told.as_str(), alone.told, "{}", alone.shows);
     assert!(rt; length == alone.length, "{}", alone.shows);
+    assert!(rt; gate.is(alone.calls, alone.calls), "{}", alone.shows);
 }
 
 #[test]
@@ -412,12 +557,13 @@ fn served<
     closed_by(rt, alloc, desk, sessions, &Open)
 }
 
-// How the first session ended, its calls, and the journal's length.
+// How the session at a place ended, its calls, and the journal's length.
 fn end_of<H: Helpers + Drop, R: Read + Drop, W: Write + Drop>(
     rt: &impl Abort,
     closed: &Closed<H, R, W, Fixed>,
+    place: usize,
 ) -> (End, u64, u64) {
-    let left = closed.sessions.first().expect(rt, "a session");
+    let left = closed.sessions.get(place).expect(rt, "a session");
     (left.end, left.calls, closed.desk.len())
 }
 
@@ -430,7 +576,7 @@ fn ends_as<
 >(rt: &Rt, alloc: Global, helpers: H, reader: R, writer: W) -> (End, u64, u64) {
     let sessions = session_over(rt, alloc, reader, writer);
     let closed = served(rt, alloc, helpers, sessions);
-    let end = end_of(rt, &closed);
+    let end = end_of(rt, &closed, 0);
     drop(closed);
     end
 }
@@ -456,12 +602,13 @@ fn ticks(rt: &impl Abort, alloc: Global, count: usize) -> String {
 }
 
 // The sessions of a full house, with so many lines each.
-fn full_house(rt: &impl Abort, alloc: Global, lines: usize) -> Vec<Opened> {
+fn full_house(rt: &impl Abort, alloc: Global, lines: usize) -> Vec<Opened<Vec<u8>>> {
     let text = ticks(rt, alloc, lines);
     let mut sessions = Vec::new(alloc);
     for _ in 0..64 {
         let role = Role::AirportOperator;
-        let session = opened(rt, alloc, role, text.as_str(), Some(29_000_590));
+        let minute = Some(29_000_590);
+        let session = opened(rt, alloc, role, text.as_str(), minute, Vec::new(alloc));
         push(rt, &mut sessions, session);
     }
     sessions
@@ -507,7 +654,7 @@ fn stands<H: Helpers + Drop>(rt: &impl Abort, desk: &mut Desk<H>, left: &Left) {
 }
 
 // Each of 64 sessions did.
-fn all_stand<H: Helpers + Drop>(rt: &impl Abort, closed: &mut Stands<H>) {
+fn all_stand<H: Helpers + Drop>(rt: &impl Abort, closed: &mut Stands<H, Vec<u8>>) {
     assert!(rt; closed.desk.len() == 12_800 && closed.sessions.len() == 64);
     for left in &closed.sessions {
         stands(rt, &mut closed.desk, left);

@@ -11,33 +11,51 @@ const OUT_OF_RANGE: &str = "bad 104\n";
 
 const SCHEDULE: &str = r#"1 29000580 APT {"cmd":"schedule""#;
 
-static SCHEDULE_FIELDS: [(&str, &str); 10] = [
-    ("flight", "7"),
-    ("callsign", r#""DLH7""#),
-    ("type", r#""A320""#),
-    ("reg", r#""DAIBC""#),
-    ("dest", r#""EDDM""#),
-    ("sobt", r#""2025-02-20T10:00:00Z""#),
-    ("mttt", "40"),
-    ("exit", "5"),
-    ("exot", "10"),
-    ("stand", "12"),
+// A field, a value that it may have, and one that is out of range.
+type Field = (&'static str, &'static str, &'static str);
+
+static SCHEDULE_FIELDS: [Field; 10] = [
+    ("flight", "7", "0"),
+    ("callsign", r#""DLH7""#, r#""""#),
+    ("type", r#""A320""#, r#""""#),
+    ("reg", r#""DAIBC""#, r#""""#),
+    ("dest", r#""EDDM""#, r#""""#),
+    ("sobt", r#""2025-02-20T10:00:00Z""#, r#""""#),
+    ("mttt", "40", "1441"),
+    ("exit", "5", "256"),
+    ("exot", "10", "1441"),
+    ("stand", "12", "65536"),
 ];
 
 const ACTIVATION: &str = r#"2 29000580 NM {"cmd":"report""#;
 
-static ACTIVATION_FIELDS: [(&str, &str); 7] = [
-    ("flight", "7"),
-    ("milestone", "1"),
-    ("time", r#""2025-02-20T10:00:00Z""#),
-    ("callsign", r#""DLH7""#),
-    ("type", r#""A320""#),
-    ("reg", r#""DAIBC""#),
-    ("dest", r#""EDDM""#),
+static ACTIVATION_FIELDS: [Field; 7] = [
+    ("flight", "7", "0"),
+    ("milestone", "1", "0"),
+    ("time", r#""2025-02-20T10:00:00Z""#, r#""""#),
+    ("callsign", r#""DLH7""#, r#""""#),
+    ("type", r#""A320""#, r#""""#),
+    ("reg", r#""DAIBC""#, r#""""#),
+    ("dest", r#""EDDM""#, r#""""#),
+];
+
+const LOAD: &str = r#"1 29000580 APT {"cmd":"load""#;
+
+static LOAD_FIELDS: [Field; 3] = [
+    ("milestone", "7", "17"),
+    ("kind", r#""tobt""#, r#""""#),
+    ("program", r#""95""#, r#""9""#),
 ];
 
 fn push(rt: &impl Abort, line: &mut String, part: &str) {
     line.push_str(part).expect(rt, "room for a part");
+}
+
+fn push_field(rt: &impl Abort, line: &mut String, name: &str, value: &str) {
+    push(rt, line, ",\"");
+    push(rt, line, name);
+    push(rt, line, "\":");
+    push(rt, line, value);
 }
 
 /// A line of these fields, with this value under one key.
@@ -45,17 +63,41 @@ fn line_with(
     rt: &impl Abort,
     alloc: Global,
     front: &str,
-    fields: &[(&str, &str)],
+    fields: &[Field],
     key: &str,
     value: &str,
 ) -> String {
     let mut line = String::new(alloc);
     push(rt, &mut line, front);
-    for (name, usual) in fields {
-        push(rt, &mut line, ",\"");
-        push(rt, &mut line, name);
-        push(rt, &mut line, "\":");
-        push(rt, &mut line, if *name == key { value } else { usual });
+    for (name, usual, _) in fields {
+        let value = if *name == key { value } else { *usual };
+        push_field(rt, &mut line, *name, value);
+    }
+    push(rt, &mut line, "}\n");
+    line
+}
+
+/// A line of these fields, with faults from the one of this place on: that one is out of range and
+/// those behind it of the wrong kind, or the other way round.
+fn line_from(
+    rt: &impl Abort,
+    alloc: Global,
+    front: &str,
+    fields: &[Field],
+    place: usize,
+    is_beyond: bool,
+) -> String {
+    let mut line = String::new(alloc);
+    push(rt, &mut line, front);
+    for (number, (name, usual, beyond)) in fields.iter().enumerate() {
+        let value = if number < place {
+            *usual
+        } else if (number == place) == is_beyond {
+            *beyond
+        } else {
+            "[]"
+        };
+        push_field(rt, &mut line, *name, value);
     }
     push(rt, &mut line, "}\n");
     line
@@ -64,13 +106,7 @@ fn line_with(
 // A field, its value, and what a line with that is answered.
 type Limit = (&'static str, &'static str, &'static str);
 
-fn are_limits(
-    rt: &impl Abort,
-    alloc: Global,
-    front: &str,
-    fields: &[(&str, &str)],
-    limits: &[Limit],
-) {
+fn are_limits(rt: &impl Abort, alloc: Global, front: &str, fields: &[Field], limits: &[Limit]) {
     for (key, value, reply) in limits {
         let line = line_with(rt, alloc, front, fields, *key, *value);
         are_answered(rt, alloc, line.as_str(), &[line.as_str()], 1, *reply);
@@ -168,20 +204,21 @@ fn each_field_of_a_flight_plan_has_its_limits(rt: HostRuntime) {
     );
 }
 
-// Fields of which several are faulty, and what they are answered.
-static FAULTY_FIELDS: [(&str, &str); 4] = [
-    (r#""flight":0,"milestone":"x"}"#, OUT_OF_RANGE),
-    (r#""flight":"x","milestone":0}"#, WRONG_KIND),
-    (r#""flight":7,"milestone":0,"time":7}"#, OUT_OF_RANGE),
-    (r#""flight":7,"milestone":6,"time":7}"#, WRONG_KIND),
-];
+// The first faulty field from a place on decides.
+fn are_in_order(rt: &impl Abort, alloc: Global, front: &str, fields: &[Field]) {
+    for place in 0..fields.len() {
+        let line = line_from(rt, alloc, front, fields, place, true);
+        are_answered(rt, alloc, line.as_str(), &[line.as_str()], 1, OUT_OF_RANGE);
+        let line = line_from(rt, alloc, front, fields, place, false);
+        are_answered(rt, alloc, line.as_str(), &[line.as_str()], 1, WRONG_KIND);
+    }
+}
 
 #[test]
 fn the_first_faulty_field_decides(rt: HostRuntime) {
-    for (fields, reply) in &FAULTY_FIELDS {
-        let line = ["3 29000580 ATC {\"cmd\":\"report\",", *fields, "\n"];
-        are_answered(&rt, rt.alloc(), *fields, &line, 1, *reply);
-    }
+    are_in_order(&rt, rt.alloc(), SCHEDULE, &SCHEDULE_FIELDS);
+    are_in_order(&rt, rt.alloc(), ACTIVATION, &ACTIVATION_FIELDS);
+    are_in_order(&rt, rt.alloc(), LOAD, &LOAD_FIELDS);
 }
 
 // Milestones without a time, and what they are answered.
