@@ -1,24 +1,41 @@
 //! The program `acdm`: the shared board of an A-CDM airport.
 #![tactic(auto)]
 
+mod resumed;
+mod streams;
+mod words;
+
 use acdm_commands::{Failure, complete};
 use acdm_lines::{Sink, Source};
+use resumed::Resumed;
 use std::io::BufWriter;
 use std::process::ExitCode;
-use std::{env, io};
 
 // How many bytes of replies are written at once at most: a reply of no more goes in one write.
 const BUFFER: usize = 65_536;
 
-fn main(rt: HostRuntime) -> io::Result<ExitCode> {
+fn main(rt: HostRuntime) -> ExitCode {
     let alloc = rt.alloc();
-    let words: Vec<String> = env::args(&rt)?.collect(alloc)?;
-    let words: Vec<&str> = words.iter().map(|word| word.as_str()).collect(alloc)?;
-    let mut errors = Sink::new(rt.stderr());
-    let Ok(output) = BufWriter::with_capacity(alloc, BUFFER, Sink::new(rt.stdout())) else {
-        return Ok(ExitCode::from(Failure::Memory.complain(&mut errors)));
+    let mut errors = Sink::new(Resumed::new(rt.stderr()));
+    let Ok(_fillers) = streams::fill(&rt) else {
+        return ExitCode::from(Failure::Stream.complain(&mut errors));
     };
-    let mut input = Source::new(rt.stdin());
+    let words = match words::given(&rt) {
+        Ok(words) => words,
+        Err(failure) => return ExitCode::from(failure.complain(&mut errors)),
+    };
+    let Ok(words) = words
+        .iter()
+        .map(|word| word.as_str())
+        .collect::<Vec<&str>>(alloc)
+    else {
+        return ExitCode::from(Failure::Memory.complain(&mut errors));
+    };
+    let output = Sink::new(Resumed::new(rt.stdout()));
+    let Ok(output) = BufWriter::with_capacity(alloc, BUFFER, output) else {
+        return ExitCode::from(Failure::Memory.complain(&mut errors));
+    };
+    let mut input = Source::new(Resumed::new(rt.stdin()));
     let mut output = Sink::new(output);
     let status = complete(
         alloc,
@@ -28,5 +45,5 @@ fn main(rt: HostRuntime) -> io::Result<ExitCode> {
         &mut output,
         &mut errors,
     );
-    Ok(ExitCode::from(status))
+    ExitCode::from(status)
 }

@@ -39,3 +39,5 @@ unopened words failures.Read (front, word, more, split, all, fails) = absurd fai
 unopened words failures.Write (front, word, more, split, all, fails) = absurd fails
 unopened words failures.Save (front, word, more, split, all, fails) = absurd fails
 unopened words (failures.Accept n) (front, word, more, split, all, fails) = absurd fails
+unopened words failures.Word (front, word, more, split, all, fails) = absurd fails
+unopened words failures.Stream (front, word, more, split, all, fails) = absurd fails

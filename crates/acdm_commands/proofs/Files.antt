@@ -50,6 +50,8 @@ module _ {F : Type 0} (sigs : List (ℕ × Promise)) (file later : SourceView F)
   audited_any old new (Err (failures.Address n)) p = absurd p
   audited_any old new (Err (failures.Accept n)) p = absurd p
   audited_any old new (Err failures.Watch) p = absurd p
+  audited_any old new (Err failures.Word) p = absurd p
+  audited_any old new (Err failures.Stream) p = absurd p
 
   gave_any : (bytes : List ℕ) → GaveBytes file later bytes
       → GaveBytes (read_from file) (read_from later) bytes
@@ -81,6 +83,8 @@ module _ {F : Type 0} (sigs : List (ℕ × Promise)) (file later : SourceView F)
   verified_any old new (Err (failures.Address n)) p = absurd p
   verified_any old new (Err (failures.Accept n)) p = absurd p
   verified_any old new (Err failures.Watch) p = absurd p
+  verified_any old new (Err failures.Word) p = absurd p
+  verified_any old new (Err failures.Stream) p = absurd p
 
   pub explained_any : (work : Result ℕ Failure) → Explains sigs file later work
       → Explains sigs (read_from file) (read_from later) work
@@ -150,6 +154,8 @@ runs_any sigs capacity read read_after old new file later (Err (failures.Role n)
 runs_any sigs capacity read read_after old new file later (Err (failures.Address n)) p = absurd p
 runs_any sigs capacity read read_after old new file later (Err (failures.Accept n)) p = absurd p
 runs_any sigs capacity read read_after old new file later (Err failures.Watch) p = absurd p
+runs_any sigs capacity read read_after old new file later (Err failures.Word) p = absurd p
+runs_any sigs capacity read read_after old new file later (Err failures.Stream) p = absurd p
 
 serves_any : {W F : Type 0} (old new : SinkView W) (file later : Option (SinkView F))
     (failure : Failure) → FailsToServeAll old new file failure
@@ -162,6 +168,8 @@ serves_any old new file later (failures.Role n) p = p
 serves_any old new file later (failures.Address n) p = p
 serves_any old new file later (failures.Accept n) p = p
 serves_any old new file later failures.Watch p = p
+serves_any old new file later failures.Word p = absurd p
+serves_any old new file later failures.Stream p = absurd p
 
 pub served_any : {W F : Type 0} (sigs : List (ℕ × Promise)) (capacity : ℕ) (words : List (List ℕ))
     (old new : SinkView W) (file later : Option (SinkView F)) (work : Result ℕ Failure)

@@ -28,6 +28,10 @@ pub enum Failure {
     Accept(usize),
     /// The address for displays is none, or can't be listened at.
     Watch,
+    /// A word of the command line is no text.
+    Word,
+    /// A standard stream may be closed, and nothing could be put in its place.
+    Stream,
 }
 
 /// Why `serve` did not end as it should.
@@ -78,6 +82,8 @@ impl Failure {
             Failure::Address(number) => numbered(b"acdm: address ", number),
             Failure::Accept(number) => numbered(b"acdm: accept ", number),
             Failure::Watch => line(b"acdm: watch address"),
+            Failure::Word => line(b"acdm: a word is not UTF-8"),
+            Failure::Stream => line(b"acdm: no null device"),
         }
     }
 

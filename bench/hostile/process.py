@@ -1,0 +1,299 @@
+#!/usr/bin/env python3
+"""Runs the built `acdm` on a bad day of its own process, and says what did not come as it is documented.
+
+    python3 bench/hostile/process.py [--program PATH]
+
+Closed standard streams, in all combinations, for each command; words that are no text; SIGSTOP and SIGCONT while it waits for
+lines, partners, files and displays; a full disk, and readers that went away. The last line is `N cases, M failed`; status 1 where
+one failed.
+"""
+
+import itertools
+import os
+import pathlib
+import signal
+import socket
+import struct
+import subprocess
+import sys
+import tempfile
+import threading
+import time
+
+from cases import ALERTS, DAY, DAY_JOURNAL, DAY_REPLIES, LISTING, TAXI, Cases, ran, text, words
+
+PATIENCE = 30
+READ, WRITE, SAVE = (f"acdm: {word} failed\n" for word in ("read", "write", "save"))
+
+
+def without(streams):
+    """Closes standard streams, in the process that is started."""
+
+    def close():
+        for number in streams:
+            os.close(number)
+
+    return close
+
+
+def came(done):
+    return done.returncode, done.stdout.decode(), done.stderr.decode()
+
+
+class Room:
+    """A folder with the files that commands are run on."""
+
+    def __init__(self, folder):
+        self.folder = pathlib.Path(folder)
+        self.journal, self.code = self.folder / "journal", self.folder / "code"
+        self.saved = self.folder / "saved"
+        self.journal.write_text(text(DAY_JOURNAL))
+        self.code.write_bytes(bytes.fromhex(TAXI))
+
+    def unsaved(self):
+        """Whether nothing stands in the file of `--save`."""
+        return not self.saved.exists() or self.saved.read_bytes() == b""
+
+
+def closed_streams(cases, program, room):
+    """A closed output is a write fault, a closed input a read fault, where it is used; and no file takes its place."""
+    for count in range(4):
+        for streams in itertools.combinations(range(3), count):
+            closed_run(cases, program, room, streams)
+            for command, file, told in (
+                ("audit", room.journal, "legal 5\n"),
+                ("verify", room.code, LISTING),
+                ("explain", room.code, None),
+            ):
+                closed_file(cases, program, (command, file, told), streams)
+            closed_serve(cases, program, room, streams)
+
+
+def closed_run(cases, program, room, streams):
+    room.saved.unlink(missing_ok=True)
+    done = came(ran(program, ["run", "--save", room.saved], text(DAY).encode(), preexec_fn=without(streams)))
+    status, output, errors = done
+    fault = READ if 0 in streams else WRITE if 1 in streams else ""
+    name = f"run --save, closed {streams}"
+    cases.expect(name, status == (2 if fault else 0), done)
+    cases.expect(name, output == ("" if fault else text(DAY_REPLIES)), done)
+    cases.expect(name, errors == ("" if 2 in streams else fault), done)
+    if fault:
+        cases.expect(f"{name}, the file", room.unsaved(), room.saved.exists() and room.saved.read_bytes())
+    else:
+        cases.expect(f"{name}, the file", room.saved.read_text() == text(DAY_JOURNAL), room.saved.read_bytes())
+
+
+def closed_file(cases, program, command, streams):
+    word, file, told = command
+    before = file.read_bytes()
+    done = came(ran(program, [word, file], preexec_fn=without(streams)))
+    status, output, errors = done
+    fault = WRITE if 1 in streams else ""
+    name = f"{word}, closed {streams}"
+    cases.expect(name, status == (2 if fault else 0), done)
+    cases.expect(name, output == "" if fault else output == told or told is None and output != "", done)
+    cases.expect(name, errors == ("" if 2 in streams else fault), done)
+    cases.expect(f"{name}, the file", file.read_bytes() == before)
+
+
+def free_port():
+    with socket.create_server(("127.0.0.1", 0)) as it:
+        return it.getsockname()[1]
+
+
+def connected(port):
+    for _ in range(PATIENCE * 20):
+        try:
+            return socket.create_connection(("127.0.0.1", port), timeout=PATIENCE)
+        except ConnectionRefusedError:
+            time.sleep(0.05)
+    raise TimeoutError(f"nobody listens at {port}")
+
+
+def ended(server):
+    """What a program wrote, which is ended where it does not end by itself."""
+    try:
+        return server.communicate(timeout=PATIENCE)
+    except subprocess.TimeoutExpired:
+        server.kill()
+        return server.communicate()
+
+
+def closed_serve(cases, program, room, streams):
+    """The partner's connection takes no standard stream's place, and neither does the listener."""
+    room.saved.unlink(missing_ok=True)
+    port = free_port()
+    command = [str(program), "serve", "--save", str(room.saved), f"APT=127.0.0.1:{port}"]
+    pipes = {"stdin": subprocess.DEVNULL, "stdout": subprocess.PIPE, "stderr": subprocess.PIPE}
+    server = subprocess.Popen(command, preexec_fn=without(streams), **pipes)
+    fault = 1 in streams
+    reply = b""
+    if not fault:
+        with connected(port) as partner:
+            partner.sendall(f"{ALERTS}\n".encode())
+            reply = partner.makefile("rb").readline()
+    output, errors = ended(server)
+    done = server.returncode, output.decode(), errors.decode(), reply
+    listening = f"listen 1 APT 127.0.0.1:{port}\nsession 1 1 end\nclosed 1\n"
+    name = f"serve, closed {streams}"
+    cases.expect(name, server.returncode == (2 if fault else 0), done)
+    cases.expect(name, done[1] == ("" if fault else listening), done)
+    cases.expect(name, done[2] == (WRITE if fault and 2 not in streams else ""), done)
+    cases.expect(name, reply == (b"" if fault else b"alerts 0 -\n"), done)
+    cases.expect(f"{name}, the file", room.unsaved() if fault else room.saved.read_text().count("\n") == 1)
+
+
+def no_text(cases, program):
+    """A word that is no text is told as such, wherever it stands."""
+    for given in (b"\xff", b"a\xc3", b"\xed\xa0\x80", b"\xf5\x80\x80\x80"):
+        for front in (["audit"], ["verify"], ["explain"], ["run", "--journal"], ["run", "--save"], ["serve"], []):
+            done = came(ran(program, [*front, given]))
+            cases.expect(f"{front} {given}", done == (2, "", "acdm: a word is not UTF-8\n"), done)
+    done = came(ran(program, ["audit", b"\xff"], preexec_fn=without((2,))))
+    cases.expect("no text, and no errors' stream", done == (2, "", ""), done)
+    done = came(subprocess.run([b"\xff"], executable=program, capture_output=True, timeout=PATIENCE))
+    cases.expect("a name that is no text", done == (2, "", "acdm: a word is not UTF-8\n"), done)
+
+
+def pause(process):
+    process.send_signal(signal.SIGSTOP)
+    time.sleep(0.05)
+    process.send_signal(signal.SIGCONT)
+    time.sleep(0.02)
+
+
+def told_between_pauses(process, send, receive, lines):
+    replies = []
+    for line in lines:
+        pause(process)
+        send(f"{line}\n".encode())
+        replies.append(receive().decode().rstrip("\n"))
+        pause(process)
+    return replies
+
+
+def stopped_run(cases, program):
+    """Over pipes, and over one connection that is both streams and has a time limit, so that a stop is told to each call."""
+    pipes = {"stdin": subprocess.PIPE, "stdout": subprocess.PIPE, "stderr": subprocess.PIPE, "bufsize": 0}
+    server = subprocess.Popen([str(program), "run"], **pipes)
+    replies = told_between_pauses(server, server.stdin.write, server.stdout.readline, DAY)
+    server.stdin.close()
+    done = server.wait(timeout=PATIENCE), replies, server.stderr.read()
+    cases.expect("run over pipes, stopped", done == (0, DAY_REPLIES, b""), done)
+    ours, theirs = socket.socketpair()
+    ours.settimeout(PATIENCE)
+    for limit in (socket.SO_RCVTIMEO, socket.SO_SNDTIMEO):
+        theirs.setsockopt(socket.SOL_SOCKET, limit, struct.pack("ll", 10 * PATIENCE, 0))
+    server = subprocess.Popen([str(program), "run"], stdin=theirs, stdout=theirs, stderr=subprocess.PIPE)
+    theirs.close()
+    replies = told_between_pauses(server, ours.sendall, ours.makefile("rb").readline, DAY)
+    ours.shutdown(socket.SHUT_WR)
+    done = server.wait(timeout=PATIENCE), replies, server.stderr.read()
+    cases.expect("run over a connection, stopped", done == (0, DAY_REPLIES, b""), done)
+
+
+def stopped_output(cases, program):
+    """While a reply waits for its reader, and a line for the rest of it."""
+    pipes = {"stdin": subprocess.PIPE, "stdout": subprocess.PIPE, "stderr": subprocess.PIPE}
+    server = subprocess.Popen([str(program), "run", "--journal", "1"], **pipes)
+    many = 40_000
+    sender = threading.Thread(target=lambda: (server.stdin.write(f"{DAY[4]}\n".encode() * many), server.stdin.close()))
+    sender.start()
+    for _ in range(5):
+        time.sleep(0.1)
+        pause(server)
+    replies = server.stdout.read().decode().splitlines()
+    sender.join()
+    done = server.wait(timeout=PATIENCE), len(replies), replies[:2]
+    cases.expect("run with a slow reader, stopped", done == (0, many, ["alerts 0 -", "bad 502"]), done)
+
+
+def stopped_audit(cases, program, room):
+    """While it waits for the file to be opened, and for what stands in it."""
+    pipe = room.folder / "pipe"
+    os.mkfifo(pipe)
+    for word, file, told in (("audit", room.journal, "legal 5\n"), ("verify", room.code, LISTING)):
+        server = subprocess.Popen([str(program), word, pipe], stdout=subprocess.PIPE, stderr=subprocess.PIPE)
+        pause(server)
+        given = file.read_bytes()
+        with open(pipe, "wb", buffering=0) as it:
+            for part in (given[:9], given[9:]):
+                pause(server)
+                it.write(part)
+                pause(server)
+        output, errors = ended(server)
+        done = server.returncode, output.decode(), errors.decode()
+        cases.expect(f"{word} of a pipe, stopped", done == (0, told, ""), done)
+
+
+def stopped_serve(cases, program, room):
+    """While it waits for partners, for lines, and a display for entries."""
+    ports = [free_port() for _ in range(3)]
+    at = [f"127.0.0.1:{port}" for port in ports]
+    command = [str(program), "serve", "--watch", at[0], f"APT={at[1]}", f"AO={at[2]}"]
+    server = subprocess.Popen(command, stdin=subprocess.DEVNULL, stdout=subprocess.PIPE, stderr=subprocess.PIPE)
+    lines, told = [ALERTS] * 4, []
+    with connected(ports[1]) as airport:
+        pause(server)
+        with connected(ports[2]) as airline:
+            pause(server)
+            with connected(ports[0]) as display:
+                seen = display.makefile("rb")
+                for partner in (airport, airline):
+                    told += told_between_pauses(server, partner.sendall, partner.makefile("rb").readline, lines)
+                watched = [seen.readline().split()[0] for _ in range(8)]
+    output, errors = ended(server)
+    done = server.returncode, output.decode().splitlines()[2:], errors, told, watched
+    ended = ["session 1 4 end", "session 2 4 end", "closed 8"]
+    cases.expect("serve, stopped, how it ended", done[:3] == (0, ended, b""), done)
+    cases.expect("serve, stopped, its partners", told == [f"alerts {k} -" for k in range(8)], done)
+    cases.expect("serve, stopped, its display", watched == [str(k).encode() for k in range(8)], done)
+
+
+def full_disk(cases, program, room):
+    day = text(DAY).encode()
+    with open("/dev/full", "wb", buffering=0) as full:
+        for command, given in (
+            (["run"], day), (["audit", room.journal], b""), (["verify", room.code], b""), (["explain", room.code], b""),
+            (["serve", "APT=127.0.0.1:0"], b""),
+        ):  # fmt: skip
+            how = {"stdout": full, "capture_output": False}
+            done = ran(program, command, given, stderr=subprocess.PIPE, **how)
+            cases.expect(f"{command} on a full disk", (done.returncode, done.stderr) == (2, WRITE.encode()), done)
+            done = ran(program, command, given, stderr=full, **how)
+            cases.expect(f"{command} on a full disk, errors too", done.returncode == 2, done)
+    done = came(ran(program, ["run", "--save", "/dev/full"], day))
+    cases.expect("run --save on a full disk", done[0] == 2 and done[2] == SAVE, done)
+    done = came(ran(program, ["verify", "/no/such/file"]))
+    cases.expect("verify of no file", done == (2, "", READ), done)
+
+
+def gone_reader(cases, program):
+    """Whoever reads the output goes away: a write fault and no signal."""
+    for command, given in ((["run"], text(DAY[4:] * 20_000).encode()), (["--help"], b"")):
+        reading, writing = os.pipe()
+        os.close(reading)
+        done = ran(program, command, given, stdout=writing, capture_output=False, stderr=subprocess.PIPE)
+        os.close(writing)
+        cases.expect(f"{command}, its reader gone", done.returncode == 2, done)
+
+
+def main():
+    given = words(__doc__).parse_args()
+    cases, program = Cases(), given.program.resolve()
+    with tempfile.TemporaryDirectory(prefix="acdm-") as folder:
+        room = Room(folder)
+        closed_streams(cases, program, room)
+        no_text(cases, program)
+        stopped_run(cases, program)
+        stopped_output(cases, program)
+        stopped_audit(cases, program, room)
+        stopped_serve(cases, program, room)
+        full_disk(cases, program, room)
+        gone_reader(cases, program)
+    return cases.end()
+
+
+if __name__ == "__main__":
+    sys.exit(main())
