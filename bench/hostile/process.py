@@ -245,8 +245,8 @@ def stopped_serve(cases, program, room):
                 watched = [seen.readline().split()[0] for _ in range(8)]
     output, errors = ended(server)
     done = server.returncode, output.decode().splitlines()[2:], errors, told, watched
-    ended = ["session 1 4 end", "session 2 4 end", "closed 8"]
-    cases.expect("serve, stopped, how it ended", done[:3] == (0, ended, b""), done)
+    owed = ["session 1 4 end", "session 2 4 end", "closed 8"]
+    cases.expect("serve, stopped, how it ended", done[:3] == (0, owed, b""), done)
     cases.expect("serve, stopped, its partners", told == [f"alerts {k} -" for k in range(8)], done)
     cases.expect("serve, stopped, its display", watched == [str(k).encode() for k in range(8)], done)
 

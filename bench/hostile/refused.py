@@ -1,0 +1,345 @@
+#!/usr/bin/env python3
+"""Runs the built `acdm` once for each request for memory, which is refused, and says where more than that line was lost.
+
+    python3 bench/hostile/refused.py [--program PATH] [--stride N] [WHAT ..]
+
+WHAT is `run`, `again`, `starved`, `files` or `serve`, all by default. `run`: a stream of all commands with programs loaded; the replies and
+the saved journal are those of a stream that never had the lines answered `bad 501`, by the model in bench/model. `again`: a line
+answered so is sent again, and then all is as without a refusal. `starved`: each request from one on is refused. `files`: `audit`, `verify`
+and `explain`. `serve`: two partners and a display. `--stride` takes every N-th request alone. What refuses is refuse.c, preloaded, so
+threads and the C library are refused memory too. The last line is `N cases, M failed`; status 1 where one failed.
+"""
+
+import contextlib
+import os
+import pathlib
+import socket
+import subprocess
+import sys
+import tempfile
+import time
+
+from cases import ALERTS, DAY_JOURNAL, LISTING, PLAN, SCHEDULE, TAXI, TOP, Cases, text, words
+
+sys.path.insert(0, str(TOP / "bench" / "model"))
+
+import journal as model_journal  # noqa: E402
+from board import replies  # noqa: E402
+
+HERE = pathlib.Path(__file__).resolve().parent
+NO_MEMORY = "acdm: no memory\n"
+# The second is what the words of the command line are answered.
+COMPLAINTS = (NO_MEMORY, "error: out of memory\n", "")
+PATIENCE = 60
+# How long a partner waits for a reply: a session that has no thread keeps its connection and says nothing.
+SILENCE = 3
+CAPACITY = 40
+
+# The TOBT is five minutes after the in-block report, by helper 3.
+LATER = "bf31000000000000b70200000500000085000000030000009500000000000000"
+# A word goes to the stack and comes back, and a jump leaves a state that waits.
+SPILLED = "7b1af8ff0000000015040100010000007b1af8ff0000000079a1f8ff0000000071103f00000000009500000000000000"
+
+
+def at(minute, session, role, command):
+    return f"{session} {minute} {role} {command}"
+
+
+def report(flight, milestone, time_of_day):
+    return f'{{"cmd":"report","flight":{flight},"milestone":{milestone},"time":"2025-02-20T{time_of_day}:00Z"}}'
+
+
+def load(milestone, kind, program):
+    return f'{{"cmd":"load","milestone":{milestone},"kind":"{kind}","program":"{program}"}}'
+
+
+def scene():
+    """Lines with all commands, that look at the whole board in the end."""
+    now = 29_000_700
+    others = SCHEDULE.replace('"flight":7', '"flight":8'), PLAN.replace('"flight":7', '"flight":9')
+    shown = [at(now, 1, "APT", f'{{"cmd":"show","flight":{flight}}}') for flight in (7, 8, 9, 10)]
+    listed = at(now, 3, "ATC", ALERTS)
+    return [
+        at(now, 1, "APT", load(7, "tobt", LATER)),
+        at(now, 1, "APT", load(9, "alert", TAXI)),
+        at(now, 1, "APT", load(9, "tobt", SPILLED)),
+        at(now, 1, "APT", SCHEDULE),
+        at(now, 2, "NM", PLAN),
+        at(now, 1, "APT", others[0]),
+        at(now, 2, "NM", others[1]),
+        at(now, 3, "ATC", report(7, 6, "09:00")),
+        at(now, 1, "APT", report(7, 7, "09:00")),
+        listed,
+        at(now, 5, "GH", report(7, 9, "10:00")),
+        at(now, 1, "APT", '{"cmd":"tick"}'),
+        at(now, 1, "APT", load(9, "alert", "9500000000000000")),
+        at(now, 1, "APT", load(9, "alert", LATER)),
+        at(now, 4, "AO", report(7, 9, "10:10")),
+        at(now, 1, "APT", '{"cmd":"unload","milestone":7,"kind":"tobt"}'),
+        at(now, 1, "APT", '{"cmd":"unload","milestone":7,"kind":"tobt"}'),
+        at(now, 1, "APT", SCHEDULE),
+        at(now, 1, "APT", '{"cmd":"tack"}'),
+        *shown,
+        listed,
+    ]
+
+
+def owed(lines):
+    """The replies to lines, and the journal that they make."""
+    stream = [f"{line}\n".encode() for line in lines]
+    told = list(replies(iter(stream), CAPACITY))
+    return told, "".join(entry.line().decode() for entry in model_journal.written(iter(stream)))
+
+
+class Refusing:
+    """Starts the program with requests refused, and tells whether one was."""
+
+    def __init__(self, program, folder):
+        self.program, self.shim = program, pathlib.Path(folder) / "refuse.so"
+        command = ["cc", "-O2", "-shared", "-fPIC", "-o", self.shim, HERE / "refuse.c"]
+        subprocess.run(command, check=True)
+
+    @contextlib.contextmanager
+    def started(self, arguments, number, which="REFUSE_AT", **how):
+        """The process, with a word that says at its end whether a request was refused."""
+        reading, writing = os.pipe()
+        env = {"LD_PRELOAD": str(self.shim), which: str(number), "REFUSE_TOLD": str(writing), "PATH": os.environ["PATH"]}
+        pipes = {"stdin": subprocess.PIPE, "stdout": subprocess.PIPE, "stderr": subprocess.PIPE} | how
+        process = subprocess.Popen([str(self.program), *map(str, arguments)], env=env, pass_fds=(writing,), **pipes)
+        os.close(writing)
+        process.was_refused = lambda: os.read(reading, 1) != b""
+        try:
+            yield process
+        finally:
+            if process.poll() is None:
+                process.kill()
+                process.wait()
+            os.close(reading)
+
+    def ran(self, arguments, given, number, which="REFUSE_AT"):
+        """What came of a run to its end: status, output, errors; and whether a request was refused."""
+        with self.started(arguments, number, which) as process:
+            output, errors = process.communicate(given.encode(), timeout=PATIENCE)
+            came = process.returncode, output.decode(), errors.decode()
+            return came, process.was_refused()
+
+
+def front(part, whole):
+    """Whether a text is the first so many lines of another."""
+    return whole.startswith(part) and (part == "" or part.endswith("\n"))
+
+
+class Scenes:
+    def __init__(self, cases, refusing, folder, stride):
+        self.cases, self.refusing, self.stride = cases, refusing, stride
+        self.folder = pathlib.Path(folder)
+        self.saved = self.folder / "saved"
+        self.lines = scene()
+        self.count = 0
+
+    def each(self, one):
+        """Calls with each number until nothing is refused; how many were."""
+        number = 1
+        while one(number):
+            number += self.stride
+        self.count += number - 1
+        print(f"{one.__name__}: {number - 1} requests", flush=True)
+
+    def journal(self):
+        return self.saved.read_text() if self.saved.exists() else ""
+
+    def ends_for_memory(self, name, came, told, entries):
+        """The run ended for want of memory: what was answered is a first part, and nothing or a first part is saved."""
+        status, output, errors = came
+        self.cases.expect(name, status == 2 and errors in COMPLAINTS, came)
+        self.cases.expect(name, front(output, text(told)), came)
+        self.cases.expect(f"{name}, the journal", front(self.journal(), entries), self.journal())
+
+    def judge(self, name, came):
+        """What was answered and saved is what the lines make that were not answered `bad 501`."""
+        status, output, errors = came
+        answers = output.splitlines()
+        heard = [line for line, answer in zip(self.lines, answers) if answer != "bad 501"]
+        told, entries = owed(heard)
+        rest = [answer for answer in answers if answer != "bad 501"]
+        if status == 0:
+            self.cases.expect(name, (len(answers), rest, errors) == (len(self.lines), told, ""), came)
+            self.cases.expect(f"{name}, the journal", self.journal() == entries, self.journal())
+        else:
+            self.ends_for_memory(name, (status, text(rest), errors), told, entries)
+
+    def run(self, number):
+        self.saved.unlink(missing_ok=True)
+        words = ["run", "--journal", CAPACITY, "--save", self.saved]
+        came, refused = self.refusing.ran(words, text(self.lines), number)
+        self.judge(f"run, request {number}", came)
+        return refused
+
+    def starved(self, number):
+        self.saved.unlink(missing_ok=True)
+        words = ["run", "--journal", CAPACITY, "--save", self.saved]
+        came, refused = self.refusing.ran(words, text(self.lines), number, "REFUSE_FROM")
+        self.judge(f"run, requests from {number}", came)
+        return refused
+
+    def again(self, number):
+        self.saved.unlink(missing_ok=True)
+        words = ["run", "--journal", CAPACITY, "--save", self.saved]
+        name = f"run and again, request {number}"
+        told, entries = owed(self.lines)
+        with self.refusing.started(words, number) as process:
+            answers = self.sent(name, process)
+            with contextlib.suppress(BrokenPipeError):
+                process.stdin.close()
+            status, errors = process.wait(PATIENCE), process.stderr.read().decode()
+            came = status, text(answers), errors
+            if status == 0:
+                self.cases.expect(name, (answers, errors) == (told, ""), came)
+                self.cases.expect(f"{name}, the journal", self.journal() == entries, self.journal())
+            else:
+                self.ends_for_memory(name, came, told, entries)
+            return process.was_refused()
+
+    def sent(self, name, process):
+        """Sends line by line, and again what was answered `bad 501`; the answers but for these."""
+        answers = []
+        for line in self.lines:
+            for _ in range(2):
+                try:
+                    process.stdin.write(f"{line}\n".encode())
+                    process.stdin.flush()
+                except BrokenPipeError:
+                    return answers
+                answer = process.stdout.readline().decode().rstrip("\n")
+                if answer != "bad 501":
+                    break
+            if answer == "":
+                return answers
+            answers.append(answer)
+        return answers
+
+    def files(self, number):
+        """`audit`, `verify` and `explain`: what they say without a refusal, or want of memory."""
+        refused = False
+        for word, name, status, told in self.given:
+            came, was = self.refusing.ran([word, name], "", number)
+            wanted = [(status, told, ""), *((2, "", it) for it in COMPLAINTS)]
+            if word == "explain":
+                wanted = wanted[:1]
+                for_memory = came[0] == 2 and front(came[1], told) and came[2] in COMPLAINTS
+            else:
+                for_memory = came in wanted[1:] and was
+            self.cases.expect(f"{word}, request {number}", came == wanted[0] or for_memory and was, came)
+            refused = refused or was
+        return refused
+
+    def give_files(self):
+        """Makes the files of `files`, and says what is owed of each."""
+        (self.folder / "journal").write_text(text(DAY_JOURNAL))
+        (self.folder / "code").write_bytes(bytes.fromhex(TAXI))
+        (self.folder / "faulty").write_bytes(bytes.fromhex("9500000000000000"))
+        known = [("audit", "journal", 0, "legal 5\n"), ("verify", "code", 0, LISTING), ("verify", "faulty", 1, "refused 308 0\n")]
+        self.given = [(word, self.folder / name, status, told) for word, name, status, told in known]
+        for name in ("code", "faulty"):
+            path = self.folder / name
+            (status, told, _), _ = self.refusing.ran(["explain", path], "", 0)
+            self.given.append(("explain", path, status, told))
+
+    def serve(self, number):
+        """Two partners and a display. A session may end for want of memory, a display may be let go, and each line that was answered
+        with an entry is saved."""
+        self.saved.unlink(missing_ok=True)
+        ports = [free_port() for _ in range(3)]
+        at_port = [f"127.0.0.1:{port}" for port in ports]
+        words = ["serve", "--journal", CAPACITY, "--save", self.saved, "--watch", at_port[0], f"APT={at_port[1]}", f"NM={at_port[2]}"]
+        name = f"serve, request {number}"
+        with self.refusing.started(words, number, stdin=subprocess.DEVNULL) as process:
+            answered, seen = self.served(process, ports)
+            output, errors = process.communicate(timeout=PATIENCE)
+            came = process.returncode, output.decode(), errors.decode(), answered, seen
+            entries = self.journal()
+            status, told = model_journal.audit(line.encode() for line in entries.splitlines(keepends=True))[::-1]
+            self.cases.expect(f"{name}, the journal", status == 0, (told, entries))
+            self.cases.expect(f"{name}, the display", front(seen[: seen.rfind("\n") + 1], entries) or came[0] == 2, came)
+            if came[0] == 0:
+                made = [line.split(" ", 4)[3] for line in entries.splitlines()]
+                wanted = [role for role, answer in answered if not answer.startswith("bad")]
+                self.cases.expect(name, made == wanted and f"closed {len(made)}\n" in came[1], came)
+                self.cases.expect(name, came[2] == "", came)
+            else:
+                self.cases.expect(name, came[0] == 2 and came[2] in (*COMPLAINTS, "acdm: watch address\n"), came)
+            return process.was_refused()
+
+    def served(self, process, ports):
+        """What the partners were answered, with the role of each line, and what the display was sent."""
+        own = [load(9, "alert", TAXI), SCHEDULE, ALERTS], [PLAN, '{"cmd":"show","flight":7}', ALERTS]
+        answered, seen = [], b""
+        with contextlib.ExitStack() as opened:
+            parts = []
+            for port in (*ports[1:], ports[0]):
+                stream = connected(process, port)
+                if stream is None:
+                    return answered, ""
+                parts.append((opened.enter_context(stream), opened.enter_context(stream.makefile("rb"))))
+            display = parts.pop()
+            gone = set()
+            for lines in zip(*own):
+                for role, (stream, heard), line in zip(("APT", "NM"), parts, lines):
+                    if role not in gone:
+                        answers, stays = asked(role, stream, heard, line)
+                        answered += answers
+                        gone |= set() if stays else {role}
+            for stream, _ in parts:
+                with contextlib.suppress(OSError):
+                    stream.shutdown(socket.SHUT_WR)
+            with contextlib.suppress(OSError):
+                seen = display[1].read()
+        return answered, seen.decode()
+
+
+def asked(role, stream, heard, line):
+    """The answers to a line, which is sent again where there was no memory for it, and whether the session still answers."""
+    answers = []
+    with contextlib.suppress(OSError):
+        for _ in range(2):
+            stream.sendall(f"{line}\n".encode())
+            answer = heard.readline().decode()
+            if answer == "":
+                return answers, False
+            answers.append((role, answer))
+            if answer != "bad 501\n":
+                return answers, True
+    return answers, False
+
+
+def free_port():
+    with socket.create_server(("127.0.0.1", 0)) as it:
+        return it.getsockname()[1]
+
+
+def connected(process, port):
+    """A connection, or none where the program ended."""
+    while process.poll() is None:
+        try:
+            return socket.create_connection(("127.0.0.1", port), timeout=SILENCE)
+        except OSError:
+            time.sleep(0.002)
+    return None
+
+
+def main():
+    parser = words(__doc__)
+    parser.add_argument("--stride", type=int, default=1, metavar="N")
+    parser.add_argument("what", nargs="*", metavar="WHAT")
+    given = parser.parse_args()
+    cases = Cases()
+    with tempfile.TemporaryDirectory(prefix="acdm-") as folder:
+        scenes = Scenes(cases, Refusing(given.program.resolve(), folder), folder, given.stride)
+        scenes.give_files()
+        for what in given.what or ("run", "again", "starved", "files", "serve"):
+            scenes.each(getattr(scenes, what))
+    return cases.end()
+
+
+if __name__ == "__main__":
+    sys.exit(main())
