@@ -4,6 +4,7 @@ mod displays;
 mod explain;
 mod files;
 mod serve;
+mod unreliable;
 
 use acdm_board::Desk;
 use acdm_commands::{complete, run_on, verify_on};

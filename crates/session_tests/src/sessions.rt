@@ -2,8 +2,10 @@
 mod ample;
 mod board;
 mod codes;
+mod keys;
 mod programs;
 mod threads;
+mod unreliable;
 mod watching;
 mod wire;
 
