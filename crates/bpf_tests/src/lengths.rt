@@ -60,10 +60,13 @@ fn programs_are_judged_by_the_length_of_a_record(rt: HostRuntime) {
 /// r0 becomes r2, and then its byte 159 is added: ldxb r3, [r1+159]; mov64 r0, r2; add64 r0, r3.
 const SUM: &str = "71139f0000000000bf200000000000000f300000000000009500000000000000";
 
-/// A record of 160 bytes, of which the last is 7.
-fn long_record() -> [u8; 160] {
-    let mut bytes = [0u8; 160];
-    bytes[159] = 7;
+/// So many bytes, of which that at place 159 is 7.
+fn record(rt: &impl Abort, alloc: Global, length: usize) -> Vec<u8> {
+    let mut bytes = Vec::new(alloc);
+    for place in 0..length {
+        let byte = if place == 159 { 7 } else { 0 };
+        bytes.push(byte).expect(rt, "a byte");
+    }
     bytes
 }
 
@@ -74,21 +77,29 @@ fn set(rt: &impl Abort, alloc: Global, vm: &mut EbpfVmRaw, length: Length) -> Op
         .map(|e| e.code())
 }
 
-fn outcome(vm: &mut EbpfVmRaw, record_bytes: &[u8]) -> Result<u64, u16> {
-    match vm.execute_program(record_bytes, 1, Milestone::Landed) {
+/// A record of so many bytes is refused by this number, or r0 is this one.
+fn comes_to(
+    rt: &impl Abort,
+    alloc: Global,
+    vm: &mut EbpfVmRaw,
+    length: usize,
+    wanted: Result<u64, u16>,
+) {
+    let bytes = record(rt, alloc, length);
+    let found = match vm.execute_program(bytes.as_slice(), 1, Milestone::Landed) {
         Ok(ended) => Ok(ended.r0),
         Err(e) => Err(e.code()),
-    }
+    };
+    assert!(rt; found == wanted, "{length} bytes");
 }
 
 fn wants_its_length(rt: &impl Abort, alloc: Global, vm: &mut EbpfVmRaw) {
-    let long = long_record();
-    assert!(rt; outcome(vm, &long[..127]) == Err(334));
+    comes_to(rt, alloc, vm, 127, Err(334));
     assert!(rt; set(rt, alloc, vm, Length::L128) == Some(309));
     assert!(rt; set(rt, alloc, vm, Length::L160).is_none());
-    assert!(rt; outcome(vm, &long[..128]) == Err(335));
-    assert!(rt; outcome(vm, &long[..159]) == Err(335));
-    assert!(rt; outcome(vm, &long) == Ok(167));
+    comes_to(rt, alloc, vm, 128, Err(335));
+    comes_to(rt, alloc, vm, 159, Err(335));
+    comes_to(rt, alloc, vm, 160, Ok(167));
 }
 
 #[test]
@@ -98,7 +109,8 @@ fn a_program_runs_beside_records_of_its_length(rt: HostRuntime) {
     drop(vm);
 }
 
-fn tested(rt: &impl Abort, alloc: Global, sigs: &Sigs, record_bytes: &[u8]) -> Option<Ended> {
+fn tested(rt: &impl Abort, alloc: Global, sigs: &Sigs, length: usize) -> Option<Ended> {
+    let record_bytes = record(rt, alloc, length);
     if record_bytes.len() > 160 {
         return None;
     }
@@ -108,7 +120,7 @@ fn tested(rt: &impl Abort, alloc: Global, sigs: &Sigs, record_bytes: &[u8]) -> O
     run_tested(
         &program,
         sigs,
-        record_bytes,
+        record_bytes.as_slice(),
         1,
         Milestone::Landed,
         &mut oracle,
@@ -119,8 +131,7 @@ fn tested(rt: &impl Abort, alloc: Global, sigs: &Sigs, record_bytes: &[u8]) -> O
 #[test]
 fn the_machine_with_tests_takes_any_length(rt: HostRuntime) {
     let sigs = no_sigs(&rt, rt.alloc());
-    let long = long_record();
-    let ended = tested(&rt, rt.alloc(), &sigs, &long);
+    let ended = tested(&rt, rt.alloc(), &sigs, 160);
     assert!(rt; ended == Some(Ended { r0: 167, steps: 4 }));
-    assert!(rt; tested(&rt, rt.alloc(), &sigs, &long[..159]).is_none());
+    assert!(rt; tested(&rt, rt.alloc(), &sigs, 159).is_none());
 }
