@@ -65,13 +65,13 @@ impl Write for Narrow {
     }
 }
 
-fn taking(alloc: Global, piece: usize, left: u64, fault: Fault) -> Sink<Narrow> {
-    Sink::new(Narrow {
+fn taking(alloc: Global, piece: usize, left: u64, fault: Fault) -> Narrow {
+    Narrow {
         taken: Vec::new(alloc),
         piece,
         left,
         fault,
-    })
+    }
 }
 
 /// A status, what was written, and the line on the errors' writer.
@@ -131,8 +131,8 @@ fn run_over(alloc: Global, text: &[u8], row: &RunRow) -> (Came, Vec<u8>) {
         piece: 60,
         left: reads,
     });
-    let mut writer = taking(alloc, 2, writes, fault);
-    let mut saved = Some(taking(alloc, 20, saves, fault));
+    let mut writer = Sink::new(taking(alloc, 2, writes, fault));
+    let mut saved = Some(Sink::new(taking(alloc, 20, saves, fault)));
     let mut errors = Sink::new(Vec::new(alloc));
     let status = run_on(alloc, 10, &mut reader, &mut writer, &mut saved, &mut errors);
     let came = Came {
@@ -208,7 +208,7 @@ fn file_judged(alloc: Global, bytes: &[u8], row: &FileRow, is_audit: bool) -> Ca
         piece: 30,
         left,
     });
-    let mut writer = taking(alloc, 3, writes, fault);
+    let mut writer = Sink::new(taking(alloc, 3, writes, fault));
     let mut errors = Sink::new(Vec::new(alloc));
     let status = if is_audit {
         audit_on(alloc, &mut reader, &mut writer, &mut errors)
