@@ -1,7 +1,7 @@
 //! The alerts of a flight as one word.
 ghost use Rattle.std.specs.Prelude.{◌≡◌, ◌==◌, ◌<◌, ◌^◌, IsTrue};
 ghost use Rattle.acdm_record.specs.declared.field.Field.TheVariants.{Alerts};
-ghost use Rattle.acdm_record.specs.Fields.{number_of, is_allowed, set_number};
+ghost use Rattle.acdm_record.specs.Fields.{number_of, is_alert_word, set_number};
 ghost use Rattle.acdm_alerts.specs.Decided.{with_rejection as word_with_rejection};
 ghost use Rattle.acdm_alerts.specs.Decided.{with_locals as word_with_locals};
 
@@ -17,14 +17,13 @@ pub struct AlertSet {
 
 impl Model for AlertSet {
     ghost use Rattle.std.specs.Prelude.{ℕ, ◌≡◌, true};
-    ghost use Rattle.acdm_record.specs.declared.field.Field.TheVariants.{Alerts};
-    ghost use Rattle.acdm_record.specs.Fields.{is_allowed};
+    ghost use Rattle.acdm_record.specs.Fields.{is_alert_word};
 
     ghost Value = { ℕ };
 
     ghost view = { λ s. s.word };
 
-    ghost invariant = { λ s. is_allowed Alerts s.word ≡ true };
+    ghost invariant = { λ s. is_alert_word s.word ≡ true };
 
     ghost inverse = { λ n. record { word = n } };
 }
@@ -32,7 +31,7 @@ impl Model for AlertSet {
 impl AlertSet {
     /// The set of this word, which has neither bit 0 nor bit 6.
     pub fn from_word(word: u32) -> AlertSet
-        requires { IsTrue (is_allowed Alerts word) }
+        requires { IsTrue (is_alert_word word) }
         ensures { result ≡ word }
     {
         AlertSet { word }
@@ -55,7 +54,7 @@ impl AlertSet {
     /// The alert word.
     pub fn word(self) -> u32
         ensures value { result ≡ self }
-        ensures allowed { IsTrue (is_allowed Alerts result) }
+        ensures allowed { IsTrue (is_alert_word result) }
     {
         self.word
     }

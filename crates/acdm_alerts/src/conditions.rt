@@ -2,7 +2,7 @@
 ghost use Rattle.std.specs.Prelude.{◌≡◌, ◌<◌, ◌≤◌, ◌^◌, IfSome, IsTrue};
 ghost use Rattle.acdm_record.specs.declared.field.Field.TheVariants.{Alerts};
 ghost use Rattle.acdm_record.specs.Place.{width_of};
-ghost use Rattle.acdm_record.specs.Fields.{number_of, is_allowed};
+ghost use Rattle.acdm_record.specs.Fields.{number_of, is_alert_word};
 ghost use Rattle.acdm_milestones.specs.Tables.{is_set as is_given};
 ghost use Rattle.acdm_alerts.specs.Conditions.{eibt as in_block_time, turns_after as turns_later};
 ghost use Rattle.acdm_alerts.specs.Conditions.{differ_by as are_apart};

@@ -19,7 +19,7 @@ use acdm_record::{Field, Record};
 fn field_of(milestone: Milestone) -> Field
     ensures value { result ≡ time_field milestone }
     ensures wide { width_of result ≡ 4 }
-    ensures free { (v : ℕ) → IsTrue (is_allowed result v) }
+    ensures free { (layout v : ℕ) → IsTrue (is_allowed layout result v) }
 {
     match milestone {
         Milestone::FlightPlanActivated => Field::Eobt,

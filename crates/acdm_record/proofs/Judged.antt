@@ -1,8 +1,8 @@
 -- Bytes have no fault exactly where they are those of a record.
-use Rattle.std.proofs.Common.{◌≡◌, ◌≢◌, ℕ, zero, suc, ◌+◌, ◌-◌, ◌<◌, ◌≤◌, Bool, true, false, cond}
-use Rattle.std.proofs.Common.{not, ◌&&◌, ◌==◌, nat_le, List, [], ◌∷◌, ◌++◌, length, take, drop}
-use Rattle.std.proofs.Common.{replicate, slice_index, Option, Some, None, refl, sym, ap, ◌∙◌, subst}
-use Rattle.std.proofs.Common.{arith, find, eqb-true, ne_eqb}
+use Rattle.std.proofs.Common.{◌≡◌, ℕ, zero, suc, ◌+◌, ◌-◌, ◌<◌, ◌≤◌, Bool, true, false, cond}
+use Rattle.std.proofs.Common.{not, ◌&&◌, ◌||◌, ◌==◌, List, [], ◌∷◌, ◌++◌, length, take, drop}
+use Rattle.std.proofs.Common.{replicate, Option, Some, None, refl, sym, ap, ◌∙◌, subst}
+use Rattle.std.proofs.Common.{arith, find, eqb-true, eq-eqb, lit≤}
 use Rattle.std.proofs.lemmas.List.{take-append-drop, length-take-le, length-drop}
 use Rattle.std.proofs.lemmas.List.Sums.{prefix_len-le-length}
 use Rattle.std.proofs.Math.Seq.{drop-append_seam}
@@ -10,16 +10,20 @@ use Rattle.std.specs.List.{list_all, before_first, position_or_len}
 use Rattle.acdm_record.specs.declared.fault.RecordError.{RecordError}
 use Rattle.acdm_record.specs.declared.fault.RecordError.TheVariants.{WrongLength, UnknownLayout}
 use Rattle.acdm_record.specs.declared.fault.RecordError.TheVariants.{MalformedText, ReservedBits}
+use Rattle.acdm_record.specs.declared.fault.RecordError.TheVariants.{ReservedBytes}
 use Rattle.acdm_record.specs.declared.field.Field.{Field}
-use Rattle.acdm_record.specs.declared.field.Field.TheVariants.{Reached, Alerts, Layout}
+use Rattle.acdm_record.specs.declared.field.Field.TheVariants.{Reached, Alerts, Layout, Eczt, Eezt}
+use Rattle.acdm_record.specs.declared.field.Field.TheVariants.{Aczt, Aezt}
 use Rattle.acdm_record.specs.declared.field.TextField.{TextField}
-use Rattle.acdm_record.specs.Place.{text_offset_of, text_width_of, text_fields}
-use Rattle.acdm_record.specs.Fields.{bytes_of, part, number_at, text_at, fields_at, padded, is_text}
+use Rattle.acdm_record.specs.Place.{offset_of, text_offset_of, text_width_of, text_fields}
+use Rattle.acdm_record.specs.Fields.{part, number_at, text_at, padded, is_text, is_layout, is_added}
+use Rattle.acdm_record.specs.Fields.{bytes_in_layout, are_zeros, is_reached_word, is_alert_word}
 use Rattle.acdm_record.specs.Fields.{is_allowed, IsRecord}
-use Rattle.acdm_record.specs.Faults.{AreOfRecord, is_filled, has_fault, faults, first_fault}
-use Rattle.acdm_record.proofs.Whole.{bytes_of-fields_at}
+use Rattle.acdm_record.specs.Faults.{AreOfRecord, is_filled, is_layout_of, has_fault, faults}
+use Rattle.acdm_record.specs.Faults.{first_fault, first_fault_in}
+use Rattle.acdm_record.proofs.Zeros.{number-past}
 use Rattle.acdm_record.specs.Bools.{and_left, and_right, both_true}
-use Rattle.acdm_record.proofs.Places.{each_text_field, text_length, text-padded}
+use Rattle.acdm_record.proofs.Places.{each_text_field, text_inside, text_length, text-padded}
 use Rattle.acdm_record.proofs.Places.{number_of-fields_of, text_of-fields_of}
 
 some_none : {K : Type 0} (x : K) → ◌≡◌ {A = Option K} (Some x) None → ⊥
@@ -28,7 +32,7 @@ some_none x h = absurd (cc)
 -- ---- one part: text and zeros
 
 -- nothing but zeros is so many zeros
-all_zero : (xs : List ℕ) → list_all (λ b. b == 0) xs ≡ true → xs ≡ replicate (length xs) 0
+pub all_zero : (xs : List ℕ) → list_all (λ b. b == 0) xs ≡ true → xs ≡ replicate (length xs) 0
 all_zero [] h = refl
 all_zero (x ∷ xs) h =
     let here : x ≡ 0 = grind (arith, and_left (x == 0) (list_all (λ b. b == 0) xs) h) in
@@ -69,19 +73,10 @@ filled-padded w t h =
 abbrev pub has_text : List ℕ → TextField → Bool
 has_text b t = is_filled (part (text_offset_of t) (text_width_of t) b)
 
-texts_inside_test : list_all (λ t. nat_le (text_offset_of t + text_width_of t) 128) text_fields
-    ≡ true
-texts_inside_test = refl
-
-within : (a b : ℕ) → nat_le a b ≡ true → a ≤ b
-within a b h = grind arith
-
-length-text_part : (b : List ℕ) (t : TextField) → length b ≡ 128
+length-text_part : (b : List ℕ) (t : TextField) → 128 ≤ length b
     → length (part (text_offset_of t) (text_width_of t) b) ≡ text_width_of t
-length-text_part b t e =
-    let inside : text_offset_of t + text_width_of t ≤ 128 =
-    within _ _ (each_text_field (λ t. nat_le (text_offset_of t + text_width_of t) 128)
-    texts_inside_test t) in
+length-text_part b t l =
+    let inside = text_inside t in
     length-take-le (text_width_of t) (drop (text_offset_of t) b)
     (omega (arith, length-drop (text_offset_of t) b))
 
@@ -109,88 +104,128 @@ holds : (v : Bool) → not v ≡ false → v ≡ true
 holds true h = refl
 holds false h = absurd (cc)
 
+-- the lengths and layouts that go together
+pub layout_short : (l : ℕ) → 128 ≤ bytes_in_layout l
+layout_short l = elim (l == 2) as (λ v. 128 ≤ cond v 160 128) [
+  | true ↦ lit≤ tt
+  | false ↦ lit≤ tt
+]
+
+one_of_two : (l n : ℕ) → n ≡ bytes_in_layout l → (n == 128 || n == 160) ≡ true
+one_of_two l n = elim (l == 2) as (λ v. n ≡ cond v 160 128 → (n == 128 || n == 160) ≡ true) [
+  | true ↦ λ e. rw e refl
+  | false ↦ λ e. rw e refl
+]
+
 -- bytes without a fault are those of a record
-module _ (b : List ℕ) (none : find (has_fault b) faults ≡ None) where
-  past_length : find (has_fault b) (UnknownLayout ∷ MalformedText ∷ ReservedBits ∷ []) ≡ None
-  past_length = found_later (has_fault b) WrongLength
-      (UnknownLayout ∷ MalformedText ∷ ReservedBits ∷ []) none
+module _ (b : List ℕ) (none : find (has_fault (length b) b) faults ≡ None) where
+  past_length : find (has_fault (length b) b) (UnknownLayout ∷ MalformedText ∷ ReservedBits ∷ ReservedBytes ∷ []) ≡ None
+  past_length = found_later (has_fault (length b) b) WrongLength
+      (UnknownLayout ∷ MalformedText ∷ ReservedBits ∷ ReservedBytes ∷ []) none
 
-  past_layout : find (has_fault b) (MalformedText ∷ ReservedBits ∷ []) ≡ None
-  past_layout = found_later (has_fault b) UnknownLayout (MalformedText ∷ ReservedBits ∷ [])
-      past_length
+  past_layout : find (has_fault (length b) b) (MalformedText ∷ ReservedBits ∷ ReservedBytes ∷ []) ≡ None
+  past_layout = found_later (has_fault (length b) b) UnknownLayout
+      (MalformedText ∷ ReservedBits ∷ ReservedBytes ∷ []) past_length
 
-  past_texts : find (has_fault b) (ReservedBits ∷ []) ≡ None
-  past_texts = found_later (has_fault b) MalformedText (ReservedBits ∷ []) past_layout
+  past_texts : find (has_fault (length b) b) (ReservedBits ∷ ReservedBytes ∷ []) ≡ None
+  past_texts = found_later (has_fault (length b) b) MalformedText (ReservedBits ∷ ReservedBytes ∷ [])
+      past_layout
 
-  whole : length b ≡ 128
-  whole = eqb-true (length b) 128
-      (holds (length b == 128) (found_none (has_fault b) WrongLength
-      (UnknownLayout ∷ MalformedText ∷ ReservedBits ∷ []) none))
+  past_bits : find (has_fault (length b) b) (ReservedBytes ∷ []) ≡ None
+  past_bits = found_later (has_fault (length b) b) ReservedBits (ReservedBytes ∷ []) past_texts
 
-  layout : is_allowed Layout (number_at b Layout) ≡ true
-  layout = holds (is_allowed Layout (number_at b Layout))
-      (found_none (has_fault b) UnknownLayout (MalformedText ∷ ReservedBits ∷ []) past_length)
+  suits : is_layout_of (length b) (number_at b Layout) ≡ true
+  suits = holds (is_layout_of (length b) (number_at b Layout))
+      (found_none (has_fault (length b) b) UnknownLayout
+      (MalformedText ∷ ReservedBits ∷ ReservedBytes ∷ []) past_length)
+
+  known : is_layout (number_at b Layout) ≡ true
+  known = and_left (is_layout (number_at b Layout)) _ suits
+
+  whole : length b ≡ bytes_in_layout (number_at b Layout)
+  whole = eqb-true (length b) (bytes_in_layout (number_at b Layout))
+      (and_right (is_layout (number_at b Layout)) _ suits)
 
   filled : (t : TextField) → has_text b t ≡ true
   filled = each_text_field (has_text b)
       (holds (list_all (has_text b) text_fields)
-      (found_none (has_fault b) MalformedText (ReservedBits ∷ []) past_layout))
+      (found_none (has_fault (length b) b) MalformedText (ReservedBits ∷ ReservedBytes ∷ [])
+      past_layout))
 
-  bits : (is_allowed Reached (number_at b Reached) && is_allowed Alerts (number_at b Alerts)) ≡ true
-  bits = holds (is_allowed Reached (number_at b Reached) && is_allowed Alerts (number_at b Alerts))
-      (found_none (has_fault b) ReservedBits [] past_texts)
+  bits : (is_reached_word (number_at b Reached) && is_alert_word (number_at b Alerts)) ≡ true
+  bits = holds (is_reached_word (number_at b Reached) && is_alert_word (number_at b Alerts))
+      (found_none (has_fault (length b) b) ReservedBits (ReservedBytes ∷ []) past_texts)
 
-  allowed : (f : Field) → is_allowed f (number_at b f) ≡ true
-  allowed Layout = layout
-  allowed Reached = and_left (is_allowed Reached (number_at b Reached)) _ bits
-  allowed Alerts = and_right (is_allowed Reached (number_at b Reached)) _ bits
+  spare : are_zeros (drop 144 b) ≡ true
+  spare = holds (are_zeros (drop 144 b))
+      (found_none (has_fault (length b) b) ReservedBytes [] past_bits)
+
+  -- a time of de-icing stands behind the bytes of layout 1
+  added : (f : Field) → 128 ≤ offset_of f → is_added (number_at b Layout) (number_at b f) ≡ true
+  added f behind =
+      elim (number_at b Layout == 2) as (λ v. length b ≡ cond v 160 128
+      → (v || number_at b f == 0) ≡ true) [
+        | true ↦ λ e. refl
+        | false ↦ λ e. ap (λ n. n == 0) (number-past b f (omega arith))
+      ] whole
+
+  allowed : (f : Field) → is_allowed (number_at b Layout) f (number_at b f) ≡ true
+  allowed Layout = both_true (number_at b Layout == number_at b Layout) _
+      (eq-eqb (number_at b Layout) (number_at b Layout) refl) known
+  allowed Reached = and_left (is_reached_word (number_at b Reached)) _ bits
+  allowed Alerts = and_right (is_reached_word (number_at b Reached)) _ bits
+  allowed Eczt = added Eczt (lit≤ tt)
+  allowed Eezt = added Eezt (lit≤ tt)
+  allowed Aczt = added Aczt (lit≤ tt)
+  allowed Aezt = added Aezt (lit≤ tt)
   allowed _ = refl
 
   kept : IsRecord b
   kept = record {
     filled = λ t. padded-filled (text_width_of t) (part (text_offset_of t) (text_width_of t) b)
-        (length-text_part b t whole) (filled t);
+        (length-text_part b t (omega (arith, whole, layout_short (number_at b Layout)))) (filled t);
     texts = λ t. ap is_text (text_of-fields_of (number_at b) (text_at b) t)
         ∙ and_left (is_text (text_at b t)) _ (filled t);
-    numbers = λ f. ap (is_allowed f) (number_of-fields_of (number_at b) (text_at b) f) ∙ allowed f;
+    numbers = λ f. ap (is_allowed (number_at b Layout) f)
+        (number_of-fields_of (number_at b) (text_at b) f) ∙ allowed f;
+    spare = spare;
   }
 
   of_record : AreOfRecord b
   of_record = record { whole = whole; kept = kept }
 
 pub AreOfRecord-none : (b : List ℕ) → first_fault b ≡ None → AreOfRecord b
-unfolding first_fault
+unfolding first_fault_in
 AreOfRecord-none b h = of_record b h
 
 -- bytes of a record have no fault
 pub none-AreOfRecord : (b : List ℕ) → AreOfRecord b → first_fault b ≡ None
-unfolding first_fault
+unfolding first_fault_in
 none-AreOfRecord b r =
     let number = λ (f : Field). sym
-    (ap (is_allowed f) (number_of-fields_of (number_at b) (text_at b) f)) ∙ r.kept.numbers f in
+    (ap (is_allowed (number_at b Layout) f) (number_of-fields_of (number_at b) (text_at b) f))
+    ∙ r.kept.numbers f in
     let texts = λ (t : TextField). ap is_filled (r.kept.filled t)
     ∙ filled-padded (text_width_of t) (text_at b t)
     (sym (ap is_text (text_of-fields_of (number_at b) (text_at b) t)) ∙ r.kept.texts t) in
+    let known = and_right (number_at b Layout == number_at b Layout) _ (number Layout) in
+    let suits : is_layout_of (length b) (number_at b Layout) ≡ true =
+    both_true (is_layout (number_at b Layout)) _ known
+    (eq-eqb (length b) (bytes_in_layout (number_at b Layout)) r.whole) in
     rw (
-      r.whole,
-      number Layout,
+      one_of_two (number_at b Layout) (length b) r.whole,
+      suits,
       each_true (has_text b) texts text_fields,
       number Reached,
       number Alerts,
+      r.kept.spare,
     ) refl
 
 -- bytes that have a fault are those of no record
 pub no_record : (b : List ℕ) (e : RecordError) → first_fault b ≡ Some e → AreOfRecord b → ⊥
 no_record b e h r = some_none e (sym h ∙ none-AreOfRecord b r)
 
-pub fault-length : (b : List ℕ) → length b ≢ 128 → first_fault b ≡ Some WrongLength
-unfolding first_fault
-fault-length b h = rw (ne_eqb (length b) 128 h) refl
-
--- a record of bytes without a fault has these bytes
-pub read_back : (a b : List ℕ) → a ≡ b → first_fault a ≡ None → ((i : ℕ) → slice_index b i < 256)
-    → bytes_of (fields_at a) ≡ b
-read_back a b e h small =
-    let r = AreOfRecord-none a h in
-    bytes_of-fields_at a r.whole (λ i. subst (λ xs. slice_index xs i < 256) (sym e) (small i))
-    r.kept.filled ∙ e
+pub fault-length : (b : List ℕ) → (length b == 128 || length b == 160) ≡ false
+    → first_fault b ≡ Some WrongLength
+unfolding first_fault_in
+fault-length b h = rw h refl

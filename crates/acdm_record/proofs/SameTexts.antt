@@ -14,8 +14,7 @@ use Rattle.acdm_record.proofs.Places.{text_of-fields_of, length-padded}
 use Rattle.acdm_record.proofs.Kept.{text_short}
 use Rattle.acdm_record.proofs.Whole.{number_bytes, part_bytes}
 
-module _ (b : List ℕ) (len : length b ≡ 128) (bytes : (i : ℕ) → slice_index b i < 256)
-    (filled : ArePadded b) where
+module _ (b : List ℕ) (bytes : (i : ℕ) → slice_index b i < 256) (filled : ArePadded b) where
   abbrev at : TextField → List ℕ
   at t = part (text_offset_of t) (text_width_of t) b
 
@@ -32,7 +31,7 @@ module _ (b : List ℕ) (len : length b ≡ 128) (bytes : (i : ℕ) → slice_in
   -- the bytes of a place, from their number
   bytes_from : (t : TextField) → little_bytes (text_width_of t) (number_in t) ≡ at t
   bytes_from t = number_bytes (text_width_of t) (at t) (long t)
-      (part_bytes b len bytes filled (text_offset_of t) (text_width_of t))
+      (part_bytes b bytes filled (text_offset_of t) (text_width_of t))
 
   pub same_by_number : (t u : TextField) → text_width_of t ≡ text_width_of u
       → (number_in t == number_in u) ≡ bytes_eq (text_of (fields_at b) t) (text_of (fields_at b) u)

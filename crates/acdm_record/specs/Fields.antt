@@ -1,5 +1,6 @@
 -- What a record is: a number for each number field and a text for each text field; and its bytes.
-use Rattle.std.specs.Prelude.{ℕ, ◌-◌, ◌≡◌, Bool, true, ◌==◌, ◌&&◌, nat_le, nat_lt, List, [], ◌++◌}
+use Rattle.std.specs.Prelude.{ℕ, ◌-◌, ◌≡◌, Bool, true, ◌==◌, ◌&&◌, ◌||◌, if◌then◌else◌, nat_le, nat_lt}
+use Rattle.std.specs.Prelude.{List, [], ◌++◌}
 use Rattle.std.specs.Prelude.{map, length, take, drop, slice_index, slice_index_or, slice_set}
 use Rattle.std.specs.Prelude.{replicate}
 use Rattle.std.specs.List.{flat_map, before_first, list_all}
@@ -7,10 +8,11 @@ use Rattle.std.specs.Int.{bit_at}
 use Rattle.byteorder.specs.Endian.{little_number, little_bytes}
 use Rattle.acdm_record.specs.declared.field.Field.{Field}
 use Rattle.acdm_record.specs.declared.field.Field.TheVariants.{Flight, Reached, Alerts, Layout}
+use Rattle.acdm_record.specs.declared.field.Field.TheVariants.{Eczt, Eezt, Aczt, Aezt}
 use Rattle.acdm_record.specs.declared.field.TextField.{TextField}
 use Rattle.acdm_record.specs.Place.{offset_of, width_of, index_of, fields, text_offset_of}
 use Rattle.acdm_record.specs.Place.{text_width_of, text_index_of, text_fields, Name, number, text}
-use Rattle.acdm_record.specs.Place.{layout}
+use Rattle.acdm_record.specs.Place.{layout, deicing}
 
 -- the numbers in the order of `fields`, and the texts in that of `text_fields`
 pub record Fields : Type 0 where
@@ -44,9 +46,23 @@ abbrev pub spelled : Fields → Name → List ℕ
 spelled r (number f) = little_bytes (width_of f) (number_of r f)
 spelled r (text t) = padded (text_width_of t) (text_of r t)
 
+-- the layouts of a record, and how many bytes it has in each
+abbrev pub is_layout : ℕ → Bool
+is_layout l = l == 1 || l == 2
+
+abbrev pub bytes_in_layout : ℕ → ℕ
+bytes_in_layout l = if l == 2 then 160 else 128
+
+abbrev pub length_of : Fields → ℕ
+length_of r = bytes_in_layout (number_of r Layout)
+
+-- what a layout has behind the fields of layout 1: layout 2 the times of de-icing, and zeros
+abbrev pub added_bytes : Fields → ℕ → List ℕ
+added_bytes r l = if l == 2 then flat_map (spelled r) deicing ++ replicate 16 0 else []
+
 -- the bytes of a record
 unfoldable pub bytes_of : Fields → List ℕ
-bytes_of r = flat_map (spelled r) layout
+bytes_of r = flat_map (spelled r) layout ++ added_bytes r (number_of r Layout)
 
 -- the bytes at a place
 abbrev pub part : ℕ → ℕ → List ℕ → List ℕ
@@ -75,26 +91,46 @@ is_text_byte b = nat_le 33 b && nat_le b 126
 abbrev pub is_text : List ℕ → Bool
 is_text t = list_all is_text_byte t
 
--- what a number may be beside fitting its bytes: the layout is 1, the reached word has no bit above
--- 16, and the alert word has neither bit 0 nor bit 6
-abbrev pub is_allowed : Field → ℕ → Bool
-is_allowed Layout v = v == 1
-is_allowed Reached v = nat_lt v 131072
-is_allowed Alerts v = bit_at v 0 == 0 && bit_at v 6 == 0
-is_allowed _ v = true
+-- bytes that are nothing but zeros
+abbrev pub are_zeros : List ℕ → Bool
+are_zeros bytes = list_all (λ b. b == 0) bytes
+
+-- the reached word has no bit above 16, and the alert word has neither bit 0 nor bit 6
+abbrev pub is_reached_word : ℕ → Bool
+is_reached_word v = nat_lt v 131072
+
+abbrev pub is_alert_word : ℕ → Bool
+is_alert_word v = bit_at v 0 == 0 && bit_at v 6 == 0
+
+-- a time of de-icing is 0 where the layout has none
+abbrev pub is_added : ℕ → ℕ → Bool
+is_added l v = l == 2 || v == 0
+
+-- what a number of a record of this layout may be beside fitting its bytes
+abbrev pub is_allowed : ℕ → Field → ℕ → Bool
+is_allowed l Layout v = v == l && is_layout l
+is_allowed l Reached v = is_reached_word v
+is_allowed l Alerts v = is_alert_word v
+is_allowed l Eczt v = is_added l v
+is_allowed l Eezt v = is_added l v
+is_allowed l Aczt v = is_added l v
+is_allowed l Aezt v = is_added l v
+is_allowed l _ v = true
 
 -- what each number of a record is, and each text
 abbrev pub AreAllowed : Fields → Type 0
-AreAllowed r = (f : Field) → is_allowed f (number_of r f) ≡ true
+AreAllowed r = (f : Field) → is_allowed (number_of r Layout) f (number_of r f) ≡ true
 
 abbrev pub AreTexts : Fields → Type 0
 AreTexts r = (t : TextField) → is_text (text_of r t) ≡ true
 
--- the bytes of a record: its texts are printable and filled with zeros, its numbers are allowed
+-- the bytes of a record, with zeros behind them or without: its texts are printable and filled with
+-- zeros, its numbers are allowed, and nothing stands behind the times of de-icing
 pub record IsRecord (bytes : List ℕ) : Type 0 where
   pub filled : ArePadded bytes
   pub texts : AreTexts (fields_at bytes)
   pub numbers : AreAllowed (fields_at bytes)
+  pub spare : are_zeros (drop 144 bytes) ≡ true
 
 -- a new record: the flight number, the layout, and nothing else
 abbrev pub new_number : ℕ → Field → ℕ
@@ -104,3 +140,7 @@ new_number flight _ = 0
 
 abbrev pub new_record : ℕ → Fields
 new_record flight = fields_of (new_number flight) (λ _. [])
+
+-- a record of layout 1 brought to layout 2, in which no time of de-icing is set
+abbrev pub migrated : Fields → Fields
+migrated r = set_number r Layout 2

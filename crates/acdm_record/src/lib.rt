@@ -1,4 +1,5 @@
-//! The record of a flight: 128 bytes that callers see as a map from field names to values.
+//! The record of a flight: 128 bytes, or 160 with the times of de-icing, that callers see as a map from field names to
+//! values.
 #![tactic(auto)]
 
 mod fault;

@@ -10,7 +10,7 @@ use crate::field::{Field, TextField};
 use byteorder::{ByteOrder, LittleEndian};
 
 /// The number at a field's place.
-pub(crate) fn number_in(bytes: &[u8; 128], field: Field) -> u64
+pub(crate) fn number_in(bytes: &[u8; 160], field: Field) -> u64
     ensures value { result ≡ number_at bytes.now field }
     ensures fits { result < 256 ^ width_of field }
 {
@@ -21,7 +21,7 @@ pub(crate) fn number_in(bytes: &[u8; 128], field: Field) -> u64
 }
 
 /// All bytes at a text's place.
-pub(crate) fn text_part(bytes: &[u8; 128], field: TextField) -> &[u8]
+pub(crate) fn text_part(bytes: &[u8; 160], field: TextField) -> &[u8]
     ensures { result.now ≡ part (text_offset_of field) (text_width_of field) bytes.now }
 {
     let (offset, width) = field.place();
@@ -29,7 +29,7 @@ pub(crate) fn text_part(bytes: &[u8; 128], field: TextField) -> &[u8]
 }
 
 /// The bytes at a text's place as one number, by which two places of one width are compared.
-pub(crate) fn text_number(bytes: &[u8; 128], field: TextField) -> u64
+pub(crate) fn text_number(bytes: &[u8; 160], field: TextField) -> u64
     ensures { result ≡ little_number (text_width_of field)
         (part (text_offset_of field) (text_width_of field) bytes.now) }
 {

@@ -3,20 +3,22 @@ ghost use Rattle.std.specs.Prelude.{◌≡◌, ◌<◌, ◌≤◌, ◌^◌, ◌�
 ghost use Rattle.std.specs.Prelude.{Some};
 ghost use Rattle.std.specs.Str.{bytes_eq};
 ghost use Rattle.acdm_record.specs.Place.{width_of, text_width_of};
+ghost use Rattle.acdm_record.specs.declared.field.Field.TheVariants.{Layout};
 ghost use Rattle.acdm_record.specs.Fields.{fields_at, number_of, set_number, text_of, set_text};
-ghost use Rattle.acdm_record.specs.Fields.{is_text, bytes_of, new_record, is_allowed};
+ghost use Rattle.acdm_record.specs.Fields.{is_text, bytes_of, length_of, new_record, is_allowed};
+ghost use Rattle.acdm_record.specs.Fields.{migrated};
 ghost use Rattle.acdm_record.specs.Faults.{AreOfRecord, first_fault};
 
-use crate::fault::{RecordError, fault_of};
+use crate::fault::{RecordError, fault_of, has_length};
 use crate::field::{Field, TextField};
 use crate::part::{before_zero, in_range, number_in, text_number, text_part, write_padded};
 use byteorder::{ByteOrder, LittleEndian};
 use std::marker::Model;
 
-/// A flight's record. It takes 128 bytes.
+/// A flight's record. It takes 160 bytes, of which layout 1 has 128.
 #[derive(Drop)]
 pub struct Record {
-    bytes: [u8; 128],
+    bytes: [u8; 160],
 }
 
 impl Model for Record {
@@ -34,18 +36,19 @@ impl Record {
     pub fn get(&self, field: Field) -> u64
         ensures value { result ≡ number_of self.now field }
         ensures fits { result < 256 ^ width_of field }
-        ensures allowed { IsTrue (is_allowed field result) }
+        ensures allowed { IsTrue (is_allowed (number_of self.now Layout) field result) }
     {
         number_in(&self.bytes, field)
     }
 
     /// Puts a number under a name, and leaves every other name as it is.
     ///
-    /// The number fits the bytes of its field. The layout stays 1, the reached word has no bit
-    /// above 16, and the alert word has neither bit 0 nor bit 6.
+    /// The number fits the bytes of its field. The layout stays what it is, the reached word has no
+    /// bit above 16, the alert word has neither bit 0 nor bit 6, and in layout 1 the times of
+    /// de-icing stay 0.
     pub fn set(&mut self, field: Field, value: u64)
         requires fits { value < 256 ^ width_of field }
-        requires allowed { IsTrue (is_allowed field value) }
+        requires allowed { IsTrue (is_allowed (number_of self.old Layout) field value) }
         ensures { self.new ≡ set_number self.old field value }
     {
         let (offset, width) = field.place();
@@ -91,37 +94,56 @@ impl Record {
         Record { bytes: self.bytes }
     }
 
-    /// The bytes of the record.
-    pub fn bytes(&self) -> &[u8; 128]
+    /// Brings a record of layout 1 to layout 2, in which its times of de-icing are 0. Every other
+    /// name keeps its value.
+    pub fn migrate(&mut self)
+        requires { number_of self.old Layout ≡ 1 }
+        ensures { self.new ≡ migrated self.old }
+    {
+        let (offset, width) = Field::Layout.place();
+        LittleEndian::write_uint(&mut self.bytes[offset..offset + width], 2, width);
+    }
+
+    /// The bytes of the record: 128 in layout 1, 160 in layout 2.
+    pub fn bytes(&self) -> &[u8]
         ensures layout { result.now ≡ bytes_of self.now }
+        ensures long { length result.now ≡ length_of self.now }
+        ensures few { length result.now ≤ 160 }
         ensures of_record { AreOfRecord result.now }
     {
         in_range(&self.bytes);
-        &self.bytes
+        if self.get(Field::Layout) == 2 {
+            &self.bytes
+        } else {
+            &self.bytes[..128]
+        }
     }
 
     /// The record that has these bytes, or what is first wrong with them: their number, the layout,
-    /// a text, or a bit of the reached or alert word (this project's profile).
+    /// a text, a bit of the reached or alert word, or a byte behind the times of de-icing (this
+    /// project's profile).
     pub fn from_bytes(bytes: &[u8]) -> Result<Record, RecordError>
         ensures fields { IfOk result (λ r. r ≡ fields_at bytes.now) }
         ensures same { IfOk result (λ r. bytes_of r ≡ bytes.now) }
         ensures exactly { IsOk result ↔ AreOfRecord bytes.now }
         ensures refused { IfErr result (λ e. first_fault bytes.now ≡ Some e) }
     {
-        let Ok(bytes) = <[u8; 128]>::try_from(bytes) else {
+        if !has_length(bytes.len()) {
             return Err(RecordError::WrongLength);
-        };
-        match fault_of(&bytes) {
+        }
+        let mut kept = [0; 160];
+        write_padded(&mut kept, bytes);
+        match fault_of(&kept, bytes.len()) {
             Some(fault) => Err(fault),
-            None => Ok(Record { bytes }),
+            None => Ok(Record { bytes: kept }),
         }
     }
 
-    /// A new record: the flight number, the layout, and nothing else.
+    /// A new record: the flight number, layout 1, and nothing else.
     pub fn new(flight: u64) -> Self
         ensures { result ≡ new_record flight }
     {
-        let mut bytes = [0; 128];
+        let mut bytes = [0; 160];
         bytes[62] = 1;
         let mut record = Record { bytes };
         record.set(Field::Flight, flight);

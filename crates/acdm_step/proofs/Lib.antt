@@ -8,6 +8,7 @@ pub mod Lifting
 pub mod Marking
 pub mod Kept
 pub mod Numbers
+pub mod Long
 pub mod Planned
 pub mod Rows
 mod Refused

@@ -1,5 +1,5 @@
--- A change of a record leaves its flight's number.
-use Rattle.std.proofs.Common.{◌≡◌, ℕ, ◌<◌, ◌≤◌, Bool, true, false, cond, not, ◌&&◌, nat_lt, List}
+-- A change of a record leaves its flight's number and its layout.
+use Rattle.std.proofs.Common.{◌≡◌, ◌≢◌, ℕ, ◌<◌, ◌≤◌, Bool, true, false, cond, not, ◌&&◌, nat_lt, List}
 use Rattle.std.proofs.Common.{[], ◌∷◌, length, get_or, Option, Some, None, refl, sym, ap, ◌∙◌}
 use Rattle.std.proofs.Common.{arith}
 use Rattle.std.proofs.lemmas.List.{get_or_past, get_or_default, get_or-set_other}
@@ -7,8 +7,9 @@ use Rattle.std.proofs.lemmas.List.Sums.{prefix_len-le-length}
 use Rattle.std.proofs.lemmas.Bool.Decides.{nat_tests}
 use Rattle.acdm_record.specs.Bools.{and_left, and_right}
 use Rattle.acdm_record.specs.declared.field.Field.{Field}
-use Rattle.acdm_record.specs.declared.field.Field.TheVariants.{Flight, Alerts, Reached, Tobt}
-use Rattle.acdm_record.specs.Fields.{Fields, number_of, new_record, set_number}
+use Rattle.acdm_record.specs.declared.field.Field.TheVariants.{Flight, Alerts, Reached, Layout, Tobt}
+use Rattle.acdm_record.specs.Fields.{Fields, number_of, new_record, set_number, length_of}
+use Rattle.acdm_record.specs.Fields.{bytes_in_layout}
 use Rattle.acdm_record.specs.Place.{index_of}
 use Rattle.acdm_record.specs.Assign.{Assignment, number_is, text_is, with_all}
 use Rattle.acdm_alerts.specs.Conditions.{alert_word}
@@ -32,46 +33,78 @@ use Rattle.acdm_step.specs.Marked.{Keeps}
 use Rattle.acdm_step.proofs.Records.{is_plain, are_plain, plain_command}
 use Rattle.acdm_step.specs.declared.verdicts.TheConstants.{MOST_FLIGHTS}
 
+-- a name that no command assigns, and that is neither of the two words
+module _ (k : Field) (no_plain : (g : Field) → is_plain g ≡ true → index_of k ≢ index_of g)
+    (no_reached : index_of k ≢ index_of Reached) (no_alerts : index_of k ≢ index_of Alerts) where
+  set_other : (r : Fields) (g : Field) (v : ℕ) → index_of k ≢ index_of g
+      → number_of (set_number r g v) k ≡ number_of r k
+  set_other r g v ne = get_or-set_other r.numbers (index_of g) (index_of k) v 0 ne
+
+  all_plain : (r : Fields) (xs : List Assignment) → are_plain xs ≡ true
+      → number_of (with_all r xs) k ≡ number_of r k
+  all_plain r [] h = refl
+  all_plain r (number_is g v ∷ more) h =
+      all_plain (set_number r g v) more (and_right (is_plain g) (are_plain more) h)
+      ∙ set_other r g v (no_plain g (and_left (is_plain g) (are_plain more) h))
+  all_plain r (text_is t v ∷ more) h = all_plain _ more h
+
+  suggested : (s : Suggestion) (r : Fields) → number_of (with_suggestion s r) k ≡ number_of r k
+  suggested Nothing r = refl
+  suggested (Usable tobt) r = set_other (marked (set_number r Tobt tobt) 9) Alerts _ no_alerts
+      ∙ set_other (set_number r Tobt tobt) Reached _ no_reached
+      ∙ set_other r Tobt tobt (no_plain Tobt refl)
+  suggested Unusable r = set_other r Alerts _ no_alerts
+
+  local : (o : Option ℕ) (r : Fields) → number_of (with_local_alerts o r) k ≡ number_of r k
+  local None r = refl
+  local (Some l) r = set_other r Alerts _ no_alerts
+
+  assigned : (r : Fields) (c : Command) → number_of (assigned_to r c) k ≡ number_of r k
+  assigned r c = set_other (with_all r (assigned_by c)) Reached _ no_reached
+      ∙ all_plain r (assigned_by c) (plain_command c)
+
+  touched-kept : (r : Fields) (moment : ℕ) → number_of (touched moment r) k ≡ number_of r k
+  touched-kept r moment = set_other r Alerts (alert_word r moment) no_alerts
+
+  changed : (s : Effect) (r : Fields) (moment : ℕ) (c : Command)
+      → number_of (touched moment (with_effect s (assigned_to r c))) k ≡ number_of r k
+  changed s r moment c =
+      let a : Fields = assigned_to r c in
+      touched-kept (with_effect s a) moment
+      ∙ local s.locals (with_suggestion s.tobt a) ∙ suggested s.tobt a ∙ assigned r c
+
+no_plain_flight : (g : Field) → is_plain g ≡ true → index_of Flight ≢ index_of g
+no_plain_flight Flight h = absurd (cc)
+no_plain_flight g h = omega arith
+
+no_plain_layout : (g : Field) → is_plain g ≡ true → index_of Layout ≢ index_of g
+no_plain_layout Layout h = absurd (cc)
+no_plain_layout g h = omega arith
+
 abbrev number : Fields → ℕ
 number r = number_of r Flight
 
-set_plain : (r : Fields) (g : Field) (v : ℕ) → is_plain g ≡ true
-    → number (set_number r g v) ≡ number r
-set_plain r Flight v h = absurd (cc)
-set_plain r g v h = get_or-set_other r.numbers (index_of g) 0 v 0 (omega arith)
-
-set_alerts : (r : Fields) (v : ℕ) → number (set_number r Alerts v) ≡ number r
-set_alerts r v = get_or-set_other r.numbers (index_of Alerts) 0 v 0 (omega arith)
-
-set_reached : (r : Fields) (v : ℕ) → number (set_number r Reached v) ≡ number r
-set_reached r v = get_or-set_other r.numbers (index_of Reached) 0 v 0 (omega arith)
-
-all_plain : (r : Fields) (xs : List Assignment) → are_plain xs ≡ true
-    → number (with_all r xs) ≡ number r
-all_plain r [] h = refl
-all_plain r (number_is g v ∷ more) h =
-    all_plain (set_number r g v) more (and_right (is_plain g) (are_plain more) h)
-    ∙ set_plain r g v (and_left (is_plain g) (are_plain more) h)
-all_plain r (text_is t v ∷ more) h = all_plain _ more h
-
-suggested : (s : Suggestion) (r : Fields) → number (with_suggestion s r) ≡ number r
-suggested Nothing r = refl
-suggested (Usable tobt) r = set_alerts (marked (set_number r Tobt tobt) 9) _
-    ∙ set_reached (set_number r Tobt tobt) _ ∙ set_plain r Tobt tobt refl
-suggested Unusable r = set_alerts r _
-
-local : (o : Option ℕ) (r : Fields) → number (with_local_alerts o r) ≡ number r
-local None r = refl
-local (Some k) r = set_alerts r _
-
 pub number-changed : (s : Effect) (r : Fields) (moment : ℕ) (c : Command)
     → number (touched moment (with_effect s (assigned_to r c))) ≡ number r
-number-changed s r moment c =
-    let a : Fields = assigned_to r c in
-    set_alerts (with_effect s a) (alert_word (with_effect s a) moment)
-    ∙ local s.locals (with_suggestion s.tobt a) ∙ suggested s.tobt a
-    ∙ set_reached (with_all r (assigned_by c)) _
-    ∙ all_plain r (assigned_by c) (plain_command c)
+number-changed = changed Flight no_plain_flight (omega arith) (omega arith)
+
+-- and so does its layout, and with it its length
+pub length-changed : (s : Effect) (r : Fields) (moment : ℕ) (c : Command)
+    → length_of (touched moment (with_effect s (assigned_to r c))) ≡ length_of r
+length-changed s r moment c =
+    ap bytes_in_layout (changed Layout no_plain_layout (omega arith) (omega arith) s r moment c)
+
+pub length-touched : (r : Fields) (moment : ℕ) → length_of (touched moment r) ≡ length_of r
+length-touched r moment =
+    ap bytes_in_layout (touched-kept Layout no_plain_layout (omega arith) (omega arith) r moment)
+
+pub length-assigned : (r : Fields) (c : Command) → length_of (assigned_to r c) ≡ length_of r
+length-assigned r c =
+    ap bytes_in_layout (assigned Layout no_plain_layout (omega arith) (omega arith) r c)
+
+pub length-suggested : (s : Suggestion) (r : Fields) → length_of (with_suggestion s r) ≡ length_of r
+length-suggested s r =
+    ap bytes_in_layout (suggested Layout no_plain_layout (omega arith) (omega arith) s r)
 
 module _ (b : List Fields) (ps : Programs) (moment : ℕ) (c : Command) (from to : OracleView)
     (flight place : ℕ) (r s : Fields) (at : place ≡ place_of b flight) (is : r ≡ record_on b flight)
@@ -86,6 +119,9 @@ module _ (b : List Fields) (ps : Programs) (moment : ℕ) (c : Command) (from to
     outside,
     prefix_len-le-length (λ x. not (has_number flight x)) b,
   )
+
+  pub change_as_long : length_of s ≡ length_of (record_on b flight)
+  change_as_long = ap length_of h.4 ∙ length-changed h.1 r moment c ∙ ap length_of is
 
   pub change_keeps : place < length b → Keeps b place s
   change_keeps inside = same_number ∙ ap (λ n. number (get_or b n (new_record flight))) (sym at)

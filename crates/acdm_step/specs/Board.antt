@@ -1,10 +1,12 @@
 -- One step on the records themselves, in order of creation, and on the slots.
-use Rattle.std.specs.Prelude.{ℕ, Bool, true, ◌&&◌, map, ◌==◌, nat_lt, if◌then◌else◌, List, []}
+use Rattle.std.specs.Prelude.{ℕ, ◌≡◌, Bool, true, ◌&&◌, map, ◌==◌, nat_lt, if◌then◌else◌, List, []}
 use Rattle.std.specs.Prelude.{◌∷◌, ◌++◌, length, slice_index_or, slice_set, Option, None}
-use Rattle.std.specs.List.{position_or_len}
+use Rattle.std.specs.List.{position_or_len, list_all}
 use Rattle.acdm_record.specs.declared.field.Field.TheVariants.{Flight, Alerts}
-use Rattle.acdm_record.specs.Fields.{Fields, number_of, set_number, new_record}
+use Rattle.acdm_record.specs.Fields.{Fields, number_of, set_number, new_record, length_of}
 use Rattle.acdm_record.specs.Assign.{with_all}
+use Rattle.bpf_regstate.specs.declared.length.Length.{Length}
+use Rattle.bpf_regstate.specs.Lengths.{bytes_in}
 use Rattle.acdm_alerts.specs.Conditions.{alert_word}
 use Rattle.acdm_milestones.specs.declared.role.Role.{Role}
 use Rattle.acdm_milestones.specs.declared.refusal.Refusal.{Refusal}
@@ -30,6 +32,13 @@ use Rattle.acdm_step.specs.History.{Board}
 -- records and slots together
 abbrev pub board_of : List Fields → Loaded → Board
 board_of records slots = record { records = records; slots = slots }
+
+-- each record is as long as its programs were told that it is
+abbrev pub is_long : Length → Fields → Bool
+is_long record_length r = length_of r == bytes_in record_length
+
+abbrev pub AreLong : Board → Type 0
+AreLong b = list_all (is_long b.slots.record_length) b.records ≡ true
 
 -- a record with its alerts anew
 abbrev pub touched : ℕ → Fields → Fields

@@ -1,5 +1,5 @@
 -- A step in two parts: what a command would do to the board, and the board after that.
-use Rattle.std.specs.Prelude.{◌≡◌, ◌<◌, Bool, [], ◌∷◌, ◌++◌, map, length, slice_set, Some, None}
+use Rattle.std.specs.Prelude.{◌≡◌, ◌<◌, Bool, true, [], ◌∷◌, ◌++◌, map, length, slice_set, Some, None}
 use Rattle.acdm_record.specs.declared.field.Field.TheVariants.{Flight}
 use Rattle.acdm_record.specs.Fields.{number_of}
 use Rattle.acdm_milestones.specs.declared.role.Role.{Role}
@@ -12,7 +12,7 @@ use Rattle.acdm_step.specs.declared.verdicts.TheConstants.{MOST_FLIGHTS}
 use Rattle.acdm_step.specs.declared.prepare.Change.{Change}
 use Rattle.acdm_step.specs.declared.prepare.Change.TheVariants as changes
 use Rattle.acdm_step.specs.History.{Board}
-use Rattle.acdm_step.specs.Board.{board_of, touched, place_of}
+use Rattle.acdm_step.specs.Board.{board_of, touched, place_of, is_long}
 use Rattle.acdm_step.specs.Marked.{Keeps}
 
 -- whether a role owns a command that changes a flight
@@ -32,8 +32,10 @@ after_change b (changes.Unload m k) = board_of b.records (with_program b.slots m
 -- what a change asks of the board that it is made to, which a plan made on that board ensures
 abbrev pub Fits : Board → Change → Type 0
 Fits b (changes.Put i r) = (i < length b.records) × Keeps b.records i r
+    × (is_long b.slots.record_length r ≡ true)
 Fits b (changes.Add r) = (length b.records < MOST_FLIGHTS)
     × (place_of b.records (number_of r Flight) ≡ length b.records)
+    × (is_long b.slots.record_length r ≡ true)
 Fits b (changes.Load m k p) = (p.record_length ≡ b.slots.record_length)
     × (p.sigs ≡ b.slots.sigs)
 Fits b (changes.Unload m k) = program_in b.slots m k ≡ None → ⊥

@@ -6,7 +6,8 @@ ghost use Rattle.bpf_helpers.specs.Oracles.{MayBeAsked, SameRule};
 ghost use Rattle.acdm_step.specs.Commands.{bit_of, plan_assignments};
 ghost use Rattle.acdm_step.specs.Board.{assigned_to, programs_on, touched};
 ghost use Rattle.acdm_step.specs.Running.{ChangesTo, AsksIn};
-ghost use Rattle.bpf_regstate.specs.declared.length.Length.TheVariants.{L128};
+ghost use Rattle.acdm_record.specs.Fields.{length_of};
+ghost use Rattle.bpf_regstate.specs.Lengths.{bytes_in};
 
 use crate::command::{Command, FlightCommand, Plan, Report, Schedule};
 use crate::programs::run_programs;
@@ -75,7 +76,7 @@ fn change_reported<O: Oracle>(
     oracle: &mut O,
 ) -> Result<(), BadAnswer>
     requires oracle { MayBeAsked slots.now.sigs (O.view oracle.old) }
-    requires long { slots.now.record_length ≡ L128 }
+    requires long { length_of record.old ≡ bytes_in slots.now.record_length }
     ensures changed { OnOk result (ChangesTo
         (programs_on slots.now (Command.Flight (FlightCommand.Report report.now))) record.old moment
         (Command.Flight (FlightCommand.Report report.now)) (O.view oracle.old) (O.view oracle.new)
@@ -102,7 +103,7 @@ pub(crate) fn change<O: Oracle>(
     oracle: &mut O,
 ) -> Result<(), BadAnswer>
     requires oracle { MayBeAsked slots.now.sigs (O.view oracle.old) }
-    requires long { slots.now.record_length ≡ L128 }
+    requires long { length_of record.old ≡ bytes_in slots.now.record_length }
     ensures changed { OnOk result (ChangesTo (programs_on slots.now (Command.Flight command.now))
         record.old moment (Command.Flight command.now) (O.view oracle.old) (O.view oracle.new)
         record.new) }

@@ -6,7 +6,7 @@ ghost use Rattle.acdm_slots.specs.Loaded.{program_in};
 ghost use Rattle.acdm_step.specs.Commands.{is_accepted};
 ghost use Rattle.acdm_step.specs.Verdicts.{load_verdict, outcome_with, show_verdict, tick_verdict};
 ghost use Rattle.acdm_step.specs.Verdicts.{load_obstacle, unload_obstacle, unload_verdict};
-ghost use Rattle.acdm_step.specs.Board.{board_of, is_there, place_of, record_on};
+ghost use Rattle.acdm_step.specs.Board.{AreLong, board_of, is_there, place_of, record_on};
 ghost use Rattle.acdm_step.specs.Running.{Comes};
 ghost use Rattle.acdm_step.specs.Prepared.{Fits, after_change};
 
@@ -86,6 +86,7 @@ pub(crate) fn prepare_flight<O: Oracle>(
 ) -> Prepared
     requires oracle { MayBeAsked slots.now.sigs (O.view oracle.old) }
     requires long { slots.now.record_length ≡ L128 }
+    requires as_long { AreLong (board_of flights.now slots.now) }
     ensures comes { Comes (board_of flights.now slots.now) role moment (Command.Flight command.now)
         (O.view oracle.old) (O.view oracle.new)
         result.outcome (after_change (board_of flights.now slots.now) result.change) }

@@ -10,7 +10,8 @@ ghost use Rattle.acdm_step.specs.Programs.{suggestion, with_suggestion, local_al
 ghost use Rattle.acdm_step.specs.Programs.{with_local_alerts};
 ghost use Rattle.acdm_step.specs.InSlots.{may_ask as asks_helpers, size_of};
 ghost use Rattle.acdm_step.specs.Running.{EndsAt, AsksAt, EndsIn, AsksIn};
-ghost use Rattle.bpf_regstate.specs.declared.length.Length.TheVariants.{L128};
+ghost use Rattle.acdm_record.specs.Fields.{length_of};
+ghost use Rattle.bpf_regstate.specs.Lengths.{bytes_in};
 
 use crate::command::MINUTES_OF_DAY;
 use acdm_alerts::AlertSet;
@@ -30,7 +31,7 @@ fn run_slot<O: Oracle>(
     oracle: &mut O,
 ) -> Result<Option<u64>, BadAnswer>
     requires oracle { MayBeAsked slots.now.sigs (O.view oracle.old) }
-    requires long { slots.now.record_length ≡ L128 }
+    requires long { length_of record.now ≡ bytes_in slots.now.record_length }
     ensures ended { IfOk result (EndsAt (program_in slots.now milestone kind) record.now moment
         (number milestone) (O.view oracle.old) (O.view oracle.new)) }
     ensures unanswered { OnErr result
@@ -106,7 +107,7 @@ pub(crate) fn run_programs<O: Oracle>(
     oracle: &mut O,
 ) -> Result<(), BadAnswer>
     requires oracle { MayBeAsked slots.now.sigs (O.view oracle.old) }
-    requires long { slots.now.record_length ≡ L128 }
+    requires long { length_of record.old ≡ bytes_in slots.now.record_length }
     ensures ended { OnOk result (EndsIn
         (record {
           tobt = program_in slots.now milestone Kind.Tobt;

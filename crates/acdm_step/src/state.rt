@@ -41,13 +41,15 @@ impl Model for Core {
     ghost use Rattle.std.specs.Prelude.{◌≡◌};
     ghost use Rattle.bpf_regstate.specs.declared.length.Length.TheVariants.{L128};
     ghost use Rattle.acdm_step.specs.History.{Board};
+    ghost use Rattle.acdm_step.specs.Board.{AreLong};
 
     ghost Value = { Board };
 
     ghost view = { λ c. record { records = c.flights; slots = c.slots } };
 
     // The programs run beside the records.
-    ghost invariant = { λ c. c.slots.record_length ≡ L128 };
+    ghost invariant = { λ c. (c.slots.record_length ≡ L128)
+        × AreLong record { records = c.flights; slots = c.slots } };
 }
 
 impl Core {

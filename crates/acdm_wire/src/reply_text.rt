@@ -3,6 +3,7 @@ ghost use Rattle.std.specs.Prelude.{◌≡◌, ◌+◌, ◌≤◌, ◌++◌, len
 ghost use Rattle.hex.specs.Hex.{encode_lower};
 ghost use Rattle.acdm_record.specs.Fields.{bytes_of};
 ghost use Rattle.acdm_step.specs.declared.outcome.Outcome.TheVariants as outcomes;
+ghost use Rattle.acdm_wire.specs.declared.text.TheConstants.{LONGEST_TEXT};
 ghost use Rattle.acdm_wire.specs.Replies.{alerted_text, next_text, list_head, entry_text};
 ghost use Rattle.acdm_wire.specs.Replies.{bad_text};
 
@@ -15,21 +16,22 @@ use acdm_step::Alerted;
 
 impl Text {
     fn push_record(&mut self, record: &Record)
-        requires { length self.old + 256 ≤ 320 }
+        requires { length self.old + 320 ≤ LONGEST_TEXT }
         ensures text { self.new ≡ self.old ++ encode_lower (bytes_of «record».now) }
-        ensures short { length self.new ≤ length self.old + 256 }
+        ensures short { length self.new ≤ length self.old + 320 }
     {
-        let bytes: &[u8] = record.bytes();
-        let mut digits = [0; 256];
-        if hex::encode_to_slice(bytes, &mut digits).is_err() {
+        let bytes = record.bytes();
+        let mut digits = [0; 320];
+        let used = &mut digits[..2 * bytes.len()];
+        if hex::encode_to_slice(bytes, used).is_err() {
             unreachable!();
         }
-        self.push(&digits);
+        self.push(used);
     }
 
     // A flight's number, and its alerts.
     fn push_alerted(&mut self, flight: &Alerted)
-        requires { length self.old + 238 ≤ 320 }
+        requires { length self.old + 238 ≤ LONGEST_TEXT }
         ensures { self.new ≡ self.old ++ alerted_text flight.now }
     {
         self.push_number(flight.flight);

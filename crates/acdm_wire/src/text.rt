@@ -1,16 +1,21 @@
 //! A text on its way to a writer.
 ghost use Rattle.std.specs.Prelude.{◌≡◌, ◌+◌, ◌≤◌, ◌++◌, [], length};
 ghost use Rattle.std.specs.Fmt.{decimal};
+ghost use Rattle.acdm_wire.specs.declared.text.TheConstants.{LONGEST_TEXT};
 
 use arrayvec::ArrayVec;
 use itoa::Buffer;
 use std::marker::Model;
 
+/// The bytes of the longest text: a reply with a record of 160 bytes and an entry's number of 20
+/// digits.
+pub const LONGEST_TEXT: usize = 346;
+
 /// A text on its way to a writer, so that it is one write: a reply, or a part of one. It takes no
-/// memory, and at most 320 bytes.
+/// memory, and at most `LONGEST_TEXT` bytes.
 #[derive(Drop)]
 pub struct Text {
-    pub(crate) bytes: ArrayVec<u8, 320>,
+    pub(crate) bytes: ArrayVec<u8, LONGEST_TEXT>,
 }
 
 impl Model for Text {
@@ -33,7 +38,7 @@ impl Text {
 
     /// These bytes behind what stands there.
     pub fn push(&mut self, more: &[u8])
-        requires { length self.old + length more.now ≤ 320 }
+        requires { length self.old + length more.now ≤ LONGEST_TEXT }
         ensures { self.new ≡ self.old ++ more.now }
     {
         if self.bytes.try_extend_from_slice(more).is_err() {
@@ -43,7 +48,7 @@ impl Text {
 
     /// A number in decimal digits, at most 20, behind what stands there.
     pub fn push_number(&mut self, number: u64)
-        requires { length self.old + 20 ≤ 320 }
+        requires { length self.old + 20 ≤ LONGEST_TEXT }
         ensures text { self.new ≡ self.old ++ decimal number }
         ensures short { length self.new ≤ length self.old + 20 }
     {

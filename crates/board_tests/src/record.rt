@@ -1,4 +1,4 @@
-//! A record's bytes against the layout of 128 bytes, and the texts that are taken.
+//! A record's bytes against both layouts, and the texts that are taken.
 ghost use Rattle.std.specs.Prelude.{◌<◌};
 
 use crate::fixture::{holds, same_bytes, same_number};
@@ -19,7 +19,7 @@ fn new_record_has_its_flight_and_layout_alone(rt: HostRuntime) {
 fn stands_at(rt: &impl Abort, record: &Record, place: u8, part: &[u8]) {
     let place = usize::from(place);
     let end = place + part.len();
-    assert!(rt; end <= 128);
+    assert!(rt; end <= record.bytes().len());
     same_bytes(rt, &record.bytes()[place..end], part);
 }
 
@@ -28,7 +28,7 @@ fn has_text(rt: &impl Abort, record: &Record, field: TextField, text: &str) {
 }
 
 fn has_bytes(rt: &impl Abort, record: &Record, bytes: &[u8]) {
-    same_bytes(rt, record.bytes().as_slice(), bytes);
+    same_bytes(rt, record.bytes(), bytes);
 }
 
 fn filled() -> Record {
@@ -51,7 +51,7 @@ fn fields_stand_at_their_places(rt: HostRuntime) {
     has_text(&rt, &record, TextField::Callsign, "DLH7");
     holds(&rt, &record, Field::Atot, 29_000_760);
     holds(&rt, &record, Field::Tobt, 0);
-    has_bytes(&rt, &record.copy(), record.bytes().as_slice());
+    has_bytes(&rt, &record.copy(), record.bytes());
 }
 
 #[test]
@@ -142,8 +142,28 @@ fn shorter(rt: &impl Abort) -> [u8; 127] {
     bytes
 }
 
+// The same flight in layout 2, with its de-icing expected from 29,000,580 on, and ended at
+// 29,000,581.
+fn deiced(rt: &impl Abort) -> [u8; 160] {
+    let mut bytes = [0; 160];
+    hex::decode_to_slice(PLANNED, &mut bytes[..72]).expect(rt, "bytes");
+    bytes[62] = 2;
+    bytes[128..132].copy_from_slice(&[132, 131, 186, 1]);
+    bytes[140..144].copy_from_slice(&[133, 131, 186, 1]);
+    bytes
+}
+
+// The same bytes but for one.
+fn deiced_but(rt: &impl Abort, place: usize, byte: u8) -> [u8; 160]
+    requires { place < 160 }
+{
+    let mut bytes = deiced(rt);
+    bytes[place] = byte;
+    bytes
+}
+
 // They are a record's.
-fn is_read(rt: &impl Abort, bytes: &[u8; 128]) {
+fn is_read(rt: &impl Abort, bytes: &[u8]) {
     let record = Record::from_bytes(bytes).expect(rt, "a record");
     has_bytes(rt, &record, bytes);
 }
@@ -173,7 +193,54 @@ fn other_bytes_are_refused_with_their_first_fault(rt: HostRuntime) {
 }
 
 #[test]
+fn a_record_of_layout_2_is_read_and_given_back(rt: HostRuntime) {
+    is_read(&rt, &deiced(&rt));
+    let record = Record::from_bytes(&deiced(&rt)).expect(&rt, "a record");
+    has_the_plan(&rt, &record);
+    holds(&rt, &record, Field::Layout, 2);
+    holds(&rt, &record, Field::Eczt, 29_000_580);
+    holds(&rt, &record, Field::Eezt, 0);
+    holds(&rt, &record, Field::Aczt, 0);
+    holds(&rt, &record, Field::Aezt, 29_000_581);
+}
+
+#[test]
+fn bytes_of_layout_2_are_refused_with_their_first_fault(rt: HostRuntime) {
+    is_refused(&rt, &deiced(&rt)[..159], RecordError::WrongLength, 1);
+    is_refused(&rt, &deiced(&rt)[..129], RecordError::WrongLength, 1);
+    is_refused(&rt, &deiced(&rt)[..128], RecordError::UnknownLayout, 2);
+    is_refused(&rt, &deiced_but(&rt, 62, 1), RecordError::UnknownLayout, 2);
+    is_refused(&rt, &deiced_but(&rt, 62, 3), RecordError::UnknownLayout, 2);
+    is_refused(&rt, &deiced_but(&rt, 52, 1), RecordError::ReservedBits, 4);
+    is_refused(&rt, &deiced_but(&rt, 144, 1), RecordError::ReservedBytes, 5);
+    is_refused(&rt, &deiced_but(&rt, 159, 1), RecordError::ReservedBytes, 5);
+}
+
+// Each time of de-icing stands at its place, of a record that was brought to layout 2.
+#[test]
+fn a_migrated_record_takes_times_of_deicing(rt: HostRuntime) {
+    let mut record = Record::new(7);
+    same_number(&rt, record.bytes().len() as u64, 128);
+    record.migrate();
+    same_number(&rt, record.bytes().len() as u64, 160);
+    holds(&rt, &record, Field::Aczt, 0);
+    record.set(Field::Eczt, 1);
+    record.set(Field::Eezt, 2);
+    record.set(Field::Aczt, 3);
+    record.set(Field::Aezt, 4);
+    stands_at(&rt, &record, 62, &[2]);
+    stands_at(&rt, &record, 128, &[1, 0, 0, 0, 2, 0, 0, 0, 3, 0, 0, 0, 4, 0, 0, 0]);
+    stands_at(&rt, &record, 144, &[0; 16]);
+    holds(&rt, &record, Field::Flight, 7);
+}
+
+#[test]
+fn a_record_takes_as_many_bytes_as_layout_2_has(rt: HostRuntime) {
+    same_number(&rt, size_of::<Record>() as u64, 160);
+}
+
+#[test]
 fn errors_have_their_texts(rt: HostRuntime) {
     let text = format!(in rt.alloc(); "{}", RecordError::UnknownLayout).expect(&rt, "a text");
-    assert_eq!(rt; text.as_str(), "the layout is not 1");
+    assert_eq!(rt; text.as_str(), "the layout is not 1 in 128 bytes, or 2 in 160");
 }

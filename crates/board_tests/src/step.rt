@@ -367,7 +367,7 @@ fn record_of(rt: &impl Abort, core: &Core) -> Record {
 // The flight's record has the bytes of this one.
 fn stays(rt: &impl Abort, core: &Core, before: &Record) {
     let now = record_of(rt, core);
-    same_bytes(rt, now.bytes().as_slice(), before.bytes().as_slice());
+    same_bytes(rt, now.bytes(), before.bytes());
 }
 
 // A report of milestone 9 whose second program gets no answer.

@@ -216,7 +216,7 @@ fn has_same_flight<H: Helpers + Drop>(one: &Desk<H>, other: &Desk<H>) -> bool {
         return false;
     };
     match other.core().record_of(7) {
-        Some(made) => kept.bytes().as_slice() == made.bytes().as_slice(),
+        Some(made) => kept.bytes() == made.bytes(),
         None => false,
     }
 }

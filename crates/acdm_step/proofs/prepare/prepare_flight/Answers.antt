@@ -1,5 +1,6 @@
 use Rattle.std.proofs.Common.{◌<◌, ◌++◌, ◌∷◌, [], true, not, nat_lt, set, refl, ap, sym, ◌∙◌, subst}
 use Rattle.std.proofs.Common.{None, arith}
+use Rattle.acdm_record.specs.Fields.{length_of}
 use Rattle.bpf_helpers.proofs.OracleLemmas.{unasked}
 use Rattle.acdm_step.specs.declared.command.Command.TheVariants as commands
 use Rattle.acdm_step.specs.declared.outcome.Outcome.TheVariants as outcomes
@@ -9,7 +10,8 @@ use Rattle.acdm_step.specs.Board.{board_of, programs_on}
 use Rattle.acdm_step.proofs.Steps.{flight_refused, flight_unanswered, flight_changed, put_there}
 use Rattle.acdm_step.proofs.Steps.{put_absent, when_ok, when_err, no_lt}
 use Rattle.acdm_step.proofs.Planned.{left_so, plans_nothing}
-use Rattle.acdm_step.proofs.Numbers.{change_keeps, change_is_new, room_left}
+use Rattle.acdm_step.proofs.Numbers.{change_keeps, change_is_new, change_as_long, room_left}
+use Rattle.acdm_step.proofs.Long.{long, length_on}
 use Rattle.acdm_step.proofs.prepare.prepare_flight.Goals as goal
 use Rattle.acdm_step.specs.declared.verdicts.TheConstants.{MOST_FLIGHTS}
 
@@ -84,6 +86,16 @@ returns-then-place-count-clause-fits g c = (
       (when_ok c.change.result (c.is_err.ensures.negation
       ∙ ap not c.if-is_err.false) c.change.ensures.changed)
       (subst (λ n. c.place-place.result < n) c.len-count.ensures c.if-place-count.true),
+  long c.args.slots.now.record_length c.change.new.record
+      (change_as_long c.args.flights.now
+      (programs_on c.args.slots.now (commands.Flight c.args.command.now)) c.args.moment
+      (commands.Flight c.args.command.now) (g.O.Oracle.view c.args.oracle.now)
+      (g.O.Oracle.view c.change.new.oracle) c.flight_of_command-flight.result c.place-place.result
+      c.record_at-record.result c.change.new.record c.place-place.ensures c.record_at-record.ensures
+      (when_ok c.change.result (c.is_err.ensures.negation
+      ∙ ap not c.if-is_err.false) c.change.ensures.changed)
+      ∙ length_on c.args.slots.now.record_length c.args.flights.now
+      c.flight_of_command-flight.result c.requires.long c.requires.as_long),
 )
 
 pub returns-else-place-count-clause-comes : goal.returns-else-place-count-clause-comes
@@ -123,4 +135,21 @@ returns-else-place-count-clause-fits g c = (
       (when_ok c.change.result (c.is_err.ensures.negation
       ∙ ap not c.if-is_err.false) c.change.ensures.changed)
       (omega (arith, c.len-count.ensures, c.if-place-count.false)),
+  long c.args.slots.now.record_length c.change.new.record
+      (change_as_long c.args.flights.now
+      (programs_on c.args.slots.now (commands.Flight c.args.command.now)) c.args.moment
+      (commands.Flight c.args.command.now) (g.O.Oracle.view c.args.oracle.now)
+      (g.O.Oracle.view c.change.new.oracle) c.flight_of_command-flight.result c.place-place.result
+      c.record_at-record.result c.change.new.record c.place-place.ensures c.record_at-record.ensures
+      (when_ok c.change.result (c.is_err.ensures.negation
+      ∙ ap not c.if-is_err.false) c.change.ensures.changed)
+      ∙ length_on c.args.slots.now.record_length c.args.flights.now
+      c.flight_of_command-flight.result c.requires.long c.requires.as_long),
 )
+
+-- the record has the length of which its programs were told
+pub change-requires-clause-long : goal.change-requires-clause-long
+change-requires-clause-long g c =
+    ap length_of c.record_at-record.ensures
+    ∙ length_on c.args.slots.now.record_length c.args.flights.now c.flight_of_command-flight.result
+    c.requires.long c.requires.as_long

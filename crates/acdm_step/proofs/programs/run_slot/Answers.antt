@@ -22,8 +22,7 @@ returns-in_err-ended-clause-unanswered g c =
 
 -- the program in the slot is for records of the board's length
 pub run-requires-clause-long : goal.run-requires-clause-long
-unfolding bytes_in
 run-requires-clause-long g c =
     let fits = c.get.ensures.fit c.args.milestone c.args.kind c.in-Some.checked.now
     c.in-Some.ensures.value in
-    c.bytes.ensures.of_record.whole ∙ sym (ap bytes_in (fits.1 ∙ c.requires.long))
+    c.bytes.ensures.long ∙ c.requires.long ∙ sym (ap bytes_in fits.1)

@@ -6,7 +6,7 @@ use Rattle.acdm_record.proofs.record.Record.has_same_text.Goals as goal
 
 pub returns : goal.returns
 returns c = ap₂ nat_eq c.text_number.ensures c.text_number-2.ensures
-    ∙ same_by_number c.self.inside.bytes c.self.told c.in_range.ensures c.self.invariant.filled
+    ∙ same_by_number c.self.inside.bytes c.in_range.ensures c.self.invariant.filled
     c.args.one c.args.other
     (sym c.place.ensures.width ∙ c.if-place.false ∙ c.place-2.ensures.width)
     ∙ ap (λ r. bytes_eq (text_of r c.args.one) (text_of r c.args.other)) c.self.view_is
