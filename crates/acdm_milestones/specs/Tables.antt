@@ -1,7 +1,7 @@
 -- The tables of the milestones (this project's profile over the sixteen milestones of the A-CDM
 -- manual): who reports each, what its time sets, what it needs, and what bars it.
 use Rattle.std.specs.Prelude.{ℕ, ◌^◌, Bool, true, ◌||◌, ◌&&◌, ◌==◌, not, nat_le, if◌then◌else◌}
-use Rattle.std.specs.Prelude.{List, [], ◌∷◌, bit_or, Option, Result, Ok, Err, find}
+use Rattle.std.specs.Prelude.{List, [], ◌∷◌, bit_or, Option, Some, None, Result, Ok, Err, find}
 use Rattle.std.specs.List.{list_all}
 use Rattle.std.specs.Int.{bit_at}
 use Rattle.acdm_record.specs.declared.field.Field.{Field}
@@ -168,6 +168,11 @@ has_reached r m = bit_at (number_of r Reached) m == 1
 -- a record that has reached it
 abbrev pub marked : Fields → ℕ → Fields
 marked r m = set_number r Reached (bit_or (number_of r Reached) (2 ^ m))
+
+-- the same for a bit that may be none
+abbrev pub marked_by : Fields → Option ℕ → Fields
+marked_by r None = r
+marked_by r (Some m) = marked r m
 
 abbrev pub is_set : Fields → Field → Bool
 is_set r f = not (number_of r f == 0)

@@ -13,7 +13,7 @@ use Rattle.acdm_record.specs.Fields.{bytes_in_layout}
 use Rattle.acdm_record.specs.Place.{index_of}
 use Rattle.acdm_record.specs.Assign.{Assignment, number_is, text_is, with_all}
 use Rattle.acdm_alerts.specs.Conditions.{alert_word}
-use Rattle.acdm_milestones.specs.Tables.{marked}
+use Rattle.acdm_milestones.specs.Tables.{marked, marked_by}
 use Rattle.acdm_milestones.specs.declared.role.Role.{Role}
 use Rattle.bpf_helpers.specs.Oracles.{OracleView}
 use Rattle.acdm_step.specs.Programs.{Programs, Suggestion, Nothing, Usable, Unusable, Effect}
@@ -25,7 +25,7 @@ use Rattle.acdm_step.specs.declared.entry.Verdict.TheVariants.{Accepted, Refused
 use Rattle.acdm_step.specs.declared.command.Command.{Command}
 use Rattle.acdm_step.specs.declared.command.Command.TheVariants as commands
 use Rattle.acdm_step.specs.declared.command.FlightCommand.TheVariants.{Schedule, Report}
-use Rattle.acdm_step.specs.Commands.{assigned_by, is_accepted, changes_flight}
+use Rattle.acdm_step.specs.Commands.{assigned_by, bit_of, is_accepted, changes_flight}
 use Rattle.acdm_step.specs.Verdicts.{verdict_for}
 use Rattle.acdm_step.specs.Board.{assigned_to, touched, has_number, place_of, record_on}
 use Rattle.acdm_step.specs.Running.{ChangesTo}
@@ -59,8 +59,12 @@ module _ (k : Field) (no_plain : (g : Field) → is_plain g ≡ true → index_o
   local None r = refl
   local (Some l) r = set_other r Alerts _ no_alerts
 
+  marked_kept : (r : Fields) (bit : Option ℕ) → number_of (marked_by r bit) k ≡ number_of r k
+  marked_kept r None = refl
+  marked_kept r (Some m) = set_other r Reached _ no_reached
+
   assigned : (r : Fields) (c : Command) → number_of (assigned_to r c) k ≡ number_of r k
-  assigned r c = set_other (with_all r (assigned_by c)) Reached _ no_reached
+  assigned r c = marked_kept (with_all r (assigned_by c)) (bit_of c)
       ∙ all_plain r (assigned_by c) (plain_command c)
 
   touched-kept : (r : Fields) (moment : ℕ) → number_of (touched moment r) k ≡ number_of r k

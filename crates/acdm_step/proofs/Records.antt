@@ -23,7 +23,7 @@ use Rattle.acdm_alerts.proofs.DecidedBits.{with_locals-decided}
 use Rattle.acdm_milestones.specs.declared.milestone.Milestone.{Milestone}
 use Rattle.acdm_milestones.specs.declared.milestone.Milestone.TheVariants.{FlightPlanActivated}
 use Rattle.acdm_milestones.specs.declared.milestone.Milestone.TheVariants.{TobtUpdate}
-use Rattle.acdm_milestones.specs.Tables.{times_of, marked, has_reached}
+use Rattle.acdm_milestones.specs.Tables.{times_of, marked_by, has_reached}
 use Rattle.acdm_step.specs.Programs.{Programs, Suggestion, Nothing, Usable, Unusable, Effect}
 use Rattle.acdm_step.specs.Programs.{effect, with_suggestion, with_local_alerts, with_effect}
 use Rattle.acdm_step.specs.declared.command.Plan.{Plan}
@@ -31,13 +31,14 @@ use Rattle.acdm_step.specs.declared.command.Command.{Command}
 use Rattle.acdm_step.specs.declared.command.Command.TheVariants as commands
 use Rattle.acdm_step.specs.declared.command.FlightCommand.TheVariants.{Schedule, Report}
 use Rattle.acdm_step.specs.declared.entry.Entry.{Entry}
-use Rattle.acdm_step.specs.Commands.{History, plan_assignments, assigned_by, bit_of, flight_of}
+use Rattle.acdm_step.specs.Commands.{History, plan_assignments, assigned_by, bit_of, milestone_of, flight_of}
 use Rattle.acdm_step.specs.Commands.{changes_flight, creates, is_of, ticks, is_accepted, created}
 use Rattle.acdm_step.specs.InSlots.{programs_of}
 use Rattle.acdm_step.specs.Summaries.{Summary, onto, with_command, with_tick, summary_after}
 use Rattle.acdm_step.specs.Summaries.{summary, record_with, computed_at, alerts_from, record_from}
 use Rattle.acdm_step.specs.Summaries.{record_of, run_record, effect_on, with_tobt, with_ninth}
 use Rattle.acdm_step.specs.Summaries.{rejects, number_or, gives_tobt, reaches, has_come_to}
+use Rattle.acdm_step.specs.Summaries.{with_bit, is_bit}
 use Rattle.acdm_step.specs.Summaries.{with_flight, flights, exists}
 use Rattle.acdm_step.specs.Board.{assigned_to, record_after, touched}
 
@@ -154,28 +155,34 @@ plain_command (commands.Flight (Report r)) =
     (plain_times r.milestone r.time) (plain_plan r.plan)
 plain_command _ = refl
 
+marked-record_with : (f : ℕ) (ps : List Assignment) (rs al : ℕ) (bit : Option ℕ)
+    → marked_by (record_with f ps rs al) bit ≡ record_with f ps (with_bit bit rs) al
+marked-record_with f ps rs al None = refl
+marked-record_with f ps rs al (Some m) = refl
+
 -- what a command assigns and reaches
 pub assigned-reported : (f : ℕ) (t : Summary) (c : Command)
     → assigned_to (record_from f t) c ≡ run_record f c t
-assigned-reported f t c = ap (λ r. marked r (bit_of c))
+assigned-reported f t c = ap (λ r. marked_by r (bit_of c))
     (with_all-record_with f (assigned_by c) t.assigned t.reached (alerts_from f t)
-    (plain_command c))
+    (plain_command c)) ∙ marked-record_with f (onto (assigned_by c) t.assigned) t.reached
+    (alerts_from f t) (bit_of c)
 
 changed-record_from : (ps : Programs) (f : ℕ) (t : Summary) (moment : ℕ) (c : Command)
     (answers : List ℕ)
     → record_after ps (record_from f t) moment c answers
     ≡ record_from f (with_command c moment
-    (effect ps (run_record f c t) moment (bit_of c) answers) t)
+    (effect ps (run_record f c t) moment (milestone_of c) answers) t)
 changed-record_from ps f t moment c answers =
-    let s : Effect = effect ps (run_record f c t) moment (bit_of c) answers in
+    let s : Effect = effect ps (run_record f c t) moment (milestone_of c) answers in
     let x : ℕ = computed_at f t.assigned t.reached t.touch in
     let is = computed_at-computed f t.assigned t.reached t.touch in
-    ap (λ r. touched moment (with_effect (effect ps r moment (bit_of c) answers) r))
+    ap (λ r. touched moment (with_effect (effect ps r moment (milestone_of c) answers) r))
     (assigned-reported f t c)
     ∙ ap (touched moment) (with_effect-record_with f x is s (onto (assigned_by c) t.assigned)
-    (bit_or t.reached (2 ^ bit_of c)) t.rejected t.locals)
+    (with_bit (bit_of c) t.reached) t.rejected t.locals)
     ∙ touched-record_with f x is (with_tobt s.tobt (onto (assigned_by c) t.assigned))
-    (with_ninth s.tobt (bit_or t.reached (2 ^ bit_of c))) moment (rejects s.tobt t.rejected)
+    (with_ninth s.tobt (with_bit (bit_of c) t.reached)) moment (rejects s.tobt t.rejected)
     (number_or s.locals t.locals)
 
 -- what an entry adds where it is of the flight
@@ -343,6 +350,11 @@ or_left false true c = refl
 or_left false false true = refl
 or_left false false false = refl
 
+own_bit : (bit : Option ℕ) (a m : ℕ)
+    → (bit_at (with_bit bit a) m == 1) ≡ ((bit_at a m == 1) || is_bit bit m)
+own_bit None a m = or_comm false (bit_at a m == 1)
+own_bit (Some k) a m = or_bit a k m
+
 -- what a suggestion reaches beside
 ninth_bit : (s : Suggestion) (n m : ℕ)
     → (bit_at (with_ninth s n) m == 1) ≡ ((bit_at n m == 1) || (gives_tobt s && 9 == m))
@@ -360,10 +372,10 @@ reached-summary (e ∷ J) f m =
     (cond b (added e J f) (cond (ticks e) (with_tick e.moment (summary J f))
     (summary J f))).reached m == 1) ≡ ((b && reaches J e f m) || has_come_to J f m)) [
       | true ↦
-          ninth_bit s (bit_or (summary J f).reached (2 ^ bit_of e.command)) m
-          ∙ ap (λ b. b || ninth) (or_bit (summary J f).reached (bit_of e.command) m)
-          ∙ or_left (has_reached (record_of J f) m) (bit_of e.command == m) ninth
-          ∙ ap (λ b. (bit_of e.command == m || ninth) || b) (reached-summary J f m)
+          ninth_bit s (with_bit (bit_of e.command) (summary J f).reached) m
+          ∙ ap (λ b. b || ninth) (own_bit (bit_of e.command) (summary J f).reached m)
+          ∙ or_left (has_reached (record_of J f) m) (is_bit (bit_of e.command) m) ninth
+          ∙ ap (λ b. (is_bit (bit_of e.command) m || ninth) || b) (reached-summary J f m)
       | false ↦ elim (ticks e) as (λ
           b. (bit_at (cond b (with_tick e.moment (summary J f)) (summary J f)).reached m == 1)
           ≡ has_come_to J f m) [ true ↦ reached-summary J f m | false ↦ reached-summary J f m ]

@@ -10,7 +10,7 @@ use Rattle.bpf_regstate.specs.Lengths.{bytes_in}
 use Rattle.acdm_alerts.specs.Conditions.{alert_word}
 use Rattle.acdm_milestones.specs.declared.role.Role.{Role}
 use Rattle.acdm_milestones.specs.declared.refusal.Refusal.{Refusal}
-use Rattle.acdm_milestones.specs.Tables.{marked}
+use Rattle.acdm_milestones.specs.Tables.{marked_by}
 use Rattle.acdm_slots.specs.declared.kind.Kind.TheVariants as kinds
 use Rattle.acdm_slots.specs.Loaded.{Loaded}
 use Rattle.acdm_slots.specs.Loaded as slots
@@ -22,7 +22,7 @@ use Rattle.acdm_step.specs.declared.entry.Verdict.{Verdict}
 use Rattle.acdm_step.specs.declared.outcome.Outcome.{Outcome}
 use Rattle.acdm_step.specs.declared.outcome.Outcome.TheVariants as outcomes
 use Rattle.acdm_step.specs.Programs.{Programs, no_programs, effect, with_effect}
-use Rattle.acdm_step.specs.Commands.{assigned_by, bit_of, flight_of, is_tick, is_load}
+use Rattle.acdm_step.specs.Commands.{assigned_by, bit_of, milestone_of, flight_of, is_tick, is_load}
 use Rattle.acdm_step.specs.Commands.{changes_flight, is_accepted}
 use Rattle.acdm_step.specs.InSlots.{with_slots}
 use Rattle.acdm_step.specs.Verdicts.{verdict_for, alert_list, outcome_with}
@@ -46,13 +46,13 @@ touched moment r = set_number r Alerts (alert_word r moment)
 
 -- a record with what a command of its flight assigns
 abbrev pub assigned_to : Fields → Command → Fields
-assigned_to r c = marked (with_all r (assigned_by c)) (bit_of c)
+assigned_to r c = marked_by (with_all r (assigned_by c)) (bit_of c)
 
 -- the record of a flight after an accepted command of it, with what these programs say with these
 -- answers
 abbrev pub record_after : Programs → Fields → ℕ → Command → List ℕ → Fields
 record_after ps r moment c answers =
-    touched moment (with_effect (effect ps (assigned_to r c) moment (bit_of c) answers)
+    touched moment (with_effect (effect ps (assigned_to r c) moment (milestone_of c) answers)
     (assigned_to r c))
 
 -- the place of a flight's record, or how many there are

@@ -61,11 +61,16 @@ assigned_by (commands.Flight (Schedule s)) =
 assigned_by (commands.Flight (Report r)) = times_of r.milestone r.time ++ plan_assignments r.plan
 assigned_by _ = []
 
--- the bit that it sets in the reached word: 0 for a schedule, m for milestone m
-abbrev pub bit_of : Command → ℕ
-bit_of (commands.Flight (Schedule s)) = 0
-bit_of (commands.Flight (Report r)) = number r.milestone
-bit_of _ = 0
+-- the bit that it sets in the reached word, if any: 0 for a schedule, m for milestone m
+abbrev pub bit_of : Command → Option ℕ
+bit_of (commands.Flight (Schedule s)) = Some 0
+bit_of (commands.Flight (Report r)) = Some (number r.milestone)
+bit_of _ = None
+
+-- the milestone that its programs are told; a command without programs tells none
+abbrev pub milestone_of : Command → ℕ
+milestone_of (commands.Flight (Report r)) = number r.milestone
+milestone_of _ = 0
 
 -- whether it creates its flight where that is not there: a schedule and milestone 1 do
 abbrev pub creates : Command → Bool

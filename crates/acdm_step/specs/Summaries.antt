@@ -18,7 +18,7 @@ use Rattle.acdm_step.specs.Programs.{Programs, Suggestion, Nothing, Usable, Unus
 use Rattle.acdm_step.specs.Programs.{effect}
 use Rattle.acdm_step.specs.declared.command.Command.{Command}
 use Rattle.acdm_step.specs.declared.entry.Entry.{Entry}
-use Rattle.acdm_step.specs.Commands.{History, flight_of, assigned_by, bit_of, is_of, ticks, created}
+use Rattle.acdm_step.specs.Commands.{History, flight_of, assigned_by, bit_of, milestone_of, is_of, ticks, created}
 use Rattle.acdm_step.specs.InSlots.{programs_of}
 
 -- ---- what the whole history says of a flight
@@ -73,14 +73,23 @@ abbrev pub onto : List Assignment → List Assignment → List Assignment
 onto [] earlier = earlier
 onto (a ∷ more) earlier = onto more (a ∷ earlier)
 
+-- a reached word with one bit more, if any, and whether that is this one
+abbrev pub with_bit : Option ℕ → ℕ → ℕ
+with_bit None before = before
+with_bit (Some m) before = bit_or before (2 ^ m)
+
+abbrev pub is_bit : Option ℕ → ℕ → Bool
+is_bit None m = false
+is_bit (Some n) m = n == m
+
 -- what a command assigns and reaches, while the alerts are still those before it
 abbrev pub run_record : ℕ → Command → Summary → Fields
-run_record f c t = record_with f (onto (assigned_by c) t.assigned) (bit_or t.reached (2 ^ bit_of c))
+run_record f c t = record_with f (onto (assigned_by c) t.assigned) (with_bit (bit_of c) t.reached)
     (alerts_from f t)
 
 -- what programs say of that
 abbrev pub effect_on : Programs → Entry → ℕ → Summary → Effect
-effect_on ps e f t = effect ps (run_record f e.command t) e.moment (bit_of e.command) e.answers
+effect_on ps e f t = effect ps (run_record f e.command t) e.moment (milestone_of e.command) e.answers
 
 -- a TOBT that a program gave is assigned too, and reaches milestone 9
 abbrev pub with_tobt : Suggestion → List Assignment → List Assignment
@@ -104,7 +113,7 @@ number_or (Some n) before = n
 abbrev pub with_command : Command → ℕ → Effect → Summary → Summary
 with_command c moment s t = record {
   assigned = with_tobt s.tobt (onto (assigned_by c) t.assigned);
-  reached = with_ninth s.tobt (bit_or t.reached (2 ^ bit_of c));
+  reached = with_ninth s.tobt (with_bit (bit_of c) t.reached);
   touch = Some moment;
   rejected = rejects s.tobt t.rejected;
   locals = number_or s.locals t.locals;
@@ -142,7 +151,7 @@ gives_tobt _ = false
 
 -- the bits that an accepted entry of the flight reached: its own, and 9 where a program gave a TOBT
 abbrev pub reaches : History → Entry → ℕ → ℕ → Bool
-reaches J e f m = bit_of e.command == m
+reaches J e f m = is_bit (bit_of e.command) m
     || (gives_tobt (effect_on (programs_of J e.command) e f (summary J f)).tobt && number TobtUpdate
     == m)
 
