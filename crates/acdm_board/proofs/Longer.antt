@@ -11,7 +11,7 @@ use Rattle.acdm_step.specs.declared.entry.Entry.{Entry}
 use Rattle.acdm_step.specs.declared.entry.Verdict.{Verdict}
 use Rattle.acdm_step.specs.declared.outcome.Outcome.{Outcome}
 use Rattle.acdm_step.specs.Programs.{Programs}
-use Rattle.acdm_step.specs.Commands.{flight_of, milestone_of, is_accepted}
+use Rattle.acdm_step.specs.Commands.{flight_of, told_milestone, is_accepted}
 use Rattle.acdm_step.specs.InSlots.{answers_room, programs_of, room_of}
 use Rattle.acdm_step.specs.Summaries.{run_record_of}
 use Rattle.acdm_step.specs.Verdicts.{verdict_of, outcome_of, verdict_in}
@@ -59,16 +59,16 @@ module _ (old new : Board) (xs ys : List Entry) (capacity n session moment : ℕ
     us)) where
   -- with so much room no question is left without an answer
   answered_all : AsksIn (programs_of (reverse xs) c) (run_record_of (reverse xs) c) moment
-      (milestone_of c) from to → ⊥
+      (told_milestone c) from to → ⊥
   answered_all h =
       let ps = programs_of (reverse xs) c in
       let r = run_record_of (reverse xs) c in
-      let few = asked_few ps r moment (milestone_of c) from to h in
+      let few = asked_few ps r moment (told_milestone c) from to h in
       let none : length from.log ≡ 0 = ap length begins in
       let room : answers_room (reverse xs) c ≡ room_of (reverse xs) c =
-      ap (λ b. cond b (room_of (reverse xs) c) 0) (asked_calls ps r moment (milestone_of c) from to h) in
+      ap (λ b. cond b (room_of (reverse xs) c) 0) (asked_calls ps r moment (told_milestone c) from to h) in
       too_few (answers_room (reverse xs) c) (length to.log)
-      (declined_full ps r moment (milestone_of c) (answers_room (reverse xs) c) from to rule h)
+      (declined_full ps r moment (told_milestone c) (answers_room (reverse xs) c) from to rule h)
       (omega (arith, few, none, room))
 
   -- so what comes of the command is what the tests say
@@ -114,7 +114,7 @@ module _ (old new : Board) (xs ys : List Entry) (capacity n session moment : ℕ
         verdict_is = verdict_here;
         used = λ d.
             ap (λ us. left_by (reverse xs) c moment us) (accepted d ∙ all)
-            ∙ ran_left (programs_of (reverse xs) c) r moment (milestone_of c) used
+            ∙ ran_left (programs_of (reverse xs) c) r moment (told_milestone c) used
             (ran (sym (ap is_accepted verdict_here) ∙ d));
         unused = refused;
       }

@@ -20,7 +20,7 @@ use Rattle.acdm_step.specs.declared.command.Load.{Load}
 use Rattle.acdm_step.specs.declared.entry.Verdict.{Verdict}
 use Rattle.acdm_step.specs.Programs.{Programs, suggestion, with_suggestion}
 use Rattle.acdm_step.specs.Ran.{EndsWith, Ran}
-use Rattle.acdm_step.specs.Commands.{History, is_accepted, milestone_of}
+use Rattle.acdm_step.specs.Commands.{History, is_accepted, told_milestone}
 use Rattle.acdm_step.specs.InSlots.{programs_of}
 use Rattle.acdm_step.specs.Summaries.{run_record_of}
 use Rattle.acdm_step.specs.History.{IsAnswered}
@@ -70,10 +70,10 @@ module _ (sigs : List (ℕ × Promise)) (J : History) (role : Role) (moment : �
   few_answered c fit is =
       elim (is_accepted verdict) as (λ b. is_accepted verdict ≡ b → length answers ≤ 8190) [
         | true ↦ λ e.
-            few_ran (programs_of J c) (run_record_of J c) moment (milestone_of c) answers
+            few_ran (programs_of J c) (run_record_of J c) moment (told_milestone c) answers
             (λ v there. (tobt_is_program J c fit v there).few)
             (λ v there. (alert_is_program J c fit v there).few)
-            (left_ran (programs_of J c) (run_record_of J c) moment (milestone_of c) answers (is.used e))
+            (left_ran (programs_of J c) (run_record_of J c) moment (told_milestone c) answers (is.used e))
         | false ↦ λ e.
             let none : length answers ≡ 0 = ap length (is.unused e) in
             omega (arith, none)

@@ -36,7 +36,7 @@ use Rattle.acdm_step.specs.declared.outcome.Outcome.{Outcome}
 use Rattle.acdm_step.specs.Laws.{verdict_in-outcome_of}
 use Rattle.acdm_step.specs.Ran.{Ran}
 use Rattle.acdm_step.specs.Running.{ComesOf, answered_so, unanswered_so}
-use Rattle.acdm_step.specs.Commands.{History, flight_of, milestone_of, is_accepted}
+use Rattle.acdm_step.specs.Commands.{History, flight_of, told_milestone, is_accepted}
 use Rattle.acdm_step.specs.InSlots.{program_in, programs_of, record_length_after}
 use Rattle.acdm_step.specs.Summaries.{exists, flights, record_of, run_record_of}
 use Rattle.acdm_step.specs.Verdicts.{verdict_of, verdict_for, verdict_in, verdict_from, outcome_of}
@@ -178,10 +178,10 @@ module _ (sigs : List (ℕ × Promise)) (J : History) (role : Role) (moment : �
       ∙ verdict_answers (exists J (flight_of c)) (length (flights J)) (record_of J (flight_of c))
       (obstacle sigs J c) role c (obstacle_answers sigs J c))
   asked (unanswered_so is accepted asks) lacks uses =
-      not_these sigs answers (programs_of J c) (run_record_of J c) moment (milestone_of c) before after
+      not_these sigs answers (programs_of J c) (run_record_of J c) moment (told_milestone c) before after
       left
       (tobt_checked sigs J c legal) (alert_checked sigs J c legal) reads all asks
-      (left_ran (programs_of J c) (run_record_of J c) moment (milestone_of c) answers
+      (left_ran (programs_of J c) (run_record_of J c) moment (told_milestone c) answers
       (uses.used accepted))
 
   -- the answers that were used, and those that are left
@@ -198,7 +198,7 @@ module _ (sigs : List (ℕ × Promise)) (J : History) (role : Role) (moment : �
       elim (cases_of (is_accepted (verdict_of sigs J role c))) [
         | inl accepted ↦
             let r = ran accepted in
-            let effect = say_said (programs_of J c) (run_record_of J c) moment (milestone_of c) used r.0
+            let effect = say_said (programs_of J c) (run_record_of J c) moment (told_milestone c) used r.0
             r.1 left in
             let rest : left_by J c moment answers ≡ Some left =
             ap (left_by J c moment) (sym (parts used gained)) ∙ ap left_after effect in
@@ -225,8 +225,8 @@ module _ (sigs : List (ℕ × Promise)) (J : History) (role : Role) (moment : �
       record {
         uses = record {
           used = λ accepted.
-              ran_left (programs_of J c) (run_record_of J c) moment (milestone_of c) answers
-              (subst (λ us. Ran (programs_of J c) (run_record_of J c) moment (milestone_of c) us) these
+              ran_left (programs_of J c) (run_record_of J c) moment (told_milestone c) answers
+              (subst (λ us. Ran (programs_of J c) (run_record_of J c) moment (told_milestone c) us) these
               (ran accepted));
           unused = λ refused. sym these ∙ no_answer refused;
         };

@@ -31,7 +31,7 @@ use Rattle.acdm_step.specs.declared.command.Command.{Command}
 use Rattle.acdm_step.specs.declared.command.Command.TheVariants as commands
 use Rattle.acdm_step.specs.declared.command.FlightCommand.TheVariants.{Schedule, Report}
 use Rattle.acdm_step.specs.declared.entry.Entry.{Entry}
-use Rattle.acdm_step.specs.Commands.{History, plan_assignments, assigned_by, bit_of, milestone_of, flight_of}
+use Rattle.acdm_step.specs.Commands.{History, plan_assignments, assigned_by, bit_of, told_milestone, flight_of}
 use Rattle.acdm_step.specs.Commands.{changes_flight, creates, is_of, ticks, is_accepted, created}
 use Rattle.acdm_step.specs.InSlots.{programs_of}
 use Rattle.acdm_step.specs.Summaries.{Summary, onto, with_command, with_tick, summary_after}
@@ -172,12 +172,12 @@ changed-record_from : (ps : Programs) (f : ℕ) (t : Summary) (moment : ℕ) (c 
     (answers : List ℕ)
     → record_after ps (record_from f t) moment c answers
     ≡ record_from f (with_command c moment
-    (effect ps (run_record f c t) moment (milestone_of c) answers) t)
+    (effect ps (run_record f c t) moment (told_milestone c) answers) t)
 changed-record_from ps f t moment c answers =
-    let s : Effect = effect ps (run_record f c t) moment (milestone_of c) answers in
+    let s : Effect = effect ps (run_record f c t) moment (told_milestone c) answers in
     let x : ℕ = computed_at f t.assigned t.reached t.touch in
     let is = computed_at-computed f t.assigned t.reached t.touch in
-    ap (λ r. touched moment (with_effect (effect ps r moment (milestone_of c) answers) r))
+    ap (λ r. touched moment (with_effect (effect ps r moment (told_milestone c) answers) r))
     (assigned-reported f t c)
     ∙ ap (touched moment) (with_effect-record_with f x is s (onto (assigned_by c) t.assigned)
     (with_bit (bit_of c) t.reached) t.rejected t.locals)

@@ -29,7 +29,7 @@ use Rattle.acdm_step.specs.declared.outcome.Outcome.TheVariants as outcomes
 use Rattle.acdm_step.specs.declared.entry.Verdict.{Verdict}
 use Rattle.acdm_step.specs.declared.entry.Verdict.TheVariants.{Refused}
 use Rattle.acdm_step.specs.declared.entry.Entry.{Entry}
-use Rattle.acdm_step.specs.Commands.{History, flight_of, milestone_of, changes_flight, is_tick, is_load}
+use Rattle.acdm_step.specs.Commands.{History, flight_of, told_milestone, changes_flight, is_tick, is_load}
 use Rattle.acdm_step.specs.Commands.{is_of, ticks, is_accepted, creates, created, is_alerts}
 use Rattle.acdm_step.specs.InSlots.{slot_change, changed_or, program_in, programs_of, size_of}
 use Rattle.acdm_step.specs.InSlots.{with_slots, slots_of, record_length_after, may_ask}
@@ -278,22 +278,22 @@ assigned-replay sigs J c l =
 pub ran-replay : (sigs : List (ℕ × Promise)) (J : History) (c : Command) (moment : ℕ)
     (used : List ℕ) → IsLegal sigs J
     → Ran (programs_on (slots_of sigs J) c) (assigned_to (record_on (records_of J) (flight_of c)) c)
-    moment (milestone_of c) used
-    → Ran (programs_of J c) (run_record_of J c) moment (milestone_of c) used
+    moment (told_milestone c) used
+    → Ran (programs_of J c) (run_record_of J c) moment (told_milestone c) used
 ran-replay sigs J c moment used l h =
-    subst (λ x. Ran (programs_of J c) x moment (milestone_of c) used) (assigned-replay sigs J c l)
-    (subst (λ p. Ran p (assigned_to (record_on (records_of J) (flight_of c)) c) moment (milestone_of c)
+    subst (λ x. Ran (programs_of J c) x moment (told_milestone c) used) (assigned-replay sigs J c l)
+    (subst (λ p. Ran p (assigned_to (record_on (records_of J) (flight_of c)) c) moment (told_milestone c)
     used) (programs-replay sigs J c) h)
 
 -- and a program that is left without an answer on the board is so after it
 pub asks-replay : (sigs : List (ℕ × Promise)) (J : History) (c : Command) (moment : ℕ)
     (from to : OracleView) → IsLegal sigs J
     → AsksIn (programs_on (slots_of sigs J) c)
-    (assigned_to (record_on (records_of J) (flight_of c)) c) moment (milestone_of c) from to
-    → AsksIn (programs_of J c) (run_record_of J c) moment (milestone_of c) from to
+    (assigned_to (record_on (records_of J) (flight_of c)) c) moment (told_milestone c) from to
+    → AsksIn (programs_of J c) (run_record_of J c) moment (told_milestone c) from to
 asks-replay sigs J c moment from to l h =
-    subst (λ x. AsksIn (programs_of J c) x moment (milestone_of c) from to) (assigned-replay sigs J c l)
-    (subst (λ p. AsksIn p (assigned_to (record_on (records_of J) (flight_of c)) c) moment (milestone_of c)
+    subst (λ x. AsksIn (programs_of J c) x moment (told_milestone c) from to) (assigned-replay sigs J c l)
+    (subst (λ p. AsksIn p (assigned_to (record_on (records_of J) (flight_of c)) c) moment (told_milestone c)
     from to) (programs-replay sigs J c) h)
 
 -- ---- one entry more

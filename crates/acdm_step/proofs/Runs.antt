@@ -21,7 +21,7 @@ use Rattle.acdm_step.specs.declared.command.FlightCommand.TheVariants.{Schedule}
 use Rattle.acdm_step.specs.Facts.{ScheduleFacts}
 use Rattle.acdm_step.specs.Programs.{Programs, no_effect, suggestion, with_suggestion, local_alerts}
 use Rattle.acdm_step.specs.Programs.{with_local_alerts, with_effect}
-use Rattle.acdm_step.specs.Commands.{milestone_of}
+use Rattle.acdm_step.specs.Commands.{told_milestone}
 use Rattle.acdm_step.specs.InSlots.{may_ask, size_of}
 use Rattle.acdm_step.specs.Board.{assigned_to, touched, programs_on}
 use Rattle.acdm_step.specs.Ran.{EndsWith, HasEffect}
@@ -125,7 +125,7 @@ module _ (ps : Programs) (r next : Fields) (moment m : ℕ) (from between to : O
 
 -- an accepted report has changed its record
 pub changes_to : (ps : Programs) (r a s new : Fields) (moment m : ℕ) (c : Command)
-    (from to : OracleView) → a ≡ assigned_to r c → m ≡ milestone_of c
+    (from to : OracleView) → a ≡ assigned_to r c → m ≡ told_milestone c
     → EndsIn ps a moment m from to s → new ≡ touched moment s → ChangesTo ps r moment c from to new
 changes_to ps r a s new moment m c from to ea em h e = (
   h.0,
@@ -150,7 +150,7 @@ changes_scheduled l r a new moment k s from to is ea e same =
       no_effect,
       same.log ∙ sym (append-nil from.log),
       none_ran (assigned_to r (commands.Flight (Schedule s))) moment
-          (milestone_of (commands.Flight (Schedule s))),
+          (told_milestone (commands.Flight (Schedule s))),
       e ∙ ap (touched moment) ea,
       same.refusals,
     )

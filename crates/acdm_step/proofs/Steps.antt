@@ -18,7 +18,7 @@ use Rattle.acdm_step.specs.declared.outcome.Outcome.{Outcome}
 use Rattle.acdm_step.specs.declared.outcome.Outcome.TheVariants as outcomes
 use Rattle.acdm_step.specs.declared.entry.Verdict.{Verdict}
 use Rattle.acdm_step.specs.declared.entry.Verdict.TheVariants.{Accepted, Refused}
-use Rattle.acdm_step.specs.Commands.{flight_of, milestone_of, is_accepted, is_tick, changes_flight}
+use Rattle.acdm_step.specs.Commands.{flight_of, told_milestone, is_accepted, is_tick, changes_flight}
 use Rattle.acdm_step.specs.Commands.{is_alerts}
 use Rattle.acdm_step.specs.InSlots.{with_slots}
 use Rattle.acdm_step.specs.Verdicts.{verdict_for, load_verdict, unload_verdict, tick_verdict}
@@ -91,7 +91,7 @@ accepted_is (Refused x) h = absurd (cc)
 
 -- where no program runs, no answer is used
 no_runs : (l : Loaded) (c : Command) (r : Fields) (moment : ℕ) → changes_flight c ≡ false
-    → Ran (programs_on l c) r moment (milestone_of c) []
+    → Ran (programs_on l c) r moment (told_milestone c) []
 no_runs l (commands.Flight k) r moment h = absurd (cc)
 no_runs l _ r moment h = (no_effect, none_ran r moment 0)
 
@@ -135,11 +135,11 @@ module _ (b : Board) (role : Role) (moment : ℕ) (c : Command) where
     pub comes_unanswered : (v : Verdict) (r : Fields) → v ≡ board_verdict b role c
         → is_accepted v ≡ true → r ≡ record_on b.records (flight_of c)
         → outcome ≡ outcomes.Refused Unanswered
-        → AsksIn (programs_on b.slots c) (assigned_to r c) moment (milestone_of c) from to
+        → AsksIn (programs_on b.slots c) (assigned_to r c) moment (told_milestone c) from to
         → Comes b role moment c from to outcome b
     comes_unanswered v r e d is out h =
         unanswered out (sym (ap is_accepted e)
-        ∙ d) (subst (λ x. AsksIn (programs_on b.slots c) (assigned_to x c) moment (milestone_of c)
+        ∙ d) (subst (λ x. AsksIn (programs_on b.slots c) (assigned_to x c) moment (told_milestone c)
         from to) is h) refl
 
     -- a change of one record
@@ -153,9 +153,9 @@ module _ (b : Board) (role : Role) (moment : ℕ) (c : Command) where
         let h' : ChangesTo (programs_on b.slots c) (record_on b.records (flight_of c)) moment c from
         to s = subst (λ x. ChangesTo (programs_on b.slots c) x moment c from to s) is h in
         let x : Fields = assigned_to (record_on b.records (flight_of c)) c in
-        let all : effect_with (programs_on b.slots c) x moment (milestone_of c) h'.0 ≡ Some (h'.1, []) =
-        ap (effect_with (programs_on b.slots c) x moment (milestone_of c)) (sym (append-nil h'.0))
-        ∙ say_said (programs_on b.slots c) x moment (milestone_of c) h'.0 h'.1 h'.3 [] in
+        let all : effect_with (programs_on b.slots c) x moment (told_milestone c) h'.0 ≡ Some (h'.1, []) =
+        ap (effect_with (programs_on b.slots c) x moment (told_milestone c)) (sym (append-nil h'.0))
+        ∙ say_said (programs_on b.slots c) x moment (told_milestone c) h'.0 h'.1 h'.3 [] in
         let record_is : s ≡ record_after (programs_on b.slots c) (record_on b.records (flight_of c))
         moment c h'.0 =
         h'.4 ∙ ap (λ o. touched moment (with_effect (effect_or_none o) x)) (sym all) in
@@ -365,7 +365,7 @@ module _ (bs : List Fields) (l : Loaded) (role : Role) (c : Command) (place flig
 
     pub flight_unanswered : is_accepted o ≡ true → outcome ≡ outcomes.Refused Unanswered
         → (rs : List Fields) → rs ≡ bs
-        → AsksIn (programs_on l c) (assigned_to r c) moment (milestone_of c) from to
+        → AsksIn (programs_on l c) (assigned_to r c) moment (told_milestone c) from to
         → Comes (board_of bs l) role moment c from to outcome (board_of rs l)
     flight_unanswered d out rs same h =
         subst (λ x. Comes (board_of bs l) role moment c from to outcome (board_of x l)) (sym same)

@@ -22,7 +22,7 @@ use Rattle.acdm_step.specs.declared.entry.Verdict.{Verdict}
 use Rattle.acdm_step.specs.declared.outcome.Outcome.{Outcome}
 use Rattle.acdm_step.specs.declared.outcome.Outcome.TheVariants as outcomes
 use Rattle.acdm_step.specs.Programs.{Programs, no_programs, effect, with_effect}
-use Rattle.acdm_step.specs.Commands.{assigned_by, bit_of, milestone_of, flight_of, is_tick, is_load}
+use Rattle.acdm_step.specs.Commands.{assigned_by, bit_of, told_milestone, flight_of, is_tick, is_load}
 use Rattle.acdm_step.specs.Commands.{changes_flight, is_accepted}
 use Rattle.acdm_step.specs.InSlots.{with_slots}
 use Rattle.acdm_step.specs.Verdicts.{verdict_for, alert_list, outcome_with}
@@ -52,7 +52,7 @@ assigned_to r c = marked_by (with_all r (assigned_by c)) (bit_of c)
 -- answers
 abbrev pub record_after : Programs → Fields → ℕ → Command → List ℕ → Fields
 record_after ps r moment c answers =
-    touched moment (with_effect (effect ps (assigned_to r c) moment (milestone_of c) answers)
+    touched moment (with_effect (effect ps (assigned_to r c) moment (told_milestone c) answers)
     (assigned_to r c))
 
 -- the place of a flight's record, or how many there are

@@ -68,9 +68,9 @@ bit_of (commands.Flight (Report r)) = Some (number r.milestone)
 bit_of _ = None
 
 -- the milestone that its programs are told; a command without programs tells none
-abbrev pub milestone_of : Command → ℕ
-milestone_of (commands.Flight (Report r)) = number r.milestone
-milestone_of _ = 0
+abbrev pub told_milestone : Command → ℕ
+told_milestone (commands.Flight (Report r)) = number r.milestone
+told_milestone _ = 0
 
 -- whether it creates its flight where that is not there: a schedule and milestone 1 do
 abbrev pub creates : Command → Bool

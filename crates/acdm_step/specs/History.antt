@@ -15,7 +15,7 @@ use Rattle.acdm_step.specs.Programs.{Effect, effect_with}
 use Rattle.acdm_step.specs.declared.command.Command.{Command}
 use Rattle.acdm_step.specs.declared.command.Command.TheVariants.{Load}
 use Rattle.acdm_step.specs.declared.entry.Verdict.{Verdict}
-use Rattle.acdm_step.specs.Commands.{History, is_load, milestone_of}
+use Rattle.acdm_step.specs.Commands.{History, is_load, told_milestone}
 use Rattle.acdm_step.specs.Commands.{is_accepted, is_alerts}
 use Rattle.acdm_step.specs.InSlots.{programs_of, slots_of}
 use Rattle.acdm_step.specs.Summaries.{record_of, flights, run_record_of}
@@ -41,7 +41,7 @@ left_after s = option_map (λ x. x.1) s
 
 abbrev pub left_by : History → Command → ℕ → List ℕ → Option (List ℕ)
 left_by J c moment answers = left_after
-    (effect_with (programs_of J c) (run_record_of J c) moment (milestone_of c) answers)
+    (effect_with (programs_of J c) (run_record_of J c) moment (told_milestone c) answers)
 
 -- the verdict is that of the tests, and the answers are those that the programs of an accepted
 -- command use

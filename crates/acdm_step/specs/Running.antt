@@ -12,7 +12,7 @@ use Rattle.acdm_step.specs.declared.outcome.Outcome.{Outcome}
 use Rattle.acdm_step.specs.declared.outcome.Outcome.TheVariants as outcomes
 use Rattle.acdm_step.specs.Programs.{Programs, Effect, suggestion, with_suggestion, with_effect}
 use Rattle.acdm_step.specs.Ran.{EndsWith, HasEffect, Ran}
-use Rattle.acdm_step.specs.Commands.{History, flight_of, milestone_of, is_accepted}
+use Rattle.acdm_step.specs.Commands.{History, flight_of, told_milestone, is_accepted}
 use Rattle.acdm_step.specs.InSlots.{programs_of, size_of}
 use Rattle.acdm_step.specs.Summaries.{run_record_of}
 use Rattle.acdm_step.specs.Verdicts.{verdict_of, outcome_of}
@@ -55,7 +55,7 @@ EndsIn ps r moment m before after new =
 abbrev pub ChangesTo : Programs → Fields → ℕ → Command → OracleView → OracleView → Fields → Type 0
 ChangesTo ps r moment c before after new =
     (used : List ℕ) × (s : Effect) × Gained before after used
-    × HasEffect ps (assigned_to r c) moment (milestone_of c) used s
+    × HasEffect ps (assigned_to r c) moment (told_milestone c) used s
     × (new ≡ touched moment (with_effect s (assigned_to r c))) × (after.refusals ≡ before.refusals)
 
 -- What comes of a command on a board: the outcome of the tests, with the answers that the programs
@@ -67,13 +67,13 @@ pub data Comes (b : Board) (role : Role) (moment : ℕ) (c : Command) (before af
       → outcome ≡ board_outcome b role c
       → (is_accepted (board_verdict b role c) ≡ true
       → Ran (programs_on b.slots c) (assigned_to (record_on b.records (flight_of c)) c) moment
-      (milestone_of c) used)
+      (told_milestone c) used)
       → (is_accepted (board_verdict b role c) ≡ false → used ≡ [])
       → new ≡ board_after b role moment c used
       → Comes b role moment c before after outcome new
   unanswered : outcome ≡ outcomes.Refused Unanswered → is_accepted (board_verdict b role c) ≡ true
       → AsksIn (programs_on b.slots c) (assigned_to (record_on b.records (flight_of c)) c) moment
-      (milestone_of c) before after → new ≡ b
+      (told_milestone c) before after → new ≡ b
       → Comes b role moment c before after outcome new
 
 -- the same after a history
@@ -82,10 +82,10 @@ pub data ComesOf (sigs : List (ℕ × Promise)) (J : History) (role : Role) (mom
   answered_so : (used : List ℕ) → Gained before after used → after.refusals ≡ before.refusals
       → outcome ≡ outcome_of sigs J role c
       → (is_accepted (verdict_of sigs J role c) ≡ true
-      → Ran (programs_of J c) (run_record_of J c) moment (milestone_of c) used)
+      → Ran (programs_of J c) (run_record_of J c) moment (told_milestone c) used)
       → (is_accepted (verdict_of sigs J role c) ≡ false → used ≡ [])
       → ComesOf sigs J role moment c before after outcome
   unanswered_so : outcome ≡ outcomes.Refused Unanswered
       → is_accepted (verdict_of sigs J role c) ≡ true
-      → AsksIn (programs_of J c) (run_record_of J c) moment (milestone_of c) before after
+      → AsksIn (programs_of J c) (run_record_of J c) moment (told_milestone c) before after
       → ComesOf sigs J role moment c before after outcome

@@ -18,7 +18,7 @@ use Rattle.acdm_step.specs.Programs.{Programs, Suggestion, Nothing, Usable, Unus
 use Rattle.acdm_step.specs.Programs.{effect}
 use Rattle.acdm_step.specs.declared.command.Command.{Command}
 use Rattle.acdm_step.specs.declared.entry.Entry.{Entry}
-use Rattle.acdm_step.specs.Commands.{History, flight_of, assigned_by, bit_of, milestone_of, is_of, ticks, created}
+use Rattle.acdm_step.specs.Commands.{History, flight_of, assigned_by, bit_of, told_milestone, is_of, ticks, created}
 use Rattle.acdm_step.specs.InSlots.{programs_of}
 
 -- ---- what the whole history says of a flight
@@ -89,7 +89,7 @@ run_record f c t = record_with f (onto (assigned_by c) t.assigned) (with_bit (bi
 
 -- what programs say of that
 abbrev pub effect_on : Programs → Entry → ℕ → Summary → Effect
-effect_on ps e f t = effect ps (run_record f e.command t) e.moment (milestone_of e.command) e.answers
+effect_on ps e f t = effect ps (run_record f e.command t) e.moment (told_milestone e.command) e.answers
 
 -- a TOBT that a program gave is assigned too, and reaches milestone 9
 abbrev pub with_tobt : Suggestion → List Assignment → List Assignment

@@ -3,7 +3,7 @@ ghost use Rattle.std.specs.Prelude.{◌≡◌, OnOk, OnErr};
 ghost use Rattle.acdm_record.specs.Assign.{with_all};
 ghost use Rattle.acdm_milestones.specs.Tables.{number};
 ghost use Rattle.bpf_helpers.specs.Oracles.{MayBeAsked, SameRule};
-ghost use Rattle.acdm_step.specs.Commands.{milestone_of, plan_assignments};
+ghost use Rattle.acdm_step.specs.Commands.{told_milestone, plan_assignments};
 ghost use Rattle.acdm_step.specs.Board.{assigned_to, programs_on, touched};
 ghost use Rattle.acdm_step.specs.Running.{ChangesTo, AsksIn};
 ghost use Rattle.acdm_record.specs.Fields.{length_of};
@@ -110,7 +110,7 @@ pub(crate) fn change<O: Oracle>(
     ensures unanswered { OnErr result
         (AsksIn (programs_on slots.now (Command.Flight command.now))
         (assigned_to record.old (Command.Flight command.now)) moment
-        (milestone_of (Command.Flight command.now)) (O.view oracle.old) (O.view oracle.new)) }
+        (told_milestone (Command.Flight command.now)) (O.view oracle.old) (O.view oracle.new)) }
     ensures same_rule { SameRule (O.view oracle.old) (O.view oracle.new) }
 {
     match command {

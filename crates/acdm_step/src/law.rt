@@ -10,7 +10,7 @@ ghost use Rattle.acdm_slots.specs.Loaded as loaded;
 ghost use Rattle.acdm_step.specs.declared.entry.Entry.{Entry};
 ghost use Rattle.acdm_step.specs.Programs.{Programs, Effect, effect_with};
 ghost use Rattle.acdm_step.specs.Ran.{Ran, HasEffect};
-ghost use Rattle.acdm_step.specs.Commands.{History, is_accepted, flight_of, milestone_of};
+ghost use Rattle.acdm_step.specs.Commands.{History, is_accepted, flight_of, told_milestone};
 ghost use Rattle.acdm_step.specs.InSlots.{program_in, programs_of, slots_of};
 ghost use Rattle.acdm_step.specs.Summaries.{flights, record_of, run_record_of};
 ghost use Rattle.acdm_step.specs.History.{IsLegal, replay};
@@ -31,7 +31,7 @@ pub fn programs_say_what_their_runs_end_with()
     ensures legal { (sigs : List (ℕ × Promise)) (J : History) (e : Entry) → IsLegal sigs (e ∷ J)
         → is_accepted e.verdict ≡ true →
         Ran (programs_of J e.command) (run_record_of J e.command) e.moment
-        (milestone_of e.command) e.answers }
+        (told_milestone e.command) e.answers }
 {}
 
 /// The programs in the slots of a board are those of the last accepted loads and unloads of its

@@ -1,4 +1,4 @@
-use Rattle.acdm_step.specs.Commands.{milestone_of}
+use Rattle.acdm_step.specs.Commands.{told_milestone}
 use Rattle.acdm_step.specs.InSlots.{programs_of}
 use Rattle.acdm_step.specs.Summaries.{run_record_of}
 use Rattle.acdm_step.proofs.Saying.{left_ran, said_say, say_said}
@@ -9,6 +9,6 @@ returns c = record {
   computed = said_say;
   complete = say_said;
   legal = λ sigs J e l d.
-      left_ran (programs_of J e.command) (run_record_of J e.command) e.moment (milestone_of e.command)
+      left_ran (programs_of J e.command) (run_record_of J e.command) e.moment (told_milestone e.command)
       e.answers (l.4.used d);
 }
