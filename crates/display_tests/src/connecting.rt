@@ -71,6 +71,62 @@ fn pause(rt: &impl SystemClock, millis: u64) {
     thread::sleep(rt, Duration::from_millis(millis));
 }
 
+// An address of this machine where nobody listened just now.
+fn free_address<Rt: Net<Listener = TcpListener, Stream = TcpStream> + Abort>(
+    rt: &Rt,
+) -> SocketAddr {
+    let listener = TcpListener::bind(rt, "127.0.0.1:0")
+        .ok()
+        .expect(rt, "a port");
+    listener.local_addr().ok().expect(rt, "an address")
+}
+
+// Displays of the journal of a desk with two ticks, where an address is given.
+fn opened<
+    H: Helpers + Drop,
+    Rt: Net<Listener = TcpListener, Stream = TcpStream>
+        + SystemClock
+        + Threads
+        + Abort
+        + Clone
+        + Drop
+        + Send
+        + 'static,
+>(rt: &Rt, alloc: Global, helpers: H, address: Option<&str>) -> Option<Displays> {
+    let mut desk = ticked(rt, alloc, helpers, 10);
+    assert!(rt; tick(&mut desk, 9));
+    let displays = Displays::open(rt, alloc, address, desk.row())
+        .ok()
+        .expect(rt, "displays or none");
+    drop(desk);
+    displays
+}
+
+#[test]
+fn displays_connect_at_the_address_that_was_given(rt: HostRuntime) {
+    let alloc = rt.alloc();
+    let address = free_address(&rt);
+    let word = format!(in alloc; "{address}").expect(&rt, "a word");
+    let bank = Bank::new(alloc).expect(&rt, "a bank");
+    let displays = opened(&rt, alloc, bank, Some(word.as_str())).expect(&rt, "displays");
+    let mut stream = connected(&rt, address);
+    let display = thread::spawn(
+        &rt,
+        move || is_served(&mut stream) && has_ended(&mut stream),
+    )
+    .ok()
+    .expect(&rt, "a thread");
+    displays.close(&rt);
+    assert!(rt; display.join(&rt));
+}
+
+#[test]
+fn without_an_address_there_are_no_displays(rt: HostRuntime) {
+    let alloc = rt.alloc();
+    let bank = Bank::new(alloc).expect(&rt, "a bank");
+    assert!(rt; opened(&rt, alloc, bank, None).is_none());
+}
+
 #[test]
 fn who_connects_just_before_the_end_is_sent_all(rt: HostRuntime) {
     let alloc = rt.alloc();

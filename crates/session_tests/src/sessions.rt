@@ -6,6 +6,7 @@ mod keys;
 mod programs;
 mod threads;
 mod unreliable;
+mod watching;
 mod wire;
 
 use acdm_board::Desk;
