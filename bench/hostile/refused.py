@@ -92,10 +92,10 @@ def owed(lines):
 
 
 class Refusing:
-    """Starts the program with requests refused, and tells whether one was."""
+    """Starts the program with requests refused, and tells whether one was; refuse.c has the words."""
 
-    def __init__(self, program, folder):
-        self.program, self.shim = program, pathlib.Path(folder) / "refuse.so"
+    def __init__(self, program, folder, words=()):
+        self.program, self.shim, self.words = program, pathlib.Path(folder) / "refuse.so", dict(words)
         command = ["cc", "-O2", "-shared", "-fPIC", "-o", self.shim, HERE / "refuse.c"]
         subprocess.run(command, check=True)
 
@@ -104,6 +104,7 @@ class Refusing:
         """The process, with a word that says at its end whether a request was refused."""
         reading, writing = os.pipe()
         env = {"LD_PRELOAD": str(self.shim), which: str(number), "REFUSE_TOLD": str(writing), "PATH": os.environ["PATH"]}
+        env |= self.words
         pipes = {"stdin": subprocess.PIPE, "stdout": subprocess.PIPE, "stderr": subprocess.PIPE} | how
         process = subprocess.Popen([str(self.program), *map(str, arguments)], env=env, pass_fds=(writing,), **pipes)
         os.close(writing)
