@@ -31,7 +31,7 @@ import threading
 import time
 
 sys.dont_write_bytecode = True
-from kit import crates, gate, is_refusal
+from kit import crates, gate, is_refusal, is_there
 from turned import bared, is_merged, merged_edits, pairs_of
 
 FLAGS = ["--jobs", "1"]
@@ -154,13 +154,6 @@ def try_alone(rt, crate, edits):
             bad += [] if is_refusal(rt, came_to) else [file.stem]
     print(f"{number - len(bad)} of {number} were refused{': not ' if bad else ''}{', '.join(bad)}")
     return len(bad)
-
-
-def is_there(crate):
-    """Whether a library stands as the gate, or a check, built it."""
-    out = pathlib.Path(crate.folder) / "out" / "rlib"
-    # (the gate leaves no stamp)
-    return crate.is_built() or (out / f"{crate.name}.rlib" / "format").is_file() and not (out / "stamp").exists()
 
 
 def main():

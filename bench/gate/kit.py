@@ -42,3 +42,10 @@ def tries_apart(rt):
 def is_refusal(rt, came_to):
     """Returns whether what must_fail of this kit's gate answered first says that an edit was refused."""
     return came_to in (rt.REFUSED, rt.AT_LIMIT) if tries_apart(rt) else came_to is True
+
+
+def is_there(crate):
+    """Whether a library stands as the gate, or a check, built it."""
+    out = pathlib.Path(crate.folder) / "out" / "rlib"
+    # (the gate leaves no stamp, and to reckon one takes long)
+    return (out / f"{crate.name}.rlib" / "format").is_file() and not (out / "stamp").exists() or crate.is_built()

@@ -1,14 +1,15 @@
 #!/usr/bin/env python3
 """Sends the built `acdm run` lines that no partner would send, and compares its replies with the model in bench/model.
 
-    python3 bench/hostile/lines.py [--program PATH] [--seed S] [--lines N]
+    python3 bench/hostile/lines.py [--program PATH] [--seed S] [--lines N] [--stride N]
 
 Each change of one byte of ten worked lines, and each cut of them; bytes that are no UTF-8, of each kind; keys twice; numbers at each
 limit and beside it; JSON nested 1 to 200 deep; lines of 70,000 bytes and of more; N lines with changes by chance; and 10,000,000
-bytes without a line feed, in bounded memory, in `run` and in a session. A case is a line. The last line is `N cases, M failed`;
-status 1 where one failed. The same words send the same lines.
+bytes without a line feed, in bounded memory, in `run` and in a session. A case is a line. `--stride` takes every N-th of the lines with
+a changed byte alone. The last line is `N cases, M failed`; status 1 where one failed. The same words send the same lines.
 """
 
+import itertools
 import random
 import socket
 import subprocess
@@ -236,10 +237,11 @@ def main():
     parser = words(__doc__)
     parser.add_argument("--seed", type=int, default=1, metavar="S")
     parser.add_argument("--lines", type=int, default=100_000, metavar="N")
+    parser.add_argument("--stride", type=int, default=1, metavar="N")
     given = parser.parse_args()
     cases, program = Cases(), given.program.resolve()
     for place, line in enumerate(LINES):
-        compare(cases, program, f"a byte of line {place}", [*START, *changed(line)])
+        compare(cases, program, f"a byte of line {place}", [*START, *itertools.islice(changed(line), 0, None, given.stride)])
         compare(cases, program, f"a cut of line {place}", [*START, *cut(line)])
     chance = random.Random(given.seed)
     for name, lines in (

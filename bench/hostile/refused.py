@@ -3,11 +3,12 @@
 
     python3 bench/hostile/refused.py [--program PATH] [--stride N] [WHAT ..]
 
-WHAT is `run`, `again`, `starved`, `files` or `serve`, all by default. `run`: a stream of all commands with programs loaded; the replies and
+WHAT is `run`, `again`, `starved`, `files`, `serve` or `threads`, all by default. `run`: a stream of all commands with programs loaded; the replies and
 the saved journal are those of a stream that never had the lines answered `bad 501`, by the model in bench/model. `again`: a line
 answered so is sent again, and then all is as without a refusal. `starved`: each request from one on is refused. `files`: `audit`, `verify`
-and `explain`. `serve`: two partners and a display. `--stride` takes every N-th request alone. What refuses is refuse.c, preloaded, so
-threads and the C library are refused memory too. The last line is `N cases, M failed`; status 1 where one failed.
+and `explain`. `serve`: two partners and a display. `threads`: three partners and a display, and in turn each
+thread can't be started. `--stride` takes every N-th request for memory alone. What refuses is refuse.c, preloaded, so threads and the C
+library are refused memory too. The last line is `N cases, M failed`; status 1 where one failed.
 """
 
 import contextlib
@@ -19,7 +20,7 @@ import sys
 import tempfile
 import time
 
-from cases import ALERTS, DAY_JOURNAL, LISTING, PLAN, SCHEDULE, TAXI, TOP, Cases, text, words
+from cases import ALERTS, DAY_JOURNAL, LISTING, PLAN, SCHEDULE, TARGET, TAXI, TOP, Cases, text, words
 
 sys.path.insert(0, str(TOP / "bench" / "model"))
 
@@ -34,6 +35,8 @@ PATIENCE = 60
 # How long a partner waits for a reply: a session that has no thread keeps its connection and says nothing.
 SILENCE = 3
 CAPACITY = 40
+# Those of the three partners of `threads`.
+ROLES = ("APT", "NM", "GH")
 
 # The TOBT is five minutes after the in-block report, by helper 3.
 LATER = "bf31000000000000b70200000500000085000000030000009500000000000000"
@@ -92,10 +95,10 @@ def owed(lines):
 
 
 class Refusing:
-    """Starts the program with requests refused, and tells whether one was."""
+    """Starts the program with requests refused, and tells whether one was; refuse.c has the words."""
 
-    def __init__(self, program, folder):
-        self.program, self.shim = program, pathlib.Path(folder) / "refuse.so"
+    def __init__(self, program, folder, words=()):
+        self.program, self.shim, self.words = program, pathlib.Path(folder) / "refuse.so", dict(words)
         command = ["cc", "-O2", "-shared", "-fPIC", "-o", self.shim, HERE / "refuse.c"]
         subprocess.run(command, check=True)
 
@@ -104,6 +107,7 @@ class Refusing:
         """The process, with a word that says at its end whether a request was refused."""
         reading, writing = os.pipe()
         env = {"LD_PRELOAD": str(self.shim), which: str(number), "REFUSE_TOLD": str(writing), "PATH": os.environ["PATH"]}
+        env |= self.words
         pipes = {"stdin": subprocess.PIPE, "stdout": subprocess.PIPE, "stderr": subprocess.PIPE} | how
         process = subprocess.Popen([str(self.program), *map(str, arguments)], env=env, pass_fds=(writing,), **pipes)
         os.close(writing)
@@ -139,9 +143,9 @@ class Scenes:
 
     def each(self, one):
         """Calls with each number until nothing is refused; how many were."""
-        number = 1
+        number, stride = 1, 1 if one.__name__ == "threads" else self.stride
         while one(number):
-            number += self.stride
+            number += stride
         self.count += number - 1
         print(f"{one.__name__}: {number - 1} requests", flush=True)
 
@@ -297,6 +301,90 @@ class Scenes:
         return answered, seen.decode()
 
 
+    def threads(self, number):
+        """Three partners and a display, which connects when they were answered. The first thread accepts displays, three are those of the
+        sessions, and the last is the display's: one of them can't be started."""
+        self.saved.unlink(missing_ok=True)
+        ports = [free_port() for _ in range(4)]
+        at_port = [f"127.0.0.1:{port}" for port in ports]
+        addresses = [f"{role}={address}" for role, address in zip(ROLES, at_port)]
+        words = ["serve", "--journal", CAPACITY, "--save", self.saved, "--watch", at_port[3], *addresses]
+        with self.refusing.started(words, number, "REFUSE_THREAD", stdin=subprocess.DEVNULL) as process:
+            if number == 1:
+                self.no_displays(process)
+            else:
+                self.all_but_one(process, ports, number)
+            return process.was_refused()
+
+    def no_displays(self, process):
+        """Nobody can accept displays, so nobody is served."""
+        output, errors = process.communicate(timeout=PATIENCE)
+        came = process.returncode, output.decode(), errors.decode(), self.journal()
+        self.cases.expect("no thread for displays", came == (2, "", NO_MEMORY, ""), came)
+
+    def all_but_one(self, process, ports, number):
+        """The session that has no thread is told as such, and its partner nothing; the others, and the display, are served to their end."""
+        name, lost = f"thread {number}", number - 2
+        talks = [[load(9, "alert", TAXI), SCHEDULE], [PLAN], [TARGET]]
+        lines = [(place, line) for place, own in enumerate(talks) for line in own]
+        heard = [line for line in lines if line[0] != lost]
+        told, entries = owed([at(29_000_700, place + 1, ROLES[place], line) for place, line in heard])
+        with contextlib.ExitStack() as opened:
+            streams = [opened.enter_context(connected(process, port)) for port in ports[:3]]
+            readers = [opened.enter_context(stream.makefile("rb")) for stream in streams]
+            if lost < 3:
+                streams[lost].sendall(f"{talks[lost][0]}\n".encode())
+            answers = []
+            for place, line in heard:
+                streams[place].sendall(f"{line}\n".encode())
+                answers.append(readers[place].readline().decode().rstrip("\n"))
+            self.cases.expect(f"{name}, the others", answers == told, answers)
+            display = opened.enter_context(connected(process, ports[3]))
+            if lost < 3:
+                self.cases.expect(f"{name}, its partner", is_silent(streams[lost]))
+            seen = rest_of(display) if lost == 3 else ""
+            for place, stream in enumerate(streams):
+                if place != lost:
+                    stream.shutdown(socket.SHUT_WR)
+            self.cases.expect(f"{name}, the end of all", [rest_of(stream) for stream in streams] == [""] * 3)
+            seen += rest_of(display)
+        output, errors = process.communicate(timeout=PATIENCE)
+        counts = [sum(place == it for place, _ in heard) for it in range(3)]
+        ends = ["start" if place == lost else "end" for place in range(3)]
+        sessions = [f"session {place + 1} {count} {end}" for place, (count, end) in enumerate(zip(counts, ends))]
+        came = process.returncode, output.decode().splitlines()[3:], errors.decode()
+        self.cases.expect(name, came == (0, [*sessions, f"closed {len(heard)}"], ""), came)
+        saved = self.journal()
+        self.cases.expect(f"{name}, the journal", at_one_minute(saved) == at_one_minute(entries), saved)
+        status, verdict = model_journal.audit(line.encode() for line in saved.splitlines(keepends=True))[::-1]
+        self.cases.expect(f"{name}, the journal is legal", status == 0, (verdict, saved))
+        self.cases.expect(f"{name}, the display", seen == ("" if lost == 3 else saved), seen)
+
+
+def at_one_minute(entries):
+    """The lines of a journal without their minutes."""
+    return [[*line.split(" ")[:2], *line.split(" ")[3:]] for line in entries.splitlines()]
+
+
+def is_silent(stream):
+    """Whether a partner is sent nothing, and no end either, for a while."""
+    try:
+        stream.recv(1)
+    except TimeoutError:
+        return True
+    return False
+
+
+def rest_of(stream):
+    """What a partner is sent to the end. A connection that is closed while lines of the partner wait there ends by a reset."""
+    parts = []
+    stream.settimeout(PATIENCE)
+    with contextlib.suppress(ConnectionResetError):
+        while part := stream.recv(65_536):
+            parts.append(part)
+    return b"".join(parts).decode()
+
+
 def asked(role, stream, heard, line):
     """The answers to a line, which is sent again where there was no memory for it, and whether the session still answers."""
     answers = []
@@ -336,7 +424,7 @@ def main():
     with tempfile.TemporaryDirectory(prefix="acdm-") as folder:
         scenes = Scenes(cases, Refusing(given.program.resolve(), folder), folder, given.stride)
         scenes.give_files()
-        for what in given.what or ("run", "again", "starved", "files", "serve"):
+        for what in given.what or ("run", "again", "starved", "files", "serve", "threads"):
             scenes.each(getattr(scenes, what))
     return cases.end()
 
