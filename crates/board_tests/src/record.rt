@@ -1,5 +1,5 @@
 //! A record's bytes against both layouts, and the texts that are taken.
-ghost use Rattle.std.specs.Prelude.{◌<◌};
+ghost use Rattle.std.specs.Prelude.{◌<◌, ◌≤◌};
 
 use crate::fixture::{holds, same_bytes, same_number};
 use acdm_record::{Field, Record, RecordError, Text, TextField};
@@ -144,12 +144,12 @@ fn shorter(rt: &impl Abort) -> [u8; 127] {
 
 // The same flight in layout 2, with its de-icing expected from 29,000,580 on, and ended at
 // 29,000,581.
+const DEICED: &str =
+    "0700000000000000444c4837000000004133323041333230444149424300000044414942430000004544444d4544444d030000000000000028000a000c0002053884ba013884ba0100000000000000000000000000000000000000000000000000000000000000000000000000000000000000000000000000000000000000008483ba0100000000000000008583ba0100000000000000000000000000000000";
+
 fn deiced(rt: &impl Abort) -> [u8; 160] {
     let mut bytes = [0; 160];
-    hex::decode_to_slice(PLANNED, &mut bytes[..72]).expect(rt, "bytes");
-    bytes[62] = 2;
-    bytes[128..132].copy_from_slice(&[132, 131, 186, 1]);
-    bytes[140..144].copy_from_slice(&[133, 131, 186, 1]);
+    hex::decode_to_slice(DEICED, &mut bytes).expect(rt, "bytes");
     bytes
 }
 
@@ -160,6 +160,14 @@ fn deiced_but(rt: &impl Abort, place: usize, byte: u8) -> [u8; 160]
     let mut bytes = deiced(rt);
     bytes[place] = byte;
     bytes
+}
+
+// So many of these bytes, from the first on, are refused.
+fn is_refused_cut(rt: &impl Abort, length: usize, error: RecordError, code: u64)
+    requires { length ≤ 160 }
+{
+    let bytes = deiced(rt);
+    is_refused(rt, &bytes[..length], error, code);
 }
 
 // They are a record's.
@@ -206,9 +214,9 @@ fn a_record_of_layout_2_is_read_and_given_back(rt: HostRuntime) {
 
 #[test]
 fn bytes_of_layout_2_are_refused_with_their_first_fault(rt: HostRuntime) {
-    is_refused(&rt, &deiced(&rt)[..159], RecordError::WrongLength, 1);
-    is_refused(&rt, &deiced(&rt)[..129], RecordError::WrongLength, 1);
-    is_refused(&rt, &deiced(&rt)[..128], RecordError::UnknownLayout, 2);
+    is_refused_cut(&rt, 159, RecordError::WrongLength, 1);
+    is_refused_cut(&rt, 129, RecordError::WrongLength, 1);
+    is_refused_cut(&rt, 128, RecordError::UnknownLayout, 2);
     is_refused(&rt, &deiced_but(&rt, 62, 1), RecordError::UnknownLayout, 2);
     is_refused(&rt, &deiced_but(&rt, 62, 3), RecordError::UnknownLayout, 2);
     is_refused(&rt, &deiced_but(&rt, 52, 1), RecordError::ReservedBits, 4);
@@ -229,7 +237,12 @@ fn a_migrated_record_takes_times_of_deicing(rt: HostRuntime) {
     record.set(Field::Aczt, 3);
     record.set(Field::Aezt, 4);
     stands_at(&rt, &record, 62, &[2]);
-    stands_at(&rt, &record, 128, &[1, 0, 0, 0, 2, 0, 0, 0, 3, 0, 0, 0, 4, 0, 0, 0]);
+    stands_at(
+        &rt,
+        &record,
+        128,
+        &[1, 0, 0, 0, 2, 0, 0, 0, 3, 0, 0, 0, 4, 0, 0, 0],
+    );
     stands_at(&rt, &record, 144, &[0; 16]);
     holds(&rt, &record, Field::Flight, 7);
 }
@@ -242,5 +255,8 @@ fn a_record_takes_as_many_bytes_as_layout_2_has(rt: HostRuntime) {
 #[test]
 fn errors_have_their_texts(rt: HostRuntime) {
     let text = format!(in rt.alloc(); "{}", RecordError::UnknownLayout).expect(&rt, "a text");
-    assert_eq!(rt; text.as_str(), "the layout is not 1 in 128 bytes, or 2 in 160");
+    assert_eq!(rt;
+        text.as_str(),
+        "the layout is not 1 in 128 bytes, or 2 in 160"
+    );
 }

@@ -255,10 +255,7 @@ fn replayed<H: Helpers + Drop>(
 fn have_same(rt: &impl Abort, one: &Core, other: &Core, flight: u64) {
     let record = one.record_of(flight).expect(rt, "a flight");
     let same = other.record_of(flight).expect(rt, "the same flight");
-    assert!(rt;
-        record.bytes().as_slice() == same.bytes().as_slice(),
-        "{flight}"
-    );
+    assert!(rt; record.bytes() == same.bytes(), "{flight}");
 }
 
 // Both boards have the two flights and no third, with the same records.
