@@ -8,12 +8,12 @@ use std::io::{self, ErrorKind};
 pub(crate) fn given<Rt: Env + AllocGlobal>(rt: &Rt) -> Result<Vec<String>, Failure> {
     match env::args(rt) {
         Ok(words) => Ok(words.collect(rt.alloc())?),
-        Err(error) => Err(unread(&error)),
+        Err(error) => Err(failure_of(&error)),
     }
 }
 
 // Why the words can't be read.
-fn unread(error: &io::Error) -> Failure {
+fn failure_of(error: &io::Error) -> Failure {
     match error.kind() {
         ErrorKind::OutOfMemory => Failure::Memory,
         _ => Failure::Word,

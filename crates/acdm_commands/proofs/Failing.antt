@@ -5,7 +5,9 @@ use Rattle.acdm_failures.specs.declared.failure.Failure.TheVariants as failures
 use Rattle.acdm_failures.specs.declared.failure.ServeError.{ServeError}
 use Rattle.acdm_failures.specs.declared.failure.ServeError.TheVariants as serve_errors
 use Rattle.acdm_lines.specs.Counted.{SinkView}
-use Rattle.acdm_commands.specs.Partners.{FailsToListen, FailsToOpen, FailsToTell, IsOfAccepting}
+use Rattle.acdm_failures.specs.Failures.{failure_of_serve}
+use Rattle.acdm_commands.specs.Partners.{FailsToListen, FailsToOpen, FailsToServeAll, FailsToTell}
+use Rattle.acdm_commands.specs.Partners.{IsOfAccepting}
 use Rattle.std.proofs.Common.{List, ℕ}
 
 pub untold_error : {W : Type 0} (old new : SinkView W) (error : ServeError) → IsOfAccepting error
@@ -27,6 +29,13 @@ pub if_err : {T E : Type 0} {P Q : E → Type 0} (result : Result T E) → ((e :
     → IfErr result P → IfErr result Q
 if_err (Ok x) f p = p
 if_err (Err e) f p = f e p
+
+-- partners were not served to their end, or that could not be told
+pub unserved : {W : Type 0} (old new : SinkView W) (error : ServeError) → FailsToTell old new error
+    → FailsToServeAll old new (failure_of_serve error)
+unserved old new (serve_errors.Accept n) p = tt
+unserved old new serve_errors.Write p = p
+unserved old new serve_errors.Memory p = tt
 
 -- nobody listens, so nothing is opened
 pub unopened : (words : List (List ℕ)) (failure : Failure) → FailsToListen words failure

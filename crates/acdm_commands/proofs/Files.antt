@@ -16,9 +16,8 @@ use Rattle.acdm_lines.specs.Counted.{SinkView, SourceView}
 use Rattle.acdm_judging.specs.Helpers.{helpers}
 use Rattle.acdm_commands.specs.Completed.{ExplainsLine, IsUnread, IsUnwritten, read_from}
 use Rattle.acdm_commands.specs.Completed.{written_to}
-use Rattle.acdm_commands.specs.Served.{FailsToSave, IsSaved, RunsTo}
-use Rattle.acdm_commands.specs.Partners.{FailsToServeAll}
-use Rattle.acdm_commands.specs.Partners.{ServesWordsTo}
+use Rattle.acdm_commands.specs.Served.{FailsToSave, IsSaved, Runs, RunsTo}
+use Rattle.acdm_commands.specs.Partners.{ServesWords, ServesWordsTo}
 
 -- ---- files that are read
 
@@ -92,12 +91,12 @@ module _ {F : Type 0} (sigs : List (ℕ × Promise)) (file later : SourceView F)
   explained_any work (inr p) = inr p
 
 -- a file that could be opened was explained, or could not be read
-pub explained_line : {F W E : Type 0} (file later : SourceView F) (old new : SinkView W) (status : ℕ)
-    (errors errors_after : SinkView E) → IsUnread file
+pub explained_line : {F W E : Type 0} (path : List ℕ) (file later : SourceView F)
+    (old new : SinkView W) (status : ℕ) (errors errors_after : SinkView E) → IsUnread file
     → EndsBy (Explains helpers file later) status errors errors_after
-    ⊎ FailsToRead file later old new status
-    → ExplainsLine old new status errors errors_after
-explained_line file later old new status errors errors_after unread (inl e) =
+    ⊎ FailsToRead path file later old new status errors errors_after
+    → ExplainsLine path old new status errors errors_after
+explained_line path file later old new status errors errors_after unread (inl e) =
     inl (
       read_from file,
       read_from later,
@@ -108,8 +107,8 @@ explained_line file later old new status errors errors_after unread (inl e) =
         ends = e.ends;
       },
     )
-explained_line file later old new status errors errors_after unread (inr f) =
-    inr (f.status_is, f.same)
+explained_line path file later old new status errors errors_after unread (inr f) =
+    inr (f.status_is, f.same, f.told)
 
 -- ---- files that are written
 
@@ -120,10 +119,21 @@ saved_any J (Some file) (Some later) p = p
 saved_any J None (Some later) p = absurd p
 saved_any J (Some file) None p = absurd p
 
-fails_any : {F : Type 0} (file : Option (SinkView F)) → FailsToSave file failures.Save
-    → FailsToSave (option_map written_to file) failures.Save
-fails_any None p = absurd p
-fails_any (Some file) p = p
+fails_any : {F : Type 0} (file later : Option (SinkView F)) (failure : Failure)
+    → FailsToSave file later failure
+    → FailsToSave (option_map written_to file) (option_map written_to later) failure
+fails_any None later failure p = absurd p
+fails_any (Some file) None failure p = absurd p
+fails_any (Some file) (Some later) failures.Save p = p
+fails_any (Some file) (Some later) failures.Memory p = p
+fails_any (Some file) (Some later) failures.Read p = absurd p
+fails_any (Some file) (Some later) failures.Write p = absurd p
+fails_any (Some file) (Some later) (failures.Role n) p = absurd p
+fails_any (Some file) (Some later) (failures.Address n) p = absurd p
+fails_any (Some file) (Some later) (failures.Accept n) p = absurd p
+fails_any (Some file) (Some later) failures.Watch p = absurd p
+fails_any (Some file) (Some later) failures.Word p = absurd p
+fails_any (Some file) (Some later) failures.Stream p = absurd p
 
 -- nothing was written to a file, whatever it is
 pub unwritten_any : {F : Type 0} (path : Option (List ℕ)) (file : Option (SinkView F))
@@ -133,72 +143,68 @@ unwritten_any (Some path) (Some file) p = p
 unwritten_any None (Some file) p = absurd p
 unwritten_any (Some path) None p = absurd p
 
+-- what was done stands whatever is known of what was kept
+runs_as : {R W : Type 0} (sigs : List (ℕ × Promise)) (capacity : ℕ) (read read_after : SourceView R)
+    (old new : SinkView W) (Kept Known : History → Type 0) → ((J : History) → Kept J → Known J)
+    → Runs sigs capacity read read_after old new Kept → Runs sigs capacity read read_after old new Known
+runs_as sigs capacity read read_after old new Kept Known knows p =
+    record { desk = p.desk; serves = p.serves; kept = knows p.desk.history p.kept }
+
 pub runs_any : {R W F : Type 0} (sigs : List (ℕ × Promise)) (capacity : ℕ)
     (read read_after : SourceView R) (old new : SinkView W) (file later : Option (SinkView F))
     (work : Result ℕ Failure) → RunsTo sigs capacity read read_after old new file later work
     → RunsTo sigs capacity read read_after old new (option_map written_to file)
     (option_map written_to later) work
 runs_any sigs capacity read read_after old new file later (Ok status) p = (
-  record {
-    desk = p.0.desk;
-    serves = p.0.serves;
-    saves = saved_any p.0.desk.history file later p.0.saves;
-  },
+  runs_as sigs capacity read read_after old new (λ J. IsSaved J file later)
+      (λ J. IsSaved J (option_map written_to file) (option_map written_to later))
+      (λ J. saved_any J file later) p.0,
   p.1,
 )
-runs_any sigs capacity read read_after old new file later (Err failures.Read) p = p
-runs_any sigs capacity read read_after old new file later (Err failures.Write) p = p
-runs_any sigs capacity read read_after old new file later (Err failures.Save) p = fails_any file p
-runs_any sigs capacity read read_after old new file later (Err failures.Memory) p = p
-runs_any sigs capacity read read_after old new file later (Err (failures.Role n)) p = absurd p
-runs_any sigs capacity read read_after old new file later (Err (failures.Address n)) p = absurd p
-runs_any sigs capacity read read_after old new file later (Err (failures.Accept n)) p = absurd p
-runs_any sigs capacity read read_after old new file later (Err failures.Watch) p = absurd p
-runs_any sigs capacity read read_after old new file later (Err failures.Word) p = absurd p
-runs_any sigs capacity read read_after old new file later (Err failures.Stream) p = absurd p
+runs_any sigs capacity read read_after old new file later (Err failure) (inl p) = inl p
+runs_any sigs capacity read read_after old new file later (Err failure) (inr p) =
+    inr (runs_as sigs capacity read read_after old new (λ J. FailsToSave file later failure)
+    (λ J. FailsToSave (option_map written_to file) (option_map written_to later) failure)
+    (λ J. fails_any file later failure) p)
 
-serves_any : {W F : Type 0} (old new : SinkView W) (file later : Option (SinkView F))
-    (failure : Failure) → FailsToServeAll old new file failure
-    → FailsToServeAll old new (option_map written_to file) failure
-serves_any old new file later failures.Read p = p
-serves_any old new file later failures.Write p = p
-serves_any old new file later failures.Save p = fails_any file p
-serves_any old new file later failures.Memory p = p
-serves_any old new file later (failures.Role n) p = p
-serves_any old new file later (failures.Address n) p = p
-serves_any old new file later (failures.Accept n) p = p
-serves_any old new file later failures.Watch p = p
-serves_any old new file later failures.Word p = absurd p
-serves_any old new file later failures.Stream p = absurd p
+served_as : {W : Type 0} (sigs : List (ℕ × Promise)) (capacity : ℕ) (words : List (List ℕ))
+    (old new : SinkView W) (Kept Known : History → Type 0) → ((J : History) → Kept J → Known J)
+    → ServesWords sigs capacity words old new Kept → ServesWords sigs capacity words old new Known
+served_as sigs capacity words old new Kept Known knows p =
+    let named = p.serves in
+    let all = named.partners in
+    record {
+      cells = p.cells;
+      serves = record {
+        roles = named.roles;
+        named = named.named;
+        partners = record {
+          closed = all.closed;
+          sessions = all.sessions;
+          sum = all.sum;
+          begins = all.begins;
+          ended = all.ended;
+          served = all.served;
+          shown = all.shown;
+          kept = knows all.closed.history all.kept;
+          tells = all.tells;
+        };
+      };
+    }
 
 pub served_any : {W F : Type 0} (sigs : List (ℕ × Promise)) (capacity : ℕ) (words : List (List ℕ))
     (old new : SinkView W) (file later : Option (SinkView F)) (work : Result ℕ Failure)
     → ServesWordsTo sigs capacity words old new file later work
     → ServesWordsTo sigs capacity words old new (option_map written_to file)
     (option_map written_to later) work
-served_any sigs capacity words old new file later (Ok status) p =
-    let named = p.0.serves in
-    let all = named.partners in (
-      record {
-        cells = p.0.cells;
-        serves = record {
-          roles = named.roles;
-          named = named.named;
-          partners = record {
-            closed = all.closed;
-            sessions = all.sessions;
-            sum = all.sum;
-            begins = all.begins;
-            ended = all.ended;
-            served = all.served;
-            shown = all.shown;
-            saves = saved_any all.closed.history file later all.saves;
-            tells = all.tells;
-          };
-        };
-      },
-      p.1,
-    )
+served_any sigs capacity words old new file later (Ok status) p = (
+  served_as sigs capacity words old new (λ J. IsSaved J file later)
+      (λ J. IsSaved J (option_map written_to file) (option_map written_to later))
+      (λ J. saved_any J file later) p.0,
+  p.1,
+)
 served_any sigs capacity words old new file later (Err failure) (inl p) = inl p
 served_any sigs capacity words old new file later (Err failure) (inr p) =
-    inr (serves_any old new file later failure p)
+    inr (served_as sigs capacity words old new (λ J. FailsToSave file later failure)
+    (λ J. FailsToSave (option_map written_to file) (option_map written_to later) failure)
+    (λ J. fails_any file later failure) p)

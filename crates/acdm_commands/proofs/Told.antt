@@ -1,6 +1,6 @@
 -- What is told of listeners and of sessions, one after the other.
 use Rattle.std.proofs.Common.{◌≡◌, ℕ, suc, ◌+◌, List, [], ◌∷◌, ◌++◌, length, map, refl, sym, ap}
-use Rattle.std.proofs.Common.{Bool, Option, Some}
+use Rattle.std.proofs.Common.{Bool, Option, Some, Result, Ok, Err, IfErr, OnOk, inl, inr}
 use Rattle.std.proofs.Common.{◌∙◌, append_assoc, append-nil, arith, subst, length-append}
 use Rattle.std.specs.Prelude.{sum_by}
 use Rattle.std.specs.List.{All, flat_map, sum}
@@ -17,9 +17,12 @@ use Rattle.acdm_sessions.specs.Sessions.{HaveEnded, HaveServed, SessionLeft, Ses
 use Rattle.acdm_sessions.specs.Sessions.{session_end}
 use Rattle.acdm_sessions.specs.declared.session.End.{End}
 use Rattle.acdm_commands.specs.Minutes.{is_minute}
-use Rattle.acdm_commands.specs.Partners.{ServesNamed, ServesPartners, SessionTold, TellsPartners}
+use Rattle.acdm_commands.specs.Partners.{ServesNamed, ServesNamedTo, ServesPartners, ServesPartnersTo}
+use Rattle.acdm_commands.specs.Partners.{SessionTold, TellsPartners}
 use Rattle.acdm_commands.specs.Partners.{listen_text, listens_text, role_in, session_text, told_text}
-use Rattle.acdm_commands.specs.Served.{IsSaved}
+use Rattle.acdm_commands.specs.Served.{FailsToSave, IsSaved}
+use Rattle.acdm_failures.specs.declared.failure.Failure.{Failure}
+use Rattle.acdm_step.specs.Commands.{History}
 
 -- the lines of listeners, and that of one more
 pub one_listener : (n : ℕ) (ps : List (Role × List ℕ)) (role : Role) (address : List ℕ)
@@ -75,10 +78,9 @@ module _ {X : Type 0} (f : X → SessionTold) where
   told_texts (x ∷ xs) = ap (λ t. told_text (f x) ++ t) (told_texts xs)
 
 -- partners were served, by what is said of each of their sessions
-pub serves_partners : {W F X : Type 0} (xs : List X) (number calls : X → ℕ) (role : X → Role)
+pub serves_partners : {W X : Type 0} (xs : List X) (number calls : X → ℕ) (role : X → Role)
     (end : X → End) (torn : X → Bool) (left : X → SessionLeft) (desk closed : DeskView)
     (roles : List Role) (starts : List SessionStart) (old new : SinkView W)
-    (saved later : Option (SinkView F))
     → length closed.history ≡ length desk.history + sum_by calls xs
     → HaveEnded 1 roles (map (λ x. session_end (number x) (role x) (calls x) (end x)) xs)
     → HaveServed (row_of desk) starts (map left xs)
@@ -87,10 +89,9 @@ pub serves_partners : {W F X : Type 0} (xs : List X) (number calls : X → ℕ) 
     (left x).pass) xs
     → TellsPartners roles (flat_map (λ x. session_text (number x) (calls x) (end x) (torn x)) xs)
     (length closed.history) old new
-    → IsSaved closed.history saved later
-    → ServesPartners desk roles starts old new saved later
-serves_partners {X = X} xs number calls role end torn left desk closed roles starts old new saved later sums
-    ended served begins shown tells saves =
+    → (Kept : History → Type 0) → Kept closed.history → ServesPartners desk roles starts old new Kept
+serves_partners {X = X} xs number calls role end torn left desk closed roles starts old new sums ended
+    served begins shown tells Kept kept =
     record {
       closed = closed;
       sessions = map told xs;
@@ -100,7 +101,7 @@ serves_partners {X = X} xs number calls role end torn left desk closed roles sta
       served = subst (λ ts. HaveServed (row_of desk) starts ts) (told_map told (λ t. t.left) xs) served;
       shown = All-map (λ (t : SessionTold). IsShown (length desk.history) closed t.end.number t.end.role
           t.end.calls t.torn t.left.pass) told xs shown;
-      saves = saves;
+      kept = kept;
       tells = subst (λ t. TellsPartners roles t (length closed.history) old new)
           (told_texts told xs) tells;
     }
@@ -117,16 +118,35 @@ map_map : {X Y Z : Type 0} (g : Y → Z) (f : X → Y) (xs : List X)
 map_map g f [] = refl
 map_map g f (x ∷ xs) = ap (λ ys. g (f x) ∷ ys) (map_map g f xs)
 
--- the partners that words name were served
-pub serves_named : {W F P : Type 0} (ps : List P) (role : P → Role) (desk : DeskView)
-    (words : List (List ℕ)) (old new : SinkView W) (saved later : Option (SinkView F))
-    → map role_in words ≡ map (λ p. Some (role p)) ps
-    → ServesPartners desk (map role ps) (map (λ p. new_session (role p) is_minute) ps) old new saved
-    later
-    → ServesNamed desk words old new saved later
-serves_named ps role desk words old new saved later named served = record {
-  roles = map role ps;
-  named = named ∙ map_map Some role ps;
-  partners = subst (λ starts. ServesPartners desk (map role ps) starts old new saved later)
-      (map_map (λ r. new_session r is_minute) role ps) served;
-}
+-- partners were served, and what they made was saved or not
+pub comes_served : {W F T : Type 0} (desk : DeskView) (roles : List Role) (starts : List SessionStart)
+    (old new : SinkView W) (saved later : Option (SinkView F)) (J : History) (result : Result T Failure)
+    → ((Kept : History → Type 0) → Kept J → ServesPartners desk roles starts old new Kept)
+    → OnOk result (IsSaved J saved later) → IfErr result (FailsToSave saved later)
+    → ServesPartnersTo desk roles starts old new saved later result
+comes_served desk roles starts old new saved later J (Ok x) served kept fails =
+    served (λ K. IsSaved K saved later) kept
+comes_served desk roles starts old new saved later J (Err failure) served kept fails =
+    inr (served (λ K. FailsToSave saved later failure) fails)
+
+module _ {W P : Type 0} (ps : List P) (role : P → Role) (desk : DeskView) (words : List (List ℕ))
+    (old new : SinkView W) (named : map role_in words ≡ map (λ p. Some (role p)) ps) where
+  -- the partners that words name were served
+  serves_named : (Kept : History → Type 0)
+      → ServesPartners desk (map role ps) (map (λ p. new_session (role p) is_minute) ps) old new Kept
+      → ServesNamed desk words old new Kept
+  serves_named Kept served = record {
+    roles = map role ps;
+    named = named ∙ map_map Some role ps;
+    partners = subst (λ starts. ServesPartners desk (map role ps) starts old new Kept)
+        (map_map (λ r. new_session r is_minute) role ps) served;
+  }
+
+  pub comes_named : {F T : Type 0} (saved later : Option (SinkView F)) (result : Result T Failure)
+      → ServesPartnersTo desk (map role ps) (map (λ p. new_session (role p) is_minute) ps) old new
+      saved later result
+      → ServesNamedTo desk words old new saved later result
+  comes_named saved later (Ok x) served = serves_named (λ J. IsSaved J saved later) served
+  comes_named saved later (Err failure) (inl p) = inl (inr p)
+  comes_named saved later (Err failure) (inr served) =
+      inr (serves_named (λ J. FailsToSave saved later failure) served)

@@ -9,7 +9,7 @@ use Rattle.acdm_command_line.specs.declared.command_line.Line.TheVariants.{Verif
 use Rattle.acdm_failures.specs.Failures.{EndsBy}
 use Rattle.acdm_failures.specs.declared.failure.Failure.{Failure}
 use Rattle.acdm_failures.specs.declared.failure.Failure.TheVariants.{Memory, Read, Save}
-use Rattle.acdm_judging.specs.Explained.{Explains}
+use Rattle.acdm_judging.specs.Explained.{Explains, TellsUnread}
 use Rattle.acdm_judging.specs.Findings.{Audited}
 use Rattle.acdm_judging.specs.Helpers.{helpers}
 use Rattle.acdm_judging.specs.Verdicts.{Verifies}
@@ -42,10 +42,11 @@ written_to file = record {
 abbrev pub IsUnread : {F : Type 0} → SourceView F → Type 0
 IsUnread file = (file.log ≡ []) × (file.faults ≡ 0) × (file.ended ≡ false)
 
--- the file of a path, if there is one, that nothing was written to
+-- the file of a path, if there is one, that nothing was written to and that has not failed
 abbrev pub IsUnwritten : {F : Type 0} → Option (List ℕ) → Option (SinkView F) → Type 0
 IsUnwritten None None = Unit {0}
-IsUnwritten (Some path) (Some file) = (file.log ≡ []) × (file.waits ≡ false)
+IsUnwritten (Some path) (Some file) =
+    (file.log ≡ []) × (file.faults ≡ 0) × (file.waits ≡ false)
 IsUnwritten _ _ = ⊥
 
 -- why the file of a path could not be made, where there is one
@@ -95,14 +96,14 @@ VerifiesLine output output_after work =
     × Verifies helpers file file_after output output_after work)
     ⊎ FailsToOpen output output_after work
 
--- `explain`: what it tells is of what the file gave, or the file could not be read or opened, the status
--- is 2, and nothing was written
-abbrev pub ExplainsLine : {W E : Type 0} → SinkView W → SinkView W → ℕ → SinkView E → SinkView E
-    → Type 0
-ExplainsLine output output_after status errors errors_after =
+-- `explain`: what it tells is of what the file gave, or the file of this path could not be read or opened,
+-- the status is 2, that was said, and nothing was written
+abbrev pub ExplainsLine : {W E : Type 0} → List ℕ → SinkView W → SinkView W → ℕ → SinkView E
+    → SinkView E → Type 0
+ExplainsLine path output output_after status errors errors_after =
     ((file file_after : SourceView ⊤) × IsUnread file
     × EndsBy (Explains helpers file file_after) status errors errors_after)
-    ⊎ ((status ≡ 2) × (output_after ≡ output))
+    ⊎ ((status ≡ 2) × (output_after ≡ output) × TellsUnread path errors errors_after)
 
 -- what is done for a line; none but `run` reads the input
 abbrev pub Does : {R W E : Type 0} → Line → SourceView R → SourceView R → SinkView W → SinkView W → ℕ
@@ -118,7 +119,7 @@ Does (Audit file) input input_after output output_after status errors errors_aft
 Does (Verify file) input input_after output output_after status errors errors_after =
     (input_after ≡ input) × EndsBy (VerifiesLine output output_after) status errors errors_after
 Does (Explain file) input input_after output output_after status errors errors_after =
-    (input_after ≡ input) × ExplainsLine output output_after status errors errors_after
+    (input_after ≡ input) × ExplainsLine file.now output output_after status errors errors_after
 
 -- the words ask for this line, and it was done
 pub record DoesAsked {R W E : Type 0} (words : List (List ℕ)) (input input_after : SourceView R)

@@ -20,6 +20,7 @@ use Rattle.acdm_sessions.specs.Sessions.{HaveEnded, HaveServed, SessionEnd, Sess
 use Rattle.acdm_sessions.specs.Sessions.{new_session}
 use Rattle.acdm_sessions.specs.declared.session.End.{End}
 use Rattle.acdm_sessions.specs.declared.session.End.TheVariants as ends
+use Rattle.acdm_step.specs.Commands.{History}
 use Rattle.acdm_commands.specs.Minutes.{is_minute}
 use Rattle.acdm_commands.specs.Served.{FailsToSave, IsSaved, empty_desk}
 
@@ -140,11 +141,11 @@ pub record TellsPartners {W : Type 0} (roles : List Role) (sessions : List ℕ) 
 -- ---- what was done
 
 -- Partners of these roles, in order, were served by a desk, from these starts. What their sessions left
--- is told of the journal that the desk was closed with, which begins with the one it had, and that was
--- saved where it was to be.
-pub record ServesPartners {W F : Type 0} (desk : DeskView) (roles : List Role)
-    (starts : List SessionStart) (written written_after : SinkView W)
-    (saved saved_after : Option (SinkView F)) : Type 0 where
+-- is told of the history that the desk was closed with, which begins with the one it had, and so much is
+-- known of what was kept of it.
+pub record ServesPartners {W : Type 0} (desk : DeskView) (roles : List Role)
+    (starts : List SessionStart) (written written_after : SinkView W) (Kept : History → Type 0)
+    : Type 0 where
   pub closed : DeskView
   pub sessions : List SessionTold
   pub sum : length closed.history
@@ -154,25 +155,25 @@ pub record ServesPartners {W F : Type 0} (desk : DeskView) (roles : List Role)
   pub served : HaveServed (row_of desk) starts (map (λ t. t.left) sessions)
   pub shown : All (λ t. IsShown (length desk.history) closed t.end.number t.end.role t.end.calls
       t.torn t.left.pass) sessions
-  pub saves : IsSaved closed.history saved saved_after
+  pub kept : Kept closed.history
   pub tells : TellsPartners roles (flat_map told_text sessions) (length closed.history) written
       written_after
 
 -- The partners that the words name, in order, were served so by a desk, on new connections, each with a
 -- clock that may give any minute.
-pub record ServesNamed {W F : Type 0} (desk : DeskView) (words : List (List ℕ))
-    (written written_after : SinkView W) (saved saved_after : Option (SinkView F)) : Type 0 where
+pub record ServesNamed {W : Type 0} (desk : DeskView) (words : List (List ℕ))
+    (written written_after : SinkView W) (Kept : History → Type 0) : Type 0 where
   pub roles : List Role
   pub named : map role_in words ≡ map Some roles
   pub partners : ServesPartners desk roles (map (λ role. new_session role is_minute) roles) written
-      written_after saved saved_after
+      written_after Kept
 
 -- that desk was empty at first, with room for so many entries
-pub record ServesWords {W F : Type 0} (sigs : List (ℕ × Promise)) (capacity : ℕ)
-    (words : List (List ℕ)) (written written_after : SinkView W)
-    (saved saved_after : Option (SinkView F)) : Type 0 where
+pub record ServesWords {W : Type 0} (sigs : List (ℕ × Promise)) (capacity : ℕ)
+    (words : List (List ℕ)) (written written_after : SinkView W) (Kept : History → Type 0)
+    : Type 0 where
   pub cells : List ℕ
-  pub serves : ServesNamed (empty_desk sigs capacity cells) words written written_after saved saved_after
+  pub serves : ServesNamed (empty_desk sigs capacity cells) words written written_after Kept
 
 -- why no partner was accepted: of the words, one names no role, or its address or that of displays is
 -- none or can't be listened at; or memory was refused
@@ -183,25 +184,45 @@ FailsToOpen words failures.Watch = Unit {0}
 FailsToOpen words failures.Memory = Unit {0}
 FailsToOpen words failure = ⊥
 
--- why partners were not served to their end, or that could not be told or saved
-abbrev pub FailsToServeAll : {W F : Type 0} → SinkView W → SinkView W → Option (SinkView F) → Failure
-    → Type 0
-FailsToServeAll written written_after saved failures.Write =
+-- why partners were not served to their end, or that could not be told
+abbrev pub FailsToServeAll : {W : Type 0} → SinkView W → SinkView W → Failure → Type 0
+FailsToServeAll written written_after failures.Write =
     written_after.faults ≡ faults_after true written.faults
-FailsToServeAll written written_after saved failures.Save = FailsToSave saved failures.Save
-FailsToServeAll written written_after saved (failures.Accept n) = Unit {0}
-FailsToServeAll written written_after saved failures.Memory = Unit {0}
-FailsToServeAll written written_after saved failure = ⊥
+FailsToServeAll written written_after (failures.Accept n) = Unit {0}
+FailsToServeAll written written_after failures.Memory = Unit {0}
+FailsToServeAll written written_after failure = ⊥
 
-abbrev pub FailsToServe : {W F : Type 0} → List (List ℕ) → SinkView W → SinkView W
-    → Option (SinkView F) → Failure → Type 0
-FailsToServe words written written_after saved failure =
-    FailsToOpen words failure ⊎ FailsToServeAll written written_after saved failure
+abbrev pub FailsToServe : {W : Type 0} → List (List ℕ) → SinkView W → SinkView W → Failure → Type 0
+FailsToServe words written written_after failure =
+    FailsToOpen words failure ⊎ FailsToServeAll written written_after failure
 
--- what comes of the words: all was done, with the status 0, or what kept it from that
+-- What comes of serving partners: all was done; or they were not served to their end, or that could not
+-- be told; or both, and what the desk was closed with was not saved.
+abbrev pub ServesPartnersTo : {W F T : Type 0} → DeskView → List Role → List SessionStart → SinkView W
+    → SinkView W → Option (SinkView F) → Option (SinkView F) → Result T Failure → Type 0
+ServesPartnersTo desk roles starts written written_after saved saved_after (Ok x) =
+    ServesPartners desk roles starts written written_after (λ J. IsSaved J saved saved_after)
+ServesPartnersTo desk roles starts written written_after saved saved_after (Err failure) =
+    FailsToServeAll written written_after failure
+    ⊎ ServesPartners desk roles starts written written_after
+    (λ J. FailsToSave saved saved_after failure)
+
+-- the same of the partners that words name, or none was accepted
+abbrev pub ServesNamedTo : {W F T : Type 0} → DeskView → List (List ℕ) → SinkView W → SinkView W
+    → Option (SinkView F) → Option (SinkView F) → Result T Failure → Type 0
+ServesNamedTo desk words written written_after saved saved_after (Ok x) =
+    ServesNamed desk words written written_after (λ J. IsSaved J saved saved_after)
+ServesNamedTo desk words written written_after saved saved_after (Err failure) =
+    FailsToServe words written written_after failure
+    ⊎ ServesNamed desk words written written_after (λ J. FailsToSave saved saved_after failure)
+
+-- what comes of the words: all was done, with the status 0, or what kept it from that, as before
 abbrev pub ServesWordsTo : {W F : Type 0} → List (ℕ × Promise) → ℕ → List (List ℕ) → SinkView W
     → SinkView W → Option (SinkView F) → Option (SinkView F) → Result ℕ Failure → Type 0
 ServesWordsTo sigs capacity words written written_after saved saved_after (Ok status) =
-    ServesWords sigs capacity words written written_after saved saved_after × (status ≡ 0)
+    ServesWords sigs capacity words written written_after (λ J. IsSaved J saved saved_after)
+    × (status ≡ 0)
 ServesWordsTo sigs capacity words written written_after saved saved_after (Err failure) =
-    FailsToServe words written written_after saved failure
+    FailsToServe words written written_after failure
+    ⊎ ServesWords sigs capacity words written written_after
+    (λ J. FailsToSave saved saved_after failure)

@@ -1,11 +1,12 @@
 -- What `run` answers and saves, from an empty desk on, and how it ends.
-use Rattle.std.specs.Prelude.{ℕ, ◌+◌, ◌≡◌, Bool, false, List, [], Option, Some, None, Result, Ok}
+use Rattle.std.specs.Prelude.{ℕ, ◌+◌, ◌≡◌, ◌⊎◌, Bool, false, List, [], Option, Some, None, Result, Ok}
 use Rattle.std.specs.Prelude.{Err}
 use Rattle.bpf_helpers.specs.Promise.{Promise}
 use Rattle.acdm_board.specs.Desk.{DeskView}
 use Rattle.acdm_failures.specs.declared.failure.Failure.{Failure}
 use Rattle.acdm_failures.specs.declared.failure.Failure.TheVariants as failures
 use Rattle.acdm_journal.specs.Whole.{Saves}
+use Rattle.acdm_journal.specs.Written.{HasFailed}
 use Rattle.acdm_lines.specs.Counted.{SinkView, SourceView}
 use Rattle.acdm_sessions.specs.Run.{ServesAll, ServesPart, ServesWhole}
 use Rattle.acdm_step.specs.Commands.{History}
@@ -70,31 +71,29 @@ Stops sigs capacity read read_after written written_after failures.Memory =
     (read_after ≡ read) × (written_after ≡ written)
 Stops sigs capacity read read_after written written_after failure = ⊥
 
--- all lines were answered, and what the desk entered was saved where it was to be
-pub record Runs {R W F : Type 0} (sigs : List (ℕ × Promise)) (capacity : ℕ)
-    (read read_after : SourceView R) (written written_after : SinkView W)
-    (saved saved_after : Option (SinkView F)) : Type 0 where
+-- all lines were answered, and so much is known of what was kept of the history that the desk had then
+pub record Runs {R W : Type 0} (sigs : List (ℕ × Promise)) (capacity : ℕ)
+    (read read_after : SourceView R) (written written_after : SinkView W) (Kept : History → Type 0)
+    : Type 0 where
   pub desk : DeskView
   pub serves : ServesDesk sigs capacity desk read read_after written written_after
-  pub saves : IsSaved desk.history saved saved_after
+  pub kept : Kept desk.history
 
--- why a journal was not saved, where there is a writer to save it by
-abbrev pub FailsToSave : {F : Type 0} → Option (SinkView F) → Failure → Type 0
-FailsToSave saved failures.Memory = Unit {0}
-FailsToSave (Some writer) failures.Save = Unit {0}
-FailsToSave saved failure = ⊥
+-- why a history was not saved, where there is a writer to save it by: that failed at least once more, or
+-- memory was refused
+abbrev pub FailsToSave : {F : Type 0} → Option (SinkView F) → Option (SinkView F) → Failure → Type 0
+FailsToSave (Some old) (Some new) failures.Save = HasFailed old new
+FailsToSave (Some old) (Some new) failures.Memory = Unit {0}
+FailsToSave saved saved_after failure = ⊥
 
--- what comes of a run: all was done, with the status 0, or what kept it from that
+-- What comes of a run: all was done, with the status 0; or not all lines were answered; or all were, and
+-- what the desk had then was not saved.
 abbrev pub RunsTo : {R W F : Type 0} → List (ℕ × Promise) → ℕ → SourceView R → SourceView R
     → SinkView W → SinkView W → Option (SinkView F) → Option (SinkView F) → Result ℕ Failure → Type 0
 RunsTo sigs capacity read read_after written written_after saved saved_after (Ok status) =
-    Runs sigs capacity read read_after written written_after saved saved_after × (status ≡ 0)
-RunsTo sigs capacity read read_after written written_after saved saved_after (Err failures.Read) =
-    Stops sigs capacity read read_after written written_after failures.Read
-RunsTo sigs capacity read read_after written written_after saved saved_after (Err failures.Write) =
-    Stops sigs capacity read read_after written written_after failures.Write
-RunsTo sigs capacity read read_after written written_after saved saved_after (Err failures.Save) =
-    FailsToSave saved failures.Save
-RunsTo sigs capacity read read_after written written_after saved saved_after (Err failures.Memory) =
-    Unit {0}
-RunsTo sigs capacity read read_after written written_after saved saved_after (Err failure) = ⊥
+    Runs sigs capacity read read_after written written_after (λ J. IsSaved J saved saved_after)
+    × (status ≡ 0)
+RunsTo sigs capacity read read_after written written_after saved saved_after (Err failure) =
+    Stops sigs capacity read read_after written written_after failure
+    ⊎ Runs sigs capacity read read_after written written_after
+    (λ J. FailsToSave saved saved_after failure)

@@ -174,10 +174,10 @@ fn explain_line<Rt: Files, W: Write, E: Write>(
     output: &mut Sink<W>,
     errors: &mut Sink<E>,
 ) -> u8
-    ensures { ExplainsLine output.old output.new result errors.old errors.new }
+    ensures { ExplainsLine file.now output.old output.new result errors.old errors.new }
 {
     match fs::open(rt, file) {
         Ok(opened) => explain_on(alloc, file, &mut Source::new(opened), output, errors),
-        Err(error) => unread(file, &error, errors),
+        Err(error) => unread(alloc, file, &error, errors),
     }
 }

@@ -1,10 +1,9 @@
 //! The saving of a desk's journal, as text.
-ghost use Rattle.std.specs.Prelude.{◌≡◌, ◌≤◌, false, Err, IfOk, IfErr, OnOk, Some, option_map};
+ghost use Rattle.std.specs.Prelude.{◌≡◌, ◌≤◌, false, IfOk, IfErr, OnOk, Some, option_map};
 ghost use Rattle.acdm_board.specs.Desk.{row_of};
 ghost use Rattle.acdm_commands.specs.Completed.{FailsToMake, IsUnwritten};
 ghost use Rattle.acdm_commands.specs.Served.{FailsToSave, IsSaved};
 ghost use Rattle.acdm_journal.specs.Whole.{Saves};
-ghost use Rattle.acdm_journal.specs.Written.{HasFailed, SomeFailed};
 
 use acdm_board::Desk;
 use acdm_failures::Failure;
@@ -49,8 +48,7 @@ pub(crate) fn save<H: Helpers + Drop, F: Write + Drop>(
     saved: &mut Option<Sink<F>>,
 ) -> Result<(), Failure>
     ensures saves { OnOk result (IsSaved desk.old.history saved.old saved.new) }
-    ensures fails { IfErr result (FailsToSave saved.old) }
-    ensures failed { result ≡ Err Failure.Save → SomeFailed saved.old saved.new }
+    ensures fails { IfErr result (FailsToSave saved.old saved.new) }
 {
     let Some(writer) = saved else {
         return Ok(());
@@ -71,8 +69,7 @@ fn write_journal<H: Helpers + Drop, F: Write>(
     requires { row.now ≡ row_of desk.old }
     ensures saves { OnOk result (Saves desk.old.history writer.old.log writer.new.log) }
     ensures flushed { OnOk result (writer.new.waits ≡ false) }
-    ensures fails { IfErr result (FailsToSave (Some writer.old)) }
-    ensures failed { result ≡ Err Failure.Save → HasFailed writer.old writer.new }
+    ensures fails { IfErr result (FailsToSave (Some writer.old) (Some writer.new)) }
 {
     let count = desk.len();
     let mut number = 0;

@@ -1,7 +1,7 @@
 //! The command `serve`, from its words on.
-ghost use Rattle.std.specs.Prelude.{◌≡◌, ◌≤◌, IfOk, IfErr, OnOk, Some, map, vec_len};
-ghost use Rattle.acdm_commands.specs.Partners.{FailsToOpen, FailsToServe, FailsToServeAll};
-ghost use Rattle.acdm_commands.specs.Partners.{ServesNamed, ServesPartners, ServesWordsTo, role_in};
+ghost use Rattle.std.specs.Prelude.{◌≡◌, ◌≤◌, IfOk, IfErr, Some, map, vec_len};
+ghost use Rattle.acdm_commands.specs.Partners.{FailsToOpen, ServesNamedTo, ServesPartnersTo};
+ghost use Rattle.acdm_commands.specs.Partners.{ServesWordsTo, role_in};
 ghost use Rattle.acdm_failures.specs.Failures.{EndsBy};
 ghost use Rattle.acdm_judging.specs.Helpers.{helpers as known};
 ghost use Rattle.acdm_sessions.specs.Sessions.{new_session};
@@ -151,10 +151,8 @@ fn serve_at<
     writer: &mut Sink<W>,
     saved: &mut Option<Sink<F>>,
 ) -> Result<(), Failure>
-    ensures serves { OnOk result (ServesNamed desk (map (λ w. w.now) words.now) writer.old writer.new
-        saved.old saved.new) }
-    ensures fails { IfErr result (FailsToServe (map (λ w. w.now) words.now) writer.old writer.new
-        saved.old) }
+    ensures { ServesNamedTo desk (map (λ w. w.now) words.now) writer.old writer.new saved.old
+        saved.new result }
 {
     let (partners, displays) = opened(rt, alloc, desk.row(), watch, words)?;
     let ended = serve_all(rt, alloc, partners, desk, writer, saved);
@@ -233,10 +231,9 @@ fn serve_all<
     saved: &mut Option<Sink<F>>,
 ) -> Result<(), Failure>
     requires { vec_len partners ≤ 64 }
-    ensures serves { OnOk result (ServesPartners desk (map (λ p. p.0) partners.items)
+    ensures { ServesPartnersTo desk (map (λ p. p.0) partners.items)
         (map (λ p. new_session p.0 (C.gives p.2)) partners.items) writer.old writer.new saved.old
-        saved.new) }
-    ensures fails { IfErr result (FailsToServeAll writer.old writer.new saved.old) }
+        saved.new result }
 {
     let mut closed = serve_on(rt, alloc, partners, desk, writer)?;
     save(alloc, &mut closed.desk, saved)

@@ -69,8 +69,8 @@ fn numbered(words: &[u8], number: usize) -> Text
 }
 
 impl Failure {
-    // What is told of it, as one line.
-    fn text(self) -> Text
+    /// What is told of it, as one line.
+    pub fn text(self) -> Text
         ensures { result ≡ failure_text self }
     {
         match self {

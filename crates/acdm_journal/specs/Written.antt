@@ -1,5 +1,5 @@
 -- What a writer took of a text.
-use Rattle.std.specs.Prelude.{ℕ, ◌≡◌, ◌≤◌, true, List, ◌++◌, take, Option, Some, None, Result, Ok, Err}
+use Rattle.std.specs.Prelude.{ℕ, ◌≡◌, ◌≤◌, true, List, ◌++◌, take, Result, Ok, Err}
 use Rattle.acdm_lines.specs.Counted.{SinkView, faults_after}
 use Rattle.acdm_journal.specs.declared.entry_text.WriteError.{WriteError}
 use Rattle.acdm_journal.specs.declared.entry_text.WriteError.TheVariants as errors
@@ -7,12 +7,6 @@ use Rattle.acdm_journal.specs.declared.entry_text.WriteError.TheVariants as erro
 -- a writer failed at least once more
 abbrev pub HasFailed : {W : Type 0} → SinkView W → SinkView W → Type 0
 HasFailed old new = faults_after true old.faults ≤ new.faults
-
--- there was a writer, and it failed at least once more
-abbrev pub SomeFailed : {W : Type 0} → Option (SinkView W) → Option (SinkView W) → Type 0
-SomeFailed (Some old) (Some new) = HasFailed old new
-SomeFailed (Some old) None = ⊥
-SomeFailed None new = ⊥
 
 -- The writer failed after it had taken some of the first bytes of a text, at most all.
 pub record TookPart {W : Type 0} (old new : SinkView W) (text : List ℕ) : Type 0 where

@@ -1,12 +1,14 @@
 -- What is told of the bytes of a program with what is known before each slot.
-use Rattle.std.specs.Prelude.{ℕ, ◌≡◌, ◌⊎◌, true, if◌then◌else◌, List, Result, Ok, Err}
+use Rattle.std.specs.Prelude.{ℕ, ◌≡◌, ◌⊎◌, true, if◌then◌else◌, List, [], ◌∷◌, ◌++◌, codes}
+use Rattle.std.specs.Prelude.{Result, Ok, Err}
 use Rattle.bpf_explain.specs.declared.told.Told.{Told}
 use Rattle.bpf_explain.specs.Told.{Tells, is_accepted}
 use Rattle.bpf_helpers.specs.Promise.{Promise}
 use Rattle.acdm_lines.specs.Counted.{SinkView, SourceView, faults_after}
 use Rattle.acdm_judging.specs.Gave.{GaveBytes}
 use Rattle.acdm_failures.specs.declared.failure.Failure.{Failure}
-use Rattle.acdm_failures.specs.declared.failure.Failure.TheVariants.{Write, Memory}
+use Rattle.acdm_failures.specs.declared.failure.Failure.TheVariants.{Read, Write, Memory}
+use Rattle.acdm_failures.specs.Failures.{Complains, failure_text}
 
 -- the status of the command, which is that of `verify`
 abbrev pub status_of : Told → ℕ
@@ -31,9 +33,24 @@ Explains sigs read read_after work =
     ((bytes : List ℕ) × GaveBytes read read_after bytes × TellsBytes sigs bytes work)
     ⊎ (work ≡ Err Memory)
 
--- the reader failed once more, nothing was written, and the status is 2
-pub record FailsToRead {R W : Type 0} (read read_after : SourceView R)
-    (written written_after : SinkView W) (status : ℕ) : Type 0 where
+-- what is said of the file of a path that can't be read: the line of that failure, and one that names the
+-- path and says why, in words that are not known beforehand
+abbrev pub unread_text : List ℕ → List ℕ → List ℕ
+unread_text path why =
+    failure_text Read ++ (codes "acdm: " ++ (path ++ (codes ": " ++ (why ++ 10 ∷ []))))
+
+-- that was written on the errors' writer, or the line of the failure alone, where memory was refused; or
+-- it failed once more after a first part of it
+pub record TellsUnread {E : Type 0} (path : List ℕ) (errors errors_after : SinkView E) : Type 0 where
+  pub text : List ℕ
+  pub is : ((why : List ℕ) × (text ≡ unread_text path why)) ⊎ (text ≡ failure_text Read)
+  pub told : Complains errors errors_after text
+
+-- the reader of the file of a path failed once more, that was said, nothing was written, and the status
+-- is 2
+pub record FailsToRead {R W E : Type 0} (path : List ℕ) (read read_after : SourceView R)
+    (written written_after : SinkView W) (status : ℕ) (errors errors_after : SinkView E) : Type 0 where
   pub fault : read_after.faults ≡ faults_after true read.faults
   pub same : written_after ≡ written
   pub status_is : status ≡ 2
+  pub told : TellsUnread path errors errors_after

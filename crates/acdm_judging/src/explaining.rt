@@ -1,13 +1,15 @@
 //! The command `explain`, over the reader and the writers that it is handed.
-ghost use Rattle.std.specs.Prelude.{◌≡◌, ◌⊎◌};
+ghost use Rattle.std.specs.Prelude.{◌≡◌, ◌⊎◌, ℕ, List, IfOk};
 ghost use Rattle.acdm_failures.specs.Failures.{EndsBy};
-ghost use Rattle.acdm_judging.specs.Explained.{Explains, FailsToRead, TellsBytes, status_of};
+ghost use Rattle.acdm_judging.specs.Explained.{Explains, FailsToRead, TellsBytes, TellsUnread};
+ghost use Rattle.acdm_judging.specs.Explained.{status_of, unread_text};
 ghost use Rattle.acdm_judging.specs.Helpers.{helpers};
 
 use crate::bytes::{BytesError, bytes_of};
 use crate::helpers::known_sigs;
 use acdm_failures::{Failure, ended};
 use acdm_lines::{Sink, Source};
+use acdm_wire::write_out;
 use bpf_explain::{Told, read};
 use std::alloc::Global;
 use std::io::{self, Read, Write};
@@ -26,24 +28,42 @@ pub fn explain_on<R: Read, W: Write, E: Write>(
     errors: &mut Sink<E>,
 ) -> u8
     ensures { EndsBy (Explains helpers reader.old reader.new) result errors.old errors.new
-        ⊎ FailsToRead reader.old reader.new writer.old writer.new result }
+        ⊎ FailsToRead file.now reader.old reader.new writer.old writer.new result errors.old
+        errors.new }
 {
     let bytes = match bytes_of(alloc, reader) {
         Ok(bytes) => bytes,
-        Err(BytesError::Read(error)) => return unread(file, &error, errors),
+        Err(BytesError::Read(error)) => return unread(alloc, file, &error, errors),
         Err(BytesError::Memory) => return ended(Err(Failure::Memory), errors),
     };
     ended(tell(alloc, bytes.as_slice(), writer), errors)
 }
 
-/// Says that the file can't be read, as `verify` does, and then which file it is, and why. The
-/// status is 2.
-pub fn unread<E: Write>(file: &str, error: &io::Error, errors: &mut Sink<E>) -> u8
-    ensures { result ≡ 2 }
+/// Says that the file can't be read, as `verify` does, and then which file it is, and why; no more
+/// than the first where memory for the words was refused. The status is 2.
+pub fn unread<E: Write>(alloc: Global, file: &str, error: &io::Error, errors: &mut Sink<E>) -> u8
+    ensures status { result ≡ 2 }
+    ensures tells { TellsUnread file.now errors.old errors.new }
 {
-    let status = Failure::Read.complain(errors);
-    let _ = writeln!(errors, "acdm: {file}: {error}");
-    status
+    let Ok(text) = unread_text(alloc, file, error) else {
+        return Failure::Read.complain(errors);
+    };
+    match write_out(errors, text.as_slice()) {
+        Ok(()) | Err(_) => 2,
+    }
+}
+
+// What is said of a file that can't be read. `Err` only where memory was refused.
+fn unread_text(alloc: Global, file: &str, error: &io::Error) -> Result<Vec<u8>, Failure>
+    ensures { IfOk result (λ text. (why : List ℕ) × (text.items ≡ unread_text file.now why)) }
+{
+    let why = error.to_string(alloc)?;
+    let mut text = Vec::from_slice(alloc, Failure::Read.text().as_slice())?;
+    // A text in memory is written unless there is none.
+    match writeln!(text, "acdm: {file}: {why}") {
+        Ok(()) => Ok(text),
+        Err(_) => Err(Failure::Memory),
+    }
 }
 
 /// The status of the command.

@@ -2,77 +2,9 @@
 use crate::commands::{FLIGHT_PLAN, SCHEDULE};
 use acdm_commands::{audit_on, run_on, verify_on};
 use acdm_sessions::{Sink, Source};
+use faulty_streams::{Fault, Faulty, Narrow};
 use std::alloc::Global;
-use std::io::{self, Read, Write};
 use std::process::Abort;
-
-/// Gives a text in pieces of so many bytes, and fails once no read is left.
-#[derive(Drop)]
-struct Faulty<'a> {
-    text: &'a [u8],
-    piece: usize,
-    left: u64,
-}
-
-impl Read for Faulty<'_> {
-    fn read(&mut self, buf: &mut [u8]) -> io::Result<usize> {
-        let Some(left) = self.left.checked_sub(1) else {
-            return Err(io::Error::from(io::ErrorKind::BrokenPipe));
-        };
-        self.left = left;
-        let count = self.text.len().min(self.piece).min(buf.len());
-        buf[..count].copy_from_slice(&self.text[..count]);
-        self.text = &self.text[count..];
-        Ok(count)
-    }
-}
-
-/// What becomes of a writer that takes no more.
-#[derive(Clone, Copy)]
-enum Fault {
-    Fails,
-    TakesNone,
-    CannotFlush,
-}
-
-/// Takes so many bytes a write, until no write is left.
-#[derive(Drop)]
-struct Narrow {
-    taken: Vec<u8>,
-    piece: usize,
-    left: u64,
-    fault: Fault,
-}
-
-impl Write for Narrow {
-    fn write(&mut self, buf: &[u8]) -> io::Result<usize> {
-        match (self.left.checked_sub(1), self.fault) {
-            (Some(left), _) => self.left = left,
-            (None, Fault::Fails) => return Err(io::Error::from(io::ErrorKind::BrokenPipe)),
-            (None, Fault::TakesNone) => return Ok(0),
-            (None, Fault::CannotFlush) => {}
-        }
-        let count = buf.len().min(self.piece);
-        self.taken.extend_from_slice(&buf[..count])?;
-        Ok(count)
-    }
-
-    fn flush(&mut self) -> io::Result<()> {
-        match (self.left, self.fault) {
-            (0, Fault::CannotFlush) => Err(io::Error::from(io::ErrorKind::BrokenPipe)),
-            _ => Ok(()),
-        }
-    }
-}
-
-fn taking(alloc: Global, piece: usize, left: u64, fault: Fault) -> Narrow {
-    Narrow {
-        taken: Vec::new(alloc),
-        piece,
-        left,
-        fault,
-    }
-}
 
 /// A status, what was written, and the line on the errors' writer.
 #[derive(Drop)]
@@ -131,8 +63,8 @@ fn run_over(alloc: Global, text: &[u8], row: &RunRow) -> (Came, Vec<u8>) {
         piece: 60,
         left: reads,
     });
-    let mut writer = Sink::new(taking(alloc, 2, writes, fault));
-    let mut saved = Some(Sink::new(taking(alloc, 20, saves, fault)));
+    let mut writer = Sink::new(Narrow::new(alloc, 2, writes, fault));
+    let mut saved = Some(Sink::new(Narrow::new(alloc, 20, saves, fault)));
     let mut errors = Sink::new(Vec::new(alloc));
     let status = run_on(alloc, 10, &mut reader, &mut writer, &mut saved, &mut errors);
     let came = Came {
@@ -208,7 +140,7 @@ fn file_judged(alloc: Global, bytes: &[u8], row: &FileRow, is_audit: bool) -> Ca
         piece: 30,
         left,
     });
-    let mut writer = Sink::new(taking(alloc, 3, writes, fault));
+    let mut writer = Sink::new(Narrow::new(alloc, 3, writes, fault));
     let mut errors = Sink::new(Vec::new(alloc));
     let status = if is_audit {
         audit_on(alloc, &mut reader, &mut writer, &mut errors)

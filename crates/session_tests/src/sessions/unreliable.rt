@@ -7,6 +7,7 @@ use acdm_sessions::{
     Clock, Closed, End, Ended, Gate, RunError, Session, Sink, Source, run, run_sessions,
 };
 use bpf_helpers::{Bank, Helpers};
+use faulty_streams::{Fault, Faulty, Narrow};
 use std::alloc::Global;
 use std::io::{self, Read, Write};
 use std::process::Abort;
@@ -20,74 +21,6 @@ const START: &str =
     r#"1 29000580 APT {"cmd":"schedule","flight":7,"callsign":"DLH7","type":"A320","reg":"DAIBC","dest":"EDDM","sobt":"2025-02-20T10:00:00Z","mttt":40,"exit":5,"exot":10,"stand":12}
 2 29000580 NM {"cmd":"report","flight":7,"milestone":1,"time":"2025-02-20T10:00:00Z","callsign":"DLH7","type":"A320","reg":"DAIBC","dest":"EDDM"}
 "#;
-
-/// Gives a text in pieces of so many bytes, and fails once no read is left.
-#[derive(Drop)]
-struct Faulty<'a> {
-    text: &'a [u8],
-    piece: usize,
-    left: u64,
-}
-
-impl Read for Faulty<'_> {
-    fn read(&mut self, buf: &mut [u8]) -> io::Result<usize> {
-        let Some(left) = self.left.checked_sub(1) else {
-            return Err(io::Error::from(io::ErrorKind::BrokenPipe));
-        };
-        self.left = left;
-        let count = self.text.len().min(self.piece).min(buf.len());
-        buf[..count].copy_from_slice(&self.text[..count]);
-        self.text = &self.text[count..];
-        Ok(count)
-    }
-}
-
-/// What becomes of a writer that takes no more.
-#[derive(Clone, Copy)]
-enum Fault {
-    Fails,
-    TakesNone,
-    CannotFlush,
-}
-
-/// Takes so many bytes a write, until no write is left.
-#[derive(Drop)]
-struct Narrow {
-    taken: Vec<u8>,
-    piece: usize,
-    left: u64,
-    fault: Fault,
-}
-
-impl Write for Narrow {
-    fn write(&mut self, buf: &[u8]) -> io::Result<usize> {
-        match (self.left.checked_sub(1), self.fault) {
-            (Some(left), _) => self.left = left,
-            (None, Fault::Fails) => return Err(io::Error::from(io::ErrorKind::BrokenPipe)),
-            (None, Fault::TakesNone) => return Ok(0),
-            (None, Fault::CannotFlush) => {}
-        }
-        let count = buf.len().min(self.piece);
-        self.taken.extend_from_slice(&buf[..count])?;
-        Ok(count)
-    }
-
-    fn flush(&mut self) -> io::Result<()> {
-        match (self.left, self.fault) {
-            (0, Fault::CannotFlush) => Err(io::Error::from(io::ErrorKind::BrokenPipe)),
-            _ => Ok(()),
-        }
-    }
-}
-
-fn taking(alloc: Global, piece: usize, left: u64, fault: Fault) -> Narrow {
-    Narrow {
-        taken: Vec::new(alloc),
-        piece,
-        left,
-        fault,
-    }
-}
 
 /// How a run ended, the faults of both its ends, what was written, and how many entries there are.
 #[derive(Drop)]
@@ -190,7 +123,7 @@ fn reads_so(rt: &impl Abort, alloc: Global, row: &ReadsRow) {
         piece,
         left,
     };
-    let writer = taking(alloc, 100, u64::MAX, Fault::Fails);
+    let writer = Narrow::new(alloc, 100, u64::MAX, Fault::Fails);
     let bank = Bank::new(alloc).expect(rt, "a bank");
     let came = run_at(rt, alloc, bank, reader, writer);
     is_so(rt, &came, ended, written, entries, left);
@@ -236,7 +169,7 @@ fn writes_so(rt: &impl Abort, alloc: Global, row: &WritesRow) {
         piece: 500,
         left: u64::MAX,
     };
-    let writer = taking(alloc, piece, left, fault);
+    let writer = Narrow::new(alloc, piece, left, fault);
     let bank = Bank::new(alloc).expect(rt, "a bank");
     let came = run_at(rt, alloc, bank, reader, writer);
     is_so(rt, &came, ended, written, entries, left);
@@ -376,8 +309,8 @@ fn ends_alone<H: Helpers + Drop + Send, Rt: Threads + Wait + Abort + Sync>(
 ) {
     let (reads, writes, fault, end, calls) = *row;
     let role = Role::AirportOperator;
-    let first = session(role, ticking(reads), taking(alloc, 2, writes, fault));
-    let second = session(role, ticking(99), taking(alloc, 2, 99, Fault::Fails));
+    let first = session(role, ticking(reads), Narrow::new(alloc, 2, writes, fault));
+    let second = session(role, ticking(99), Narrow::new(alloc, 2, 99, Fault::Fails));
     let sessions = both(rt, alloc, first, second);
     let desk = Desk::new(alloc, helpers, 10).expect(rt, "a desk");
     let closed = closed_by(rt, alloc, desk, sessions, &Open);
