@@ -44,7 +44,7 @@ entered d session role moment c answers =
           answers;
     }
 
--- a load of a program that was checked against other signatures, or beside records of another length
+-- a load of a program that was checked against other signatures
 abbrev pub is_foreign : List (ℕ × Promise) → Command → Bool
 is_foreign sigs (Load l) = not (is_checked sigs l.program)
 is_foreign sigs _ = false

@@ -8,8 +8,8 @@ use std::alloc::{AllocError, Global};
 use std::marker::Model;
 use std::sync::Arc;
 
-// One for each of 64 sessions in each of five roles.
-const MOST_PASSES: usize = 320;
+// One for each of 64 sessions in each of six roles.
+const MOST_PASSES: usize = 384;
 
 /// Passes of one row, at most one for each session and role. Room for all is taken at first.
 #[derive(Drop)]

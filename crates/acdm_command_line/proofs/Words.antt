@@ -4,6 +4,7 @@ use Rattle.std.proofs.Common.{option_map, refl, ap, subst, ◌∙◌, ◌⊎◌,
 use Rattle.std.specs.Str.{bytes_eq}
 use Rattle.clap.proofs.OnLiterals.{clap_on_literals}
 use Rattle.clap.specs.Words.{Row, Text, all_of, first_of, is_simple, subcommand_of}
+use Rattle.bpf_regstate.specs.declared.length.Length.{Length}
 use Rattle.acdm_command_line.specs.declared.command_line.Line.{Line}
 use Rattle.acdm_command_line.specs.CommandLine.{Answers, AsksNothing, AuditsFile, Explains}
 use Rattle.acdm_command_line.specs.CommandLine.{IsJournal, IsRight, Runs, Serves, Verifies}
@@ -47,14 +48,14 @@ program_is_simple = refl
 none_asked : (found : Option (Text × List Row)) → AsksNothing found
     → ((text : Text) × Runs found text × IsJournal text)
     ⊎ ((text : Text) × Serves found text × IsJournal text)
-    ⊎ ((file : Text) × Verifies found file)
+    ⊎ ((length : Length) × (file : Text) × Verifies found length file)
     ⊎ ((file : Text) × AuditsFile found file)
-    ⊎ ((file : Text) × Explains found file) → ⊥
+    ⊎ ((length : Length) × (file : Text) × Explains found length file) → ⊥
 none_asked found none (inl h) = none.run h.0 h.1 h.2
 none_asked found none (inr (inl h)) = none.serve h.0 h.1 h.2
-none_asked found none (inr (inr (inl h))) = none.verify h.0 h.1
+none_asked found none (inr (inr (inl h))) = none.verify h.0 h.1 h.2
 none_asked found none (inr (inr (inr (inl h)))) = none.audit h.0 h.1
-none_asked found none (inr (inr (inr (inr h)))) = none.explain h.0 h.1
+none_asked found none (inr (inr (inr (inr h)))) = none.explain h.0 h.1 h.2
 
 -- words of which nothing is answered are not right
 pub none_right : (words : List Text) (found : Option (Text × List Row)) (line : Option Line)

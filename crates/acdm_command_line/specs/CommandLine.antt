@@ -10,6 +10,8 @@ use Rattle.clap.specs.Takes.{takes}
 use Rattle.clap.specs.declared.builder.action.ArgAction.TheVariants.{Append}
 use Rattle.clap.specs.declared.error.kind.ErrorKind.{ErrorKind}
 use Rattle.clap.specs.declared.error.kind.ErrorKind.TheVariants.{OutOfMemory}
+use Rattle.bpf_regstate.specs.declared.length.Length.{Length}
+use Rattle.bpf_regstate.specs.declared.length.Length.TheVariants.{L128, L160}
 use Rattle.acdm_command_line.specs.declared.command_line.Line.{Line}
 use Rattle.acdm_command_line.specs.declared.command_line.Line.TheVariants.{Run, Serve, Verify, Audit}
 use Rattle.acdm_command_line.specs.declared.command_line.Line.TheVariants.{Explain}
@@ -48,12 +50,24 @@ serve_options_app = with_rule (keeping_app (codes "serve")) watch_rule
 abbrev pub serve_app : App
 serve_app = with_rule serve_options_app partners_rule
 
--- a subcommand of this name on a file, as `verify FILE`
+-- a subcommand of this name on a file, as `audit FILE`
 abbrev pub file_rule : Rule
 file_rule = record (new_rule (codes "file")) { value_names = 1; required = true }
 
 abbrev pub file_app : Text → App
 file_app name = with_rule (new_app name) file_rule
+
+-- `--length N`, 128 where it is not given
+abbrev pub length_rule : Rule
+length_rule = record (new_rule (codes "length")) {
+  long = Some (codes "length");
+  value_names = 1;
+  defaults = codes "128" ∷ [];
+}
+
+-- a subcommand of this name on a program, as `verify [--length N] FILE`
+abbrev pub program_app : Text → App
+program_app name = with_rule (with_rule (new_app name) length_rule) file_rule
 
 abbrev required : App → App
 required a = record a { top = record a.top { subcommand_required = true } }
@@ -70,8 +84,8 @@ serving_app = with_subcommand running_app serve_app.top
 
 abbrev pub program : App
 program =
-    with_subcommand (with_subcommand (with_subcommand serving_app (file_app (codes "verify")).top)
-    (file_app (codes "audit")).top) (file_app (codes "explain")).top
+    with_subcommand (with_subcommand (with_subcommand serving_app (program_app (codes "verify")).top)
+    (file_app (codes "audit")).top) (program_app (codes "explain")).top
 
 -- the first value of an argument of the subcommand of a name
 abbrev pub value_in : List ℕ → List ℕ → Option (Text × List Row) → Option Text
@@ -104,25 +118,38 @@ abbrev pub IsJournal : Text → Type 0
 IsJournal text =
     IsNumeral 10 (without_leading_plus text) × (1 ≤ number_of text) × (number_of text ≤ 1000000)
 
--- the subcommand that was entered is `run` or `serve` with this text for its journal, or `verify`,
--- `audit` or `explain` of this file
+-- the length of a record that a text names
+abbrev pub length_named : Text → Option Length
+length_named text =
+    if bytes_eq text (codes "128") then Some L128
+    else if bytes_eq text (codes "160") then Some L160 else None
+
+abbrev pub length_in : List ℕ → Option (Text × List Row) → Option Length
+length_in name found = option_and_then length_named (value_in name (codes "length") found)
+
+-- the subcommand that was entered is `run` or `serve` with this text for its journal, `verify` or
+-- `explain` of this file beside records of this length, or `audit` of this file
 abbrev pub Runs : Option (Text × List Row) → Text → Type 0
 Runs found text = value_in (codes "run") (codes "journal") found ≡ Some text
 
 abbrev pub Serves : Option (Text × List Row) → Text → Type 0
 Serves found text = value_in (codes "serve") (codes "journal") found ≡ Some text
 
-abbrev pub Verifies : Option (Text × List Row) → Text → Type 0
-Verifies found file = value_in (codes "verify") (codes "file") found ≡ Some file
+abbrev pub Judges : List ℕ → Option (Text × List Row) → Length → Text → Type 0
+Judges name found length file =
+    (length_in name found ≡ Some length) × (value_in name (codes "file") found ≡ Some file)
+
+abbrev pub Verifies : Option (Text × List Row) → Length → Text → Type 0
+Verifies = Judges (codes "verify")
 
 abbrev pub AuditsFile : Option (Text × List Row) → Text → Type 0
 AuditsFile found file = value_in (codes "audit") (codes "file") found ≡ Some file
 
-abbrev pub Explains : Option (Text × List Row) → Text → Type 0
-Explains found file = value_in (codes "explain") (codes "file") found ≡ Some file
+abbrev pub Explains : Option (Text × List Row) → Length → Text → Type 0
+Explains = Judges (codes "explain")
 
 -- it is `run` or `serve` with the journal, the file, the address and the partners that are named, or
--- `verify`, `audit` or `explain` of the file that is
+-- `verify`, `audit` or `explain` of the file that is, with the length
 abbrev pub Asks : Option (Text × List Row) → Line → Type 0
 Asks found (Run journal save) =
     (text : Text) × Runs found text × IsJournal text × (journal ≡ number_of text)
@@ -132,9 +159,9 @@ Asks found (Serve journal save watch partners) =
     × (option_map (λ s. s.now) save ≡ value_in (codes "serve") (codes "save") found)
     × (option_map (λ s. s.now) watch ≡ value_in (codes "serve") (codes "watch") found)
     × (map (λ s. s.now) partners.items ≡ partners_in found)
-Asks found (Verify file) = Verifies found file.now
+Asks found (Verify length file) = Verifies found length file.now
 Asks found (Audit file) = AuditsFile found file.now
-Asks found (Explain file) = Explains found file.now
+Asks found (Explain length file) = Explains found length file.now
 
 -- the words ask for this
 abbrev pub AsksFor : List Text → Line → Type 0
@@ -144,9 +171,9 @@ AsksFor words = Asks (subcommand_of program words)
 pub record AsksNothing (found : Option (Text × List Row)) : Type 0 where
   pub run : (text : Text) → Runs found text → IsJournal text → ⊥
   pub serve : (text : Text) → Serves found text → IsJournal text → ⊥
-  pub verify : (file : Text) → Verifies found file → ⊥
+  pub verify : (length : Length) (file : Text) → Verifies found length file → ⊥
   pub audit : (file : Text) → AuditsFile found file → ⊥
-  pub explain : (file : Text) → Explains found file → ⊥
+  pub explain : (length : Length) (file : Text) → Explains found length file → ⊥
 
 abbrev pub Answers : Option (Text × List Row) → Option Line → Type 0
 Answers found (Some line) = Asks found line
@@ -160,14 +187,20 @@ AnswersJournal name found (Some journal) =
 AnswersJournal name found None = (text : Text)
     → value_in name (codes "journal") found ≡ Some text → IsJournal text → ⊥
 
+-- the length and the file of the subcommand of a name, or none
+abbrev pub AnswersJudged : List ℕ → Option (Text × List Row) → Option (Length × Text) → Type 0
+AnswersJudged name found (Some judged) = Judges name found judged.0 judged.1
+AnswersJudged name found None =
+    (length : Length) (file : Text) → Judges name found length file → ⊥
+
 -- `clap` takes the words, and they ask for one of the five
 pub record IsRight (words : List Text) : Type 0 where
   pub taken : takes program words ≡ true
   pub asks : ((text : Text) × Runs (subcommand_of program words) text × IsJournal text)
       ⊎ ((text : Text) × Serves (subcommand_of program words) text × IsJournal text)
-      ⊎ ((file : Text) × Verifies (subcommand_of program words) file)
+      ⊎ ((length : Length) × (file : Text) × Verifies (subcommand_of program words) length file)
       ⊎ ((file : Text) × AuditsFile (subcommand_of program words) file)
-      ⊎ ((file : Text) × Explains (subcommand_of program words) file)
+      ⊎ ((length : Length) × (file : Text) × Explains (subcommand_of program words) length file)
 
 -- right words are refused only where there is no memory
 abbrev pub Refuses : List Text → ErrorKind → Type 0

@@ -6,6 +6,8 @@ ghost use Rattle.clap.specs.Values.{kind_of};
 ghost use Rattle.clap.specs.Words.{app_of, rule_of, subcommand_rows_of, with_subcommand};
 ghost use Rattle.clap.specs.declared.builder.Command.TheViews.{out-Command as fields_of};
 ghost use Rattle.acdm_command_line.specs.CommandLine.{program as the_program, file_app, keeping_app};
+ghost use Rattle.acdm_command_line.specs.CommandLine.{file_rule, length_rule, program_app};
+ghost use Rattle.acdm_command_line.specs.CommandLine.{AnswersJudged, length_named};
 ghost use Rattle.acdm_command_line.specs.CommandLine.{bare_app, running_app, serve_app};
 ghost use Rattle.acdm_command_line.specs.CommandLine.{serve_options_app, serving_app};
 ghost use Rattle.acdm_command_line.specs.CommandLine.{journal_rule, save_rule, watch_rule};
@@ -13,6 +15,7 @@ ghost use Rattle.acdm_command_line.specs.CommandLine.{partners_in, value_in, val
 ghost use Rattle.acdm_command_line.specs.CommandLine.{number_of, IsJournal, AsksFor, Refuses};
 ghost use Rattle.acdm_command_line.specs.CommandLine.{Answers, AnswersJournal};
 
+use bpf_regstate::Length;
 use clap::error::ErrorKind;
 use clap::{Arg, ArgAction, ArgMatches, Command, Error};
 use std::alloc::{AllocError, Global};
@@ -42,12 +45,14 @@ pub enum Line<'a> {
     Audit {
         file: &'a str,
     },
-    /// `verify`, of the program in this file.
+    /// `verify`, of the program in this file beside records of this length.
     Verify {
+        length: Length,
         file: &'a str,
     },
-    /// `explain`, of the program in this file.
+    /// `explain`, of the program in this file beside records of this length.
     Explain {
+        length: Length,
         file: &'a str,
     },
 }
@@ -114,11 +119,34 @@ fn serve_command<'a>(alloc: Global) -> Result<Command<'a>, AllocError>
         .value_name("ROLE=ADDR")
         .action(ArgAction::Append)
         .required(true)
-        .help("A role, NM, ATC, APT, AO or GH, and the IP address and port where it connects");
+        .help("A role, NM, ATC, APT, AO, GH or DIC, and the IP address and port where it connects");
     serve_options(alloc)?.arg(partners)
 }
 
-// A subcommand on one file.
+// `FILE`.
+fn file<'a>(alloc: Global, help: &'a str) -> Arg<'a>
+    ensures rule { rule_of result ≡ file_rule }
+    ensures local { result.global ≡ false }
+{
+    Arg::new(alloc, "file")
+        .value_name("FILE")
+        .required(true)
+        .help(help)
+}
+
+// `--length N`.
+fn length<'a>(alloc: Global) -> Arg<'a>
+    ensures rule { rule_of result ≡ length_rule }
+    ensures optional { (result.required ≡ false) × (result.global ≡ false) }
+{
+    Arg::new(alloc, "length")
+        .long("length")
+        .value_name("N")
+        .default_value("128")
+        .help("How many bytes a record has, 128, or 160 once the board was migrated")
+}
+
+// A subcommand on a file.
 fn on_file<'a>(
     alloc: Global,
     name: &'a str,
@@ -128,11 +156,20 @@ fn on_file<'a>(
     ensures shape { IfOk result (λ c. app_of c ≡ file_app name.now) }
     ensures local { IfOk result (λ c. (fields_of c).has_globals ≡ false) }
 {
-    let file = Arg::new(alloc, "file")
-        .value_name("FILE")
-        .required(true)
-        .help(help);
-    Command::new(alloc, name).about(about).arg(file)
+    Command::new(alloc, name)
+        .about(about)
+        .arg(file(alloc, help))
+}
+
+// A subcommand on a program, with `--length`.
+fn on_program<'a>(alloc: Global, name: &'a str, about: &'a str) -> Result<Command<'a>, AllocError>
+    ensures shape { IfOk result (λ c. app_of c ≡ program_app name.now) }
+    ensures local { IfOk result (λ c. (fields_of c).has_globals ≡ false) }
+{
+    Command::new(alloc, name)
+        .about(about)
+        .arg(length(alloc))?
+        .arg(file(alloc, "The raw bytes of a BPF program"))
 }
 
 // The program before it has subcommands, of which one is wanted.
@@ -181,18 +218,33 @@ fn with_file<'a>(
     program.subcommand(command)
 }
 
+// The program with one more subcommand, on a program.
+fn with_program<'a>(
+    alloc: Global,
+    program: Command<'a>,
+    name: &'a str,
+    about: &'a str,
+) -> Result<Command<'a>, AllocError>
+    requires { (fields_of program).has_globals ≡ false }
+    ensures shape { IfOk result (λ c. app_of c
+        ≡ with_subcommand (app_of program.entry) (program_app name.now).top) }
+    ensures local { IfOk result (λ c. (fields_of c).has_globals ≡ false) }
+{
+    let command = on_program(alloc, name, about)?;
+    program.subcommand(command)
+}
+
 fn program<'a>(alloc: Global) -> Result<Command<'a>, AllocError>
     ensures shape { IfOk result (λ c. app_of c ≡ the_program) }
     ensures local { IfOk result (λ c. (fields_of c).has_globals ≡ false) }
 {
-    let bytes = "The raw bytes of a BPF program";
     let verifies = "Lists a BPF program that may run, or tells its first fault";
     let audits = "Judges a saved journal by itself, or tells its first fault";
     let explains = "Lists a BPF program with what is known before each slot, and why it is refused";
     let saved = "A journal that was saved as text";
-    let judging = with_file(alloc, serving_program(alloc)?, "verify", verifies, bytes)?;
+    let judging = with_program(alloc, serving_program(alloc)?, "verify", verifies)?;
     let judging = with_file(alloc, judging, "audit", audits, saved)?;
-    with_file(alloc, judging, "explain", explains, bytes)
+    with_program(alloc, judging, "explain", explains)
 }
 
 // The number of entries that a text names, from 1 to 1,000,000.
@@ -249,18 +301,42 @@ fn journal_for(matches: &ArgMatches, name: &str) -> Option<usize>
     entries_in(text)
 }
 
+// The length of a record that a text names.
+fn length_named(text: &str) -> Option<Length>
+    ensures { result ≡ length_named text.now }
+{
+    if text == "128" {
+        Some(Length::L128)
+    } else if text == "160" {
+        Some(Length::L160)
+    } else {
+        None
+    }
+}
+
+// The length and the file of the subcommand of this name, if it is that one and its length is one.
+fn judged_by<'a>(matches: &ArgMatches<'a>, name: &str) -> Option<(Length, &'a str)>
+    ensures { AnswersJudged name.now (subcommand_rows_of matches.now)
+        (option_map (λ p. (p.0, p.1.now)) result) }
+{
+    let text = value(matches, name, "length")?;
+    let length = length_named(text)?;
+    let file = value(matches, name, "file")?;
+    Some((length, file))
+}
+
 // What is asked for by the subcommand that was entered.
 fn line_of<'a>(alloc: Global, matches: &ArgMatches<'a>) -> Result<Option<Line<'a>>, AllocError>
     ensures { IfOk result (Answers (subcommand_rows_of matches.now)) }
 {
-    if let Some(file) = value(matches, "verify", "file") {
-        return Ok(Some(Line::Verify { file }));
+    if let Some((length, file)) = judged_by(matches, "verify") {
+        return Ok(Some(Line::Verify { length, file }));
     }
     if let Some(file) = value(matches, "audit", "file") {
         return Ok(Some(Line::Audit { file }));
     }
-    if let Some(file) = value(matches, "explain", "file") {
-        return Ok(Some(Line::Explain { file }));
+    if let Some((length, file)) = judged_by(matches, "explain") {
+        return Ok(Some(Line::Explain { length, file }));
     }
     if let Some(journal) = journal_for(matches, "run") {
         let save = value(matches, "run", "save");
@@ -296,17 +372,20 @@ fn parse_by<'a>(
     if let Some(line) = line_of(alloc, &matches)? {
         return Ok(line);
     }
-    Err(command.error(
-        ErrorKind::ValueValidation,
-        "invalid value for '--journal <N>': it is not a number from 1 to 1000000",
-    )?)
+    let wrong = match matches.subcommand() {
+        Some(("verify" | "explain", _)) =>
+            "invalid value for '--length <N>': it is neither 128 nor 160",
+        _ => "invalid value for '--journal <N>': it is not a number from 1 to 1000000",
+    };
+    Err(command.error(ErrorKind::ValueValidation, wrong)?)
 }
 
 /// What these words ask for; the first is the program's name.
 ///
-/// The journal is what `--journal` says, else 100,000, and the other words are taken as they stand.
-/// Words that name no such command are refused by `clap`, and so is a journal outside 1 to
-/// 1,000,000. A request for help counts as a refusal.
+/// The journal is what `--journal` says, else 100,000, the length what `--length` says, else 128,
+/// and the other words are taken as they stand. Words that name no such command are refused by
+/// `clap`; a journal outside 1 to 1,000,000 is refused, and a length that is neither 128 nor 160. A
+/// request for help counts as a refusal.
 pub fn parse<'a>(alloc: Global, words: &'a [&'a str]) -> Result<Line<'a>, Error>
     ensures asks { IfOk result (AsksFor (map (λ w. w.now) words.entry.now)) }
     ensures refuses { IfErr result (λ error.

@@ -1,6 +1,7 @@
 -- What is done with files, whatever they are.
 use Rattle.std.proofs.Common.{◌⊎◌, ℕ, List, Option, Some, None, Result, Ok, Err, option_map, inl, inr}
 use Rattle.bpf_helpers.specs.Promise.{Promise}
+use Rattle.bpf_regstate.specs.declared.length.Length.{Length}
 use Rattle.acdm_step.specs.Commands.{History}
 use Rattle.acdm_failures.specs.Failures.{EndsBy}
 use Rattle.acdm_failures.specs.declared.failure.Failure.{Failure}
@@ -56,58 +57,58 @@ module _ {F : Type 0} (sigs : List (ℕ × Promise)) (file later : SourceView F)
       → GaveBytes (read_from file) (read_from later) bytes
   gave_any bytes p = record { gave = p.gave; enough = p.enough; well = p.well }
 
-  judged_any : (verdict : Verdict) → Judged sigs file later verdict
-      → Judged sigs (read_from file) (read_from later) verdict
-  judged_any verdict p = record { bytes = p.bytes; gave = gave_any p.bytes p.gave; is = p.is }
+  judged_any : (long : Length) (verdict : Verdict) → Judged sigs long file later verdict
+      → Judged sigs long (read_from file) (read_from later) verdict
+  judged_any long verdict p = record { bytes = p.bytes; gave = gave_any p.bytes p.gave; is = p.is }
 
-  pub verified_any : {W : Type 0} (old new : SinkView W) (work : Result ℕ Failure)
-      → Verifies sigs file later old new work
-      → Verifies sigs (read_from file) (read_from later) old new work
-  verified_any old new (Ok status) p = record {
+  pub verified_any : {W : Type 0} (long : Length) (old new : SinkView W) (work : Result ℕ Failure)
+      → Verifies sigs long file later old new work
+      → Verifies sigs long (read_from file) (read_from later) old new work
+  verified_any long old new (Ok status) p = record {
     verdict = p.verdict;
-    judged = judged_any p.verdict p.judged;
+    judged = judged_any long p.verdict p.judged;
     told = p.told;
     flushed = p.flushed;
     status_is = p.status_is;
   }
-  verified_any old new (Err failures.Write) p = record {
+  verified_any long old new (Err failures.Write) p = record {
     verdict = p.verdict;
-    judged = judged_any p.verdict p.judged;
+    judged = judged_any long p.verdict p.judged;
     told = p.told;
   }
-  verified_any old new (Err failures.Read) p = p
-  verified_any old new (Err failures.Memory) p = p
-  verified_any old new (Err failures.Save) p = absurd p
-  verified_any old new (Err (failures.Role n)) p = absurd p
-  verified_any old new (Err (failures.Address n)) p = absurd p
-  verified_any old new (Err (failures.Accept n)) p = absurd p
-  verified_any old new (Err failures.Watch) p = absurd p
-  verified_any old new (Err failures.Word) p = absurd p
-  verified_any old new (Err failures.Stream) p = absurd p
+  verified_any long old new (Err failures.Read) p = p
+  verified_any long old new (Err failures.Memory) p = p
+  verified_any long old new (Err failures.Save) p = absurd p
+  verified_any long old new (Err (failures.Role n)) p = absurd p
+  verified_any long old new (Err (failures.Address n)) p = absurd p
+  verified_any long old new (Err (failures.Accept n)) p = absurd p
+  verified_any long old new (Err failures.Watch) p = absurd p
+  verified_any long old new (Err failures.Word) p = absurd p
+  verified_any long old new (Err failures.Stream) p = absurd p
 
-  pub explained_any : (work : Result ℕ Failure) → Explains sigs file later work
-      → Explains sigs (read_from file) (read_from later) work
-  explained_any work (inl p) = inl (p.0, gave_any p.0 p.1, p.2)
-  explained_any work (inr p) = inr p
+  pub explained_any : (long : Length) (work : Result ℕ Failure) → Explains sigs long file later work
+      → Explains sigs long (read_from file) (read_from later) work
+  explained_any long work (inl p) = inl (p.0, gave_any p.0 p.1, p.2)
+  explained_any long work (inr p) = inr p
 
 -- a file that could be opened was explained, or could not be read
-pub explained_line : {F W E : Type 0} (path : List ℕ) (file later : SourceView F)
+pub explained_line : {F W E : Type 0} (long : Length) (path : List ℕ) (file later : SourceView F)
     (old new : SinkView W) (status : ℕ) (errors errors_after : SinkView E) → IsUnread file
-    → EndsBy (Explains helpers file later) status errors errors_after
+    → EndsBy (Explains helpers long file later) status errors errors_after
     ⊎ FailsToRead path file later old new status errors errors_after
-    → ExplainsLine path old new status errors errors_after
-explained_line path file later old new status errors errors_after unread (inl e) =
+    → ExplainsLine long path old new status errors errors_after
+explained_line long path file later old new status errors errors_after unread (inl e) =
     inl (
       read_from file,
       read_from later,
       unread,
       record {
         work = e.work;
-        comes = explained_any helpers file later e.work e.comes;
+        comes = explained_any helpers file later long e.work e.comes;
         ends = e.ends;
       },
     )
-explained_line path file later old new status errors errors_after unread (inr f) =
+explained_line long path file later old new status errors errors_after unread (inr f) =
     inr (f.status_is, f.same, f.told)
 
 -- ---- files that are written

@@ -1,6 +1,7 @@
 -- What is done for the words of a command line.
 use Rattle.std.specs.Prelude.{ℕ, ◌≡◌, ◌⊎◌, ⊤, false, List, [], Option, Some, None, Result, Ok, Err}
 use Rattle.std.specs.Prelude.{map, option_map}
+use Rattle.bpf_regstate.specs.declared.length.Length.{Length}
 use Rattle.clap.specs.declared.error.kind.ErrorKind.{ErrorKind}
 use Rattle.acdm_command_line.specs.CommandLine.{AsksFor, Refuses}
 use Rattle.acdm_command_line.specs.declared.command_line.Line.{Line}
@@ -89,20 +90,20 @@ AuditsLine output output_after work =
     × Audited helpers file file_after output output_after work)
     ⊎ FailsToOpen output output_after work
 
--- `verify`, the same
-abbrev pub VerifiesLine : {W : Type 0} → SinkView W → SinkView W → Result ℕ Failure → Type 0
-VerifiesLine output output_after work =
+-- `verify`, the same, beside records of this length
+abbrev pub VerifiesLine : {W : Type 0} → Length → SinkView W → SinkView W → Result ℕ Failure → Type 0
+VerifiesLine long output output_after work =
     ((file file_after : SourceView ⊤) × IsUnread file
-    × Verifies helpers file file_after output output_after work)
+    × Verifies helpers long file file_after output output_after work)
     ⊎ FailsToOpen output output_after work
 
 -- `explain`: what it tells is of what the file gave, or the file of this path could not be read or opened,
 -- the status is 2, that was said, and nothing was written
-abbrev pub ExplainsLine : {W E : Type 0} → List ℕ → SinkView W → SinkView W → ℕ → SinkView E
-    → SinkView E → Type 0
-ExplainsLine path output output_after status errors errors_after =
+abbrev pub ExplainsLine : {W E : Type 0} → Length → List ℕ → SinkView W → SinkView W → ℕ
+    → SinkView E → SinkView E → Type 0
+ExplainsLine long path output output_after status errors errors_after =
     ((file file_after : SourceView ⊤) × IsUnread file
-    × EndsBy (Explains helpers file file_after) status errors errors_after)
+    × EndsBy (Explains helpers long file file_after) status errors errors_after)
     ⊎ ((status ≡ 2) × (output_after ≡ output) × TellsUnread path errors errors_after)
 
 -- what is done for a line; none but `run` reads the input
@@ -116,10 +117,10 @@ Does (Serve journal save watch partners) input input_after output output_after s
     (map (λ s. s.now) partners.items) output output_after) status errors errors_after
 Does (Audit file) input input_after output output_after status errors errors_after =
     (input_after ≡ input) × EndsBy (AuditsLine output output_after) status errors errors_after
-Does (Verify file) input input_after output output_after status errors errors_after =
-    (input_after ≡ input) × EndsBy (VerifiesLine output output_after) status errors errors_after
-Does (Explain file) input input_after output output_after status errors errors_after =
-    (input_after ≡ input) × ExplainsLine file.now output output_after status errors errors_after
+Does (Verify long file) input input_after output output_after status errors errors_after =
+    (input_after ≡ input) × EndsBy (VerifiesLine long output output_after) status errors errors_after
+Does (Explain long file) input input_after output output_after status errors errors_after =
+    (input_after ≡ input) × ExplainsLine long file.now output output_after status errors errors_after
 
 -- the words ask for this line, and it was done
 pub record DoesAsked {R W E : Type 0} (words : List (List ℕ)) (input input_after : SourceView R)

@@ -11,6 +11,7 @@ use acdm_command_line::{Line, asked};
 use acdm_failures::{Failure, ended};
 use acdm_judging::{audit_on, explain_on, unread, verify_on};
 use acdm_sessions::{Sink, Source};
+use bpf_regstate::Length;
 use std::alloc::Global;
 use std::fs::{self, Files};
 use std::io::{Read, Write};
@@ -73,8 +74,8 @@ pub fn complete<
             errors,
         ),
         Line::Audit { file } => audit_line(rt, alloc, file, output, errors),
-        Line::Verify { file } => verify_line(rt, alloc, file, output, errors),
-        Line::Explain { file } => explain_line(rt, alloc, file, output, errors),
+        Line::Verify { length, file } => verify_line(rt, alloc, length, file, output, errors),
+        Line::Explain { length, file } => { explain_line(rt, alloc, length, file, output, errors) }
     }
 }
 
@@ -150,34 +151,43 @@ fn audit_line<Rt: Files, W: Write, E: Write>(
     }
 }
 
-// `verify`, of the program in a file.
+// `verify`, of the program in a file, beside records of this length.
 fn verify_line<Rt: Files, W: Write, E: Write>(
     rt: &Rt,
     alloc: Global,
+    length: Length,
     file: &str,
     output: &mut Sink<W>,
     errors: &mut Sink<E>,
 ) -> u8
-    ensures { EndsBy (VerifiesLine output.old output.new) result errors.old errors.new }
+    ensures { EndsBy (VerifiesLine length output.old output.new) result errors.old errors.new }
 {
     match fs::open(rt, file) {
-        Ok(file) => verify_on(alloc, &mut Source::new(file), output, errors),
+        Ok(file) => verify_on(alloc, length, &mut Source::new(file), output, errors),
         Err(_) => ended(Err(Failure::Read), errors),
     }
 }
 
-// `explain`, of the program in a file.
+// `explain`, of the program in a file, beside records of this length.
 fn explain_line<Rt: Files, W: Write, E: Write>(
     rt: &Rt,
     alloc: Global,
+    length: Length,
     file: &str,
     output: &mut Sink<W>,
     errors: &mut Sink<E>,
 ) -> u8
-    ensures { ExplainsLine file.now output.old output.new result errors.old errors.new }
+    ensures { ExplainsLine length file.now output.old output.new result errors.old errors.new }
 {
     match fs::open(rt, file) {
-        Ok(opened) => explain_on(alloc, file, &mut Source::new(opened), output, errors),
+        Ok(opened) => explain_on(
+            alloc,
+            length,
+            file,
+            &mut Source::new(opened),
+            output,
+            errors,
+        ),
         Err(error) => unread(alloc, file, &error, errors),
     }
 }

@@ -1,6 +1,6 @@
 -- The programs in the slots of a history are those that its entries load.
 use Rattle.std.proofs.Common.{◌≡◌, ℕ, Bool, true, false, cond, List, [], ◌∷◌, Option, Some, None}
-use Rattle.std.proofs.Common.{subst}
+use Rattle.std.proofs.Common.{subst, refl}
 use Rattle.std.specs.Prelude.{◌==◌, ⊤}
 use Rattle.std.specs.List.{AllByRecursion}
 use Rattle.std.proofs.lemmas.Option.{same_Some}
@@ -12,11 +12,14 @@ use Rattle.acdm_slots.specs.declared.kind.Kind as kinds
 use Rattle.acdm_slots.specs.declared.kind.Kind.TheVariants.{Tobt, Alert}
 use Rattle.acdm_slots.specs.Loaded.{place}
 use Rattle.acdm_step.specs.declared.command.Command.{Command}
-use Rattle.acdm_step.specs.declared.command.Command.TheVariants.{Load, Unload, Tick, Show, Alerts}
+use Rattle.acdm_step.specs.declared.command.Command.TheVariants.{Load, Unload, Tick, Migrate, Show}
+use Rattle.acdm_step.specs.declared.command.Command.TheVariants.{Alerts}
 use Rattle.acdm_step.specs.declared.command.Command.TheVariants as commands
-use Rattle.acdm_step.specs.declared.command.FlightCommand.TheVariants.{Schedule, Report}
+use Rattle.acdm_step.specs.declared.command.FlightCommand.TheVariants.{Schedule, Report, Deice}
 use Rattle.acdm_step.specs.Commands.{History, is_accepted}
-use Rattle.acdm_step.specs.InSlots.{slot_change, changed_or, program_in, programs_of}
+use Rattle.acdm_step.specs.InSlots.{slot_change, changed_or, judged_again, program_in, programs_of}
+use Rattle.acdm_slots.specs.Migration.{fault_beside, kept_program, lengthened, unless_faulty}
+use Rattle.bpf_regstate.specs.declared.length.Length.TheVariants.{L160}
 use Rattle.acdm_step.specs.History.{IsLegal, IsChecked}
 use Rattle.acdm_journal.specs.Ranges.{FitsTypes, LoadsProgram}
 
@@ -26,48 +29,64 @@ either : (b : Bool) (x y : Option Verified) (v : Verified) (P : Type 0) → (x �
 either true x y v P f g h = f h
 either false x y v P f g h = g h
 
--- what is so of each program that is loaded is so of those in the slots
-module _ (P : Verified → Type 0) where
-  abbrev Loads : Command → Type 0
-  Loads (Load l) = P l.program
-  Loads _ = ⊤
+-- what is so of a program that is loaded
+abbrev Loads : (Verified → Type 0) → Command → Type 0
+Loads P (Load l) = P l.program
+Loads P _ = ⊤
 
+-- what is so of each program that is loaded, and stays so where it is judged again, is so of those in
+-- the slots
+module _ (P : Verified → Type 0) (keeps : (v : Verified) → P v → P (lengthened L160 v)) where
   put_in : (b : Bool) (put before : Option Verified) (v : Verified)
       → (put ≡ Some v → P v) → (before ≡ Some v → P v)
       → changed_or (cond b (Some put) None) before ≡ Some v → P v
   put_in true put before v now then h = now h
   put_in false put before v now then h = then h
 
+  -- a program that was judged again
+  kept_as : (w v : Verified) (f : Option (ℕ × ℕ)) → P w
+      → unless_faulty f (lengthened L160 w) ≡ Some v → P v
+  kept_as w v None p h = subst P (same_Some (lengthened L160 w) v h) (keeps w p)
+  kept_as w v (Some f) p h = absurd (cc h)
+
+  kept_in : (before : Option Verified) (v : Verified)
+      → ((w : Verified) → before ≡ Some w → P w) → kept_program L160 before ≡ Some v → P v
+  kept_in None v then h = absurd (cc h)
+  kept_in (Some w) v then h = kept_as w v (fault_beside L160 w) (then w refl) h
+
   changed_in : (a : Milestone) (k : kinds.Kind) (v : Verified) (c : Command)
-      → Loads c → (before : Option Verified) → (before ≡ Some v → P v)
-      → changed_or (slot_change a k c) before ≡ Some v → P v
+      → Loads P c → (before : Option Verified) → ((w : Verified) → before ≡ Some w → P w)
+      → changed_or (slot_change a k c) (judged_again c before) ≡ Some v → P v
   changed_in a k v (Load l) loads before then h =
       put_in (place l.milestone l.kind == place a k) (Some l.program) before v
-      (λ e. subst P (same_Some l.program v e) loads) then h
+      (λ e. subst P (same_Some l.program v e) loads) (then v) h
   changed_in a k v (Unload u) loads before then h =
-      put_in (place u.milestone u.kind == place a k) None before v (λ e. absurd (cc e)) then h
-  changed_in a k v (commands.Flight (Schedule s)) loads before then h = then h
-  changed_in a k v (commands.Flight (Report r)) loads before then h = then h
-  changed_in a k v Tick loads before then h = then h
-  changed_in a k v (Show f) loads before then h = then h
-  changed_in a k v Alerts loads before then h = then h
+      put_in (place u.milestone u.kind == place a k) None before v (λ e. absurd (cc e)) (then v) h
+  changed_in a k v (commands.Flight (Schedule s)) loads before then h = then v h
+  changed_in a k v (commands.Flight (Report r)) loads before then h = then v h
+  changed_in a k v (commands.Flight (Deice d)) loads before then h = then v h
+  changed_in a k v Tick loads before then h = then v h
+  changed_in a k v Migrate loads before then h = kept_in before v then h
+  changed_in a k v (Show f) loads before then h = then v h
+  changed_in a k v Alerts loads before then h = then v h
 
   loaded_in : (J : History) (a : Milestone) (k : kinds.Kind) (v : Verified)
-      → AllByRecursion (λ e. Loads e.command) J → program_in J a k ≡ Some v → P v
+      → AllByRecursion (λ e. Loads P e.command) J → program_in J a k ≡ Some v → P v
   loaded_in [] a k v all h = absurd (cc)
   loaded_in (e ∷ J) a k v all h =
-      either (is_accepted e.verdict) (changed_or (slot_change a k e.command) (program_in J a k))
+      either (is_accepted e.verdict)
+      (changed_or (slot_change a k e.command) (judged_again e.command (program_in J a k)))
       (program_in J a k) v (P v)
       (λ p. changed_in a k v e.command all.0 (program_in J a k)
-      (λ q. loaded_in J a k v all.1 q) p)
+      (λ w q. loaded_in J a k w all.1 q) p)
       (λ p. loaded_in J a k v all.1 p) h
 
-  tobt_loaded : (J : History) (c : Command) → AllByRecursion (λ e. Loads e.command) J
+  tobt_loaded : (J : History) (c : Command) → AllByRecursion (λ e. Loads P e.command) J
       → (v : Verified) → (programs_of J c).tobt ≡ Some v → P v
   tobt_loaded J (commands.Flight (Report r)) all v h = loaded_in J r.milestone Tobt v all h
   tobt_loaded J _ all v h = absurd (cc)
 
-  alert_loaded : (J : History) (c : Command) → AllByRecursion (λ e. Loads e.command) J
+  alert_loaded : (J : History) (c : Command) → AllByRecursion (λ e. Loads P e.command) J
       → (v : Verified) → (programs_of J c).alert ≡ Some v → P v
   alert_loaded J (commands.Flight (Report r)) all v h = loaded_in J r.milestone Alert v all h
   alert_loaded J _ all v h = absurd (cc)
@@ -83,6 +102,7 @@ module _ (sigs : List (ℕ × Promise)) where
   checks_load (Unload u) checked = tt
   checks_load (commands.Flight k) checked = tt
   checks_load Tick checked = tt
+  checks_load Migrate checked = tt
   checks_load (Show f) checked = tt
   checks_load Alerts checked = tt
 
@@ -92,11 +112,11 @@ module _ (sigs : List (ℕ × Promise)) where
 
   pub tobt_checked : (J : History) (c : Command) → IsLegal sigs J
       → (v : Verified) → (programs_of J c).tobt ≡ Some v → v.sigs ≡ sigs
-  tobt_checked J c legal = tobt_loaded HasSigs J c (all_checked J legal)
+  tobt_checked J c legal = tobt_loaded HasSigs (λ v h. h) J c (all_checked J legal)
 
   pub alert_checked : (J : History) (c : Command) → IsLegal sigs J
       → (v : Verified) → (programs_of J c).alert ≡ Some v → v.sigs ≡ sigs
-  alert_checked J c legal = alert_loaded HasSigs J c (all_checked J legal)
+  alert_checked J c legal = alert_loaded HasSigs (λ v h. h) J c (all_checked J legal)
 
 -- ---- where entries fit their types they are programs
 
@@ -108,6 +128,7 @@ loads_one (Load l) is = is
 loads_one (Unload u) is = tt
 loads_one (commands.Flight k) is = tt
 loads_one Tick is = tt
+loads_one Migrate is = tt
 loads_one (Show f) is = tt
 loads_one Alerts is = tt
 
@@ -118,8 +139,8 @@ all_programs (e ∷ J) fit = (loads_one e.command fit.0.program, all_programs J 
 
 pub tobt_is_program : (J : History) (c : Command) → AllByRecursion FitsTypes J
     → (v : Verified) → (programs_of J c).tobt ≡ Some v → IsProgram v.ops
-tobt_is_program J c fit = tobt_loaded IsOne J c (all_programs J fit)
+tobt_is_program J c fit = tobt_loaded IsOne (λ v h. h) J c (all_programs J fit)
 
 pub alert_is_program : (J : History) (c : Command) → AllByRecursion FitsTypes J
     → (v : Verified) → (programs_of J c).alert ≡ Some v → IsProgram v.ops
-alert_is_program J c fit = alert_loaded IsOne J c (all_programs J fit)
+alert_is_program J c fit = alert_loaded IsOne (λ v h. h) J c (all_programs J fit)

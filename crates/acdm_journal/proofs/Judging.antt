@@ -6,7 +6,7 @@ use Rattle.std.specs.Prelude.{◌==◌, ◌&&◌, nat_lt, slice_get}
 use Rattle.std.specs.List.{list_all}
 use Rattle.std.proofs.lemmas.Bool.{eqb-true}
 use Rattle.std.proofs.lemmas.Option.{same_Some}
-use Rattle.acdm_record.specs.Fields.{Fields}
+use Rattle.acdm_record.specs.Fields.{Fields, set_number}
 use Rattle.bpf_helpers.specs.Promise.{Promise}
 use Rattle.bpf_helpers.specs.declared.logged.Logged.{Logged}
 use Rattle.bpf_helpers.specs.Oracles.{OracleView, Gained, is_refused, log_of_logged, sigs_of_logged}
@@ -15,6 +15,9 @@ use Rattle.acdm_milestones.specs.declared.role.Role.{Role}
 use Rattle.acdm_milestones.specs.declared.milestone.Milestone.{Milestone}
 use Rattle.bpf_helpers.specs.Same.{same_sigs}
 use Rattle.bpf_regstate.specs.Lengths.{same_length}
+use Rattle.bpf_regstate.specs.declared.length.Length.{Length}
+use Rattle.bpf_regstate.specs.declared.length.Length.TheVariants.{L128, L160}
+use Rattle.acdm_milestones.specs.Deicing.{deicing_admission, deicing_field, is_deicing_in_order}
 use Rattle.bpf_verifier.specs.Verdict.{Verified}
 use Rattle.acdm_milestones.specs.declared.refusal.Refusal.{Refusal}
 use Rattle.acdm_milestones.specs.declared.refusal.Refusal.TheVariants.{NotOwner, UnknownFlight}
@@ -27,9 +30,10 @@ use Rattle.acdm_milestones.specs.Tables.{admission, owns, number, has_reached, n
 use Rattle.acdm_milestones.specs.Tables.{needs_set, is_in_order, times_of}
 use Rattle.acdm_record.specs.Assign.{with_all}
 use Rattle.acdm_step.specs.declared.command.Command.{Command}
-use Rattle.acdm_step.specs.declared.command.Command.TheVariants.{Load, Unload, Tick, Show, Alerts}
+use Rattle.acdm_step.specs.declared.command.Command.TheVariants.{Load, Unload, Tick, Migrate, Show}
+use Rattle.acdm_step.specs.declared.command.Command.TheVariants.{Alerts}
 use Rattle.acdm_step.specs.declared.command.Command.TheVariants as commands
-use Rattle.acdm_step.specs.declared.command.FlightCommand.TheVariants.{Schedule, Report}
+use Rattle.acdm_step.specs.declared.command.FlightCommand.TheVariants.{Schedule, Report, Deice}
 use Rattle.acdm_step.specs.declared.entry.Verdict.{Verdict}
 use Rattle.acdm_step.specs.declared.entry.Verdict.TheVariants.{Accepted, Refused}
 use Rattle.acdm_step.specs.declared.outcome.Outcome.{Outcome}
@@ -40,7 +44,8 @@ use Rattle.acdm_step.specs.Commands.{History, flight_of, told_milestone, is_acce
 use Rattle.acdm_step.specs.InSlots.{program_in, programs_of, record_length_after}
 use Rattle.acdm_step.specs.Summaries.{exists, flights, record_of, run_record_of}
 use Rattle.acdm_step.specs.Verdicts.{verdict_of, verdict_for, verdict_in, verdict_from, outcome_of}
-use Rattle.acdm_step.specs.Verdicts.{obstacle, refused_by, unload_obstacle}
+use Rattle.acdm_step.specs.Verdicts.{obstacle, refused_by, unload_obstacle, unless_refused}
+use Rattle.acdm_step.specs.Verdicts.{migrate_obstacle, deice_obstacle}
 use Rattle.acdm_step.specs.History.{IsLegal, left_by, left_after}
 use Rattle.acdm_step.proofs.Saying.{say_said, left_ran, ran_left}
 use Rattle.acdm_journal.specs.Audit.{UsesAnswers, lacks_answer}
@@ -90,6 +95,20 @@ one_test : (a : Bool) (x y : Verdict) → lacks_answer x ≡ false → lacks_ans
 one_test true x y p q = p
 one_test false x y p q = q
 
+unless_answers : (against : Option Refusal) (v : Verdict)
+    → lacks_answer (refused_by against) ≡ false → lacks_answer v ≡ false
+    → lacks_answer (unless_refused against v) ≡ false
+unless_answers None v h k = k
+unless_answers (Some x) v h k = h
+
+deicing_answers : (a b c : Bool)
+    → lacks_answer (verdict_from (cond a (Err MissingMilestone)
+    (cond b (Err Barred) (cond c (Err TimeOrder) (Ok tt))))) ≡ false
+deicing_answers true b c = refl
+deicing_answers false true c = refl
+deicing_answers false false true = refl
+deicing_answers false false false = refl
+
 verdict_answers : (there : Bool) (count : ℕ) (r : Fields) (against : Option Refusal) (role : Role)
     (c : Command) → lacks_answer (refused_by against) ≡ false
     → lacks_answer (verdict_for there count r against role c) ≡ false
@@ -102,12 +121,22 @@ verdict_answers there count r against role (commands.Flight (Report p)) h =
     (not there && not (nat_lt count MOST_FLIGHTS))
     (verdict_from (admission r role p.milestone p.time))
     (admission_answers r role p.milestone p.time)
+verdict_answers there count r against role (commands.Flight (Deice d)) h =
+    one_test (not (owns role actions.Deice)) (Refused NotOwner)
+    (unless_refused against (cond (not there) (Refused UnknownFlight)
+    (verdict_from (deicing_admission r d.which d.time)))) refl
+    (unless_answers against _ h (one_test (not there) (Refused UnknownFlight)
+    (verdict_from (deicing_admission r d.which d.time)) refl
+    (deicing_answers (not (has_reached r 1)) (has_reached r 16)
+    (not (is_deicing_in_order (set_number r (deicing_field d.which) d.time))))))
 verdict_answers there count r against role (Load l) h =
     one_test (not (owns role actions.Load)) (Refused NotOwner) (refused_by against) refl h
 verdict_answers there count r against role (Unload u) h =
     one_test (not (owns role actions.Unload)) (Refused NotOwner) (refused_by against) refl h
 verdict_answers there count r against role Tick h =
     one_test (owns role actions.Tick) Accepted (Refused NotOwner) refl refl
+verdict_answers there count r against role Migrate h =
+    one_test (not (owns role actions.Migrate)) (Refused NotOwner) (refused_by against) refl h
 verdict_answers there count r against role (Show f) h =
     one_test there Accepted (Refused UnknownFlight) refl refl
 verdict_answers there count r against role Alerts h = refl
@@ -123,12 +152,22 @@ unload_answers : (p : Option Verified) → lacks_answer (refused_by (unload_obst
 unload_answers None = refl
 unload_answers (Some p) = refl
 
+migrate_answers : (l : Length) → lacks_answer (refused_by (migrate_obstacle l)) ≡ false
+migrate_answers L128 = refl
+migrate_answers L160 = refl
+
+deice_answers : (l : Length) → lacks_answer (refused_by (deice_obstacle l)) ≡ false
+deice_answers L128 = refl
+deice_answers L160 = refl
+
 obstacle_answers : (sigs : List (ℕ × Promise)) (J : History) (c : Command)
     → lacks_answer (refused_by (obstacle sigs J c)) ≡ false
 obstacle_answers sigs J (Load l) =
     load_answers (same_length l.program.record_length (record_length_after J))
     (same_sigs l.program.sigs sigs)
 obstacle_answers sigs J (Unload u) = unload_answers (program_in J u.milestone u.kind)
+obstacle_answers sigs J Migrate = migrate_answers (record_length_after J)
+obstacle_answers sigs J (commands.Flight (Deice d)) = deice_answers (record_length_after J)
 obstacle_answers sigs J _ = refl
 
 -- ---- the oracle

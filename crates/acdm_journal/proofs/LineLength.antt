@@ -14,7 +14,7 @@ use Rattle.acdm_record.specs.Bools.{and_left, and_right}
 use Rattle.acdm_milestones.specs.declared.role.Role.{Role}
 use Rattle.acdm_milestones.specs.declared.role.Role.TheVariants.{NetworkManager, AirTrafficControl}
 use Rattle.acdm_milestones.specs.declared.role.Role.TheVariants.{AirportOperator, AircraftOperator}
-use Rattle.acdm_milestones.specs.declared.role.Role.TheVariants.{GroundHandler}
+use Rattle.acdm_milestones.specs.declared.role.Role.TheVariants.{GroundHandler, DeicingCompany}
 use Rattle.acdm_milestones.specs.declared.milestone.Milestone.{Milestone}
 use Rattle.acdm_milestones.specs.Tables.{number}
 use Rattle.acdm_slots.specs.declared.kind.Kind as kinds
@@ -23,7 +23,7 @@ use Rattle.acdm_step.specs.Facts.{ReportFacts}
 use Rattle.acdm_step.specs.declared.command.Plan.{Plan}
 use Rattle.acdm_step.specs.declared.command.Command.{Command}
 use Rattle.acdm_step.specs.declared.command.Command.TheVariants as commands
-use Rattle.acdm_step.specs.declared.command.FlightCommand.TheVariants.{Schedule, Report}
+use Rattle.acdm_step.specs.declared.command.FlightCommand.TheVariants.{Schedule, Report, Deice}
 use Rattle.acdm_step.specs.Commands.{is_load}
 use Rattle.acdm_journal.specs.declared.reading.TheConstants.{LONGEST_LINE}
 use Rattle.acdm_journal.specs.declared.stated.Stated.{Stated}
@@ -36,6 +36,15 @@ use Rattle.acdm_journal.proofs.Parts.{is_numbered}
 use Rattle.acdm_journal.proofs.Pieces.{joined-spaced, spaced-append}
 use Rattle.acdm_milestones.specs.Names.{role_name}
 use Rattle.acdm_slots.specs.Names.{kind_name}
+use Rattle.acdm_milestones.specs.declared.deicing.DeicingTime.{DeicingTime}
+use Rattle.acdm_milestones.specs.declared.deicing.DeicingTime.TheVariants.{EstimatedCommencement}
+use Rattle.acdm_milestones.specs.declared.deicing.DeicingTime.TheVariants.{EstimatedEnd}
+use Rattle.acdm_milestones.specs.declared.deicing.DeicingTime.TheVariants.{ActualCommencement}
+use Rattle.acdm_milestones.specs.declared.deicing.DeicingTime.TheVariants.{ActualEnd}
+use Rattle.acdm_milestones.specs.Deicing.{deicing_name}
+use Rattle.bpf_regstate.specs.declared.length.Length.{Length}
+use Rattle.bpf_regstate.specs.declared.length.Length.TheVariants.{L128, L160}
+use Rattle.acdm_journal.specs.Text.{length_words}
 
 -- ---- a word
 
@@ -60,6 +69,13 @@ role_short AirTrafficControl = by_count (codes "ATC") refl
 role_short AirportOperator = by_count (codes "APT") refl
 role_short AircraftOperator = by_count (codes "AO") refl
 role_short GroundHandler = by_count (codes "GH") refl
+role_short DeicingCompany = by_count (codes "DIC") refl
+
+deicing_short : (d : DeicingTime) → Short (deicing_name d)
+deicing_short EstimatedCommencement = by_count (codes "eczt") refl
+deicing_short EstimatedEnd = by_count (codes "eezt") refl
+deicing_short ActualCommencement = by_count (codes "aczt") refl
+deicing_short ActualEnd = by_count (codes "aezt") refl
 
 kind_short : (k : kinds.Kind) → Short (kind_name k)
 kind_short Tobt = by_count (codes "tobt") refl
@@ -153,6 +169,17 @@ plain_within (commands.Flight (Schedule s)) plain l =
     ) in
     omega (arith, spaced_within words short)
 plain_within (commands.Flight (Report r)) plain l = report_within r l.flight l.time l.plan
+plain_within (commands.Flight (Deice d)) plain l =
+    omega (
+      arith,
+      spaced_within (command_words (commands.Flight (Deice d))) (
+        by_count (codes "deice") refl,
+        (
+          decimal_short d.flight l.1,
+          (deicing_short d.which, (decimal_short d.time (omega (arith, l.2)), tt)),
+        ),
+      ),
+    )
 plain_within (commands.Load l) plain is = absurd (cc)
 plain_within (commands.Unload u) plain is =
     omega (
@@ -164,6 +191,8 @@ plain_within (commands.Unload u) plain is =
     )
 plain_within commands.Tick plain is =
     omega (arith, spaced_within (codes "tick" ∷ []) (by_count (codes "tick") refl, tt))
+plain_within commands.Migrate plain is =
+    omega (arith, spaced_within (codes "migrate" ∷ []) (by_count (codes "migrate") refl, tt))
 plain_within (commands.Show f) plain is =
     omega (
       arith,
@@ -175,20 +204,28 @@ plain_within (commands.Show f) plain is =
 plain_within commands.Alerts plain is =
     omega (arith, spaced_within (codes "alerts" ∷ []) (by_count (codes "alerts") refl, tt))
 
-pub load_within : (m : Milestone) (k : kinds.Kind) (bytes : List ℕ) → length bytes ≤ 32768
-    → length (spaced (load_words m k bytes)) ≤ 65600
-load_within m k bytes most =
+length_short : (l : Length) → length (spaced (length_words l)) ≤ 4
+length_short L128 = leb-true 0 4 refl
+length_short L160 = leb-true 4 4 refl
+
+pub load_within : (m : Milestone) (k : kinds.Kind) (bytes : List ℕ) (l : Length)
+    → length bytes ≤ 32768 → length (spaced (load_words m k bytes l)) ≤ 65604
+load_within m k bytes l most =
     let front : List (List ℕ) = codes "load" ∷ decimal (number m) ∷ kind_name k ∷ [] in
     let short : AllShort front = (
       by_count (codes "load") refl,
       (milestone_short m, (kind_short k, tt)),
     ) in
     let program : List (List ℕ) = encode_lower bytes ∷ [] in
+    let rest : List (List ℕ) = length_words l in
     omega (
       arith,
-      ap length (spaced-append front program),
+      ap length (spaced-append front (program ++ rest)),
       spaced_within front short,
-      length-append (spaced front) (spaced program),
+      length-append (spaced front) (spaced (program ++ rest)),
+      ap length (spaced-append program rest),
+      length-append (spaced program) (spaced rest),
+      length_short l,
       length-append (32 ∷ encode_lower bytes) (spaced []),
       two_digits bytes,
     )

@@ -99,7 +99,8 @@ module _ (sigs : List (ℕ × Promise)) (J : History) (line : List ℕ) (s : Sta
 
   plain_needs : (p : Command) → s.asked ≡ Plain p → is_load p ≡ false
       → IsTrue (needs_memory sigs J s.role p) → JudgingNeedsMemory J line
-  plain_needs commands.Alerts e plain needs = inr (s, next, e)
+  plain_needs commands.Alerts e plain needs = inr (s, next, inl e)
+  plain_needs commands.Migrate e plain needs = inr (s, next, inr e)
   plain_needs (commands.Load l) e plain needs = absurd (cc)
   plain_needs (commands.Flight f) e plain needs = absurd (cc)
   plain_needs (commands.Unload u) e plain needs = absurd (cc)

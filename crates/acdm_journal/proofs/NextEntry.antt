@@ -29,7 +29,12 @@ asked_is : (sigs : List (ℕ × Promise)) (a : Asked) (c : Command) → IsAsked 
 asked_is sigs (Plain p) c is e = ap asked_in e ∙ plain_is p is.0
 asked_is sigs (Load l) c is e =
     ap asked_in e.3
-    ∙ ap (λ bytes. Load record { milestone = l.milestone; kind = l.kind; program = bytes })
+    ∙ ap (λ bytes. Load record {
+      milestone = l.milestone;
+      kind = l.kind;
+      program = bytes;
+      record_length = l.record_length;
+    })
     (sym e.1.bytes_are)
 
 plain_checked : (sigs : List (ℕ × Promise)) (c : Command) → is_load c ≡ false → IsChecked sigs c
@@ -39,7 +44,7 @@ plain_checked sigs _ h = tt
 checked_is : (sigs : List (ℕ × Promise)) (a : Asked) (c : Command) → IsAsked a
     → IsCommandOf sigs a c → IsChecked sigs c
 checked_is sigs (Plain p) c is e = subst (λ x. IsChecked sigs x) (sym e) (plain_checked sigs p is.0)
-checked_is sigs (Load l) c is e = subst (λ x. IsChecked sigs x) (sym e.3) (refl, refl, e.2)
+checked_is sigs (Load l) c is e = subst (λ x. IsChecked sigs x) (sym e.3) (refl, e.2)
 
 module _ (sigs : List (ℕ × Promise)) (J : History) (line : List ℕ) (s : Stated)
     (legal : IsLegal sigs J) (short : length line ≤ LONGEST_LINE)

@@ -16,13 +16,13 @@ use Rattle.acdm_record.specs.Fields.{is_text, is_text_byte}
 use Rattle.acdm_milestones.specs.declared.role.Role.{Role}
 use Rattle.acdm_milestones.specs.declared.role.Role.TheVariants.{NetworkManager, AirTrafficControl}
 use Rattle.acdm_milestones.specs.declared.role.Role.TheVariants.{AirportOperator, AircraftOperator}
-use Rattle.acdm_milestones.specs.declared.role.Role.TheVariants.{GroundHandler}
+use Rattle.acdm_milestones.specs.declared.role.Role.TheVariants.{GroundHandler, DeicingCompany}
 use Rattle.acdm_milestones.specs.Tables.{number}
 use Rattle.acdm_slots.specs.declared.kind.Kind as kinds
 use Rattle.acdm_slots.specs.declared.kind.Kind.TheVariants.{Tobt, Alert}
 use Rattle.acdm_step.specs.declared.command.Plan.{Plan}
 use Rattle.acdm_step.specs.declared.command.Command.TheVariants as commands
-use Rattle.acdm_step.specs.declared.command.FlightCommand.TheVariants.{Schedule, Report}
+use Rattle.acdm_step.specs.declared.command.FlightCommand.TheVariants.{Schedule, Report, Deice}
 use Rattle.acdm_journal.specs.declared.stated.Stated.{Stated}
 use Rattle.acdm_journal.specs.declared.stated.Asked.{Asked}
 use Rattle.acdm_journal.specs.declared.stated.Asked.TheVariants.{Plain, Load}
@@ -34,6 +34,15 @@ use Rattle.acdm_journal.proofs.Parts.{is_numbered}
 use Rattle.acdm_journal.proofs.Splitting.{Lacks, AllLack}
 use Rattle.acdm_milestones.specs.Names.{role_name}
 use Rattle.acdm_slots.specs.Names.{kind_name}
+use Rattle.acdm_milestones.specs.declared.deicing.DeicingTime.{DeicingTime}
+use Rattle.acdm_milestones.specs.declared.deicing.DeicingTime.TheVariants.{EstimatedCommencement}
+use Rattle.acdm_milestones.specs.declared.deicing.DeicingTime.TheVariants.{EstimatedEnd}
+use Rattle.acdm_milestones.specs.declared.deicing.DeicingTime.TheVariants.{ActualCommencement}
+use Rattle.acdm_milestones.specs.declared.deicing.DeicingTime.TheVariants.{ActualEnd}
+use Rattle.acdm_milestones.specs.Deicing.{deicing_name}
+use Rattle.bpf_regstate.specs.declared.length.Length.{Length}
+use Rattle.bpf_regstate.specs.declared.length.Length.TheVariants.{L128, L160}
+use Rattle.acdm_journal.specs.Text.{length_words}
 
 -- ---- a word
 
@@ -58,6 +67,17 @@ role_lacks AirTrafficControl = by_test (codes "ATC") refl
 role_lacks AirportOperator = by_test (codes "APT") refl
 role_lacks AircraftOperator = by_test (codes "AO") refl
 role_lacks GroundHandler = by_test (codes "GH") refl
+role_lacks DeicingCompany = by_test (codes "DIC") refl
+
+deicing_lacks : (d : DeicingTime) → Lacks (deicing_name d)
+deicing_lacks EstimatedCommencement = by_test (codes "eczt") refl
+deicing_lacks EstimatedEnd = by_test (codes "eezt") refl
+deicing_lacks ActualCommencement = by_test (codes "aczt") refl
+deicing_lacks ActualEnd = by_test (codes "aezt") refl
+
+length_lacks : (l : Length) → AllLack (length_words l)
+length_lacks L128 = tt
+length_lacks L160 = (by_test (codes "160") refl, tt)
 
 kind_lacks : (k : kinds.Kind) → Lacks (kind_name k)
 kind_lacks Tobt = by_test (codes "tobt") refl
@@ -136,6 +156,13 @@ asked_lacks (Plain (commands.Flight (Report r))) is =
         ),
       ),
     )
+asked_lacks (Plain (commands.Flight (Deice d))) is = (
+  by_test (codes "deice") refl,
+  (
+    decimal-lacks d.flight is.1.1,
+    (deicing_lacks d.which, (decimal-lacks d.time (omega (arith, is.1.2)), tt)),
+  ),
+)
 asked_lacks (Plain (commands.Load l)) is = absurd (cc is.0)
 asked_lacks (Plain (commands.Unload u)) is =
     let n = is_numbered u.milestone in (
@@ -143,6 +170,7 @@ asked_lacks (Plain (commands.Unload u)) is =
       (decimal-lacks (number u.milestone) (omega (arith, n.most)), (kind_lacks u.kind, tt)),
     )
 asked_lacks (Plain commands.Tick) is = (by_test (codes "tick") refl, tt)
+asked_lacks (Plain commands.Migrate) is = (by_test (codes "migrate") refl, tt)
 asked_lacks (Plain (commands.Show f)) is =
     (by_test (codes "show") refl, (decimal-lacks f is.1.1, tt))
 asked_lacks (Plain commands.Alerts) is = (by_test (codes "alerts") refl, tt)
@@ -151,7 +179,7 @@ asked_lacks (Load l) is =
       by_test (codes "load") refl,
       (
         decimal-lacks (number l.milestone) (omega (arith, n.most)),
-        (kind_lacks l.kind, (bytes_lack l.program is, tt)),
+        (kind_lacks l.kind, (bytes_lack l.program is, length_lacks l.record_length)),
       ),
     )
 

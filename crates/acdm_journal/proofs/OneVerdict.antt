@@ -3,7 +3,6 @@ use Rattle.std.proofs.Common.{◌≡◌, ℕ, List, sym, ap, subst, ◌∙◌}
 use Rattle.bpf_decode.proofs.OnceLemmas.{one_program}
 use Rattle.bpf_decode.specs.declared.op.Op.{Op}
 use Rattle.bpf_helpers.specs.Promise.{Promise}
-use Rattle.bpf_regstate.specs.declared.length.Length.TheVariants.{L128}
 use Rattle.acdm_step.specs.declared.command.Command.{Command}
 use Rattle.acdm_step.specs.declared.command.Command.TheVariants as commands
 use Rattle.acdm_step.specs.Commands.{History, is_accepted}
@@ -27,7 +26,7 @@ one_command sigs (Load l) c d e f =
     ∙ ap (λ (ops : List Op). commands.Load record {
       milestone = l.milestone;
       kind = l.kind;
-      program = record { record_length = L128; ops = ops; sigs = sigs };
+      program = record { record_length = l.record_length; ops = ops; sigs = sigs };
     }) same
     ∙ sym f.3
 

@@ -1,7 +1,7 @@
 -- The parts of a line: each is read as what it is written for, and only that is read so.
 use Rattle.std.proofs.Common.{◌≡◌, ℕ, zero, suc, ◌^◌, ◌<◌, ◌≤◌, Bool, true, false, cond, List, []}
 use Rattle.std.proofs.Common.{◌∷◌, codes, Option, Some, None, Result, Ok, Err, refl, sym, ap, subst}
-use Rattle.std.proofs.Common.{◌∙◌, arith, inl, inr, ◌⊎◌}
+use Rattle.std.proofs.Common.{◌∙◌, ◌++◌, append-nil, arith, inl, inr, ◌⊎◌}
 use Rattle.std.specs.Prelude.{find, ◌==◌}
 use Rattle.std.specs.Fmt.{decimal}
 use Rattle.std.specs.Str.{bytes_eq}
@@ -17,7 +17,7 @@ use Rattle.acdm_record.specs.Texts.{text_from}
 use Rattle.acdm_milestones.specs.declared.role.Role.{Role}
 use Rattle.acdm_milestones.specs.declared.role.Role.TheVariants.{NetworkManager, AirTrafficControl}
 use Rattle.acdm_milestones.specs.declared.role.Role.TheVariants.{AirportOperator, AircraftOperator}
-use Rattle.acdm_milestones.specs.declared.role.Role.TheVariants.{GroundHandler}
+use Rattle.acdm_milestones.specs.declared.role.Role.TheVariants.{GroundHandler, DeicingCompany}
 use Rattle.acdm_milestones.specs.declared.milestone.Milestone.{Milestone}
 use Rattle.acdm_milestones.specs.declared.milestone.Milestone.TheVariants as m
 use Rattle.acdm_milestones.specs.Tables.{number, milestone_numbered, milestones}
@@ -25,10 +25,19 @@ use Rattle.acdm_slots.specs.declared.kind.Kind as kinds
 use Rattle.acdm_slots.specs.declared.kind.Kind.TheVariants.{Tobt, Alert}
 use Rattle.acdm_journal.specs.Ranges.{IsText, IsByte}
 use Rattle.acdm_journal.specs.Reading.{Words, ◌>>=◌, word_at, within, natural_of, number_at}
-use Rattle.acdm_journal.specs.Reading.{text_at, role_at, kind_at}
+use Rattle.acdm_journal.specs.Reading.{text_at, role_at, kind_at, deicing_at, length_at}
 use Rattle.acdm_journal.specs.Reading.{milestone_at, bytes_read, bytes_of, bytes_at}
 use Rattle.acdm_journal.proofs.Numbers.{natural_of-decimal, decimal-natural_of}
 use Rattle.acdm_milestones.specs.Names.{role_name, role_named}
+use Rattle.acdm_milestones.specs.declared.deicing.DeicingTime.{DeicingTime}
+use Rattle.acdm_milestones.specs.declared.deicing.DeicingTime.TheVariants.{EstimatedCommencement}
+use Rattle.acdm_milestones.specs.declared.deicing.DeicingTime.TheVariants.{EstimatedEnd}
+use Rattle.acdm_milestones.specs.declared.deicing.DeicingTime.TheVariants.{ActualCommencement}
+use Rattle.acdm_milestones.specs.declared.deicing.DeicingTime.TheVariants.{ActualEnd}
+use Rattle.acdm_milestones.specs.Deicing.{deicing_name, deicing_named}
+use Rattle.bpf_regstate.specs.declared.length.Length.{Length}
+use Rattle.bpf_regstate.specs.declared.length.Length.TheVariants.{L128, L160}
+use Rattle.acdm_journal.specs.Text.{length_words}
 use Rattle.acdm_slots.specs.Names.{kind_name, kind_named}
 
 -- ---- steps that may fail
@@ -134,6 +143,7 @@ role_named-is AirTrafficControl = refl
 role_named-is AirportOperator = refl
 role_named-is AircraftOperator = refl
 role_named-is GroundHandler = refl
+role_named-is DeicingCompany = refl
 
 is_role : (w : List ℕ) (a r : Role) → bytes_eq w (role_name a) ≡ true → Some a ≡ Some r
     → w ≡ role_name r
@@ -151,7 +161,10 @@ role_named-back w r h =
             | inl p ↦ is_role w AircraftOperator r p.0 p.1
             | inr p ↦ elim (if_some (bytes_eq w (codes "GH")) _ _ r p.1) [
               | inl p ↦ is_role w GroundHandler r p.0 p.1
-              | inr p ↦ absurd (cc p.1)
+              | inr p ↦ elim (if_some (bytes_eq w (codes "DIC")) _ _ r p.1) [
+                | inl p ↦ is_role w DeicingCompany r p.0 p.1
+                | inr p ↦ absurd (cc p.1)
+              ]
             ]
           ]
         ]
@@ -205,6 +218,74 @@ kind_at-back ws k left h =
     word_at-back ws w.0.0 w.0.1 w.1
     ∙ ap (λ x. x ∷ w.0.1) (kind_named-back w.0.0 u.0 u.1 ∙ ap kind_name same.0)
     ∙ ap (λ (l : Words). kind_name k ∷ l) same.1
+
+-- ---- times of de-icing
+
+deicing_named-is : (d : DeicingTime) → deicing_named (deicing_name d) ≡ Some d
+deicing_named-is EstimatedCommencement = refl
+deicing_named-is EstimatedEnd = refl
+deicing_named-is ActualCommencement = refl
+deicing_named-is ActualEnd = refl
+
+is_deicing : (w : List ℕ) (a d : DeicingTime) → bytes_eq w (deicing_name a) ≡ true
+    → Some a ≡ Some d → w ≡ deicing_name d
+is_deicing w a d e s = named w (deicing_name a) e ∙ ap deicing_name (same_Some a d s)
+
+deicing_named-back : (w : List ℕ) (d : DeicingTime) → deicing_named w ≡ Some d
+    → w ≡ deicing_name d
+deicing_named-back w d h =
+    elim (if_some (bytes_eq w (codes "eczt")) _ _ d h) [
+      | inl p ↦ is_deicing w EstimatedCommencement d p.0 p.1
+      | inr p ↦ elim (if_some (bytes_eq w (codes "eezt")) _ _ d p.1) [
+        | inl p ↦ is_deicing w EstimatedEnd d p.0 p.1
+        | inr p ↦ elim (if_some (bytes_eq w (codes "aczt")) _ _ d p.1) [
+          | inl p ↦ is_deicing w ActualCommencement d p.0 p.1
+          | inr p ↦ elim (if_some (bytes_eq w (codes "aezt")) _ _ d p.1) [
+            | inl p ↦ is_deicing w ActualEnd d p.0 p.1
+            | inr p ↦ absurd (cc p.1)
+          ]
+        ]
+      ]
+    ]
+
+pub deicing_at-is : (d : DeicingTime) (ws : Words) → deicing_at (deicing_name d ∷ ws) ≡ Some (d, ws)
+unfolding deicing_at
+deicing_at-is d ws = bind_is (deicing_named (deicing_name d)) _ d (deicing_named-is d)
+
+pub deicing_at-back : (ws : Words) (d : DeicingTime) (left : Words) → deicing_at ws ≡ Some (d, left)
+    → ws ≡ deicing_name d ∷ left
+unfolding deicing_at
+deicing_at-back ws d left h =
+    let w = bind_some (word_at ws) _ (d, left) h in
+    let u = bind_some (deicing_named w.0.0) _ (d, left) w.2 in
+    let same = some_pair_parts u.0 d w.0.1 left u.2 in
+    word_at-back ws w.0.0 w.0.1 w.1
+    ∙ ap (λ x. x ∷ w.0.1) (deicing_named-back w.0.0 u.0 u.1 ∙ ap deicing_name same.0)
+    ∙ ap (λ (l : Words). deicing_name d ∷ l) same.1
+
+-- ---- lengths
+
+pub length_at-is : (l : Length) → length_at (length_words l) ≡ Some (l, [])
+unfolding length_at
+length_at-is L128 = refl
+length_at-is L160 = refl
+
+pub length_at-back : (ws : Words) (l : Length) (left : Words) → length_at ws ≡ Some (l, left)
+    → ws ≡ length_words l ++ left
+unfolding length_at
+length_at-back [] l left h =
+    let same = some_pair_parts L128 l [] left h in
+    ap (λ (n : Length). length_words n) same.0 ∙ sym (append-nil (length_words l))
+    ∙ ap (λ (r : Words). length_words l ++ r) same.1
+length_at-back (w ∷ ws) l left h =
+    elim (if_some (bytes_eq w (codes "160")) _ _ (l, left) h) [
+      | inl p ↦
+          let same = some_pair_parts L160 l ws left p.1 in
+          ap (λ x. x ∷ ws) (named w (codes "160") p.0)
+          ∙ ap (λ (n : Length). length_words n ++ ws) same.0
+          ∙ ap (λ (r : Words). length_words l ++ r) same.1
+      | inr p ↦ absurd (cc p.1)
+    ]
 
 -- ---- milestones
 

@@ -1,7 +1,7 @@
 -- A line that may stand is read as what it states, and no other line is read.
 use Rattle.std.proofs.Common.{◌≡◌, ℕ, zero, suc, ◌≤◌, true, false, List, [], ◌∷◌, ◌++◌, length, map}
 use Rattle.std.proofs.Common.{codes, Option, Some, None, refl, sym, ap, subst, ◌∙◌, arith, inl, inr}
-use Rattle.std.proofs.Common.{append_assoc, append-nil, ◌<◌, ◌-◌}
+use Rattle.std.proofs.Common.{append_assoc, append-nil, ◌<◌, ◌-◌, ◌^◌}
 use Rattle.std.specs.Fmt.{decimal}
 use Rattle.std.specs.Str.{bytes_eq}
 use Rattle.std.specs.List.{AllByRecursion}
@@ -16,7 +16,8 @@ use Rattle.acdm_step.specs.declared.command.TheConstants.{MINUTES_OF_DAY}
 use Rattle.acdm_step.specs.declared.command.Plan.{Plan}
 use Rattle.acdm_step.specs.declared.command.Command.{Command}
 use Rattle.acdm_step.specs.declared.command.Command.TheVariants as commands
-use Rattle.acdm_step.specs.declared.command.FlightCommand.TheVariants.{Schedule, Report}
+use Rattle.acdm_step.specs.declared.command.FlightCommand.TheVariants.{Schedule, Report, Deice}
+use Rattle.acdm_step.specs.declared.command.Deice.{Deice as DeiceLine}
 use Rattle.acdm_step.specs.Commands.{is_load}
 use Rattle.acdm_journal.specs.declared.stated.Stated.{Stated}
 use Rattle.acdm_journal.specs.declared.stated.LoadLine.{LoadLine}
@@ -24,18 +25,21 @@ use Rattle.acdm_journal.specs.declared.stated.Asked.{Asked}
 use Rattle.acdm_journal.specs.declared.stated.Asked.TheVariants.{Plain, Load}
 use Rattle.acdm_journal.specs.Text.{plan_words, plan_words_of, schedule_words, report_words}
 use Rattle.acdm_journal.specs.Text.{load_words, command_words, asked_words, answer_words}
-use Rattle.acdm_journal.specs.Text.{line_words}
+use Rattle.acdm_journal.specs.Text.{line_words, deice_words}
+use Rattle.acdm_milestones.specs.Deicing.{deicing_name}
+use Rattle.hex.specs.Hex.{encode_lower}
 use Rattle.acdm_journal.specs.Ranges.{IsPlan, IsPlanOf, IsWord, IsByte, IsScheduleLine}
 use Rattle.acdm_journal.specs.Ranges.{IsReportLine, IsCommandLine, IsAsked, IsStated}
 use Rattle.acdm_journal.specs.Reading.{Words, most_word, most_minute, word_at, number_at, text_at}
 use Rattle.acdm_journal.specs.Reading.{role_at, kind_at, milestone_at, bytes_at, plan_at, plan_for}
 use Rattle.acdm_journal.specs.Reading.{least_time, schedule_at, report_at, load_at, unload_at}
 use Rattle.acdm_journal.specs.Reading.{show_at, command_named, asked_at, answers_from, answers_at}
-use Rattle.acdm_journal.specs.Reading.{stated_at}
+use Rattle.acdm_journal.specs.Reading.{stated_at, deicing_at, deice_at, length_at}
 use Rattle.acdm_journal.proofs.Parts.{bind_some, bind_is, given, word_at-back, number_at-is}
 use Rattle.acdm_journal.proofs.Parts.{number_at-back, text_at-is, text_at-back, role_at-is}
 use Rattle.acdm_journal.proofs.Parts.{role_at-back, kind_at-is, kind_at-back, milestone_at-is}
 use Rattle.acdm_journal.proofs.Parts.{milestone_at-back, bytes_at-is, bytes_at-back, if_some}
+use Rattle.acdm_journal.proofs.Parts.{deicing_at-is, deicing_at-back, length_at-is, length_at-back}
 use Rattle.acdm_milestones.specs.Names.{role_name}
 use Rattle.acdm_slots.specs.Names.{kind_name}
 
@@ -222,13 +226,40 @@ report_at-back ws a left h =
       );
     })
 
+deice_at-is : (d : DeiceLine) → (1 ≤ d.flight) × IsWord d.flight × (d.time < 2 ^ 32)
+    → asked_at (deice_words d) ≡ Some (Plain (commands.Flight (Deice d)), [])
+unfolding asked_at command_named deice_at
+deice_at-is d is =
+    bind_is _ _ _ (number_at-is 1 most_word d.flight _ is.0 (omega (arith, is.1)) is.1)
+    ∙ bind_is _ _ _ (deicing_at-is d.which _)
+    ∙ bind_is _ _ _ (number_at-is 0 most_minute d.time [] (omega arith) (omega (arith, is.2))
+    (omega (arith, is.2)))
+
+deice_at-back : (ws : Words) (a : Asked) (left : Words) → deice_at ws ≡ Some (a, left)
+    → ReadsAsked (codes "deice" ∷ ws) a left
+unfolding deice_at
+deice_at-back ws a left h =
+    let flight = bind_some (number_at 1 most_word ws) _ (a, left) h in
+    let which = bind_some (deicing_at flight.0.1) _ (a, left) flight.2 in
+    let time = bind_some (number_at 0 most_minute which.0.1) _ (a, left) which.2 in
+    let f = number_at-back 1 most_word ws _ _ (omega arith) flight.1 in
+    let t = number_at-back 0 most_minute which.0.1 _ _ (omega arith) time.1 in
+    given (ReadsAsked (codes "deice" ∷ ws)) _ a _ left time.2 (record {
+      words = ap (λ (l : Words). codes "deice" ∷ l) (f.word
+          ∙ ap (λ (l : Words). decimal flight.0.0 ∷ l)
+          (deicing_at-back flight.0.1 which.0.0 which.0.1 which.1
+          ∙ ap (λ (l : Words). deicing_name which.0.0 ∷ l) t.word));
+      is = (refl, (f.least, omega (arith, f.most), omega (arith, t.most)));
+    })
+
 load_at-is : (l : LoadLine) → AllByRecursion IsByte l.program
-    → asked_at (load_words l.milestone l.kind l.program) ≡ Some (Load l, [])
+    → asked_at (load_words l.milestone l.kind l.program l.record_length) ≡ Some (Load l, [])
 unfolding asked_at command_named load_at
 load_at-is l is =
     bind_is _ _ _ (milestone_at-is l.milestone _)
     ∙ bind_is _ _ _ (kind_at-is l.kind _)
-    ∙ bind_is _ _ _ (bytes_at-is l.program [] is)
+    ∙ bind_is _ _ _ (bytes_at-is l.program _ is)
+    ∙ bind_is _ _ _ (length_at-is l.record_length)
 
 load_at-back : (ws : Words) (a : Asked) (left : Words) → load_at ws ≡ Some (a, left)
     → ReadsAsked (codes "load" ∷ ws) a left
@@ -237,12 +268,15 @@ load_at-back ws a left h =
     let ms = bind_some (milestone_at ws) _ (a, left) h in
     let kind = bind_some (kind_at ms.0.1) _ (a, left) ms.2 in
     let program = bind_some (bytes_at kind.0.1) _ (a, left) kind.2 in
+    let long = bind_some (length_at program.0.1) _ (a, left) program.2 in
     let b = bytes_at-back kind.0.1 program.0.0 program.0.1 program.1 in
-    given (ReadsAsked (codes "load" ∷ ws)) _ a _ left program.2 (record {
+    given (ReadsAsked (codes "load" ∷ ws)) _ a _ left long.2 (record {
       words = ap (λ (l : Words). codes "load" ∷ l) (milestone_at-back ws ms.0.0 ms.0.1 ms.1
           ∙ ap (λ (l : Words). decimal (number ms.0.0) ∷ l)
           (kind_at-back ms.0.1 kind.0.0 kind.0.1 kind.1
-          ∙ ap (λ (l : Words). kind_name kind.0.0 ∷ l) b.0));
+          ∙ ap (λ (l : Words). kind_name kind.0.0 ∷ l) (b.0
+          ∙ ap (λ (l : Words). encode_lower program.0.0 ∷ l)
+          (length_at-back program.0.1 long.0.0 long.0.1 long.1))));
       is = b.1;
     })
 
@@ -274,10 +308,12 @@ pub asked_at-is : (a : Asked) → IsAsked a → asked_at (asked_words a) ≡ Som
 unfolding asked_at command_named unload_at show_at
 asked_at-is (Plain (commands.Flight (Schedule s))) is = schedule_at-is s is.1
 asked_at-is (Plain (commands.Flight (Report r))) is = report_at-is r is.1
+asked_at-is (Plain (commands.Flight (Deice d))) is = deice_at-is d is.1
 asked_at-is (Plain (commands.Load l)) is = absurd (cc is.0)
 asked_at-is (Plain (commands.Unload u)) is =
     bind_is _ _ _ (milestone_at-is u.milestone _) ∙ bind_is _ _ _ (kind_at-is u.kind [])
 asked_at-is (Plain commands.Tick) is = refl
+asked_at-is (Plain commands.Migrate) is = refl
 asked_at-is (Plain (commands.Show f)) is =
     bind_is _ _ _ (number_at-is 1 most_word f [] is.1.0 (omega (arith, is.1.1)) is.1.1)
 asked_at-is (Plain commands.Alerts) is = refl
@@ -324,7 +360,15 @@ command_named-back w ws a left h =
                   | inl p ↦ begins (λ v. Some (Plain commands.Alerts, v)) (codes "alerts")
                       (λ v b l e. alone_named commands.Alerts (refl, tt) v b l e _ refl) w ws a left
                       p.0 p.1
-                  | inr p ↦ absurd (cc p.1)
+                  | inr p ↦ elim (if_some (bytes_eq w (codes "migrate")) _ _ (a, left) p.1) [
+                    | inl p ↦ begins (λ v. Some (Plain commands.Migrate, v)) (codes "migrate")
+                        (λ v b l e. alone_named commands.Migrate (refl, tt) v b l e _ refl) w ws a
+                        left p.0 p.1
+                    | inr p ↦ elim (if_some (bytes_eq w (codes "deice")) _ _ (a, left) p.1) [
+                      | inl p ↦ begins deice_at (codes "deice") deice_at-back w ws a left p.0 p.1
+                      | inr p ↦ absurd (cc p.1)
+                    ]
+                  ]
                 ]
               ]
             ]

@@ -39,6 +39,8 @@ refusal_small refusals.FullBoard = refl
 refusal_small refusals.EmptySlot = refl
 refusal_small refusals.OtherSignatures = refl
 refusal_small refusals.OtherLength = refl
+refusal_small refusals.AlreadyMigrated = refl
+refusal_small refusals.FirstLayout = refl
 refusal_small refusals.Unanswered = refl
 
 outcome_small : (v : Verdict) → IsWord (outcome_code v)
@@ -52,12 +54,12 @@ command_is : (sigs : List (ℕ × Promise)) (c : Command) → IsChecked sigs c �
 command_is sigs (commands.Load l) checked program = (
   l.program.ops,
   record { program = program; bytes_are = refl },
-  checked.2,
+  checked.1,
   λ i. commands.Load record {
     milestone = l.milestone;
     kind = l.kind;
     program = record {
-      record_length = checked.1 i;
+      record_length = l.program.record_length;
       ops = l.program.ops;
       sigs = checked.0 i;
     };
@@ -66,6 +68,7 @@ command_is sigs (commands.Load l) checked program = (
 command_is sigs (commands.Flight k) checked program = refl
 command_is sigs (commands.Unload u) checked program = refl
 command_is sigs commands.Tick checked program = refl
+command_is sigs commands.Migrate checked program = refl
 command_is sigs (commands.Show f) checked program = refl
 command_is sigs commands.Alerts checked program = refl
 
@@ -99,8 +102,9 @@ module _ (sigs : List (ℕ × Promise)) (J : History) (role : Role) (moment : �
       let none : length answers ≡ 0 =
       ap length (load_unanswered sigs J role moment verdict answers l is) in
       record {
-        most = 65600;
-        asked = load_within l.milestone l.kind (encoding l.program.ops) bytes;
+        most = 65604;
+        asked = load_within l.milestone l.kind (encoding l.program.ops) l.program.record_length
+            bytes;
         few = omega (arith, none);
       }
   within (commands.Flight k) is program asked =
@@ -109,6 +113,8 @@ module _ (sigs : List (ℕ × Promise)) (J : History) (role : Role) (moment : �
       plain (commands.Unload u) is (plain_within (commands.Unload u) asked.0 asked.1)
   within commands.Tick is program asked =
       plain commands.Tick is (plain_within commands.Tick asked.0 asked.1)
+  within commands.Migrate is program asked =
+      plain commands.Migrate is (plain_within commands.Migrate asked.0 asked.1)
   within (commands.Show f) is program asked =
       plain (commands.Show f) is (plain_within (commands.Show f) asked.0 asked.1)
   within commands.Alerts is program asked =

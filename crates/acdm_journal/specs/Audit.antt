@@ -4,7 +4,7 @@ use Rattle.std.specs.Prelude.{Result, Ok, Err}
 use Rattle.bpf_decode.specs.declared.op.Op.{Op}
 use Rattle.bpf_decode.specs.Encoding.{Encodes}
 use Rattle.bpf_helpers.specs.Promise.{Promise}
-use Rattle.bpf_regstate.specs.declared.length.Length.TheVariants.{L128}
+use Rattle.bpf_regstate.specs.declared.length.Length.{Length}
 use Rattle.bpf_regstate.specs.Lengths.{bytes_in}
 use Rattle.bpf_regstate.specs.States.{Accepts}
 use Rattle.bpf_verifier.specs.Verdict.{Verified}
@@ -39,15 +39,15 @@ clause_code clauses.Answers = 404
 clause_code clauses.Outcome = 405
 
 -- the command that is asked for; the program of a load is the one that its bytes encode, and no
--- slot of it has a fault beside a record of 128 bytes
+-- slot of it has a fault beside a record of the length that the load names
 abbrev pub IsCommandOf : List (ℕ × Promise) → Asked → Command → Type 0
 IsCommandOf sigs (Plain c) command = command ≡ c
 IsCommandOf sigs (Load l) command =
-    (ops : List Op) × Encodes l.program ops × Accepts (bytes_in L128) ops sigs
+    (ops : List Op) × Encodes l.program ops × Accepts (bytes_in l.record_length) ops sigs
     × (command ≡ commands.Load record {
       milestone = l.milestone;
       kind = l.kind;
-      program = record { record_length = L128; ops = ops; sigs = sigs };
+      program = record { record_length = l.record_length; ops = ops; sigs = sigs };
     })
 
 -- the answers are those that the programs of an accepted command use, and there are none where it
@@ -114,13 +114,15 @@ Judges sigs J line board (Err (Faulty clause)) = Breaks sigs J line clause
 -- ---- parts
 
 -- what comes of reading the bytes of a program
-abbrev pub GivesProgram : List (ℕ × Promise) → List ℕ → Result Verified AuditError → Type 0
-GivesProgram sigs bytes (Ok v) = Encodes bytes v.ops × Accepts (bytes_in L128) v.ops sigs
-    × (v.sigs ≡ sigs) × (v.record_length ≡ L128)
-GivesProgram sigs bytes (Err Memory) = Unit {0}
-GivesProgram sigs bytes (Err (Faulty clause)) =
+abbrev pub GivesProgram : List (ℕ × Promise) → List ℕ → Length → Result Verified AuditError
+    → Type 0
+GivesProgram sigs bytes record_length (Ok v) =
+    Encodes bytes v.ops × Accepts (bytes_in record_length) v.ops sigs × (v.sigs ≡ sigs)
+    × (v.record_length ≡ record_length)
+GivesProgram sigs bytes record_length (Err Memory) = Unit {0}
+GivesProgram sigs bytes record_length (Err (Faulty clause)) =
     (clause ≡ clauses.Program)
-    × ((ops : List Op) → Encodes bytes ops → Accepts (bytes_in L128) ops sigs → ⊥)
+    × ((ops : List Op) → Encodes bytes ops → Accepts (bytes_in record_length) ops sigs → ⊥)
 
 -- an oracle left a question without an answer
 abbrev pub lacks_answer : Verdict → Bool

@@ -3,7 +3,7 @@
 use Rattle.std.specs.Prelude.{ℕ, ◌%◌, ◌≡◌, Bool, true, false, ◌&&◌, ◌||◌, ◌==◌, nat_le, nat_lt, List}
 use Rattle.std.specs.Prelude.{length, codes, Option, Some, None, IsTrue, ◌⊎◌}
 use Rattle.std.specs.Str.{bytes_eq}
-use Rattle.acdm_step.specs.declared.command.Command.TheVariants.{Alerts}
+use Rattle.acdm_step.specs.declared.command.Command.TheVariants.{Alerts, Migrate}
 use Rattle.acdm_step.specs.Commands.{History}
 use Rattle.acdm_journal.specs.declared.stated.Stated.{Stated}
 use Rattle.acdm_journal.specs.declared.stated.Asked.{Asked}
@@ -71,8 +71,8 @@ abbrev pub is_load_line : Asked → Bool
 is_load_line (Plain c) = false
 is_load_line (Load l) = true
 
--- judging a line after a history: reading it, or the list of alerts that it asks for as the next
--- entry
+-- judging a line after a history: reading it, or as the next entry the list of alerts that it asks
+-- for, or the programs that a migrate judges again
 abbrev pub JudgingNeedsMemory : History → List ℕ → Type 0
 JudgingNeedsMemory J line = IsTrue (line_needs_memory line)
-    ⊎ ((s : Stated) × StatesNext J line s × (s.asked ≡ Plain Alerts))
+    ⊎ ((s : Stated) × StatesNext J line s × ((s.asked ≡ Plain Alerts) ⊎ (s.asked ≡ Plain Migrate)))

@@ -15,11 +15,15 @@ use Rattle.acdm_milestones.specs.declared.milestone.Milestone.TheVariants.{TwoHo
 use Rattle.acdm_milestones.specs.declared.milestone.Milestone.TheVariants.{TobtUpdate}
 use Rattle.acdm_milestones.specs.Tables.{milestone_numbered}
 use Rattle.acdm_milestones.specs.Names.{role_named}
+use Rattle.acdm_milestones.specs.declared.deicing.DeicingTime.{DeicingTime}
+use Rattle.acdm_milestones.specs.Deicing.{deicing_named}
+use Rattle.bpf_regstate.specs.declared.length.Length.{Length}
+use Rattle.bpf_regstate.specs.declared.length.Length.TheVariants.{L128, L160}
 use Rattle.acdm_slots.specs.declared.kind.Kind as kinds
 use Rattle.acdm_slots.specs.Names.{kind_named}
 use Rattle.acdm_step.specs.declared.command.Plan.{Plan}
 use Rattle.acdm_step.specs.declared.command.Command.TheVariants as commands
-use Rattle.acdm_step.specs.declared.command.FlightCommand.TheVariants.{Schedule, Report}
+use Rattle.acdm_step.specs.declared.command.FlightCommand.TheVariants.{Schedule, Report, Deice}
 use Rattle.acdm_journal.specs.declared.stated.Stated.{Stated}
 use Rattle.acdm_journal.specs.declared.stated.Asked.{Asked}
 use Rattle.acdm_journal.specs.declared.stated.Asked.TheVariants.{Plain, Load}
@@ -110,6 +114,12 @@ kind_at ws = do
   k ← kind_named w.0
   Some (k, w.1)
 
+unfoldable pub deicing_at : Words → Option (DeicingTime × Words)
+deicing_at ws = do
+  w ← word_at ws
+  d ← deicing_named w.0
+  Some (d, w.1)
+
 unfoldable pub milestone_at : Words → Option (Milestone × Words)
 milestone_at ws = do
   n ← number_at 1 16 ws
@@ -198,12 +208,40 @@ report_at ws = do
     plan.1,
   )
 
+unfoldable pub deice_at : Words → Option (Asked × Words)
+deice_at ws = do
+  flight ← number_at 1 most_word ws
+  which ← deicing_at flight.1
+  time ← number_at 0 most_minute which.1
+  Some (
+    Plain (commands.Flight (Deice record {
+      flight = flight.0;
+      which = which.0;
+      time = time.0;
+    })),
+    time.1,
+  )
+
+-- the length of records beside which a program was checked: 128 where nothing is told
+unfoldable pub length_at : Words → Option (Length × Words)
+length_at [] = Some (L128, [])
+length_at (w ∷ ws) = if bytes_eq w (codes "160") then Some (L160, ws) else None
+
 unfoldable pub load_at : Words → Option (Asked × Words)
 load_at ws = do
   milestone ← milestone_at ws
   kind ← kind_at milestone.1
   program ← bytes_at kind.1
-  Some (Load record { milestone = milestone.0; kind = kind.0; program = program.0 }, program.1)
+  record_length ← length_at program.1
+  Some (
+    Load record {
+      milestone = milestone.0;
+      kind = kind.0;
+      program = program.0;
+      record_length = record_length.0;
+    },
+    record_length.1,
+  )
 
 unfoldable pub unload_at : Words → Option (Asked × Words)
 unload_at ws = do
@@ -225,7 +263,9 @@ command_named name ws =
     else (if bytes_eq name (codes "unload") then unload_at ws
     else (if bytes_eq name (codes "tick") then Some (Plain commands.Tick, ws)
     else (if bytes_eq name (codes "show") then show_at ws
-    else (if bytes_eq name (codes "alerts") then Some (Plain commands.Alerts, ws) else None))))))
+    else (if bytes_eq name (codes "alerts") then Some (Plain commands.Alerts, ws)
+    else (if bytes_eq name (codes "migrate") then Some (Plain commands.Migrate, ws)
+    else (if bytes_eq name (codes "deice") then deice_at ws else None))))))))
 
 unfoldable pub asked_at : Words → Option (Asked × Words)
 asked_at ws = word_at ws >>= λ name. command_named name.0 name.1

@@ -7,6 +7,9 @@ use Rattle.acdm_milestones.specs.declared.milestone.Milestone.{Milestone}
 use Rattle.acdm_milestones.specs.Tables.{number}
 use Rattle.acdm_milestones.specs.Codes.{refusal_code}
 use Rattle.acdm_milestones.specs.Names.{role_name}
+use Rattle.acdm_milestones.specs.Deicing.{deicing_name}
+use Rattle.bpf_regstate.specs.declared.length.Length.{Length}
+use Rattle.bpf_regstate.specs.declared.length.Length.TheVariants.{L128, L160}
 use Rattle.bpf_decode.specs.Encoding.{encoding}
 use Rattle.acdm_slots.specs.declared.kind.Kind as kinds
 use Rattle.acdm_slots.specs.Names.{kind_name}
@@ -14,7 +17,9 @@ use Rattle.acdm_step.specs.Facts.{ScheduleFacts, ReportFacts}
 use Rattle.acdm_step.specs.declared.command.Plan.{Plan}
 use Rattle.acdm_step.specs.declared.command.Command.{Command}
 use Rattle.acdm_step.specs.declared.command.Command.TheVariants as commands
+use Rattle.acdm_step.specs.declared.command.Deice.{Deice}
 use Rattle.acdm_step.specs.declared.command.FlightCommand.TheVariants.{Schedule, Report}
+use Rattle.acdm_step.specs.declared.command.FlightCommand.TheVariants as commands_of_flight
 use Rattle.acdm_step.specs.declared.entry.Verdict.{Verdict}
 use Rattle.acdm_step.specs.declared.entry.Verdict.TheVariants.{Accepted, Refused}
 use Rattle.acdm_step.specs.declared.entry.Entry.{Entry}
@@ -54,18 +59,30 @@ report_words r =
     codes "report" ∷ decimal r.flight ∷ decimal (number r.milestone) ∷ decimal r.time
     ∷ plan_words_of r.plan
 
+-- a length is told where it is not that of layout 1
+abbrev pub length_words : Length → List (List ℕ)
+length_words L128 = []
+length_words L160 = codes "160" ∷ []
+
 -- a program is written as its bytes
-abbrev pub load_words : Milestone → kinds.Kind → List ℕ → List (List ℕ)
-load_words m kind bytes =
-    codes "load" ∷ decimal (number m) ∷ kind_name kind ∷ encode_lower bytes ∷ []
+abbrev pub load_words : Milestone → kinds.Kind → List ℕ → Length → List (List ℕ)
+load_words m kind bytes record_length =
+    codes "load" ∷ decimal (number m) ∷ kind_name kind ∷ encode_lower bytes
+    ∷ length_words record_length
+
+abbrev pub deice_words : Deice → List (List ℕ)
+deice_words d = codes "deice" ∷ decimal d.flight ∷ deicing_name d.which ∷ decimal d.time ∷ []
 
 abbrev pub command_words : Command → List (List ℕ)
 command_words (commands.Flight (Schedule s)) = schedule_words s
 command_words (commands.Flight (Report r)) = report_words r
-command_words (commands.Load l) = load_words l.milestone l.kind (encoding l.program.ops)
+command_words (commands.Flight (commands_of_flight.Deice d)) = deice_words d
+command_words (commands.Load l) =
+    load_words l.milestone l.kind (encoding l.program.ops) l.program.record_length
 command_words (commands.Unload u) =
     codes "unload" ∷ decimal (number u.milestone) ∷ kind_name u.kind ∷ []
 command_words commands.Tick = codes "tick" ∷ []
+command_words commands.Migrate = codes "migrate" ∷ []
 command_words (commands.Show f) = codes "show" ∷ decimal f ∷ []
 command_words commands.Alerts = codes "alerts" ∷ []
 
@@ -73,7 +90,7 @@ command_words commands.Alerts = codes "alerts" ∷ []
 
 abbrev pub asked_words : Asked → List (List ℕ)
 asked_words (Plain c) = command_words c
-asked_words (Load l) = load_words l.milestone l.kind l.program
+asked_words (Load l) = load_words l.milestone l.kind l.program l.record_length
 
 -- how many answers there are, and then each
 abbrev pub answer_words : List ℕ → List (List ℕ)
@@ -97,7 +114,12 @@ line_of s = join_with_byte 32 (line_words s)
 -- what is asked for, with a program as the bytes that encode it
 abbrev pub asked_in : Command → Asked
 asked_in (commands.Load l) =
-    Load record { milestone = l.milestone; kind = l.kind; program = encoding l.program.ops }
+    Load record {
+      milestone = l.milestone;
+      kind = l.kind;
+      program = encoding l.program.ops;
+      record_length = l.program.record_length;
+    }
 asked_in c = Plain c
 
 -- what the line of an entry states

@@ -1,5 +1,5 @@
 //! The text of an entry, and its writing.
-ghost use Rattle.std.specs.Prelude.{◌≡◌, ◌≤◌, ◌∷◌, ◌++◌, [], map, Err, OnOk, OnErr, IfOk};
+ghost use Rattle.std.specs.Prelude.{◌≡◌, ◌≤◌, ◌<◌, ◌^◌, ◌∷◌, ◌++◌, [], map, Err, OnOk, OnErr, IfOk};
 ghost use Rattle.std.specs.Fmt.{decimal};
 ghost use Rattle.std.specs.List.{AllByRecursion};
 ghost use Rattle.hex.specs.Hex.{encode_lower};
@@ -7,6 +7,7 @@ ghost use Rattle.bpf_decode.specs.Encoding.{IsProgram, encoding};
 ghost use Rattle.acdm_milestones.specs.Tables.{number as number_in};
 ghost use Rattle.acdm_journal.specs.Text.{outcome_code, plan_words};
 ghost use Rattle.acdm_journal.specs.Text.{plan_words_of, schedule_words, report_words, load_words};
+ghost use Rattle.acdm_journal.specs.Text.{deice_words, length_words};
 ghost use Rattle.acdm_journal.specs.Text.{command_words, answer_words, head_words, time_words};
 ghost use Rattle.acdm_journal.specs.Text.{asked_in, stated_in, entry_text};
 ghost use Rattle.acdm_journal.specs.Ranges.{IsWord, IsByte, IsPlan, AreTimes, IsScheduleLine};
@@ -17,8 +18,9 @@ ghost use Rattle.acdm_journal.specs.Written.{TookPart};
 use crate::writing::write_whole;
 use acdm_lines::Sink;
 use acdm_milestones::Milestone;
-use acdm_step::{Command, Entry, FlightCommand, Load, Plan, Report, Schedule, Verdict};
+use acdm_step::{Command, Deice, Entry, FlightCommand, Load, Plan, Report, Schedule, Verdict};
 use bpf_decode::encode;
+use bpf_regstate::Length;
 use itoa::Buffer;
 use std::alloc::{AllocError, Global};
 use std::io::Write;
@@ -127,7 +129,8 @@ fn push_bytes(text: &mut Vec<u8>, bytes: &[u8]) -> Result<(), AllocError>
 
 fn push_load(text: &mut Vec<u8>, load: &Load) -> Result<(), AllocError>
     ensures adds { OnOk result (text.new.items ≡ text.old.items ++ spaced (
-        load_words load.now.milestone load.now.kind (encoding load.now.program.ops))) }
+        load_words load.now.milestone load.now.kind (encoding load.now.program.ops)
+        load.now.program.record_length)) }
     ensures bytes { OnOk result (AllByRecursion IsByte (encoding load.now.program.ops)) }
     ensures program { OnOk result (IsProgram load.now.program.ops) }
 {
@@ -136,7 +139,30 @@ fn push_load(text: &mut Vec<u8>, load: &Load) -> Result<(), AllocError>
     push_word(text, b"load")?;
     push_milestone(text, load.milestone)?;
     push_word(text, load.kind.name().as_bytes())?;
-    push_bytes(text, bytes.as_slice())
+    push_bytes(text, bytes.as_slice())?;
+    push_length(text, load.program.record_length())
+}
+
+// The length of records beside which a program was checked, where it is not that of layout 1.
+fn push_length(text: &mut Vec<u8>, record_length: Length) -> Result<(), AllocError>
+    ensures { OnOk result (text.new.items
+        ≡ text.old.items ++ spaced (length_words record_length)) }
+{
+    match record_length {
+        Length::L128 => Ok(()),
+        Length::L160 => push_word(text, b"160"),
+    }
+}
+
+fn push_deice(text: &mut Vec<u8>, deice: &Deice) -> Result<(), AllocError>
+    ensures adds { OnOk result (text.new.items ≡ text.old.items ++ spaced (deice_words deice.now)) }
+    ensures ranges { OnOk result ((1 ≤ deice.now.flight) × IsWord deice.now.flight
+        × (deice.now.time < 2 ^ 32)) }
+{
+    push_word(text, b"deice")?;
+    push_number(text, deice.flight.get())?;
+    push_word(text, deice.which.name().as_bytes())?;
+    push_number(text, u64::from(deice.time))
 }
 
 fn push_command(text: &mut Vec<u8>, command: &Command) -> Result<(), AllocError>
@@ -148,6 +174,7 @@ fn push_command(text: &mut Vec<u8>, command: &Command) -> Result<(), AllocError>
     match command {
         Command::Flight(FlightCommand::Schedule(schedule)) => push_schedule(text, schedule),
         Command::Flight(FlightCommand::Report(report)) => push_report(text, report),
+        Command::Flight(FlightCommand::Deice(deice)) => push_deice(text, deice),
         Command::Load(load) => push_load(text, load),
         Command::Unload(unload) => {
             push_word(text, b"unload")?;
@@ -155,6 +182,7 @@ fn push_command(text: &mut Vec<u8>, command: &Command) -> Result<(), AllocError>
             push_word(text, unload.kind.name().as_bytes())
         }
         Command::Tick => push_word(text, b"tick"),
+        Command::Migrate => push_word(text, b"migrate"),
         Command::Show(flight) => {
             push_word(text, b"show")?;
             push_number(text, flight.get())

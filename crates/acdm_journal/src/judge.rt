@@ -14,7 +14,6 @@ use crate::stated::{Asked, LineError, LoadLine};
 use acdm_milestones::{Refusal, Role};
 use acdm_step::{Command, Core, Load, Prepared, Verdict};
 use bpf_helpers::{Logged, Sigs};
-use bpf_regstate::Length;
 use bpf_verifier::{Checked, ProgramError, read_program};
 use std::alloc::{AllocError, Global};
 
@@ -60,9 +59,9 @@ pub enum AuditError {
 
 // The program that the bytes of a load encode.
 fn program_of(alloc: Global, load: &LoadLine, sigs: &Sigs) -> Result<Checked, AuditError>
-    ensures { GivesProgram sigs.now load.now.program result }
+    ensures { GivesProgram sigs.now load.now.program load.now.record_length result }
 {
-    match read_program(alloc, load.program.as_slice(), sigs, Length::L128) {
+    match read_program(alloc, load.program.as_slice(), sigs, load.record_length) {
         Ok(checked) => Ok(checked),
         Err(ProgramError::Memory) => Err(AuditError::Memory),
         Err(ProgramError::Refused { .. }) => Err(AuditError::Faulty(Clause::Program)),
@@ -99,8 +98,8 @@ fn is_unanswered(verdict: Verdict) -> bool
 /// What would come of a command with these answers of helpers, as `Core::plan` answers it, and
 /// `None` where its programs use others. The answers of a helper that it may not give, answers left
 /// over and a missing one are others; a refused command uses none. The moment is in minutes since
-/// 1970-01-01T00:00Z. `Err` only where memory was refused, which is asked for for a load and for a
-/// list of alerts.
+/// 1970-01-01T00:00Z. `Err` only where memory was refused, which is asked for for a load, for a
+/// migrate and for a list of alerts.
 pub fn plan_with(
     core: &Core,
     role: Role,
@@ -113,6 +112,8 @@ pub fn plan_with(
         PlansWith sigs J role moment command.now answers.now p.outcome
         (after_change core.now p.change))) }
     ensures fits { IfOk result (λ o. IfSome o (λ p. Fits core.now p.change)) }
+    ensures sigs { IfOk result (λ o. IfSome o (λ p.
+        (after_change core.now p.change).slots.sigs ≡ core.now.slots.sigs)) }
     ensures misses { result ≡ Ok None → (sigs : List (ℕ × Promise)) (J : History) →
         IsLegal sigs J → core.now ≡ replay sigs J →
         UsesAnswers sigs J role moment command.now answers.now → ⊥ }
@@ -168,7 +169,7 @@ fn judge_command(
 /// `Faulty` with the first clause that the entry breaks, in the order of their numbers; the answers
 /// are judged by the outcome that the entries before it give, whatever the line says of it.
 /// `Memory` where there was no room, which is asked for to read the answers of a line or the
-/// program of a load, and for the list of alerts of an entry with the right number. After an error
+/// program of a load, and for the list of alerts or the migrate of an entry with the right number. After an error
 /// the board is of no use.
 pub fn judge_line(
     alloc: Global,

@@ -10,6 +10,7 @@ ghost use Rattle.acdm_journal.specs.Reading.{number_at, text_at};
 ghost use Rattle.acdm_journal.specs.Reading.{role_at, kind_at};
 ghost use Rattle.acdm_journal.specs.Reading.{milestone_at, bytes_at, plan_at, plan_for, least_time};
 ghost use Rattle.acdm_journal.specs.Reading.{schedule_at, report_at, load_at, unload_at, show_at};
+ghost use Rattle.acdm_journal.specs.Reading.{deicing_at, deice_at, length_at};
 ghost use Rattle.acdm_journal.specs.Reading.{command_named, asked_at, answers_at, stated_at};
 ghost use Rattle.acdm_journal.specs.Reading.{stated_of};
 ghost use Rattle.acdm_journal.specs.declared.stated.Stated.{Stated};
@@ -18,12 +19,14 @@ ghost use Rattle.acdm_journal.specs.Ranges.{IsStated};
 
 use crate::stated::{Asked, LineError, LoadLine, ProgramBytes, Stated};
 use crate::words::Words;
-use acdm_milestones::{Milestone, Role};
+use acdm_milestones::{DeicingTime, Milestone, Role};
 use acdm_record::Text;
 use acdm_slots::Kind;
 use acdm_step::{
-    Answers, Command, FlightCommand, FlightNumber, MINUTES_OF_DAY, Plan, Report, Schedule, Unload,
+    Answers, Command, Deice, FlightCommand, FlightNumber, MINUTES_OF_DAY, Plan, Report, Schedule,
+    Unload,
 };
+use bpf_regstate::Length;
 use hex::FromHexError;
 use std::alloc::Global;
 
@@ -215,6 +218,47 @@ fn report_in(words: &mut Words<'_>) -> Result<Asked, LineError>
     )))))
 }
 
+#[tactic(auto, unfolding(crate::specs::Reading::deicing_at))]
+fn deicing_in(words: &mut Words<'_>) -> Result<DeicingTime, LineError>
+    ensures { Reads result words.new (deicing_at words.old) }
+{
+    let word = words.next()?;
+    let Some(which) = DeicingTime::from_name(word) else {
+        return Err(LineError::Unreadable);
+    };
+    Ok(which)
+}
+
+#[tactic(auto, unfolding(crate::specs::Reading::deice_at))]
+fn deice_in(words: &mut Words<'_>) -> Result<Asked, LineError>
+    ensures { Reads result words.new (deice_at words.old) }
+{
+    let flight = number_in(words, 1, u64::MAX)?;
+    let which = deicing_in(words)?;
+    let time = number_in(words, 0, 4_294_967_295)?;
+    Ok(Asked::Plain(Command::Flight(FlightCommand::Deice(Deice {
+        flight: FlightNumber::new(flight),
+        which,
+        time: time as u32,
+    }))))
+}
+
+// The length of records beside which a program was checked, 128 bytes where nothing is told.
+#[tactic(auto, unfolding(crate::specs::Reading::length_at))]
+fn length_in(words: &mut Words<'_>) -> Result<Length, LineError>
+    ensures { Reads result words.new (length_at words.old) }
+{
+    if words.is_empty() {
+        return Ok(Length::L128);
+    }
+    let word = words.next()?;
+    if word == b"160".as_slice() {
+        Ok(Length::L160)
+    } else {
+        Err(LineError::Unreadable)
+    }
+}
+
 #[tactic(auto, unfolding(crate::specs::Reading::load_at, crate::specs::Memory::load_needs_memory))]
 fn load_in(alloc: Global, words: &mut Words<'_>) -> Result<Asked, LineError>
     ensures { Gives (load_needs_memory words.old) result words.new
@@ -223,10 +267,12 @@ fn load_in(alloc: Global, words: &mut Words<'_>) -> Result<Asked, LineError>
     let milestone = milestone_in(words)?;
     let kind = kind_in(words)?;
     let program = bytes_in(alloc, words)?;
+    let record_length = length_in(words)?;
     Ok(Asked::Load(LoadLine {
         milestone,
         kind,
         program,
+        record_length,
     }))
 }
 
@@ -267,6 +313,10 @@ fn command_of(alloc: Global, name: &[u8], words: &mut Words<'_>) -> Result<Asked
         show_in(words)
     } else if name == b"alerts".as_slice() {
         Ok(Asked::Plain(Command::Alerts))
+    } else if name == b"migrate".as_slice() {
+        Ok(Asked::Plain(Command::Migrate))
+    } else if name == b"deice".as_slice() {
+        deice_in(words)
     } else {
         Err(LineError::Unreadable)
     }

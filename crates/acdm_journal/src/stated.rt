@@ -4,6 +4,7 @@ ghost use Rattle.std.specs.Prelude.{◌≡◌};
 use acdm_milestones::{Milestone, Role};
 use acdm_slots::Kind;
 use acdm_step::{Answers, Command};
+use bpf_regstate::Length;
 use std::marker::Model;
 
 /// The bytes of a program that is loaded, whether they encode one or not.
@@ -43,6 +44,8 @@ pub struct LoadLine {
     pub milestone: Milestone,
     pub kind: Kind,
     pub program: ProgramBytes,
+    /// How long the records are beside which it was checked.
+    pub record_length: Length,
 }
 
 /// What a line asks for, before the bytes of a program are read.

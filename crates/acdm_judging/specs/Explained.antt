@@ -4,6 +4,7 @@ use Rattle.std.specs.Prelude.{Result, Ok, Err}
 use Rattle.bpf_explain.specs.declared.told.Told.{Told}
 use Rattle.bpf_explain.specs.Told.{Tells, is_accepted}
 use Rattle.bpf_helpers.specs.Promise.{Promise}
+use Rattle.bpf_regstate.specs.declared.length.Length.{Length}
 use Rattle.acdm_lines.specs.Counted.{SinkView, SourceView, faults_after}
 use Rattle.acdm_judging.specs.Gave.{GaveBytes}
 use Rattle.acdm_failures.specs.declared.failure.Failure.{Failure}
@@ -14,23 +15,24 @@ use Rattle.acdm_failures.specs.Failures.{Complains, failure_text}
 abbrev pub status_of : Told → ℕ
 status_of told = if is_accepted told then 0 else 1
 
--- what is told is of these bytes
-pub record TellsOf (sigs : List (ℕ × Promise)) (bytes : List ℕ) (status : ℕ) : Type 0 where
+-- what is told is of these bytes, beside records of this length
+pub record TellsOf (sigs : List (ℕ × Promise)) (long : Length) (bytes : List ℕ) (status : ℕ)
+    : Type 0 where
   pub told : Told
-  pub tells : Tells sigs bytes told
+  pub tells : Tells sigs long bytes told
   pub status_is : status ≡ status_of told
 
-abbrev pub TellsBytes : List (ℕ × Promise) → List ℕ → Result ℕ Failure → Type 0
-TellsBytes sigs bytes (Ok status) = TellsOf sigs bytes status
-TellsBytes sigs bytes (Err Write) = Unit {0}
-TellsBytes sigs bytes (Err Memory) = Unit {0}
-TellsBytes sigs bytes (Err failure) = ⊥
+abbrev pub TellsBytes : List (ℕ × Promise) → Length → List ℕ → Result ℕ Failure → Type 0
+TellsBytes sigs long bytes (Ok status) = TellsOf sigs long bytes status
+TellsBytes sigs long bytes (Err Write) = Unit {0}
+TellsBytes sigs long bytes (Err Memory) = Unit {0}
+TellsBytes sigs long bytes (Err failure) = ⊥
 
 -- what comes of explaining what a reader gives, where that did not fail
-abbrev pub Explains : {R : Type 0} → List (ℕ × Promise) → SourceView R → SourceView R
+abbrev pub Explains : {R : Type 0} → List (ℕ × Promise) → Length → SourceView R → SourceView R
     → Result ℕ Failure → Type 0
-Explains sigs read read_after work =
-    ((bytes : List ℕ) × GaveBytes read read_after bytes × TellsBytes sigs bytes work)
+Explains sigs long read read_after work =
+    ((bytes : List ℕ) × GaveBytes read read_after bytes × TellsBytes sigs long bytes work)
     ⊎ (work ≡ Err Memory)
 
 -- what is said of the file of a path that can't be read: the line of that failure, and one that names the

@@ -11,23 +11,25 @@ use acdm_failures::{Failure, ended};
 use acdm_lines::{Sink, Source};
 use acdm_wire::write_out;
 use bpf_explain::{Told, read};
+use bpf_regstate::Length;
 use std::alloc::Global;
 use std::io::{self, Read, Write};
 
 /// Lists the program that the bytes of the file encode, with what is known before each slot, and
-/// its first fault where it may not run with the known helpers; or tells what is wrong with the
-/// bytes.
+/// its first fault where it may not run with the known helpers beside records of this length; or
+/// tells what is wrong with the bytes.
 ///
 /// The status is 0 for a program that is accepted and 1 for one that is refused, else 2, with a
 /// line on the errors' writer, and one more where the file can't be read.
 pub fn explain_on<R: Read, W: Write, E: Write>(
     alloc: Global,
+    length: Length,
     file: &str,
     reader: &mut Source<R>,
     writer: &mut Sink<W>,
     errors: &mut Sink<E>,
 ) -> u8
-    ensures { EndsBy (Explains helpers reader.old reader.new) result errors.old errors.new
+    ensures { EndsBy (Explains helpers length reader.old reader.new) result errors.old errors.new
         ⊎ FailsToRead file.now reader.old reader.new writer.old writer.new result errors.old
         errors.new }
 {
@@ -36,7 +38,7 @@ pub fn explain_on<R: Read, W: Write, E: Write>(
         Err(BytesError::Read(error)) => return unread(alloc, file, &error, errors),
         Err(BytesError::Memory) => return ended(Err(Failure::Memory), errors),
     };
-    ended(tell(alloc, bytes.as_slice(), writer), errors)
+    ended(tell(alloc, length, bytes.as_slice(), writer), errors)
 }
 
 /// Says that the file can't be read, as `verify` does, and then which file it is, and why; no more
@@ -73,11 +75,16 @@ fn status_of(told: &Told) -> u8
     if told.is_accepted() { 0 } else { 1 }
 }
 
-fn tell<W: Write>(alloc: Global, bytes: &[u8], writer: &mut Sink<W>) -> Result<u8, Failure>
-    ensures { TellsBytes helpers bytes.now result }
+fn tell<W: Write>(
+    alloc: Global,
+    length: Length,
+    bytes: &[u8],
+    writer: &mut Sink<W>,
+) -> Result<u8, Failure>
+    ensures { TellsBytes helpers length bytes.now result }
 {
     let sigs = known_sigs(alloc)?;
-    let told = read(alloc, bytes, &sigs)?;
+    let told = read(alloc, bytes, &sigs, length)?;
     let written = told.write(bytes, &sigs, writer);
     if written.is_err() || writer.flush().is_err() {
         return Err(Failure::Write);

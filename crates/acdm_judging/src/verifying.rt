@@ -41,31 +41,33 @@ impl Verdict {
 }
 
 /// Lists the program that a reader's bytes encode, one line for each slot, and then its slots, if
-/// it may run with the known helpers; else tells its first fault.
+/// it may run with the known helpers beside records of this length; else tells its first fault.
 ///
 /// The status is 0 for a program that is accepted and 1 for one that is refused, else 2, with a
 /// line on the errors' writer.
 pub fn verify_on<R: Read, W: Write, E: Write>(
     alloc: Global,
+    length: Length,
     reader: &mut Source<R>,
     writer: &mut Sink<W>,
     errors: &mut Sink<E>,
 ) -> u8
-    ensures { EndsBy (Verifies helpers reader.old reader.new writer.old writer.new) result
+    ensures { EndsBy (Verifies helpers length reader.old reader.new writer.old writer.new) result
         errors.old errors.new }
 {
-    ended(judge(alloc, reader, writer), errors)
+    ended(judge(alloc, length, reader, writer), errors)
 }
 
 // Writes the verdict, and answers the status.
 fn judge<R: Read, W: Write>(
     alloc: Global,
+    length: Length,
     reader: &mut Source<R>,
     writer: &mut Sink<W>,
 ) -> Result<u8, Failure>
-    ensures { Verifies helpers reader.old reader.new writer.old writer.new result }
+    ensures { Verifies helpers length reader.old reader.new writer.old writer.new result }
 {
-    let verdict = verdict_of(alloc, reader)?;
+    let verdict = verdict_of(alloc, length, reader)?;
     let text = text_of(alloc, &verdict)?;
     match write_out(writer, text.as_slice()) {
         Ok(()) => Ok(verdict.status()),
@@ -74,8 +76,12 @@ fn judge<R: Read, W: Write>(
 }
 
 // The verdict on the bytes that a reader gives.
-fn verdict_of<R: Read>(alloc: Global, reader: &mut Source<R>) -> Result<Verdict, Failure>
-    ensures { Judges helpers reader.old reader.new result }
+fn verdict_of<R: Read>(
+    alloc: Global,
+    length: Length,
+    reader: &mut Source<R>,
+) -> Result<Verdict, Failure>
+    ensures { Judges helpers length reader.old reader.new result }
 {
     let bytes = match bytes_of(alloc, reader) {
         Ok(bytes) => bytes,
@@ -83,15 +89,21 @@ fn verdict_of<R: Read>(alloc: Global, reader: &mut Source<R>) -> Result<Verdict,
         Err(BytesError::Memory) => return Err(Failure::Memory),
     };
     let sigs = known_sigs(alloc)?;
-    verdict_on(alloc, bytes.as_slice(), &sigs)
+    verdict_on(alloc, bytes.as_slice(), &sigs, length)
 }
 
-/// The verdict on these bytes under these signatures. `Err` only where there was no memory.
-pub(crate) fn verdict_on(alloc: Global, bytes: &[u8], sigs: &Sigs) -> Result<Verdict, Failure>
-    ensures verdict { IfOk result (IsVerdict sigs.now bytes.now) }
+/// The verdict on these bytes under these signatures, beside records of this length. `Err` only
+/// where there was no memory.
+pub(crate) fn verdict_on(
+    alloc: Global,
+    bytes: &[u8],
+    sigs: &Sigs,
+    length: Length,
+) -> Result<Verdict, Failure>
+    ensures verdict { IfOk result (IsVerdict sigs.now length bytes.now) }
     ensures memory { IfErr result (λ failure. failure ≡ Memory) }
 {
-    match read_program(alloc, bytes, sigs, Length::L128) {
+    match read_program(alloc, bytes, sigs, length) {
         Ok(checked) => Ok(Verdict::Accepted(checked)),
         Err(ProgramError::Refused { code, slot }) => Ok(Verdict::Refused { code, slot }),
         Err(ProgramError::Memory) => Err(Failure::Memory),

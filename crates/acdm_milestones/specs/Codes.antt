@@ -6,7 +6,8 @@ use Rattle.acdm_milestones.specs.declared.refusal.Refusal.TheVariants.{MissingMi
 use Rattle.acdm_milestones.specs.declared.refusal.Refusal.TheVariants.{NotSet, TimeOrder}
 use Rattle.acdm_milestones.specs.declared.refusal.Refusal.TheVariants.{AlreadyPlanned, FullBoard}
 use Rattle.acdm_milestones.specs.declared.refusal.Refusal.TheVariants.{EmptySlot, OtherSignatures}
-use Rattle.acdm_milestones.specs.declared.refusal.Refusal.TheVariants.{OtherLength, Unanswered}
+use Rattle.acdm_milestones.specs.declared.refusal.Refusal.TheVariants.{OtherLength, AlreadyMigrated, FirstLayout}
+use Rattle.acdm_milestones.specs.declared.refusal.Refusal.TheVariants.{Unanswered}
 
 abbrev pub refusal_code : Refusal → ℕ
 refusal_code NotOwner = 201
@@ -20,4 +21,6 @@ refusal_code FullBoard = 503
 refusal_code EmptySlot = 321
 refusal_code OtherSignatures = 322
 refusal_code OtherLength = 323
+refusal_code AlreadyMigrated = 324
+refusal_code FirstLayout = 325
 refusal_code Unanswered = 599

@@ -13,10 +13,10 @@ use Rattle.acdm_record.specs.Assign.{Assignment, number_is, with_all}
 use Rattle.acdm_milestones.specs.declared.role.Role.{Role}
 use Rattle.acdm_milestones.specs.declared.role.Role.TheVariants.{NetworkManager, AirTrafficControl}
 use Rattle.acdm_milestones.specs.declared.role.Role.TheVariants.{AirportOperator, AircraftOperator}
-use Rattle.acdm_milestones.specs.declared.role.Role.TheVariants.{GroundHandler}
+use Rattle.acdm_milestones.specs.declared.role.Role.TheVariants.{GroundHandler, DeicingCompany}
 use Rattle.acdm_milestones.specs.declared.role.Action.{Action}
 use Rattle.acdm_milestones.specs.declared.role.Action.TheVariants.{Report, Schedule, Load, Unload}
-use Rattle.acdm_milestones.specs.declared.role.Action.TheVariants.{Tick, Show, Alerts}
+use Rattle.acdm_milestones.specs.declared.role.Action.TheVariants.{Tick, Show, Alerts, Migrate, Deice}
 use Rattle.acdm_milestones.specs.declared.milestone.Milestone.{Milestone}
 use Rattle.acdm_milestones.specs.declared.milestone.Milestone.TheVariants.{FlightPlanActivated}
 use Rattle.acdm_milestones.specs.declared.milestone.Milestone.TheVariants.{TwoHoursBeforeEobt}
@@ -72,6 +72,7 @@ role_index AirTrafficControl = 1
 role_index AirportOperator = 2
 role_index AircraftOperator = 3
 role_index GroundHandler = 4
+role_index DeicingCompany = 5
 
 abbrev pub is_role : Role → Role → Bool
 is_role a b = role_index a == role_index b
@@ -102,6 +103,8 @@ owns r Schedule = is_role r AirportOperator
 owns r Load = is_role r AirportOperator
 owns r Unload = is_role r AirportOperator
 owns r Tick = is_role r AirportOperator
+owns r Migrate = is_role r AirportOperator
+owns r Deice = is_role r DeicingCompany
 owns r Show = true
 owns r Alerts = true
 

@@ -106,7 +106,8 @@ fn has_set(record: &Record, milestone: Milestone) -> bool
     }
 }
 
-fn follows(record: &Record, later: Field, earlier: Field) -> bool
+/// Whether the later of two times is not before the earlier, where both are set.
+pub(crate) fn follows(record: &Record, later: Field, earlier: Field) -> bool
     ensures { result ≡ is_after record.now later earlier }
 {
     let first = record.get(earlier);

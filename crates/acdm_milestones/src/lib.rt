@@ -2,12 +2,14 @@
 #![tactic(auto)]
 
 mod admission;
+mod deicing;
 mod milestone;
 mod reached;
 mod refusal;
 mod role;
 
 pub use admission::{admit, set_time};
+pub use deicing::{DeicingTime, admit_deicing, set_deicing_time};
 pub use milestone::Milestone;
 pub use reached::{has_reached, mark_reached};
 pub use refusal::Refusal;

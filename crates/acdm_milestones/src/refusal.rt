@@ -27,6 +27,10 @@ pub enum Refusal {
     OtherSignatures,
     /// 323: the program was checked beside records of another length than the board's.
     OtherLength,
+    /// 324: the records of the board have layout 2 already.
+    AlreadyMigrated,
+    /// 325: the records of the board have layout 1, which has no times of de-icing.
+    FirstLayout,
     /// 599, which no reply has: an oracle left a question of the report's programs without an
     /// answer.
     Unanswered,
@@ -49,6 +53,8 @@ impl Refusal {
             Refusal::EmptySlot => 321,
             Refusal::OtherSignatures => 322,
             Refusal::OtherLength => 323,
+            Refusal::AlreadyMigrated => 324,
+            Refusal::FirstLayout => 325,
             Refusal::Unanswered => 599,
         }
     }

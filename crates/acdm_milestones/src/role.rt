@@ -18,10 +18,12 @@ pub enum Role {
     AircraftOperator,
     /// A ground handler, `GH`.
     GroundHandler,
+    /// A de-icing company, `DIC`.
+    DeicingCompany,
 }
 
 impl Role {
-    /// Its name: `NM`, `ATC`, `APT`, `AO` or `GH` (this project's profile).
+    /// Its name: `NM`, `ATC`, `APT`, `AO`, `GH` or `DIC` (this project's profile).
     pub fn name(self) -> &'static str
         ensures { result.now ≡ role_name self }
     {
@@ -31,6 +33,7 @@ impl Role {
             Role::AirportOperator => "APT",
             Role::AircraftOperator => "AO",
             Role::GroundHandler => "GH",
+            Role::DeicingCompany => "DIC",
         }
     }
 
@@ -48,6 +51,8 @@ impl Role {
             Some(Role::AircraftOperator)
         } else if name == b"GH".as_slice() {
             Some(Role::GroundHandler)
+        } else if name == b"DIC".as_slice() {
+            Some(Role::DeicingCompany)
         } else {
             None
         }
@@ -67,6 +72,10 @@ pub enum Action {
     Unload,
     /// A tick of the clock for all flights.
     Tick,
+    /// A migration of all records to layout 2.
+    Migrate,
+    /// A time of de-icing of a flight.
+    Deice,
     /// A question for a flight's record.
     Show,
     /// A question for all alerts.
@@ -103,15 +112,16 @@ fn reports_milestone(role: Role, milestone: Milestone) -> bool
 }
 
 /// Whether a role may do this (this project's profile): a milestone belongs to its reporters,
-/// schedule, load, unload and tick to the airport operator, and questions to everyone.
+/// schedule, load, unload, tick and migrate to the airport operator, times of de-icing to the
+/// de-icing company, and questions to everyone.
 pub fn owns(role: Role, action: Action) -> bool
     ensures { result ≡ is_owner role action }
 {
     match action {
         Action::Report(milestone) => reports_milestone(role, milestone),
-        Action::Schedule | Action::Load | Action::Unload | Action::Tick => {
-            matches!(role, Role::AirportOperator)
-        }
+        Action::Schedule | Action::Load | Action::Unload | Action::Tick | Action::Migrate =>
+            matches!(role, Role::AirportOperator),
+        Action::Deice => matches!(role, Role::DeicingCompany),
         Action::Show | Action::Alerts => true,
     }
 }

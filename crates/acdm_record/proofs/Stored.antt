@@ -76,6 +76,21 @@ kept-zeros b r =
       spare = zeros_after n 144 b ∙ r.kept.spare;
     }
 
+not_as_short : ◌≡◌ {A = ℕ} 160 128 → ⊥
+not_as_short h = omega (arith, h)
+
+-- the layout of a record, by its length
+pub is_first : (b : List ℕ) → IsRecord b → bytes_in_layout (number_at b Layout) ≡ 128
+    → number_at b Layout ≡ 1
+is_first b kept short =
+    elim (number_at b Layout == 2) as (λ v. (number_at b Layout == 2) ≡ v
+    → ◌≡◌ {A = ℕ} (cond v 160 128) 128 → number_at b Layout ≡ 1) [
+      | true ↦ λ e n. absurd (not_as_short n)
+      | false ↦ λ e n. eqb-true (number_at b Layout) 1 (left_of (number_at b Layout == 1)
+          (subst (λ v. (number_at b Layout == 1 || v) ≡ true) e
+          (and_right (number_at b Layout == number_at b Layout) _ (kept.numbers Layout))))
+    ] refl short
+
 module _ (b : List ℕ) (long : length b ≡ 160) (bytes : (i : ℕ) → slice_index b i < 256)
     (kept : IsRecord b) where
   -- the last 16 bytes

@@ -142,5 +142,9 @@ abbrev pub new_record : ℕ → Fields
 new_record flight = fields_of (new_number flight) (λ _. [])
 
 -- a record of layout 1 brought to layout 2, in which no time of de-icing is set
+abbrev pub migrated_number : Fields → Field → ℕ
+migrated_number r Layout = 2
+migrated_number r f = number_of r f
+
 abbrev pub migrated : Fields → Fields
-migrated r = set_number r Layout 2
+migrated r = fields_of (migrated_number r) (text_of r)

@@ -97,7 +97,7 @@ impl Record {
     /// Brings a record of layout 1 to layout 2, in which its times of de-icing are 0. Every other
     /// name keeps its value.
     pub fn migrate(&mut self)
-        requires { number_of self.old Layout ≡ 1 }
+        requires { length_of self.old ≡ 128 }
         ensures { self.new ≡ migrated self.old }
     {
         let (offset, width) = Field::Layout.place();

@@ -2,7 +2,6 @@
 use Rattle.std.proofs.Common.{◌≡◌, ℕ, List, false, not, Ok, Err, refl, sym, subst}
 use Rattle.bpf_helpers.specs.Promise.{Promise}
 use Rattle.bpf_helpers.proofs.SameSigs.{same_sigs-decides}
-use Rattle.bpf_regstate.specs.declared.length.Length.TheVariants.{L128}
 use Rattle.bpf_verifier.specs.Verdict.{Verified}
 use Rattle.acdm_step.specs.History.{is_checked}
 use Rattle.acdm_step.specs.declared.command.Command.{Command}
@@ -26,28 +25,27 @@ module _ (sigs : List (ℕ × Promise)) (asked : Asked) (l : LoadRequest) (bytes
   loaded : Verified → Command
   loaded v = commands.Load record { milestone = l.milestone; kind = l.kind; program = v }
 
-  pub completes_load : (v : Verified) → GivesReading sigs L128 bytes (Ok v)
+  pub completes_load : (v : Verified) → GivesReading sigs l.length bytes (Ok v)
       → Completes sigs asked
       (Ok (commands.Load record { milestone = l.milestone; kind = l.kind; program = v }))
   unfolding loaded
   completes_load v r =
       subst (λ a. Completes sigs a (Ok (loaded v))) (sym is) (record {
         reading = Ok v;
-        right = subst (λ bs. GivesReading sigs L128 bs (Ok v)) same r;
+        right = subst (λ bs. GivesReading sigs l.length bs (Ok v)) same r;
         command_is = refl;
       })
 
-  pub completes_refused : (e : ProgramError) → GivesReading sigs L128 bytes (Err e)
+  pub completes_refused : (e : ProgramError) → GivesReading sigs l.length bytes (Err e)
       → Completes sigs asked (Err e)
   completes_refused Memory r = tt
   completes_refused (Refused code slot) r =
       subst (λ a. Completes sigs a (Err (Refused code slot))) (sym is) (record {
         reading = Err (code, slot);
-        right = subst (λ bs. GivesReading sigs L128 bs (Err (Refused code slot))) same r;
+        right = subst (λ bs. GivesReading sigs l.length bs (Err (Refused code slot))) same r;
         command_is = refl;
       })
 
 pub checked_is_no_other : (sigs : List (ℕ × Promise)) (v : Verified) → v.sigs ≡ sigs
-    → v.record_length ≡ L128 → not (is_checked sigs v) ≡ false
-checked_is_no_other sigs v same long =
-    rw (long, (same_sigs-decides v.sigs sigs).1 same) refl
+    → not (is_checked sigs v) ≡ false
+checked_is_no_other sigs v same = rw ((same_sigs-decides v.sigs sigs).1 same) refl

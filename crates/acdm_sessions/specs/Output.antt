@@ -21,7 +21,6 @@ use Rattle.acdm_wire.specs.declared.request.Asked.TheVariants.{Plain, Load}
 use Rattle.acdm_wire.specs.Replies.{entry_text, bad_text}
 use Rattle.acdm_lines.specs.Lines.{lines_of}
 use Rattle.acdm_wire.specs.Writes.{AppendsPart}
-use Rattle.bpf_regstate.specs.declared.length.Length.TheVariants.{L128}
 use Rattle.bpf_verifier.specs.Reading.{Reading, IsReading}
 use Rattle.acdm_wire.specs.Meant.{meant}
 
@@ -34,10 +33,11 @@ pub record Supply : Type 0 where
 
 -- ---- the program of a load
 
--- the reading is that of the bytes that are to be loaded, where there are any
+-- the reading is that of the bytes that are to be loaded, where there are any, for records of the
+-- length that the load names
 abbrev pub IsReadingFor : List (ℕ × Promise) → Asked → Reading → Type 0
 IsReadingFor sigs (Plain c) reading = Unit {0}
-IsReadingFor sigs (Load l) reading = IsReading sigs L128 l.program reading
+IsReadingFor sigs (Load l) reading = IsReading sigs l.length l.program reading
 
 abbrev pub IsReadingOf : List (ℕ × Promise) → Result Request Fault → Reading → Type 0
 IsReadingOf sigs (Err f) reading = Unit {0}

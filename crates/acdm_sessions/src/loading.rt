@@ -7,11 +7,11 @@ ghost use Rattle.acdm_sessions.specs.Output.{Completes};
 use acdm_step::{Command, Load};
 use acdm_wire::Asked;
 use bpf_helpers::Sigs;
-use bpf_regstate::Length;
 use bpf_verifier::{ProgramError, read_program};
 use std::alloc::Global;
 
-/// The command that is asked for, with the program that the bytes of a load encode.
+/// The command that is asked for, with the program that the bytes of a load encode, checked for
+/// records of the length that it names.
 pub(crate) fn command_for(alloc: Global, asked: Asked, sigs: &Sigs) -> Result<Command, ProgramError>
     requires { is_plain asked ≡ true }
     ensures reads { Completes sigs.now asked result }
@@ -20,7 +20,7 @@ pub(crate) fn command_for(alloc: Global, asked: Asked, sigs: &Sigs) -> Result<Co
     match asked {
         Asked::Plain(command) => Ok(command),
         Asked::Load(load) => {
-            let program = match read_program(alloc, load.program.as_slice(), sigs, Length::L128) {
+            let program = match read_program(alloc, load.program.as_slice(), sigs, load.length) {
                 Ok(program) => program,
                 Err(error) => return Err(error),
             };

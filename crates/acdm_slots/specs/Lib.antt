@@ -1,3 +1,4 @@
 pub mod Codes
 pub mod Loaded
 pub mod Names
+pub mod Migration

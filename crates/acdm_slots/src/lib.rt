@@ -5,8 +5,10 @@
 mod error;
 mod kind;
 pub mod law;
+mod migration;
 mod slots;
 
 pub use error::SlotError;
 pub use kind::Kind;
+pub use migration::{Migrated, Unloaded};
 pub use slots::Slots;

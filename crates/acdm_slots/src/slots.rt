@@ -2,7 +2,7 @@
 
 ghost use Rattle.std.specs.Prelude.{◌≡◌, ◌↔◌, ◌<◌, Some, None, IfOk, IfErr, IsOk, IsErr, OnOk};
 ghost use Rattle.std.specs.Prelude.{OnErr, MatchOption};
-ghost use Rattle.acdm_slots.specs.Loaded.{AreFit, load_error, nothing_loaded, place, program_in};
+ghost use Rattle.acdm_slots.specs.Loaded.{AreFit, IsBoard, load_error, nothing_loaded, place, program_in};
 ghost use Rattle.acdm_slots.specs.Loaded.{with_program};
 
 use crate::error::SlotError;
@@ -15,7 +15,7 @@ use std::alloc::{AllocError, Global};
 use std::marker::Model;
 
 /// The number of places: one for each of sixteen milestones and each of two kinds.
-const PLACES: usize = 32;
+pub(crate) const PLACES: usize = 32;
 
 /// The programs of a board, at most one for each milestone and kind, the signatures of the board's
 /// helpers, and the length of its records. Each program was checked under exactly these signatures
@@ -74,6 +74,31 @@ impl Slots {
             record_length,
             programs,
         })
+    }
+
+    // The programs of a board, each at its place.
+    pub(crate) fn of(sigs: Sigs, record_length: Length, programs: Vec<Option<Checked>>) -> Slots
+        requires { IsBoard (record {
+          sigs = sigs;
+          record_length = record_length;
+          programs = programs.items;
+        }) }
+        ensures { result ≡ record {
+          sigs = sigs;
+          record_length = record_length;
+          programs = programs.items;
+        } }
+    {
+        Slots {
+            sigs,
+            record_length,
+            programs,
+        }
+    }
+
+    // Where its memory comes from.
+    pub(crate) fn allocator(&self) -> Global {
+        *self.programs.allocator()
     }
 
     /// The signatures under which programs are checked before they are loaded.

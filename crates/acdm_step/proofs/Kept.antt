@@ -13,7 +13,7 @@ use Rattle.std.proofs.lemmas.Bool.Decides.{nat_tests}
 use Rattle.indexmap.specs.Layout.{length-set_value_at}
 use Rattle.indexmap.specs.Layout.{set_value_at}
 use Rattle.acdm_record.specs.declared.field.Field.TheVariants.{Alerts, Flight}
-use Rattle.acdm_record.specs.Fields.{Fields, number_of, new_record}
+use Rattle.acdm_record.specs.Fields.{Fields, number_of, new_record, migrated}
 use Rattle.acdm_alerts.specs.Conditions.{alert_word}
 use Rattle.acdm_step.specs.declared.outcome.Alerted.{Alerted}
 use Rattle.acdm_step.specs.Board.{place_of, touched}
@@ -240,6 +240,11 @@ number-touched moment r = get_or-set_other r.numbers 2 0 (alert_word r moment) 0
 pub keeps_touched : (rs : List Fields) (i moment : ℕ) (r w : Fields) → slice_get rs i ≡ Some r
     → w ≡ touched moment r → Keeps rs i w
 keeps_touched rs i moment r w at is = ap number is ∙ number-touched moment r
+    ∙ ap number (sym (get_or_from_slice_get rs i r w at))
+
+pub keeps_migrated : (rs : List Fields) (i : ℕ) (r w : Fields) → slice_get rs i ≡ Some r
+    → w ≡ migrated r → Keeps rs i w
+keeps_migrated rs i r w at is = ap number is
     ∙ ap number (sym (get_or_from_slice_get rs i r w at))
 
 -- ---- what a struct of flights keeps

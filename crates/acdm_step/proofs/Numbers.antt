@@ -8,7 +8,7 @@ use Rattle.std.proofs.lemmas.Bool.Decides.{nat_tests}
 use Rattle.acdm_record.specs.Bools.{and_left, and_right}
 use Rattle.acdm_record.specs.declared.field.Field.{Field}
 use Rattle.acdm_record.specs.declared.field.Field.TheVariants.{Flight, Alerts, Reached, Layout, Tobt}
-use Rattle.acdm_record.specs.Fields.{Fields, number_of, new_record, set_number, length_of}
+use Rattle.acdm_record.specs.Fields.{Fields, number_of, set_number, length_of}
 use Rattle.acdm_record.specs.Fields.{bytes_in_layout}
 use Rattle.acdm_record.specs.Place.{index_of}
 use Rattle.acdm_record.specs.Assign.{Assignment, number_is, text_is, with_all}
@@ -18,16 +18,20 @@ use Rattle.acdm_milestones.specs.declared.role.Role.{Role}
 use Rattle.bpf_helpers.specs.Oracles.{OracleView}
 use Rattle.acdm_step.specs.Programs.{Programs, Suggestion, Nothing, Usable, Unusable, Effect}
 use Rattle.acdm_step.specs.Programs.{with_suggestion, with_local_alerts, with_effect}
+use Rattle.acdm_milestones.specs.declared.refusal.Refusal.{Refusal}
 use Rattle.acdm_milestones.specs.declared.refusal.Refusal.TheVariants.{NotOwner, UnknownFlight}
+use Rattle.acdm_milestones.specs.declared.role.Action.TheVariants as actions
+use Rattle.acdm_milestones.specs.Tables.{owns}
 use Rattle.acdm_milestones.specs.declared.refusal.Refusal.TheVariants.{AlreadyPlanned, FullBoard}
 use Rattle.acdm_step.specs.declared.entry.Verdict.{Verdict}
 use Rattle.acdm_step.specs.declared.entry.Verdict.TheVariants.{Accepted, Refused}
 use Rattle.acdm_step.specs.declared.command.Command.{Command}
 use Rattle.acdm_step.specs.declared.command.Command.TheVariants as commands
-use Rattle.acdm_step.specs.declared.command.FlightCommand.TheVariants.{Schedule, Report}
+use Rattle.acdm_step.specs.declared.command.FlightCommand.TheVariants.{Schedule, Report, Deice}
 use Rattle.acdm_step.specs.Commands.{assigned_by, bit_of, is_accepted, changes_flight}
-use Rattle.acdm_step.specs.Verdicts.{verdict_for}
-use Rattle.acdm_step.specs.Board.{assigned_to, touched, has_number, place_of, record_on}
+use Rattle.acdm_step.specs.Verdicts.{verdict_for, unless_refused}
+use Rattle.acdm_step.specs.History.{Board}
+use Rattle.acdm_step.specs.Board.{assigned_to, begun, touched, has_number, place_of, record_on}
 use Rattle.acdm_step.specs.Running.{ChangesTo}
 use Rattle.acdm_step.specs.Marked.{Keeps}
 use Rattle.acdm_step.proofs.Records.{is_plain, are_plain, plain_command}
@@ -110,31 +114,35 @@ pub length-suggested : (s : Suggestion) (r : Fields) → length_of (with_suggest
 length-suggested s r =
     ap bytes_in_layout (suggested Layout no_plain_layout (omega arith) (omega arith) s r)
 
-module _ (b : List Fields) (ps : Programs) (moment : ℕ) (c : Command) (from to : OracleView)
-    (flight place : ℕ) (r s : Fields) (at : place ≡ place_of b flight) (is : r ≡ record_on b flight)
+module _ (b : Board) (ps : Programs) (moment : ℕ) (c : Command) (from to : OracleView)
+    (flight place : ℕ) (r s : Fields) (at : place ≡ place_of b.records flight)
+    (is : r ≡ record_on b flight)
     (h : ChangesTo ps r moment c from to s) where
   same_number : number s ≡ number (record_on b flight)
   same_number = ap number h.4 ∙ number-changed h.1 r moment c ∙ ap number is
 
-  at_end : length b ≤ place → place_of b flight ≡ length b
+  abbrev first : Fields
+  first = begun b.slots.record_length flight
+
+  at_end : length b.records ≤ place → place_of b.records flight ≡ length b.records
   at_end outside = omega (
     arith,
     at,
     outside,
-    prefix_len-le-length (λ x. not (has_number flight x)) b,
+    prefix_len-le-length (λ x. not (has_number flight x)) b.records,
   )
 
   pub change_as_long : length_of s ≡ length_of (record_on b flight)
   change_as_long = ap length_of h.4 ∙ length-changed h.1 r moment c ∙ ap length_of is
 
-  pub change_keeps : place < length b → Keeps b place s
-  change_keeps inside = same_number ∙ ap (λ n. number (get_or b n (new_record flight))) (sym at)
-      ∙ ap number (get_or_default b place (new_record flight) s inside)
+  pub change_keeps : place < length b.records → Keeps b.records place s
+  change_keeps inside = same_number ∙ ap (λ n. number (get_or b.records n first)) (sym at)
+      ∙ ap number (get_or_default b.records place first s inside)
 
-  pub change_is_new : length b ≤ place → place_of b (number s) ≡ length b
-  change_is_new outside = ap (place_of b) (same_number
-      ∙ ap (λ n. number (get_or b n (new_record flight))) (sym at)
-      ∙ ap number (get_or_past b place (new_record flight) outside)) ∙ at_end outside
+  pub change_is_new : length b.records ≤ place → place_of b.records (number s) ≡ length b.records
+  change_is_new outside = ap (place_of b.records) (same_number
+      ∙ ap (λ n. number (get_or b.records n first)) (sym at)
+      ∙ ap number (get_or_past b.records place first outside)) ∙ at_end outside
 
 -- a command that creates a flight is accepted where there is room for it
 room_of_schedule : (a b n : Bool)
@@ -158,10 +166,24 @@ room_of_report false b false rest h = absurd (cc)
 below : (count : ℕ) → nat_lt count MOST_FLIGHTS ≡ true → count < MOST_FLIGHTS
 below count h = grind (arith, nat_tests)
 
-pub room_left : (c : Command) (count : ℕ) (r : Fields) (role : Role) → changes_flight c ≡ true
-    → is_accepted (verdict_for false count r None role c) ≡ true → count < MOST_FLIGHTS
-room_left (commands.Flight (Schedule s)) count r role k h =
+pub true_false : true ≡ false → ⊥
+true_false h = absurd (cc)
+
+-- a time of de-icing is of a flight that is there
+pub none_deiced : (own : Bool) (against : Option Refusal)
+    → is_accepted (cond (not own) (Refused NotOwner)
+    (unless_refused against (Refused UnknownFlight))) ≡ false
+none_deiced false against = refl
+none_deiced true None = refl
+none_deiced true (Some x) = refl
+
+pub room_left : (c : Command) (count : ℕ) (r : Fields) (against : Option Refusal) (role : Role)
+    → changes_flight c ≡ true → is_accepted (verdict_for false count r against role c) ≡ true
+    → count < MOST_FLIGHTS
+room_left (commands.Flight (Schedule s)) count r against role k h =
     below count (room_of_schedule _ _ (nat_lt count MOST_FLIGHTS) h)
-room_left (commands.Flight (Report p)) count r role k h =
+room_left (commands.Flight (Report p)) count r against role k h =
     below count (room_of_report _ _ (nat_lt count MOST_FLIGHTS) _ h)
-room_left _ count r role k h = absurd (cc)
+room_left (commands.Flight (Deice d)) count r against role k h =
+    absurd (true_false (sym h ∙ none_deiced (owns role actions.Deice) against))
+room_left _ count r against role k h = absurd (cc)

@@ -14,10 +14,10 @@ use Rattle.bpf_regstate.specs.Lengths.{same_length}
 use Rattle.bpf_verifier.specs.Verdict.{Verified}
 use Rattle.acdm_slots.specs.Loaded.{program_in}
 use Rattle.acdm_step.specs.declared.command.Command.{Command}
-use Rattle.acdm_step.specs.declared.command.Command.TheVariants.{Load, Unload, Tick}
+use Rattle.acdm_step.specs.declared.command.Command.TheVariants.{Load, Unload, Tick, Migrate}
 use Rattle.acdm_step.specs.declared.command.Command.TheVariants as commands
 use Rattle.acdm_step.specs.declared.command.FlightCommand.{FlightCommand}
-use Rattle.acdm_step.specs.declared.command.FlightCommand.TheVariants.{Schedule, Report}
+use Rattle.acdm_step.specs.declared.command.FlightCommand.TheVariants.{Schedule, Report, Deice}
 use Rattle.acdm_step.specs.declared.command.Load as command_load
 use Rattle.acdm_step.specs.declared.command.Unload as command_unload
 use Rattle.acdm_step.specs.declared.entry.Verdict.{Verdict}
@@ -29,12 +29,17 @@ use Rattle.acdm_step.specs.declared.prepare.Change.TheVariants as changes
 use Rattle.acdm_step.specs.Commands.{is_accepted}
 use Rattle.acdm_step.specs.InSlots.{with_slots}
 use Rattle.acdm_step.specs.Verdicts.{load_verdict, unload_verdict, tick_verdict, outcome_with}
-use Rattle.acdm_step.specs.Verdicts.{load_obstacle, unload_obstacle}
+use Rattle.acdm_step.specs.Verdicts.{load_obstacle, unload_obstacle, migrate_verdict}
+use Rattle.acdm_step.specs.Verdicts.{migrate_obstacle}
+use Rattle.acdm_record.specs.Fields.{migrated}
+use Rattle.bpf_regstate.specs.declared.length.Length.TheVariants.{L128, L160}
+use Rattle.acdm_slots.specs.Migration.{migrated_slots, unloaded}
 use Rattle.acdm_step.specs.History.{Board}
 use Rattle.acdm_step.specs.Board.{board_of, touched, board_verdict}
 use Rattle.acdm_step.specs.Running.{Comes}
 use Rattle.acdm_step.specs.Prepared.{owns_change, after_change, Fits}
 use Rattle.acdm_step.proofs.Steps.{comes_refused, comes_loaded, comes_unloaded, comes_tick}
+use Rattle.acdm_step.proofs.Steps.{comes_migrated}
 
 refuses : (own : Bool) (rest : Verdict) → own ≡ false
     → Refused NotOwner ≡ cond (not own) (Refused NotOwner) rest
@@ -46,6 +51,7 @@ pub not_owned : (b : Board) (role : Role) (k : FlightCommand) → owns_change ro
 unfolding board_verdict
 not_owned b role (Schedule s) h = refuses (owns role actions.Schedule) _ h
 not_owned b role (Report r) h = refuses (owns role (actions.Report r.milestone)) _ h
+not_owned b role (Deice d) h = refuses (owns role actions.Deice) _ h
 
 -- a plan on an equal board, for an equal command
 pub planned_as : (b other : Board) (role : Role) (moment : ℕ) (c same : Command)
@@ -122,6 +128,33 @@ module _ (b : Board) (role : Role) (moment : ℕ) (from to : OracleView) (outcom
           ≡ after_change b (cond t (changes.Unload u.milestone u.kind) changes.Nothing)
       either true = refl
       either false = refl
+
+  pub plans_migrate : (change : Change)
+      → outcome ≡ outcome_with (outcomes.Migrated (unloaded L160 (program_in b.slots)))
+      (migrate_verdict (migrate_obstacle b.slots.record_length) role)
+      → change ≡ cond (is_accepted (migrate_verdict (migrate_obstacle b.slots.record_length) role))
+      (changes.Migrate (migrated_slots L160 b.slots)) changes.Nothing
+      → Comes b role moment Migrate from to outcome (after_change b change)
+  unfolding board_verdict
+  plans_migrate change out e =
+      let v : Verdict = migrate_verdict (migrate_obstacle b.slots.record_length) role in
+      subst (λ x. Comes b role moment Migrate from to outcome x) (either (is_accepted v)
+      ∙ ap (after_change b) (sym e))
+      (comes_migrated b role moment from to outcome same v
+      (cond (is_accepted v) (board_of (map migrated b.records) (with_slots Migrate b.slots)) b) refl
+      out refl)
+    where
+      either : (t : Bool)
+          → cond t (board_of (map migrated b.records) (with_slots Migrate b.slots)) b
+          ≡ after_change b (cond t (changes.Migrate (migrated_slots L160 b.slots)) changes.Nothing)
+      either true = refl
+      either false = refl
+
+pub fits_migrate : (b : Board) (t : Bool) (change : Change)
+    → change ≡ cond t (changes.Migrate (migrated_slots L160 b.slots)) changes.Nothing
+    → (t ≡ true → b.slots.record_length ≡ L128) → Fits b change
+fits_migrate b true change e first = subst (Fits b) (sym e) (first refl, refl)
+fits_migrate b false change e first = subst (Fits b) (sym e) tt
 
 -- ---- the verdict on a load
 

@@ -13,7 +13,7 @@ use Rattle.acdm_record.specs.declared.field.Field.TheVariants.{Flight, Layout, R
 use Rattle.acdm_record.specs.declared.field.Field.TheVariants.{Tobt, Tsat}
 use Rattle.acdm_record.specs.declared.field.TextField.{TextField}
 use Rattle.acdm_record.specs.declared.field.TextField.TheVariants.{Callsign}
-use Rattle.acdm_record.specs.Fields.{set_number, set_text}
+use Rattle.acdm_record.specs.Fields.{set_number, set_text, migrated}
 use Rattle.acdm_record.specs.Assign.{Assignment, number_is, text_is, with_all}
 use Rattle.acdm_alerts.specs.Conditions.{conditions}
 use Rattle.acdm_alerts.specs.Decided.{decided_word}
@@ -23,18 +23,22 @@ use Rattle.acdm_alerts.proofs.DecidedBits.{with_locals-decided}
 use Rattle.acdm_milestones.specs.declared.milestone.Milestone.{Milestone}
 use Rattle.acdm_milestones.specs.declared.milestone.Milestone.TheVariants.{FlightPlanActivated}
 use Rattle.acdm_milestones.specs.declared.milestone.Milestone.TheVariants.{TobtUpdate}
+use Rattle.acdm_milestones.specs.declared.deicing.DeicingTime.{DeicingTime}
+use Rattle.acdm_milestones.specs.declared.deicing.DeicingTime.TheVariants.{EstimatedCommencement}
+use Rattle.acdm_milestones.specs.Deicing.{deicing_field}
 use Rattle.acdm_milestones.specs.Tables.{times_of, marked_by, has_reached}
 use Rattle.acdm_step.specs.Programs.{Programs, Suggestion, Nothing, Usable, Unusable, Effect}
 use Rattle.acdm_step.specs.Programs.{effect, with_suggestion, with_local_alerts, with_effect}
 use Rattle.acdm_step.specs.declared.command.Plan.{Plan}
 use Rattle.acdm_step.specs.declared.command.Command.{Command}
 use Rattle.acdm_step.specs.declared.command.Command.TheVariants as commands
-use Rattle.acdm_step.specs.declared.command.FlightCommand.TheVariants.{Schedule, Report}
+use Rattle.acdm_step.specs.declared.command.FlightCommand.TheVariants.{Schedule, Report, Deice}
 use Rattle.acdm_step.specs.declared.entry.Entry.{Entry}
 use Rattle.acdm_step.specs.Commands.{History, plan_assignments, assigned_by, bit_of, told_milestone, flight_of}
-use Rattle.acdm_step.specs.Commands.{changes_flight, creates, is_of, ticks, is_accepted, created}
+use Rattle.acdm_step.specs.Commands.{changes_flight, creates, is_of, ticks, migrates, is_accepted, created}
 use Rattle.acdm_step.specs.InSlots.{programs_of}
-use Rattle.acdm_step.specs.Summaries.{Summary, onto, with_command, with_tick, summary_after}
+use Rattle.acdm_step.specs.Summaries.{Summary, onto, with_command, with_tick, with_migrate}
+use Rattle.acdm_step.specs.Summaries.{summary_after}
 use Rattle.acdm_step.specs.Summaries.{summary, record_with, computed_at, alerts_from, record_from}
 use Rattle.acdm_step.specs.Summaries.{record_of, run_record, effect_on, with_tobt, with_ninth}
 use Rattle.acdm_step.specs.Summaries.{rejects, number_or, gives_tobt, reaches, has_come_to}
@@ -148,11 +152,17 @@ plain_plan : (p : Option Plan) → are_plain (plan_assignments p) ≡ true
 plain_plan None = refl
 plain_plan (Some p) = refl
 
+plain_deicing : (which : DeicingTime) (time : ℕ)
+    → are_plain (number_is (deicing_field which) time ∷ []) ≡ true
+plain_deicing EstimatedCommencement time = refl
+plain_deicing _ time = refl
+
 pub plain_command : (c : Command) → are_plain (assigned_by c) ≡ true
 plain_command (commands.Flight (Schedule s)) = refl
 plain_command (commands.Flight (Report r)) =
     plain-append (times_of r.milestone r.time) (plan_assignments r.plan)
     (plain_times r.milestone r.time) (plain_plan r.plan)
+plain_command (commands.Flight (Deice d)) = plain_deicing d.which d.time
 plain_command _ = refl
 
 marked-record_with : (f : ℕ) (ps : List Assignment) (rs al : ℕ) (bit : Option ℕ)
@@ -190,13 +200,40 @@ abbrev added : Entry → History → ℕ → Summary
 added e J g = with_command e.command e.moment
     (effect_on (programs_of J e.command) e g (summary J g)) (summary J g)
 
--- an entry that is no tick, and is refused or of another flight, leaves a record as it is
+-- what an entry adds that is not of the flight
+abbrev pub beside : Bool → Bool → ℕ → Summary → Summary
+beside tick migrate moment t = cond tick (with_tick moment t) (cond migrate (with_migrate t) t)
+
+-- an entry that is no tick and no migrate, and is refused or of another flight, leaves a record as
+-- it is
 pub record_same : (e : Entry) (J : History) (g : ℕ) → is_of g e ≡ false → ticks e ≡ false
-    → record_of (e ∷ J) g ≡ record_of J g
-record_same e J g h k =
+    → migrates e ≡ false → record_of (e ∷ J) g ≡ record_of J g
+record_same e J g h k m =
     ap (λ b. record_from g (cond b (added e J g)
-    (cond (ticks e) (with_tick e.moment (summary J g)) (summary J g)))) h
-    ∙ ap (λ b. record_from g (cond b (with_tick e.moment (summary J g)) (summary J g))) k
+    (beside (ticks e) (migrates e) e.moment (summary J g)))) h
+    ∙ ap (λ b. record_from g (beside b (migrates e) e.moment (summary J g))) k
+    ∙ ap (λ b. record_from g (beside false b e.moment (summary J g))) m
+
+-- a migrate brings a record to layout 2, and leaves its alerts
+migrated-record_from : (f : ℕ) (t : Summary)
+    → record_from f (with_migrate t) ≡ migrated (record_from f t)
+migrated-record_from f t = go t.assigned t.reached t.touch t.rejected t.locals
+  where
+    go : (ps : List Assignment) (rs : ℕ) (touch : Option ℕ) (b : Bool) (l : ℕ)
+        → record_with f (number_is Layout 2 ∷ ps) rs
+        (decided_word b l + computed_at f (number_is Layout 2 ∷ ps) rs touch)
+        ≡ migrated (record_with f ps rs (decided_word b l + computed_at f ps rs touch))
+    go ps rs None b l = refl
+    go ps rs (Some n) b l = refl
+
+pub record_migrated : (e : Entry) (J : History) (g : ℕ) → is_of g e ≡ false → ticks e ≡ false
+    → migrates e ≡ true → record_of (e ∷ J) g ≡ migrated (record_of J g)
+record_migrated e J g h k m =
+    ap (λ b. record_from g (cond b (added e J g)
+    (beside (ticks e) (migrates e) e.moment (summary J g)))) h
+    ∙ ap (λ b. record_from g (beside b (migrates e) e.moment (summary J g))) k
+    ∙ ap (λ b. record_from g (beside false b e.moment (summary J g))) m
+    ∙ migrated-record_from g (summary J g)
 
 -- an accepted entry changes the record of its flight
 pub record_changed : (e : Entry) (J : History) → is_accepted e.verdict ≡ true
@@ -210,7 +247,7 @@ record_changed e J h k =
     && (changes_flight e.command && flight_of e.command == f)) h
     ∙ ap (λ b. b && flight_of e.command == f) k ∙ eq-eqb f f refl in
     ap (λ b. record_from f (cond b (added e J f)
-    (cond (ticks e) (with_tick e.moment (summary J f)) (summary J f)))) both
+    (beside (ticks e) (migrates e) e.moment (summary J f)))) both
     ∙ sym (changed-record_from (programs_of J e.command) f (summary J f) e.moment e.command
     e.answers)
 
@@ -232,8 +269,8 @@ pub record_ticked : (e : Entry) (J : History) (g : ℕ) → is_of g e ≡ false 
     → is_some (summary J g).touch ≡ true → record_of (e ∷ J) g ≡ touched e.moment (record_of J g)
 record_ticked e J g h k t =
     ap (λ b. record_from g (cond b (added e J g)
-    (cond (ticks e) (with_tick e.moment (summary J g)) (summary J g)))) h
-    ∙ ap (λ b. record_from g (cond b (with_tick e.moment (summary J g)) (summary J g))) k
+    (beside (ticks e) (migrates e) e.moment (summary J g)))) h
+    ∙ ap (λ b. record_from g (beside b (migrates e) e.moment (summary J g))) k
     ∙ with_tick-record g e.moment (summary J g) t
 
 -- what was touched stays so
@@ -242,12 +279,17 @@ touch_kept : (ps : Programs) (e : Entry) (f : ℕ) (t : Summary) → is_some t.t
 touch_kept ps e f t h =
     elim (is_of f e) as (λ b. is_some
     (cond b (with_command e.command e.moment (effect_on ps e f t) t)
-    (cond (ticks e) (with_tick e.moment t) t)).touch ≡ true) [
+    (beside (ticks e) (migrates e) e.moment t)).touch ≡ true) [
       | true ↦ refl
-      | false ↦ elim (ticks e) as (λ b. is_some (cond b (with_tick e.moment t) t).touch ≡ true) [
-        | true ↦ some_map t.touch h
-        | false ↦ h
-      ]
+      | false ↦ elim (ticks e)
+          as (λ b. is_some (beside b (migrates e) e.moment t).touch ≡ true) [
+            | true ↦ some_map t.touch h
+            | false ↦ elim (migrates e)
+                as (λ b. is_some (beside false b e.moment t).touch ≡ true) [
+                  | true ↦ h
+                  | false ↦ h
+                ]
+          ]
     ]
   where
     some_map : (o : Option ℕ) → is_some o ≡ true → is_some (option_map (λ n. e.moment) o) ≡ true
@@ -258,6 +300,7 @@ touch_kept ps e f t h =
 creates_changes : (c : Command) → creates c ≡ true → changes_flight c ≡ true
 creates_changes (commands.Flight (Schedule s)) h = refl
 creates_changes (commands.Flight (Report r)) h = refl
+creates_changes (commands.Flight (Deice d)) h = refl
 creates_changes _ h = h
 
 has_push : (f : ℕ) (fs : List ℕ) (o : Option ℕ) → list_any (λ g. g == f) (with_flight fs o) ≡ true
@@ -311,7 +354,7 @@ touched-there (e ∷ J) f h =
               ∙ ap (λ b. b && flight_of e.command == f) makes
               ∙ eq-eqb (flight_of e.command) f same in
               ap (λ b. is_some (cond b (added e J f)
-              (cond (ticks e) (with_tick e.moment (summary J f)) (summary J f))).touch) of
+              (beside (ticks e) (migrates e) e.moment (summary J f))).touch) of
           | false ↦ λ d s. absurd (cc)
         ] refl made
 
@@ -369,14 +412,18 @@ reached-summary (e ∷ J) f m =
     let s : Suggestion = (effect_on (programs_of J e.command) e f (summary J f)).tobt in
     let ninth : Bool = gives_tobt s && 9 == m in
     elim (is_of f e) as (λ b. (bit_at
-    (cond b (added e J f) (cond (ticks e) (with_tick e.moment (summary J f))
-    (summary J f))).reached m == 1) ≡ ((b && reaches J e f m) || has_come_to J f m)) [
+    (cond b (added e J f) (beside (ticks e) (migrates e) e.moment (summary J f))).reached m == 1) ≡ ((b && reaches J e f m) || has_come_to J f m)) [
       | true ↦
           ninth_bit s (with_bit (bit_of e.command) (summary J f).reached) m
           ∙ ap (λ b. b || ninth) (own_bit (bit_of e.command) (summary J f).reached m)
           ∙ or_left (has_reached (record_of J f) m) (is_bit (bit_of e.command) m) ninth
           ∙ ap (λ b. (is_bit (bit_of e.command) m || ninth) || b) (reached-summary J f m)
       | false ↦ elim (ticks e) as (λ
-          b. (bit_at (cond b (with_tick e.moment (summary J f)) (summary J f)).reached m == 1)
-          ≡ has_come_to J f m) [ true ↦ reached-summary J f m | false ↦ reached-summary J f m ]
+          b. (bit_at (beside b (migrates e) e.moment (summary J f)).reached m == 1)
+          ≡ has_come_to J f m) [
+            | true ↦ reached-summary J f m
+            | false ↦ elim (migrates e) as (λ
+                b. (bit_at (beside false b e.moment (summary J f)).reached m == 1)
+                ≡ has_come_to J f m) [ true ↦ reached-summary J f m | false ↦ reached-summary J f m ]
+          ]
     ]

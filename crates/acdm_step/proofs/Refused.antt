@@ -3,14 +3,13 @@ use Rattle.std.proofs.Common.{◌≡◌, ℕ, Bool, false, ◌&&◌, cond, List,
 use Rattle.bpf_helpers.specs.Promise.{Promise}
 use Rattle.acdm_milestones.specs.declared.milestone.Milestone.{Milestone}
 use Rattle.acdm_slots.specs.declared.kind.Kind.{Kind}
-use Rattle.acdm_slots.specs.Loaded as loaded
 use Rattle.acdm_step.specs.declared.entry.Entry.{Entry}
 use Rattle.acdm_step.specs.Commands.{History, creates, flight_of, is_accepted}
-use Rattle.acdm_step.specs.InSlots.{changed_or, program_in, record_length_after, slot_change}
-use Rattle.acdm_step.specs.InSlots.{slots_of}
+use Rattle.acdm_step.specs.InSlots.{changed_or, judged_again, program_in, slot_change}
 use Rattle.acdm_step.specs.Summaries.{flights, record_of, with_flight}
 use Rattle.acdm_step.specs.History.{replay}
 use Rattle.acdm_step.proofs.Records.{record_same}
+use Rattle.acdm_step.proofs.Replay.{refused-slots}
 
 no_and : (a b : Bool) → a ≡ false → (a && b) ≡ false
 no_and a b none = ap (λ x. x && b) none
@@ -19,7 +18,7 @@ pub refused_record : (J : History) (e : Entry) → is_accepted e.verdict ≡ fal
     → record_of (e ∷ J) flight ≡ record_of J flight
 refused_record J e none flight =
     record_same e J flight (no_and (is_accepted e.verdict) _ none)
-    (no_and (is_accepted e.verdict) _ none)
+    (no_and (is_accepted e.verdict) _ none) (no_and (is_accepted e.verdict) _ none)
 
 pub refused_flights : (J : History) (e : Entry) → is_accepted e.verdict ≡ false
     → flights (e ∷ J) ≡ flights J
@@ -30,19 +29,13 @@ refused_flights J e none =
 pub refused_slot : (J : History) (e : Entry) → is_accepted e.verdict ≡ false → (m : Milestone)
     (kind : Kind) → program_in (e ∷ J) m kind ≡ program_in J m kind
 refused_slot J e none m kind =
-    ap (λ b. cond b (changed_or (slot_change m kind e.command) (program_in J m kind))
-    (program_in J m kind)) none
-
-refused_slots : (sigs : List (ℕ × Promise)) (J : History) (e : Entry)
-    → is_accepted e.verdict ≡ false → slots_of sigs (e ∷ J) ≡ slots_of sigs J
-refused_slots sigs J e none =
-    ap (λ b. loaded.loaded sigs (record_length_after J) (λ m k. cond b
-    (changed_or (slot_change m k e.command) (program_in J m k)) (program_in J m k))) none
+    ap (λ b. cond b (changed_or (slot_change m kind e.command)
+    (judged_again e.command (program_in J m kind))) (program_in J m kind)) none
 
 pub refused_board : (sigs : List (ℕ × Promise)) (J : History) (e : Entry)
     → is_accepted e.verdict ≡ false → replay sigs (e ∷ J) ≡ replay sigs J
 refused_board sigs J e none =
     let records = refused_record J e none in
     let all = refused_flights J e none in
-    let slots = refused_slots sigs J e none in
+    let slots = refused-slots sigs e J none in
     λ i. record { records = map (λ flight. records flight i) (all i); slots = slots i }

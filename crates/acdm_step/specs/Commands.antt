@@ -1,6 +1,6 @@
 -- What one command says, and what one entry of a history says (this project's profile). A history
 -- is the list of its entries, the newest first.
-use Rattle.std.specs.Prelude.{ℕ, Bool, true, false, ◌&&◌, ◌==◌, if◌then◌else◌, List, [], ◌∷◌, ◌++◌}
+use Rattle.std.specs.Prelude.{ℕ, Bool, true, false, ◌&&◌, ◌||◌, ◌==◌, if◌then◌else◌, List, [], ◌∷◌, ◌++◌}
 use Rattle.std.specs.Prelude.{Option, Some, None}
 use Rattle.acdm_record.specs.declared.field.Field.TheVariants.{Mttt, Exot, Stand, Exit}
 use Rattle.acdm_record.specs.declared.field.Field.TheVariants.{Sobt}
@@ -11,10 +11,11 @@ use Rattle.acdm_record.specs.declared.field.TextField.TheVariants.{ScheduledDest
 use Rattle.acdm_record.specs.declared.field.TextField.TheVariants.{PlanDestination}
 use Rattle.acdm_record.specs.Assign.{Assignment, number_is, text_is}
 use Rattle.acdm_milestones.specs.Tables.{number, times_of}
+use Rattle.acdm_milestones.specs.Deicing.{deicing_field}
 use Rattle.acdm_step.specs.declared.command.Plan.{Plan}
 use Rattle.acdm_step.specs.declared.command.Command.{Command}
-use Rattle.acdm_step.specs.declared.command.Command.TheVariants.{Load, Tick, Show}
-use Rattle.acdm_step.specs.declared.command.FlightCommand.TheVariants.{Schedule, Report}
+use Rattle.acdm_step.specs.declared.command.Command.TheVariants.{Load, Tick, Migrate, Show}
+use Rattle.acdm_step.specs.declared.command.FlightCommand.TheVariants.{Schedule, Report, Deice}
 use Rattle.acdm_step.specs.declared.command.Command.TheVariants as commands
 use Rattle.acdm_step.specs.declared.entry.Verdict.{Verdict}
 use Rattle.acdm_step.specs.declared.entry.Verdict.TheVariants.{Accepted, Refused}
@@ -29,6 +30,7 @@ History = List Entry
 abbrev pub flight_of : Command → ℕ
 flight_of (commands.Flight (Schedule s)) = s.flight
 flight_of (commands.Flight (Report r)) = r.flight
+flight_of (commands.Flight (Deice d)) = d.flight
 flight_of (Show f) = f
 flight_of _ = 0
 
@@ -40,6 +42,14 @@ changes_flight _ = false
 abbrev pub is_tick : Command → Bool
 is_tick Tick = true
 is_tick _ = false
+
+abbrev pub is_deice : Command → Bool
+is_deice (commands.Flight (Deice d)) = true
+is_deice _ = false
+
+abbrev pub is_migrate : Command → Bool
+is_migrate Migrate = true
+is_migrate _ = false
 
 abbrev pub is_load : Command → Bool
 is_load (Load l) = true
@@ -59,6 +69,7 @@ assigned_by (commands.Flight (Schedule s)) =
     ∷ number_is Sobt s.sobt ∷ number_is Mttt s.mttt ∷ number_is Exit s.exit ∷ number_is Exot s.exot
     ∷ number_is Stand s.stand ∷ []
 assigned_by (commands.Flight (Report r)) = times_of r.milestone r.time ++ plan_assignments r.plan
+assigned_by (commands.Flight (Deice d)) = number_is (deicing_field d.which) d.time ∷ []
 assigned_by _ = []
 
 -- the bit that it sets in the reached word, if any: 0 for a schedule, m for milestone m
@@ -78,6 +89,10 @@ creates (commands.Flight (Schedule s)) = true
 creates (commands.Flight (Report r)) = number r.milestone == 1
 creates _ = false
 
+-- whether it copies programs where it is accepted
+abbrev pub takes_programs : Command → Bool
+takes_programs c = is_load c || is_migrate c
+
 -- ---- what one entry says
 
 abbrev pub is_accepted : Verdict → Bool
@@ -91,6 +106,10 @@ is_of f e = is_accepted e.verdict && (changes_flight e.command && flight_of e.co
 -- an accepted tick
 abbrev pub ticks : Entry → Bool
 ticks e = is_accepted e.verdict && is_tick e.command
+
+-- an accepted migrate
+abbrev pub migrates : Entry → Bool
+migrates e = is_accepted e.verdict && is_migrate e.command
 
 -- the flight that an entry creates where it is not there yet
 abbrev pub created : Entry → Option ℕ

@@ -5,9 +5,8 @@ use Rattle.std.specs.Prelude.{◌∷◌, map, length, Option, Some, option_map}
 use Rattle.acdm_record.specs.Fields.{Fields}
 use Rattle.acdm_milestones.specs.declared.role.Role.{Role}
 use Rattle.bpf_helpers.specs.Promise.{Promise}
-use Rattle.bpf_regstate.specs.declared.length.Length.TheVariants.{L128}
 use Rattle.bpf_helpers.specs.Same.{same_sigs}
-use Rattle.bpf_regstate.specs.Lengths.{bytes_in, same_length}
+use Rattle.bpf_regstate.specs.Lengths.{bytes_in}
 use Rattle.bpf_regstate.specs.States.{Accepts}
 use Rattle.bpf_verifier.specs.Verdict.{Verified}
 use Rattle.acdm_slots.specs.Loaded.{Loaded}
@@ -15,7 +14,7 @@ use Rattle.acdm_step.specs.Programs.{Effect, effect_with}
 use Rattle.acdm_step.specs.declared.command.Command.{Command}
 use Rattle.acdm_step.specs.declared.command.Command.TheVariants.{Load}
 use Rattle.acdm_step.specs.declared.entry.Verdict.{Verdict}
-use Rattle.acdm_step.specs.Commands.{History, is_load, told_milestone}
+use Rattle.acdm_step.specs.Commands.{History, takes_programs, told_milestone}
 use Rattle.acdm_step.specs.Commands.{is_accepted, is_alerts}
 use Rattle.acdm_step.specs.InSlots.{programs_of, slots_of}
 use Rattle.acdm_step.specs.Summaries.{record_of, flights, run_record_of}
@@ -24,15 +23,15 @@ use Rattle.acdm_step.specs.Verdicts.{verdict_of}
 -- ---- histories that the platform may have
 
 -- a program that is loaded was checked against the signatures of the board, and is accepted under
--- them beside a record of 128 bytes
+-- them beside records of the length that the load names
 abbrev pub IsChecked : List (ℕ × Promise) → Command → Type 0
-IsChecked sigs (Load l) = (l.program.sigs ≡ sigs) × (l.program.record_length ≡ L128)
-    × Accepts (bytes_in L128) l.program.ops sigs
+IsChecked sigs (Load l) = (l.program.sigs ≡ sigs)
+    × Accepts (bytes_in l.program.record_length) l.program.ops sigs
 IsChecked sigs _ = Unit {0}
 
--- whether a program was checked against these signatures beside a record of 128 bytes
+-- whether a program was checked against these signatures
 abbrev pub is_checked : List (ℕ × Promise) → Verified → Bool
-is_checked sigs p = same_length p.record_length L128 && same_sigs p.sigs sigs
+is_checked sigs p = same_sigs p.sigs sigs
 
 -- the answers that are left of those that an accepted command was given, once its programs have
 -- ended
@@ -86,6 +85,8 @@ after J session role moment command verdict answers =
       answers = answers;
     } ∷ J
 
--- whether a command needs memory: for a list of alerts, or for a copy of a program
+-- whether a command needs memory: for a list of alerts, for a copy of a program, or for copies of
+-- all programs that are judged again
 abbrev pub needs_memory : List (ℕ × Promise) → History → Role → Command → Bool
-needs_memory sigs J role c = is_alerts c || (is_load c && is_accepted (verdict_of sigs J role c))
+needs_memory sigs J role c =
+    is_alerts c || (takes_programs c && is_accepted (verdict_of sigs J role c))

@@ -1,13 +1,14 @@
 -- A step in two parts: what a command would do to the board, and the board after that.
 use Rattle.std.specs.Prelude.{◌≡◌, ◌<◌, Bool, true, [], ◌∷◌, ◌++◌, map, length, slice_set, Some, None}
 use Rattle.acdm_record.specs.declared.field.Field.TheVariants.{Flight}
-use Rattle.acdm_record.specs.Fields.{number_of}
+use Rattle.acdm_record.specs.Fields.{number_of, migrated}
+use Rattle.bpf_regstate.specs.declared.length.Length.TheVariants.{L128, L160}
 use Rattle.acdm_milestones.specs.declared.role.Role.{Role}
 use Rattle.acdm_milestones.specs.declared.role.Action.TheVariants as actions
 use Rattle.acdm_milestones.specs.Tables.{owns}
 use Rattle.acdm_slots.specs.Loaded.{with_program, program_in}
 use Rattle.acdm_step.specs.declared.command.FlightCommand.{FlightCommand}
-use Rattle.acdm_step.specs.declared.command.FlightCommand.TheVariants.{Schedule, Report}
+use Rattle.acdm_step.specs.declared.command.FlightCommand.TheVariants.{Schedule, Report, Deice}
 use Rattle.acdm_step.specs.declared.verdicts.TheConstants.{MOST_FLIGHTS}
 use Rattle.acdm_step.specs.declared.prepare.Change.{Change}
 use Rattle.acdm_step.specs.declared.prepare.Change.TheVariants as changes
@@ -19,6 +20,7 @@ use Rattle.acdm_step.specs.Marked.{Keeps}
 abbrev pub owns_change : Role → FlightCommand → Bool
 owns_change role (Schedule s) = owns role actions.Schedule
 owns_change role (Report r) = owns role (actions.Report r.milestone)
+owns_change role (Deice d) = owns role actions.Deice
 
 -- the board after a change
 abbrev pub after_change : Board → Change → Board
@@ -26,6 +28,7 @@ after_change b changes.Nothing = b
 after_change b (changes.Put i r) = board_of (slice_set b.records i r) b.slots
 after_change b (changes.Add r) = board_of (b.records ++ r ∷ []) b.slots
 after_change b (changes.Touch moment) = board_of (map (touched moment) b.records) b.slots
+after_change b (changes.Migrate slots) = board_of (map migrated b.records) slots
 after_change b (changes.Load m k p) = board_of b.records (with_program b.slots m k (Some p))
 after_change b (changes.Unload m k) = board_of b.records (with_program b.slots m k None)
 
@@ -38,5 +41,6 @@ Fits b (changes.Add r) = (length b.records < MOST_FLIGHTS)
     × (is_long b.slots.record_length r ≡ true)
 Fits b (changes.Load m k p) = (p.record_length ≡ b.slots.record_length)
     × (p.sigs ≡ b.slots.sigs)
+Fits b (changes.Migrate slots) = (b.slots.record_length ≡ L128) × (slots.record_length ≡ L160)
 Fits b (changes.Unload m k) = program_in b.slots m k ≡ None → ⊥
 Fits b _ = Unit {0}

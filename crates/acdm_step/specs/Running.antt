@@ -66,13 +66,13 @@ pub data Comes (b : Board) (role : Role) (moment : ℕ) (c : Command) (before af
   answered : (used : List ℕ) → Gained before after used → after.refusals ≡ before.refusals
       → outcome ≡ board_outcome b role c
       → (is_accepted (board_verdict b role c) ≡ true
-      → Ran (programs_on b.slots c) (assigned_to (record_on b.records (flight_of c)) c) moment
+      → Ran (programs_on b.slots c) (assigned_to (record_on b (flight_of c)) c) moment
       (told_milestone c) used)
       → (is_accepted (board_verdict b role c) ≡ false → used ≡ [])
       → new ≡ board_after b role moment c used
       → Comes b role moment c before after outcome new
   unanswered : outcome ≡ outcomes.Refused Unanswered → is_accepted (board_verdict b role c) ≡ true
-      → AsksIn (programs_on b.slots c) (assigned_to (record_on b.records (flight_of c)) c) moment
+      → AsksIn (programs_on b.slots c) (assigned_to (record_on b (flight_of c)) c) moment
       (told_milestone c) before after → new ≡ b
       → Comes b role moment c before after outcome new
 

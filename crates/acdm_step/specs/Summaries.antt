@@ -18,7 +18,8 @@ use Rattle.acdm_step.specs.Programs.{Programs, Suggestion, Nothing, Usable, Unus
 use Rattle.acdm_step.specs.Programs.{effect}
 use Rattle.acdm_step.specs.declared.command.Command.{Command}
 use Rattle.acdm_step.specs.declared.entry.Entry.{Entry}
-use Rattle.acdm_step.specs.Commands.{History, flight_of, assigned_by, bit_of, told_milestone, is_of, ticks, created}
+use Rattle.acdm_step.specs.Commands.{History, flight_of, assigned_by, bit_of, told_milestone, is_of, ticks, migrates}
+use Rattle.acdm_step.specs.Commands.{created}
 use Rattle.acdm_step.specs.InSlots.{programs_of}
 
 -- ---- what the whole history says of a flight
@@ -45,10 +46,15 @@ last_text (number_is g v ∷ more) t = last_text more t
 last_text (text_is u v ∷ more) t =
     if text_index_of u == text_index_of t then v else last_text more t
 
+-- the layout, which is 1 until a migrate assigns another
+abbrev pub last_layout : List Assignment → ℕ
+last_layout assigned =
+    if last_number assigned Layout == 0 then 1 else last_number assigned Layout
+
 -- the record of flight f with these assignments, reached bits and alert word
 abbrev pub number_with : ℕ → List Assignment → ℕ → ℕ → Field → ℕ
 number_with f assigned reached alerts Flight = f
-number_with f assigned reached alerts Layout = 1
+number_with f assigned reached alerts Layout = last_layout assigned
 number_with f assigned reached alerts Reached = reached
 number_with f assigned reached alerts Alerts = alerts
 number_with f assigned reached alerts name = last_number assigned name
@@ -123,11 +129,15 @@ with_command c moment s t = record {
 abbrev pub with_tick : ℕ → Summary → Summary
 with_tick moment t = record t { touch = option_map (λ m. moment) t.touch }
 
+-- a migrate assigns layout 2 to each flight, and to those that are created later
+abbrev pub with_migrate : Summary → Summary
+with_migrate t = record t { assigned = number_is Layout 2 ∷ t.assigned }
+
 -- what one entry adds, with the programs that stood when it came; a refused entry, or one of
 -- another flight, adds nothing
 abbrev pub summary_after : Programs → Entry → ℕ → Summary → Summary
 summary_after ps e f t = if is_of f e then with_command e.command e.moment (effect_on ps e f t) t
-    else (if ticks e then with_tick e.moment t else t)
+    else (if ticks e then with_tick e.moment t else (if migrates e then with_migrate t else t))
 
 abbrev pub empty_summary : Summary
 empty_summary = record { assigned = []; reached = 0; touch = None; rejected = false; locals = 0 }

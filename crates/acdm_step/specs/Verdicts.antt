@@ -12,16 +12,20 @@ use Rattle.acdm_milestones.specs.declared.refusal.Refusal.{Refusal}
 use Rattle.acdm_milestones.specs.declared.refusal.Refusal.TheVariants.{UnknownFlight, NotOwner}
 use Rattle.acdm_milestones.specs.declared.refusal.Refusal.TheVariants.{AlreadyPlanned, FullBoard}
 use Rattle.acdm_milestones.specs.declared.refusal.Refusal.TheVariants.{EmptySlot, OtherSignatures}
-use Rattle.acdm_milestones.specs.declared.refusal.Refusal.TheVariants.{OtherLength}
+use Rattle.acdm_milestones.specs.declared.refusal.Refusal.TheVariants.{OtherLength, AlreadyMigrated, FirstLayout}
 use Rattle.acdm_milestones.specs.Tables.{number, owns, has_reached, admission}
 use Rattle.bpf_helpers.specs.Promise.{Promise}
 use Rattle.bpf_helpers.specs.Same.{same_sigs}
+use Rattle.acdm_milestones.specs.declared.deicing.DeicingTime.{DeicingTime}
+use Rattle.acdm_milestones.specs.Deicing.{deicing_admission}
+use Rattle.acdm_slots.specs.Migration.{unloaded}
 use Rattle.bpf_regstate.specs.declared.length.Length.{Length}
+use Rattle.bpf_regstate.specs.declared.length.Length.TheVariants.{L128, L160}
 use Rattle.bpf_regstate.specs.Lengths.{same_length}
 use Rattle.bpf_verifier.specs.Verdict.{Verified}
 use Rattle.acdm_step.specs.declared.command.Command.{Command}
-use Rattle.acdm_step.specs.declared.command.Command.TheVariants.{Load, Unload, Tick, Show}
-use Rattle.acdm_step.specs.declared.command.FlightCommand.TheVariants.{Schedule, Report}
+use Rattle.acdm_step.specs.declared.command.Command.TheVariants.{Load, Unload, Tick, Migrate, Show}
+use Rattle.acdm_step.specs.declared.command.FlightCommand.TheVariants.{Schedule, Report, Deice}
 use Rattle.acdm_step.specs.declared.command.Command.TheVariants as commands
 use Rattle.acdm_step.specs.declared.entry.Verdict.{Verdict}
 use Rattle.acdm_step.specs.declared.entry.Verdict.TheVariants.{Accepted, Refused}
@@ -61,7 +65,7 @@ tick_verdict role = if owns role actions.Tick then Accepted else Refused NotOwne
 abbrev pub show_verdict : Bool → Verdict
 show_verdict there = if there then Accepted else Refused UnknownFlight
 
--- ---- what the slots have against a command
+-- ---- what the slots, and the length of the records, have against a command
 
 -- a program may be loaded that was checked beside records of the board's length and against its
 -- signatures
@@ -87,10 +91,37 @@ abbrev pub unload_verdict : Option Refusal → Role → Verdict
 unload_verdict against role =
     if not (owns role actions.Unload) then Refused NotOwner else refused_by against
 
--- the last test of a load and of an unload
+-- records are brought to layout 2 once
+abbrev pub migrate_obstacle : Length → Option Refusal
+migrate_obstacle L128 = None
+migrate_obstacle L160 = Some AlreadyMigrated
+
+-- layout 1 has no times of de-icing
+abbrev pub deice_obstacle : Length → Option Refusal
+deice_obstacle L128 = Some FirstLayout
+deice_obstacle L160 = None
+
+abbrev pub migrate_verdict : Option Refusal → Role → Verdict
+migrate_verdict against role =
+    if not (owns role actions.Migrate) then Refused NotOwner else refused_by against
+
+abbrev pub unless_refused : Option Refusal → Verdict → Verdict
+unless_refused None v = v
+unless_refused (Some x) v = Refused x
+
+-- of a time of de-icing of a flight that is there or not, with this record
+abbrev pub deice_verdict : Bool → Fields → Option Refusal → Role → DeicingTime → ℕ → Verdict
+deice_verdict there r against role which time =
+    if not (owns role actions.Deice) then Refused NotOwner
+    else unless_refused against (if not there then Refused UnknownFlight
+    else verdict_from (deicing_admission r which time))
+
+-- what they have against a command after a history
 abbrev pub obstacle : List (ℕ × Promise) → History → Command → Option Refusal
 obstacle sigs J (Load l) = load_obstacle sigs (record_length_after J) l.program
 obstacle sigs J (Unload u) = unload_obstacle (program_in J u.milestone u.kind)
+obstacle sigs J Migrate = migrate_obstacle (record_length_after J)
+obstacle sigs J (commands.Flight (Deice d)) = deice_obstacle (record_length_after J)
 obstacle sigs J _ = None
 
 -- ---- of any command
@@ -100,9 +131,12 @@ verdict_for there count r against role (commands.Flight (Schedule s)) =
     schedule_verdict there count r role
 verdict_for there count r against role (commands.Flight (Report p)) =
     report_verdict there count r role p.milestone p.time
+verdict_for there count r against role (commands.Flight (Deice d)) =
+    deice_verdict there r against role d.which d.time
 verdict_for there count r against role (Load l) = load_verdict against role
 verdict_for there count r against role (Unload u) = unload_verdict against role
 verdict_for there count r against role Tick = tick_verdict role
+verdict_for there count r against role Migrate = migrate_verdict against role
 verdict_for there count r against role (Show f) = show_verdict there
 verdict_for there count r against role commands.Alerts = Accepted
 
@@ -121,11 +155,12 @@ alerted r = if number_of r Alerts == 0 then [] else
 abbrev pub alert_list : List Fields → List Alerted
 alert_list rs = flat_map alerted rs
 
--- what an accepted command is answered: the record of a flight, or all flights with alerts in order
--- of creation
+-- what an accepted command is answered: the record of a flight, all flights with alerts in order
+-- of creation, or the programs that a migrate unloads
 abbrev pub answer : History → Command → Outcome
 answer J (Show f) = outcomes.Shown (record_of J f)
 answer J commands.Alerts = outcomes.Listed (alert_list (map (record_of J) (flights J)))
+answer J Migrate = outcomes.Migrated (unloaded L160 (program_in J))
 answer J _ = outcomes.Done
 
 abbrev pub outcome_with : Outcome → Verdict → Outcome
@@ -141,7 +176,8 @@ abbrev pub verdict_in : Outcome → Verdict
 verdict_in (outcomes.Refused x) = Refused x
 verdict_in _ = Accepted
 
--- whether it is a list of flights
+-- whether it is a list
 abbrev pub is_list : Outcome → Bool
 is_list (outcomes.Listed flights) = true
+is_list (outcomes.Migrated unloaded) = true
 is_list _ = false

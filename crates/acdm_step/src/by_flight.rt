@@ -1,9 +1,11 @@
 //! The records of the flights, found by flight.
 ghost use Rattle.std.specs.Prelude.{◌≡◌, ◌<◌, ◌++◌, [], ◌∷◌, map, length, slice_get, slice_set};
-ghost use Rattle.std.specs.Prelude.{Some, IfOk};
+ghost use Rattle.std.specs.Prelude.{Some, IfOk, IsTrue};
+ghost use Rattle.std.specs.List.{list_all};
+ghost use Rattle.bpf_regstate.specs.declared.length.Length.TheVariants.{L128};
 ghost use Rattle.acdm_record.specs.declared.field.Field.TheVariants.{Flight};
-ghost use Rattle.acdm_record.specs.Fields.{Fields, number_of};
-ghost use Rattle.acdm_step.specs.Board.{place_of, touched};
+ghost use Rattle.acdm_record.specs.Fields.{Fields, length_of, migrated, number_of};
+ghost use Rattle.acdm_step.specs.Board.{is_long, place_of, touched};
 ghost use Rattle.acdm_step.specs.Verdicts.{alert_list};
 ghost use Rattle.acdm_step.specs.Marked.{Keeps};
 
@@ -119,6 +121,29 @@ impl Flights {
     {
         for place in 0..self.len() {
             self.touch_at(place, moment);
+        }
+    }
+
+    // Brings the record at a place to layout 2, where it stands.
+    fn migrate_at(&mut self, place: usize)
+        requires inside { place < length self.old }
+        requires first { (r : Fields) → slice_get self.old place ≡ Some r → length_of r ≡ 128 }
+        ensures { (r : Fields) → slice_get self.old place ≡ Some r →
+            self.new ≡ slice_set self.old place (migrated r) }
+    {
+        let record = &mut self.records[place];
+        record.migrate();
+        let alerted = !AlertSet::of(record).is_empty();
+        self.marks.put(place, alerted);
+    }
+
+    /// Brings each record to layout 2.
+    pub(crate) fn migrate_all(&mut self)
+        requires { IsTrue (list_all (is_long L128) self.old) }
+        ensures { self.new ≡ map migrated self.old }
+    {
+        for place in 0..self.len() {
+            self.migrate_at(place);
         }
     }
 

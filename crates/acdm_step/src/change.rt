@@ -1,18 +1,19 @@
 //! What a command does to the record of its flight.
-ghost use Rattle.std.specs.Prelude.{◌≡◌, OnOk, OnErr};
+ghost use Rattle.std.specs.Prelude.{◌≡◌, IsTrue, OnOk, OnErr};
 ghost use Rattle.acdm_record.specs.Assign.{with_all};
 ghost use Rattle.acdm_milestones.specs.Tables.{number};
 ghost use Rattle.bpf_helpers.specs.Oracles.{MayBeAsked, SameRule};
-ghost use Rattle.acdm_step.specs.Commands.{told_milestone, plan_assignments};
+ghost use Rattle.acdm_step.specs.Commands.{told_milestone, plan_assignments, is_deice};
 ghost use Rattle.acdm_step.specs.Board.{assigned_to, programs_on, touched};
 ghost use Rattle.acdm_step.specs.Running.{ChangesTo, AsksIn};
 ghost use Rattle.acdm_record.specs.Fields.{length_of};
+ghost use Rattle.bpf_regstate.specs.declared.length.Length.TheVariants.{L160};
 ghost use Rattle.bpf_regstate.specs.Lengths.{bytes_in};
 
-use crate::command::{Command, FlightCommand, Plan, Report, Schedule};
+use crate::command::{Command, Deice, FlightCommand, Plan, Report, Schedule};
 use crate::programs::run_programs;
 use acdm_alerts::builtin;
-use acdm_milestones::{mark_reached, set_time};
+use acdm_milestones::{mark_reached, set_deicing_time, set_time};
 use acdm_record::{Field, Record, TextField};
 use acdm_slots::Slots;
 use bpf_helpers::Oracle;
@@ -45,6 +46,14 @@ fn set_scheduled(record: &mut Record, schedule: &Schedule)
     record.set(Field::Exot, u64::from(schedule.exot));
     record.set(Field::Stand, u64::from(schedule.stand));
     mark_reached(record, 0);
+}
+
+fn set_deiced(record: &mut Record, deice: &Deice)
+    requires { length_of record.old ≡ 160 }
+    ensures { record.new ≡ assigned_to record.old
+        (Command.Flight (FlightCommand.Deice deice.now)) }
+{
+    set_deicing_time(record, deice.which, deice.time);
 }
 
 fn set_planned(record: &mut Record, plan: &Option<Plan>)
@@ -104,6 +113,8 @@ pub(crate) fn change<O: Oracle>(
 ) -> Result<(), BadAnswer>
     requires oracle { MayBeAsked slots.now.sigs (O.view oracle.old) }
     requires long { length_of record.old ≡ bytes_in slots.now.record_length }
+    requires second { IsTrue (is_deice (Command.Flight command.now))
+        → slots.now.record_length ≡ L160 }
     ensures changed { OnOk result (ChangesTo (programs_on slots.now (Command.Flight command.now))
         record.old moment (Command.Flight command.now) (O.view oracle.old) (O.view oracle.new)
         record.new) }
@@ -117,6 +128,11 @@ pub(crate) fn change<O: Oracle>(
         FlightCommand::Report(report) => change_reported(record, slots, moment, report, oracle),
         FlightCommand::Schedule(schedule) => {
             set_scheduled(record, schedule);
+            touch(record, moment);
+            Ok(())
+        }
+        FlightCommand::Deice(deice) => {
+            set_deiced(record, deice);
             touch(record, moment);
             Ok(())
         }

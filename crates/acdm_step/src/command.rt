@@ -3,11 +3,10 @@ ghost use Rattle.std.specs.Prelude.{◌≡◌, ◌≤◌, IsTrue};
 ghost use Rattle.std.specs.Option.{option_copied};
 ghost use Rattle.acdm_step.specs.Facts.{has_its_plan, has_its_time};
 
-use acdm_milestones::Milestone;
+use acdm_milestones::{DeicingTime, Milestone};
 use acdm_record::Text;
 use acdm_slots::Kind;
 use bpf_helpers::Sigs;
-use bpf_regstate::Length;
 use bpf_verifier::Checked;
 use std::marker::Model;
 
@@ -274,22 +273,18 @@ pub struct Load {
 
 impl Load {
     ghost use Rattle.std.specs.Prelude.{◌↔◌};
-    ghost use Rattle.bpf_regstate.specs.declared.length.Length.TheVariants.{L128};
     ghost use Rattle.bpf_regstate.specs.Lengths.{bytes_in};
     ghost use Rattle.acdm_step.specs.History.{is_checked};
     ghost use Rattle.bpf_regstate.specs.States.{Accepts};
 
-    /// Whether its program was checked against these signatures and beside records of 128 bytes,
-    /// with which it is then accepted.
+    /// Whether its program was checked against these signatures, with which it is then accepted
+    /// beside records of the length that it was checked for.
     pub fn was_checked(&self, sigs: &Sigs) -> bool
         ensures value { result ≡ is_checked sigs.now self.now.program }
-        ensures same { IsTrue result ↔ (self.now.program.sigs ≡ sigs.now)
-            × (self.now.program.record_length ≡ L128) }
-        ensures accepts { IsTrue result → Accepts (bytes_in L128) self.now.program.ops sigs.now }
+        ensures same { IsTrue result ↔ (self.now.program.sigs ≡ sigs.now) }
+        ensures accepts { IsTrue result → Accepts (bytes_in self.now.program.record_length)
+            self.now.program.ops sigs.now }
     {
-        if !self.program.record_length().is(Length::L128) {
-            return false;
-        }
         self.program.sigs().is_same(sigs)
     }
 }
@@ -301,6 +296,16 @@ pub struct Unload {
     pub kind: Kind,
 }
 
+/// Reports a time of de-icing of a flight.
+///
+/// The time is in minutes since 1970-01-01T00:00Z; 0 clears it.
+#[derive(Clone, Copy)]
+pub struct Deice {
+    pub flight: FlightNumber,
+    pub which: DeicingTime,
+    pub time: u32,
+}
+
 /// What a partner asks of one flight, whose record changes where it is accepted.
 #[derive(Drop)]
 pub enum FlightCommand {
@@ -308,6 +313,8 @@ pub enum FlightCommand {
     Schedule(Schedule),
     /// To report a milestone.
     Report(Report),
+    /// To report a time of de-icing.
+    Deice(Deice),
 }
 
 /// What a partner asks for.
@@ -321,6 +328,8 @@ pub enum Command {
     Unload(Unload),
     /// To compute the alerts of all flights anew.
     Tick,
+    /// To bring all records to layout 2, and to judge all programs again beside them.
+    Migrate,
     /// To see the record of a flight.
     Show(FlightNumber),
     /// To see the alerts of all flights that have any.
@@ -331,8 +340,7 @@ impl Command {
     ghost use Rattle.std.specs.Prelude.{◌↔◌};
     ghost use Rattle.acdm_step.specs.History.{IsChecked};
 
-    /// Whether it loads no program that was checked against other signatures than these, or beside
-    /// records of another length than 128 bytes.
+    /// Whether it loads no program that was checked against other signatures than these.
     pub fn was_checked(&self, sigs: &Sigs) -> bool
         ensures { IsTrue result ↔ IsChecked sigs.now self.now }
     {

@@ -14,9 +14,10 @@ mod state;
 mod verdicts;
 
 pub use command::{
-    Command, FlightCommand, FlightNumber, Load, MINUTES_OF_DAY, Plan, Report, Schedule, Unload,
+    Command, Deice, FlightCommand, FlightNumber, Load, MINUTES_OF_DAY, Plan, Report, Schedule,
+    Unload,
 };
 pub use entry::{Answers, Entry, Verdict};
-pub use outcome::{AlertList, Alerted, Outcome};
+pub use outcome::{AlertList, Alerted, Outcome, UnloadedList};
 pub use prepare::{Change, Prepared};
 pub use state::Core;

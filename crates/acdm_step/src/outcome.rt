@@ -6,6 +6,7 @@ use crate::entry::Verdict;
 use acdm_alerts::AlertSet;
 use acdm_milestones::Refusal;
 use acdm_record::Record;
+use acdm_slots::Unloaded;
 use std::alloc::AllocError;
 use std::marker::Model;
 
@@ -55,6 +56,46 @@ impl AlertList {
     }
 }
 
+/// Programs that a migrate has taken out of their slots, by milestone, and of one milestone the
+/// program for TOBT first.
+#[derive(Drop)]
+pub struct UnloadedList {
+    items: Vec<Unloaded>,
+}
+
+impl Model for UnloadedList {
+    ghost use Rattle.std.specs.Prelude.{List};
+    ghost use Rattle.acdm_slots.specs.declared.migration.Unloaded.{Unloaded};
+
+    ghost Value = { List Unloaded };
+
+    ghost view = { λ l. l.items.items };
+}
+
+impl UnloadedList {
+    /// These programs.
+    pub(crate) fn of(items: Vec<Unloaded>) -> UnloadedList
+        ensures { result ≡ items.items }
+    {
+        UnloadedList { items }
+    }
+
+    /// A list that equals this one. `Err` only where memory was refused.
+    fn copy(&self) -> Result<UnloadedList, AllocError>
+        ensures { IfOk result (λ list. list ≡ self.now) }
+    {
+        let items = self.items.clone()?;
+        Ok(UnloadedList { items })
+    }
+
+    /// The programs, each with its slot and its first fault.
+    pub fn as_slice(&self) -> &[Unloaded]
+        ensures { result.now ≡ self.now }
+    {
+        &self.items[..]
+    }
+}
+
 /// What comes of a command.
 #[derive(Drop)]
 pub enum Outcome {
@@ -64,6 +105,8 @@ pub enum Outcome {
     Shown(Record),
     /// The flights with alerts.
     Listed(AlertList),
+    /// All records have layout 2 now, and these programs were unloaded.
+    Migrated(UnloadedList),
     /// It was refused, and changed nothing.
     Refused(Refusal),
 }
@@ -75,12 +118,13 @@ impl Outcome {
     {
         match self {
             Outcome::Refused(refusal) => Verdict::Refused(*refusal),
-            Outcome::Done | Outcome::Shown(_) | Outcome::Listed(_) => Verdict::Accepted,
+            Outcome::Done | Outcome::Shown(_) | Outcome::Listed(_) | Outcome::Migrated(_) => {
+                Verdict::Accepted
+            }
         }
     }
 
-    /// An outcome that equals this one. `Err` only where memory was refused, which a list of alerts
-    /// needs.
+    /// An outcome that equals this one. `Err` only where memory was refused, which a list needs.
     pub fn copy(&self) -> Result<Outcome, AllocError>
         ensures copied { IfOk result (λ outcome. outcome ≡ self.now) }
         ensures memory { OnErr result (IsTrue (is_list self.now)) }
@@ -89,6 +133,7 @@ impl Outcome {
             Outcome::Done => Ok(Outcome::Done),
             Outcome::Shown(record) => Ok(Outcome::Shown(record.copy())),
             Outcome::Listed(list) => Ok(Outcome::Listed(list.copy()?)),
+            Outcome::Migrated(list) => Ok(Outcome::Migrated(list.copy()?)),
             Outcome::Refused(refusal) => Ok(Outcome::Refused(*refusal)),
         }
     }

@@ -1,12 +1,14 @@
 //! What a command would do to the board, found out before anything changes.
 ghost use Rattle.std.specs.Prelude.{◌≡◌, ◌↔◌, IsTrue, IfOk, OnErr, if◌then◌else◌};
 ghost use Rattle.bpf_helpers.specs.Oracles.{MayBeAsked, SameRule};
-ghost use Rattle.bpf_regstate.specs.declared.length.Length.TheVariants.{L128};
+ghost use Rattle.bpf_regstate.specs.declared.length.Length.TheVariants.{L128, L160};
 ghost use Rattle.acdm_slots.specs.Loaded.{program_in};
 ghost use Rattle.acdm_step.specs.Commands.{is_accepted};
 ghost use Rattle.acdm_step.specs.Verdicts.{load_verdict, outcome_with, show_verdict, tick_verdict};
 ghost use Rattle.acdm_step.specs.Verdicts.{load_obstacle, unload_obstacle, unload_verdict};
-ghost use Rattle.acdm_step.specs.Board.{AreLong, board_of, is_there, place_of, record_on};
+ghost use Rattle.acdm_slots.specs.Migration.{migrated_slots, unloaded};
+ghost use Rattle.acdm_step.specs.Verdicts.{migrate_obstacle, migrate_verdict};
+ghost use Rattle.acdm_step.specs.Board.{AreLong, begun, board_of, is_there, place_of, record_on};
 ghost use Rattle.acdm_step.specs.Running.{Comes};
 ghost use Rattle.acdm_step.specs.Prepared.{Fits, after_change};
 
@@ -14,15 +16,16 @@ use crate::by_flight::Flights;
 use crate::change::change;
 use crate::command::{Command, FlightCommand, Load, Unload};
 use crate::entry::Verdict;
-use crate::outcome::Outcome;
+use crate::outcome::{Outcome, UnloadedList};
 use crate::verdicts::{
-    flight_of_command, is_owner, verdict, verdict_on_load, verdict_on_show, verdict_on_tick,
-    verdict_on_unload,
+    flight_of_command, is_owner, verdict, verdict_on_load, verdict_on_migrate, verdict_on_show,
+    verdict_on_tick, verdict_on_unload,
 };
 use acdm_milestones::{Milestone, Refusal, Role};
 use acdm_record::Record;
 use acdm_slots::{Kind, Slots};
 use bpf_helpers::Oracle;
+use bpf_regstate::Length;
 use bpf_verifier::Checked;
 use std::alloc::AllocError;
 
@@ -38,6 +41,8 @@ pub enum Change {
     Add(Record),
     /// Each record is touched at this moment (minutes since 1970-01-01T00:00Z).
     Touch(u32),
+    /// Each record comes to layout 2, and these are the slots then.
+    Migrate(Slots),
     /// A program comes into a slot.
     Load(Milestone, Kind, Checked),
     /// A slot becomes empty.
@@ -62,15 +67,26 @@ fn refused(refusal: Refusal) -> Prepared
     }
 }
 
+// The record that a flight begins with, on a board whose records are so long.
+fn begun_record(record_length: Length, flight: u64) -> Record
+    ensures { result ≡ begun record_length flight }
+{
+    let mut record = Record::new(flight);
+    if record_length.is(Length::L160) {
+        record.migrate();
+    }
+    record
+}
+
 // The record at a flight's place, or the one that it begins with.
-fn record_at(flights: &Flights, place: usize, flight: u64) -> Record
+fn record_at(flights: &Flights, slots: &Slots, place: usize, flight: u64) -> Record
     requires { place ≡ place_of flights.now flight }
-    ensures { result ≡ record_on flights.now flight }
+    ensures { result ≡ record_on (board_of flights.now slots.now) flight }
 {
     if place < flights.len() {
         flights.at(place).copy()
     } else {
-        Record::new(flight)
+        begun_record(slots.record_length(), flight)
     }
 }
 
@@ -85,7 +101,6 @@ pub(crate) fn prepare_flight<O: Oracle>(
     command: &FlightCommand,
 ) -> Prepared
     requires oracle { MayBeAsked slots.now.sigs (O.view oracle.old) }
-    requires long { slots.now.record_length ≡ L128 }
     requires as_long { AreLong (board_of flights.now slots.now) }
     ensures comes { Comes (board_of flights.now slots.now) role moment (Command.Flight command.now)
         (O.view oracle.old) (O.view oracle.new)
@@ -99,8 +114,8 @@ pub(crate) fn prepare_flight<O: Oracle>(
     let flight = flight_of_command(command);
     let place = flights.place(flight);
     let count = flights.len();
-    let mut record = record_at(flights, place, flight);
-    let verdict = verdict(&record, place < count, count, role, command);
+    let mut record = record_at(flights, slots, place, flight);
+    let verdict = verdict(&record, place < count, count, slots, role, command);
     if !verdict.is_accepted() {
         return Prepared {
             outcome: Outcome::of(verdict),
@@ -186,9 +201,37 @@ pub(crate) fn prepare_tick(role: Role, moment: u32) -> Prepared
     }
 }
 
+/// A migrate: each record comes to layout 2, and the programs are judged again beside it. `Err` only
+/// where memory was refused.
+pub(crate) fn prepare_migrate(slots: &Slots, role: Role) -> Result<Prepared, AllocError>
+    ensures outcome { IfOk result (λ p. p.outcome ≡ outcome_with
+        (Outcome.Migrated (unloaded L160 (program_in slots.now)))
+        (migrate_verdict (migrate_obstacle slots.now.record_length) role)) }
+    ensures change { IfOk result (λ p. p.change ≡ (if is_accepted
+        (migrate_verdict (migrate_obstacle slots.now.record_length) role)
+        then Change.Migrate (migrated_slots L160 slots.now) else Change.Nothing)) }
+    ensures first { IfOk result (λ p. IsTrue (is_accepted
+        (migrate_verdict (migrate_obstacle slots.now.record_length) role))
+        → slots.now.record_length ≡ L128) }
+    ensures migrating { OnErr result (IsTrue (is_accepted
+        (migrate_verdict (migrate_obstacle slots.now.record_length) role))) }
+{
+    match verdict_on_migrate(slots, role) {
+        Verdict::Refused(refusal) => Ok(refused(refusal)),
+        Verdict::Accepted => {
+            let migrated = slots.migrated(Length::L160)?;
+            Ok(Prepared {
+                outcome: Outcome::Migrated(UnloadedList::of(migrated.unloaded)),
+                change: Change::Migrate(migrated.slots),
+            })
+        }
+    }
+}
+
 /// The record of a flight, as it is answered.
-pub(crate) fn show(flights: &Flights, flight: u64) -> Outcome
-    ensures { result ≡ outcome_with (Outcome.Shown (record_on flights.now flight))
+pub(crate) fn show(flights: &Flights, slots: &Slots, flight: u64) -> Outcome
+    ensures { result ≡ outcome_with
+        (Outcome.Shown (record_on (board_of flights.now slots.now) flight))
         (show_verdict (is_there flights.now flight)) }
 {
     let place = flights.place(flight);

@@ -18,7 +18,8 @@ use crate::by_flight::Flights;
 use crate::command::{Command, FlightCommand};
 use crate::outcome::Outcome;
 use crate::prepare::{
-    Change, Prepared, prepare_flight, prepare_load, prepare_tick, prepare_unload, show,
+    Change, Prepared, prepare_flight, prepare_load, prepare_migrate, prepare_tick, prepare_unload,
+    show,
 };
 use crate::programs::{either_asks, size_in};
 use acdm_milestones::Role;
@@ -38,8 +39,6 @@ pub struct Core {
 }
 
 impl Model for Core {
-    ghost use Rattle.std.specs.Prelude.{◌≡◌};
-    ghost use Rattle.bpf_regstate.specs.declared.length.Length.TheVariants.{L128};
     ghost use Rattle.acdm_step.specs.History.{Board};
     ghost use Rattle.acdm_step.specs.Board.{AreLong};
 
@@ -48,8 +47,7 @@ impl Model for Core {
     ghost view = { λ c. record { records = c.flights; slots = c.slots } };
 
     // The programs run beside the records.
-    ghost invariant = { λ c. (c.slots.record_length ≡ L128)
-        × AreLong record { records = c.flights; slots = c.slots } };
+    ghost invariant = { λ c. AreLong record { records = c.flights; slots = c.slots } };
 }
 
 impl Core {
@@ -100,7 +98,7 @@ impl Core {
                 size_in(&self.slots, report.milestone, Kind::Tobt)
                     + size_in(&self.slots, report.milestone, Kind::Alert)
             }
-            FlightCommand::Schedule(_) => 0,
+            FlightCommand::Schedule(_) | FlightCommand::Deice(_) => 0,
         }
     }
 
@@ -114,7 +112,7 @@ impl Core {
         };
         match command {
             FlightCommand::Report(report) => either_asks(&self.slots, report.milestone),
-            FlightCommand::Schedule(_) => false,
+            FlightCommand::Schedule(_) | FlightCommand::Deice(_) => false,
         }
     }
 
@@ -165,8 +163,12 @@ impl Core {
             }
             Command::Unload(unload) => Ok(prepare_unload(&self.slots, role, unload)),
             Command::Tick => Ok(prepare_tick(role, moment)),
+            Command::Migrate => {
+                let prepared = prepare_migrate(&self.slots, role)?;
+                Ok(prepared)
+            }
             Command::Show(flight) => Ok(Prepared {
-                outcome: show(&self.flights, flight.get()),
+                outcome: show(&self.flights, &self.slots, flight.get()),
                 change: Change::Nothing,
             }),
             Command::Alerts => {
@@ -184,8 +186,8 @@ impl Core {
     /// report run here: helpers that they call are answered by the oracle.
     ///
     /// Where the oracle leaves a program without an answer, the report is refused as `Unanswered`,
-    /// which changes nothing. `Err` only where memory was refused, which is asked for for a load
-    /// and for a list of alerts; no program has run then.
+    /// which changes nothing. `Err` only where memory was refused, which is asked for for a load,
+    /// a migrate and a list of alerts; no program has run then.
     pub fn plan<O: Oracle>(
         &self,
         oracle: &mut O,
@@ -235,6 +237,10 @@ impl Core {
             Change::Put(place, record) => self.flights.put(place, record),
             Change::Add(record) => self.flights.add(record),
             Change::Touch(moment) => self.flights.touch_all(moment),
+            Change::Migrate(slots) => {
+                self.flights.migrate_all();
+                self.slots = slots;
+            }
             Change::Load(milestone, kind, program) => {
                 if self.slots.load(milestone, kind, program).is_err() {
                     unreachable!();
@@ -254,8 +260,8 @@ impl Core {
     /// the oracle.
     ///
     /// Where the oracle leaves a program without an answer, the report is refused as `Unanswered`
-    /// and nothing has changed. `Err` only where memory was refused, which is asked for for a load
-    /// and for a list of alerts, before anything changes.
+    /// and nothing has changed. `Err` only where memory was refused, which is asked for for a load,
+    /// a migrate and a list of alerts, before anything changes.
     pub fn apply<O: Oracle>(
         &mut self,
         oracle: &mut O,

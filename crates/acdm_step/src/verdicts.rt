@@ -1,17 +1,23 @@
 //! The verdict on each command: the first refusal that applies.
-ghost use Rattle.std.specs.Prelude.{◌≡◌, ◌↔◌, IsTrue, None};
+ghost use Rattle.std.specs.Prelude.{◌≡◌, ◌↔◌, IsTrue};
 ghost use Rattle.acdm_slots.specs.Loaded.{program_in};
-ghost use Rattle.acdm_step.specs.Commands.{flight_of};
+ghost use Rattle.acdm_step.specs.Commands.{flight_of, is_accepted, is_deice};
 ghost use Rattle.acdm_step.specs.Verdicts.{schedule_verdict, report_verdict, load_verdict};
 ghost use Rattle.acdm_step.specs.Verdicts.{unload_verdict, tick_verdict, show_verdict, verdict_for};
-ghost use Rattle.acdm_step.specs.Verdicts.{load_obstacle, unload_obstacle};
+ghost use Rattle.acdm_step.specs.Verdicts.{load_obstacle, unload_obstacle, migrate_obstacle};
+ghost use Rattle.acdm_step.specs.Verdicts.{migrate_verdict, deice_obstacle, deice_verdict};
+ghost use Rattle.acdm_step.specs.Board.{obstacle_on};
+ghost use Rattle.acdm_record.specs.Fields.{length_of};
+ghost use Rattle.bpf_regstate.specs.declared.length.Length.TheVariants.{L128, L160};
+ghost use Rattle.bpf_regstate.specs.Lengths.{bytes_in};
 ghost use Rattle.acdm_step.specs.Prepared.{owns_change};
 
-use crate::command::{Command, FlightCommand, Load, Unload};
+use crate::command::{Command, Deice, FlightCommand, Load, Unload};
 use crate::entry::Verdict;
-use acdm_milestones::{Action, Milestone, Refusal, Role, admit, has_reached, owns};
+use acdm_milestones::{Action, Milestone, Refusal, Role, admit, admit_deicing, has_reached, owns};
 use acdm_record::Record;
 use acdm_slots::Slots;
+use bpf_regstate::Length;
 
 /// How many flights a board has at most.
 pub const MOST_FLIGHTS: usize = 4096;
@@ -101,6 +107,48 @@ pub(crate) fn verdict_on_unload(slots: &Slots, role: Role, unload: &Unload) -> V
     Verdict::Accepted
 }
 
+/// The verdict on a migrate.
+pub(crate) fn verdict_on_migrate(slots: &Slots, role: Role) -> Verdict
+    ensures value { result ≡ migrate_verdict (migrate_obstacle slots.now.record_length) role }
+    ensures first { result ≡ Verdict.Accepted → slots.now.record_length ≡ L128 }
+{
+    if !owns(role, Action::Migrate) {
+        return Verdict::Refused(Refusal::NotOwner);
+    }
+    if slots.record_length().is(Length::L160) {
+        return Verdict::Refused(Refusal::AlreadyMigrated);
+    }
+    Verdict::Accepted
+}
+
+// The verdict on a time of de-icing of a flight that is there or not, with this record.
+fn verdict_on_deice(
+    record: &Record,
+    is_there: bool,
+    record_length: Length,
+    role: Role,
+    deice: &Deice,
+) -> Verdict
+    requires long { length_of record.now ≡ bytes_in record_length }
+    ensures value { result ≡ deice_verdict is_there record.now (deice_obstacle record_length) role
+        deice.now.which deice.now.time }
+    ensures second { result ≡ Verdict.Accepted → record_length ≡ L160 }
+{
+    if !owns(role, Action::Deice) {
+        return Verdict::Refused(Refusal::NotOwner);
+    }
+    if record_length.is(Length::L128) {
+        return Verdict::Refused(Refusal::FirstLayout);
+    }
+    if !is_there {
+        return Verdict::Refused(Refusal::UnknownFlight);
+    }
+    match admit_deicing(record, deice.which, deice.time) {
+        Ok(()) => Verdict::Accepted,
+        Err(refusal) => Verdict::Refused(refusal),
+    }
+}
+
 /// The verdict on showing the record of a flight that is there or not.
 pub(crate) fn verdict_on_show(is_there: bool) -> Verdict
     ensures { result ≡ show_verdict is_there }
@@ -117,13 +165,20 @@ pub(crate) fn verdict(
     record: &Record,
     is_there: bool,
     count: usize,
+    slots: &Slots,
     role: Role,
     command: &FlightCommand,
 ) -> Verdict
-    ensures { result ≡ verdict_for is_there count record.now None role
-        (Command.Flight command.now) }
+    requires long { length_of record.now ≡ bytes_in slots.now.record_length }
+    ensures value { result ≡ verdict_for is_there count record.now
+        (obstacle_on slots.now (Command.Flight command.now)) role (Command.Flight command.now) }
+    ensures second { IsTrue (is_accepted result) → IsTrue (is_deice (Command.Flight command.now))
+        → slots.now.record_length ≡ L160 }
 {
     match command {
+        FlightCommand::Deice(deice) => {
+            verdict_on_deice(record, is_there, slots.record_length(), role, deice)
+        }
         FlightCommand::Schedule(_) => verdict_on_schedule(record, is_there, count, role),
         FlightCommand::Report(report) => {
             verdict_on_report(record, is_there, count, role, report.milestone, report.time)
@@ -138,6 +193,7 @@ pub(crate) fn is_owner(role: Role, command: &FlightCommand) -> bool
     match command {
         FlightCommand::Schedule(_) => owns(role, Action::Schedule),
         FlightCommand::Report(report) => owns(role, Action::Report(report.milestone)),
+        FlightCommand::Deice(_) => owns(role, Action::Deice),
     }
 }
 
@@ -148,5 +204,6 @@ pub(crate) fn flight_of_command(command: &FlightCommand) -> u64
     match command {
         FlightCommand::Schedule(schedule) => schedule.flight,
         FlightCommand::Report(report) => report.flight,
+        FlightCommand::Deice(deice) => deice.flight.get(),
     }
 }

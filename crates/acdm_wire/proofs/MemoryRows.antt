@@ -34,7 +34,7 @@ no_minute : request_needs_memory (codes "1 0 APT {\"cmd\":\"tick\"}") ≡ false
 unfolding request_needs_memory head_of natural_of is_utf8 chars encode_utf8
 no_minute = refl
 
-no_role : request_needs_memory (codes "1 29000580 DIC {\"cmd\":\"tick\"}") ≡ false
+no_role : request_needs_memory (codes "1 29000580 ABC {\"cmd\":\"tick\"}") ≡ false
 unfolding request_needs_memory head_of natural_of is_utf8 chars encode_utf8
 no_role = refl
 

@@ -19,13 +19,18 @@ use Rattle.acdm_milestones.specs.declared.milestone.Milestone.TheVariants.{TwoHo
 use Rattle.acdm_milestones.specs.declared.milestone.Milestone.TheVariants.{TobtUpdate}
 use Rattle.acdm_milestones.specs.Tables.{milestone_numbered}
 use Rattle.acdm_milestones.specs.Names.{role_named}
+use Rattle.acdm_milestones.specs.declared.deicing.DeicingTime.{DeicingTime}
+use Rattle.acdm_milestones.specs.Deicing.{deicing_named}
 use Rattle.acdm_slots.specs.declared.kind.Kind as kinds
 use Rattle.acdm_slots.specs.Names.{kind_named}
+use Rattle.bpf_regstate.specs.declared.length.Length.{Length}
+use Rattle.bpf_regstate.specs.declared.length.Length.TheVariants.{L128, L160}
 use Rattle.acdm_step.specs.declared.command.Plan.{Plan}
 use Rattle.acdm_step.specs.declared.command.Command.{Command}
-use Rattle.acdm_step.specs.declared.command.Command.TheVariants.{Unload, Tick, Show, Alerts}
+use Rattle.acdm_step.specs.declared.command.Command.TheVariants.{Unload, Tick, Migrate, Show}
+use Rattle.acdm_step.specs.declared.command.Command.TheVariants.{Alerts}
 use Rattle.acdm_step.specs.declared.command.Command.TheVariants as commands
-use Rattle.acdm_step.specs.declared.command.FlightCommand.TheVariants.{Schedule, Report}
+use Rattle.acdm_step.specs.declared.command.FlightCommand.TheVariants.{Schedule, Report, Deice}
 use Rattle.acdm_step.specs.Commands.{is_load}
 use Rattle.acdm_wire.specs.declared.fault.Fault.{Fault}
 use Rattle.acdm_wire.specs.declared.fault.Fault.TheVariants.{Prefix, NoJson, UnknownCommand}
@@ -217,6 +222,19 @@ report_field d = do
     plan = plan;
   }))
 
+-- the time of de-icing whose name stands under `field`
+unfoldable pub deicing_field : Data → Result DeicingTime Fault
+deicing_field d = or_fault Kind (option_and_then as_str (get (codes "field") d)) >>= λ t. or_fault
+    Range (deicing_named t)
+
+-- the fields of a time of de-icing, which null clears
+unfoldable pub deice_field : Data → Result Command Fault
+deice_field d = do
+  flight ← number_field (codes "flight") 1 most_flight d
+  which ← deicing_field d
+  time ← time_or_null (codes "time") d
+  Ok (commands.Flight (Deice record { flight = flight; which = which; time = time }))
+
 -- the flight of which the record is asked
 unfoldable pub show_field : Data → Result Command Fault
 show_field d = number_field (codes "flight") 1 most_flight d >>= λ flight. Ok (Show flight)
@@ -241,12 +259,32 @@ unfoldable pub program_field : Data → Result (List ℕ) Fault
 program_field d = or_fault Kind (option_and_then as_str (get (codes "program") d)) >>=
     λ t. bytes_read (decode_of t)
 
+-- the length of a record of so many bytes
+abbrev pub length_of : ℕ → Option Length
+length_of n = if n == 128 then Some L128 else (if n == 160 then Some L160 else None)
+
+-- the length under a key, 128 where the key is missing
+abbrev pub length_under : Option Data → Result Length Fault
+length_under None = Ok L128
+length_under (Some value) = or_fault Kind (option_and_then as_u64 (as_number value)) >>=
+    λ n. or_fault Range (length_of n)
+
+-- the length of the records beside which a program is to run
+unfoldable pub length_field : Data → Result Length Fault
+length_field d = length_under (get (codes "length") d)
+
 -- the fields of a load
 unfoldable pub load_field : Data → Result Asked Fault
 load_field d = do
   slot ← slot_field d
   program ← program_field d
-  Ok (Load record { milestone = slot.0; kind = slot.1; program = program })
+  record_length ← length_field d
+  Ok (Load record {
+    milestone = slot.0;
+    kind = slot.1;
+    program = program;
+    length = record_length;
+  })
 
 -- the slot that is to be emptied
 unfoldable pub unload_field : Data → Result Command Fault
@@ -259,10 +297,12 @@ unfoldable pub plain_named : List ℕ → Data → Result Command Fault
 plain_named name d =
     if bytes_eq name (codes "schedule") then schedule_field d
     else (if bytes_eq name (codes "report") then report_field d
+    else (if bytes_eq name (codes "deice") then deice_field d
     else (if bytes_eq name (codes "unload") then unload_field d
     else (if bytes_eq name (codes "tick") then Ok Tick
+    else (if bytes_eq name (codes "migrate") then Ok Migrate
     else (if bytes_eq name (codes "show") then show_field d
-    else (if bytes_eq name (codes "alerts") then Ok Alerts else Err UnknownCommand)))))
+    else (if bytes_eq name (codes "alerts") then Ok Alerts else Err UnknownCommand)))))))
 
 -- what the command of this name asks for
 unfoldable pub command_named : List ℕ → Data → Result Asked Fault

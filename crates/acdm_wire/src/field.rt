@@ -7,21 +7,23 @@ ghost use Rattle.acdm_wire.specs.Meant.{Gives, GivesView, number_field, text_fie
 ghost use Rattle.acdm_wire.specs.Meant.{time_field, time_or_null, time_for, plan_field};
 ghost use Rattle.acdm_wire.specs.Meant.{plan_for, milestone_of, milestone_field};
 ghost use Rattle.acdm_wire.specs.Meant.{schedule_field, report_field, show_field};
-ghost use Rattle.acdm_wire.specs.Meant.{kind_field, slot_field, program_field, load_field};
+ghost use Rattle.acdm_wire.specs.Meant.{deicing_field, deice_field, kind_field, slot_field};
+ghost use Rattle.acdm_wire.specs.Meant.{program_field, length_of, length_field, load_field};
 ghost use Rattle.acdm_wire.specs.Meant.{unload_field, plain_named, command_of, is_plain};
-ghost use Rattle.acdm_wire.specs.Meant.{json_of};
+ghost use Rattle.acdm_wire.specs.Meant.{or_fault, json_of};
 ghost use Rattle.acdm_wire.specs.Memory.{json_needs_memory, program_needs_memory};
 ghost use Rattle.acdm_wire.specs.Memory.{load_needs_memory, command_needs_memory};
 
 use crate::fault::Fault;
 use crate::program::ProgramBytes;
 use crate::request::{Asked, LineError, LoadRequest};
-use acdm_milestones::Milestone;
+use acdm_milestones::{DeicingTime, Milestone};
 use acdm_record::Text;
 use acdm_slots::Kind;
 use acdm_step::{
-    Command, FlightCommand, FlightNumber, MINUTES_OF_DAY, Plan, Report, Schedule, Unload,
+    Command, Deice, FlightCommand, FlightNumber, MINUTES_OF_DAY, Plan, Report, Schedule, Unload,
 };
+use bpf_regstate::Length;
 use hex::FromHexError;
 use jiff::Timestamp;
 use serde_json::Value;
@@ -182,6 +184,35 @@ fn report_in(value: &Value) -> Result<Command, Fault>
     Ok(Command::Flight(FlightCommand::Report(Report::new(flight, milestone, time, plan))))
 }
 
+#[tactic(auto, unfolding(crate::specs::Meant::deicing_field))]
+fn deicing_time_in(value: &Value) -> Result<DeicingTime, Fault>
+    ensures { result ≡ deicing_field (view value.now) }
+{
+    let Some(name) = value.get("field").and_then(Value::as_str) else {
+        return Err(Fault::Kind);
+    };
+    let Some(which) = DeicingTime::from_name(name.as_bytes()) else {
+        return Err(Fault::Range);
+    };
+    Ok(which)
+}
+
+#[tactic(auto, unfolding(crate::specs::Meant::deice_field))]
+fn deice_in(value: &Value) -> Result<Command, Fault>
+    ensures reads { result ≡ deice_field (view value.now) }
+    ensures plain { IfOk result (λ command. is_load command ≡ false) }
+{
+    let flight = number_in(value, "flight", 1, u64::MAX)?;
+    let which = deicing_time_in(value)?;
+    let time = time_or_null_in(value, "time")?;
+    let flight = FlightNumber::new(flight);
+    Ok(Command::Flight(FlightCommand::Deice(Deice {
+        flight,
+        which,
+        time,
+    })))
+}
+
 #[tactic(auto, unfolding(crate::specs::Meant::show_field))]
 fn show_in(value: &Value) -> Result<Command, Fault>
     ensures reads { result ≡ show_field (view value.now) }
@@ -230,6 +261,30 @@ fn program_in(alloc: Global, value: &Value) -> Result<ProgramBytes, LineError>
     }
 }
 
+fn length_at(number: u64) -> Result<Length, Fault>
+    ensures { result ≡ or_fault Fault.Range (length_of number) }
+{
+    match number {
+        128 => Ok(Length::L128),
+        160 => Ok(Length::L160),
+        _ => Err(Fault::Range),
+    }
+}
+
+// The length of the records beside which a program is to run.
+#[tactic(auto, unfolding(crate::specs::Meant::length_field))]
+fn length_in(value: &Value) -> Result<Length, Fault>
+    ensures { result ≡ length_field (view value.now) }
+{
+    let Some(field) = value.get("length") else {
+        return Ok(Length::L128);
+    };
+    let Some(number) = field.as_u64() else {
+        return Err(Fault::Kind);
+    };
+    length_at(number)
+}
+
 #[tactic(auto, unfolding(crate::specs::Meant::load_field, crate::specs::Memory::load_needs_memory))]
 fn load_in(alloc: Global, value: &Value) -> Result<Asked, LineError>
     ensures reads { Gives result (load_field (view value.now)) }
@@ -241,10 +296,15 @@ fn load_in(alloc: Global, value: &Value) -> Result<Asked, LineError>
         Err(fault) => return Err(LineError::Fault(fault)),
     };
     let program = program_in(alloc, value)?;
+    let length = match length_in(value) {
+        Ok(length) => length,
+        Err(fault) => return Err(LineError::Fault(fault)),
+    };
     Ok(Asked::Load(LoadRequest {
         milestone,
         kind,
         program,
+        length,
     }))
 }
 
@@ -267,10 +327,14 @@ fn plain_in(value: &Value, name: &str) -> Result<Command, Fault>
         schedule_in(value)
     } else if name == "report" {
         report_in(value)
+    } else if name == "deice" {
+        deice_in(value)
     } else if name == "unload" {
         unload_in(value)
     } else if name == "tick" {
         Ok(Command::Tick)
+    } else if name == "migrate" {
+        Ok(Command::Migrate)
     } else if name == "show" {
         show_in(value)
     } else if name == "alerts" {

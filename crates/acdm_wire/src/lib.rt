@@ -5,6 +5,7 @@ mod asked;
 mod fault;
 mod field;
 mod head;
+mod list_item;
 mod program;
 mod reply;
 mod reply_text;

@@ -4,15 +4,12 @@ ghost use Rattle.hex.specs.Hex.{encode_lower};
 ghost use Rattle.acdm_record.specs.Fields.{bytes_of};
 ghost use Rattle.acdm_step.specs.declared.outcome.Outcome.TheVariants as outcomes;
 ghost use Rattle.acdm_wire.specs.declared.text.TheConstants.{LONGEST_TEXT};
-ghost use Rattle.acdm_wire.specs.Replies.{alerted_text, next_text, list_head, entry_text};
-ghost use Rattle.acdm_wire.specs.Replies.{bad_text};
+ghost use Rattle.acdm_wire.specs.Replies.{list_head, entry_text, bad_text};
 
 use crate::fault::Bad;
 use crate::text::Text;
-use acdm_alerts::push_names;
 use acdm_milestones::Refusal;
 use acdm_record::Record;
-use acdm_step::Alerted;
 
 impl Text {
     fn push_record(&mut self, record: &Record)
@@ -27,33 +24,6 @@ impl Text {
             unreachable!();
         }
         self.push(used);
-    }
-
-    // A flight's number, and its alerts.
-    fn push_alerted(&mut self, flight: &Alerted)
-        requires { length self.old + 238 ≤ LONGEST_TEXT }
-        ensures { self.new ≡ self.old ++ alerted_text flight.now }
-    {
-        self.push_number(flight.flight);
-        self.push(b":");
-        push_names(flight.alerts, &mut self.bytes);
-    }
-
-    /// The first flight with its alerts, in place of what stands there.
-    pub(crate) fn put_first(&mut self, flight: &Alerted)
-        ensures { self.new ≡ alerted_text flight.now }
-    {
-        self.bytes.clear();
-        self.push_alerted(flight);
-    }
-
-    /// Another flight with its alerts, in place of what stands there.
-    pub(crate) fn put_next(&mut self, flight: &Alerted)
-        ensures { self.new ≡ next_text flight.now }
-    {
-        self.bytes.clear();
-        self.push(b";");
-        self.push_alerted(flight);
     }
 }
 
@@ -91,12 +61,14 @@ pub(crate) fn shown(number: u64, record: &Record) -> Text
     text
 }
 
-/// What stands before the flights with alerts.
-pub(crate) fn head(number: u64) -> Text
-    ensures { result ≡ list_head number }
+/// What stands before a list: a word of at most 8 letters, and the entry's number.
+pub(crate) fn head(word: &str, number: u64) -> Text
+    requires { length word.now ≤ 8 }
+    ensures { result ≡ list_head word.now number }
 {
     let mut text = Text::new();
-    text.push(b"alerts ");
+    text.push(word.as_bytes());
+    text.push(b" ");
     text.push_number(number);
     text.push(b" ");
     text

@@ -4,6 +4,7 @@ use crate::program::ProgramBytes;
 use acdm_milestones::{Milestone, Role};
 use acdm_slots::Kind;
 use acdm_step::Command;
+use bpf_regstate::Length;
 
 /// How many bytes a line has at most (this project's profile).
 pub const LONGEST_LINE: usize = 70_000;
@@ -17,12 +18,14 @@ pub enum LineError {
     Fault(Fault),
 }
 
-/// To load the program of these bytes into a slot, in place of what stands there.
+/// To load the program of these bytes into a slot, in place of what stands there, for records of
+/// this length.
 #[derive(Drop)]
 pub struct LoadRequest {
     pub milestone: Milestone,
     pub kind: Kind,
     pub program: ProgramBytes,
+    pub length: Length,
 }
 
 /// What a line asks for, before the bytes of a program are read.

@@ -1,8 +1,8 @@
 //! Programs for records of another length than the board's.
-use crate::fixture::{no_sigs, same_number, taxi_sigs};
+use crate::fixture::{checked, no_sigs, same_number, taxi_sigs};
 use crate::step::{empty_board, verdict_on};
 use acdm_milestones::{Milestone, Role};
-use acdm_slots::{Kind, Slots};
+use acdm_slots::{Kind, Migrated, Slots};
 use acdm_step::{Command, Core, Load, Unload, Verdict};
 use bpf_helpers::Sigs;
 use bpf_regstate::Length;
@@ -49,6 +49,49 @@ fn slots_hold_programs_of_one_length(rt: HostRuntime) {
     drop(slots);
 }
 
+/// r0 becomes 0 where r2 is at most 128, and an exit.
+const SHORT_ALONE: &str = "2502010080000000b7000000000000009500000000000000";
+
+// Slots beside 128 bytes, with two programs of which one holds beside 160 bytes too.
+fn two_programs(rt: &impl Abort, alloc: Global, sigs: &Sigs) -> Slots {
+    let own = sigs.copy().expect(rt, "signatures");
+    let mut slots = Slots::new(alloc, own, Length::L128).expect(rt, "slots");
+    loads(rt, &mut slots, checked(rt, alloc, sigs, SHORT_ALONE), 0);
+    let stays = program(rt, alloc, sigs, Length::L128);
+    let loaded = slots.load(Milestone::TobtUpdate, Kind::Alert, stays);
+    assert!(rt; loaded.is_ok());
+    slots
+}
+
+// What was taken out is told, with its fault; what stays runs beside the longer records.
+fn tells_what_is_taken_out(rt: &impl Abort, migrated: &Migrated) {
+    let [taken] = migrated.unloaded.as_slice() else {
+        panic!(rt; "one program is taken out");
+    };
+    assert!(rt; taken.milestone == Milestone::InBlock && taken.kind == Kind::Tobt);
+    same_number(rt, u64::from(taken.code), 308);
+    same_number(rt, taken.slot as u64, 2);
+    let slots = &migrated.slots;
+    assert!(rt; slots.record_length() == Length::L160);
+    assert!(rt; slots.get(Milestone::InBlock, Kind::Tobt).is_none());
+    match slots.get(Milestone::TobtUpdate, Kind::Alert) {
+        Some(stays) => assert!(rt; stays.record_length() == Length::L160),
+        None => panic!(rt; "it stays"),
+    }
+}
+
+#[test]
+fn programs_are_judged_again_beside_longer_records(rt: HostRuntime) {
+    let alloc = rt.alloc();
+    let sigs = no_sigs(&rt, alloc);
+    let slots = two_programs(&rt, alloc, &sigs);
+    let migrated = slots.migrated(Length::L160).expect(&rt, "memory");
+    tells_what_is_taken_out(&rt, &migrated);
+    assert!(rt; slots.get(Milestone::InBlock, Kind::Tobt).is_some());
+    drop(migrated);
+    drop(slots);
+}
+
 fn load_of(program: Checked) -> Command {
     Command::Load(Load {
         milestone: Milestone::InBlock,
@@ -85,5 +128,25 @@ fn refuses_another_length(rt: &impl Abort, alloc: Global, core: &mut Core) {
 fn a_board_takes_programs_for_its_records_alone(rt: HostRuntime) {
     let mut core = empty_board(&rt, rt.alloc());
     refuses_another_length(&rt, rt.alloc(), &mut core);
+    drop(core);
+}
+
+// The other length fits once the board was migrated, and the first no more.
+fn migrates_once(rt: &impl Abort, alloc: Global, core: &mut Core) {
+    let sigs = no_sigs(rt, alloc);
+    judges(rt, core, Role::DeicingCompany, Command::Migrate, 201);
+    judges(rt, core, Role::AirportOperator, Command::Migrate, 0);
+    judges(rt, core, Role::NetworkManager, Command::Migrate, 201);
+    judges(rt, core, Role::AirportOperator, Command::Migrate, 324);
+    let short = load_of(program(rt, alloc, &sigs, Length::L128));
+    judges(rt, core, Role::AirportOperator, short, 323);
+    let long = load_of(program(rt, alloc, &sigs, Length::L160));
+    judges(rt, core, Role::AirportOperator, long, 0);
+}
+
+#[test]
+fn a_migrated_board_takes_programs_for_longer_records(rt: HostRuntime) {
+    let mut core = empty_board(&rt, rt.alloc());
+    migrates_once(&rt, rt.alloc(), &mut core);
     drop(core);
 }

@@ -6,6 +6,8 @@
 #[cfg(test)]
 mod alerts;
 #[cfg(test)]
+mod deicing;
+#[cfg(test)]
 mod fixture;
 #[cfg(test)]
 mod lengths;

@@ -16,7 +16,9 @@ const AO: Role = Role::AircraftOperator;
 
 const GH: Role = Role::GroundHandler;
 
-const ROLES: [Role; 5] = [NM, ATC, APT, AO, GH];
+const DIC: Role = Role::DeicingCompany;
+
+const ROLES: [Role; 6] = [NM, ATC, APT, AO, GH, DIC];
 
 // The milestone of a number of the table.
 fn numbered(rt: &impl Abort, number: u64) -> Milestone {
@@ -252,30 +254,30 @@ fn numbers_outside_the_table_are_no_milestones(rt: HostRuntime) {
     same_number(&rt, u64::from(Refusal::FullBoard.code()), 503);
 }
 
-// Whether NM, ATC, APT, AO and GH report each milestone, from 1 on.
-const REPORTERS: [[bool; 5]; 16] = [
-    [true, false, false, false, false],
-    [true, false, false, false, false],
-    [true, false, false, false, false],
-    [false, true, false, false, false],
-    [false, true, false, false, false],
-    [false, true, false, false, false],
-    [false, false, true, false, false],
-    [false, false, false, false, true],
-    [false, false, false, true, true],
-    [false, true, false, false, false],
-    [false, false, false, true, true],
-    [false, false, false, true, true],
-    [false, true, false, false, false],
-    [false, true, false, false, false],
-    [false, true, true, false, false],
-    [false, true, false, false, false],
+// Whether NM, ATC, APT, AO, GH and DIC report each milestone, from 1 on.
+const REPORTERS: [[bool; 6]; 16] = [
+    [true, false, false, false, false, false],
+    [true, false, false, false, false, false],
+    [true, false, false, false, false, false],
+    [false, true, false, false, false, false],
+    [false, true, false, false, false, false],
+    [false, true, false, false, false, false],
+    [false, false, true, false, false, false],
+    [false, false, false, false, true, false],
+    [false, false, false, true, true, false],
+    [false, true, false, false, false, false],
+    [false, false, false, true, true, false],
+    [false, false, false, true, true, false],
+    [false, true, false, false, false, false],
+    [false, true, false, false, false, false],
+    [false, true, true, false, false, false],
+    [false, true, false, false, false, false],
 ];
 
 // The roles report the milestone of this number, or do not, in the order of ROLES.
-fn has_reporters(rt: &impl Abort, number: u64, reporters: &[bool; 5]) {
+fn has_reporters(rt: &impl Abort, number: u64, reporters: &[bool; 6]) {
     let milestone = numbered(rt, number);
-    for i in 0..5 {
+    for i in 0..6 {
         let reports = owns(ROLES[i], Action::Report(milestone));
         same_at(rt, number, u64::from(reports), u64::from(reporters[i]));
     }
@@ -286,6 +288,21 @@ fn each_milestone_has_its_reporters_and_no_others(rt: HostRuntime) {
     for (place, reporters) in REPORTERS.iter().enumerate() {
         has_reporters(&rt, place as u64 + 1, reporters);
     }
+}
+
+// An action belongs to one role alone.
+fn belongs_to(rt: &impl Abort, action: Action, owner: Role) {
+    for role in &ROLES {
+        assert!(rt; owns(*role, action) == (*role == owner), "{role:?}");
+    }
+}
+
+#[test]
+fn a_migrate_is_the_airports_and_a_time_of_deicing_the_companys(rt: HostRuntime) {
+    belongs_to(&rt, Action::Migrate, APT);
+    belongs_to(&rt, Action::Deice, DIC);
+    belongs_to(&rt, Action::Tick, APT);
+    assert!(rt; owns(DIC, Action::Show) && owns(DIC, Action::Alerts));
 }
 
 // The time of the milestone of this number is set in this field.

@@ -6,10 +6,12 @@ use crate::fixture::{same_at, same_number};
 use crate::step::{done, empty_board, listed, plan, show, verdict_on};
 use acdm_alerts::{AlertSet, builtin};
 use acdm_milestones::{
-    Action, Milestone, Refusal, Role, admit, has_reached, mark_reached, owns, set_time,
+    Action, DeicingTime, Milestone, Refusal, Role, admit, has_reached, mark_reached, owns, set_time,
 };
 use acdm_record::{Field, Record, TextField};
-use acdm_step::{Alerted, Command, Core, FlightCommand, Plan, Report, Schedule, Verdict};
+use acdm_step::{
+    Alerted, Command, Core, Deice, FlightCommand, FlightNumber, Plan, Report, Schedule, Verdict,
+};
 use std::alloc::Global;
 use std::process::Abort;
 
@@ -68,6 +70,18 @@ fn with_tobt(rt: &impl Abort, flight: u64, tobt: u32) -> Command {
     Command::Flight(FlightCommand::Report(report))
 }
 
+// A time of de-icing.
+fn deiced(rt: &impl Abort, flight: u64) -> Command {
+    if flight == 0 {
+        panic!(rt; "no flight");
+    }
+    Command::Flight(FlightCommand::Deice(Deice {
+        flight: FlightNumber::new(flight),
+        which: DeicingTime::ActualEnd,
+        time: TEN,
+    }))
+}
+
 // The place of a flight's record, or how many there are.
 fn place_in(records: &[Record], flight: u64) -> usize {
     for (i, record) in records.iter().enumerate() {
@@ -83,6 +97,7 @@ fn flight_of(command: &FlightCommand) -> u64 {
     match command {
         FlightCommand::Schedule(schedule) => schedule.flight(),
         FlightCommand::Report(report) => report.flight(),
+        FlightCommand::Deice(deice) => deice.flight.get(),
     }
 }
 
@@ -121,7 +136,16 @@ fn refusal_of_report(
     admit(record, role, milestone, report.time()).err()
 }
 
-// Why a schedule or a report is refused, if it is.
+// Why a time of de-icing is refused: no board here is migrated.
+fn refusal_of_deice(role: Role) -> Refusal {
+    if owns(role, Action::Deice) {
+        Refusal::FirstLayout
+    } else {
+        Refusal::NotOwner
+    }
+}
+
+// Why a command is refused, if it is.
 fn refusal_of(
     record: &Record,
     is_new: bool,
@@ -132,6 +156,7 @@ fn refusal_of(
     match command {
         FlightCommand::Schedule(_) => refusal_of_schedule(record, is_new, count, role),
         FlightCommand::Report(report) => refusal_of_report(record, is_new, count, role, report),
+        FlightCommand::Deice(_) => Some(refusal_of_deice(role)),
     }
 }
 
@@ -177,7 +202,8 @@ fn touch(record: &mut Record, moment: u32) {
     builtin(record, moment).store(record);
 }
 
-// What an accepted schedule or report does to a record, where no program is loaded.
+// What an accepted schedule or report does to a record, where no program is loaded. No time of
+// de-icing is accepted.
 fn change(record: &mut Record, moment: u32, command: &FlightCommand) {
     match command {
         FlightCommand::Schedule(schedule) => {
@@ -185,6 +211,7 @@ fn change(record: &mut Record, moment: u32, command: &FlightCommand) {
             set_numbers(record, schedule);
         }
         FlightCommand::Report(report) => set_reported(record, report),
+        FlightCommand::Deice(_) => (),
     }
     touch(record, moment);
 }
@@ -206,7 +233,7 @@ fn keep(rt: &impl Abort, records: &mut Vec<Record>, place: usize, record: Record
     }
 }
 
-// A schedule or a report on a list of records.
+// A command on a list of records.
 fn walked(
     rt: &impl Abort,
     records: &mut Vec<Record>,
@@ -226,7 +253,7 @@ fn walked(
     Verdict::Accepted
 }
 
-// A schedule or a report on both, and whether the verdicts are the same.
+// A command of a flight on both, and whether the verdicts are the same.
 fn both(
     rt: &impl Abort,
     core: &mut Core,
@@ -257,6 +284,7 @@ fn command_by_chance(rt: &impl Abort, chance: u32, flight: u64, moment: u32) -> 
         0 => (Role::NetworkManager, activated(rt, flight)),
         1 => (Role::AirportOperator, scheduled_at(rt, flight, 12)),
         2 => (Role::AircraftOperator, with_tobt(rt, flight, moment)),
+        3 if chance / 5 % 4 == 0 => (Role::DeicingCompany, deiced(rt, flight)),
         _ => (Role::GroundHandler, with_tobt(rt, flight, 0)),
     }
 }

@@ -7,7 +7,7 @@ use crate::state_text::{run_of, write_stored};
 use bpf_decode::{Op, Register};
 use bpf_helpers::Range;
 use bpf_places::{Place, RECORD_BASE, STACK_BASE, STACK_LENGTH, byte_count, part_byte_count};
-use bpf_regstate::{RECORD_LENGTH, Reg, State, place_of_access};
+use bpf_regstate::{Length, Reg, State, place_of_access};
 use bpf_verifier::Fault;
 use std::fmt;
 use std::io::{self, Write};
@@ -75,15 +75,16 @@ impl fmt::Display for Wanted {
     }
 }
 
-/// Where a word is wanted that reaches so many bytes with this offset.
-fn wanted_at(in_record: bool, offset: i16, count: usize) -> Wanted
+/// Where a word is wanted that reaches so many bytes with this offset, beside a record of this
+/// length.
+fn wanted_at(length: Length, in_record: bool, offset: i16, count: usize) -> Wanted
     requires { count ≤ 8 }
 {
     let offset = offset as i64;
     let count = count as i64;
     let record = Span {
         first: Bound::Record(-offset),
-        last: Bound::Record(RECORD_LENGTH as i64 - count - offset),
+        last: Bound::Record(length.bytes() as i64 - count - offset),
     };
     let stack = Span {
         first: Bound::Stack(-(STACK_LENGTH as i64) - offset),
@@ -96,11 +97,11 @@ fn wanted_at(in_record: bool, offset: i16, count: usize) -> Wanted
 }
 
 /// Whether bytes of the record and bytes of the stack are among those that are reached.
-fn is_over_both(range: Range, access: Access) -> bool {
+fn is_over_both(length: Length, range: Range, access: Access) -> bool {
     let offset = access.offset as i128;
     let first = range.lo as i128 + offset;
     let end = range.hi as i128 + offset + access.count as i128;
-    let record_end = RECORD_BASE as i128 + RECORD_LENGTH as i128;
+    let record_end = RECORD_BASE as i128 + length.bytes() as i128;
     let stack = STACK_BASE as i128;
     first < record_end && stack < end
 }
@@ -108,6 +109,7 @@ fn is_over_both(range: Range, access: Access) -> bool {
 /// Writes what is known of the address that is reached and of the register that it comes from, and
 /// where they are wanted: in the stack, and for a load in the record too.
 pub(crate) fn write_address<W: Write>(
+    length: Length,
     state: &State,
     fault: Fault,
     op: &Op,
@@ -134,7 +136,7 @@ pub(crate) fn write_address<W: Write>(
         writer,
         "    address [{base}{distance}], size {count}: known {reached}"
     )?;
-    let region = match (is_over_both(range, access), in_record) {
+    let region = match (is_over_both(length, range, access), in_record) {
         (false, _) => "",
         (true, true) => "all of it in one: ",
         (true, false) => "all of it in the stack: ",
@@ -142,18 +144,23 @@ pub(crate) fn write_address<W: Write>(
     if !region.is_empty() {
         write!(writer, ", as a whole in neither region")?;
     }
-    let here = wanted_at(in_record, 0, count);
+    let here = wanted_at(length, in_record, 0, count);
     writeln!(writer, ", wanted {region}{here}")?;
     if offset == 0 {
         return Ok(());
     }
     let known = Words(range);
-    let there = wanted_at(in_record, offset, count);
+    let there = wanted_at(length, in_record, offset, count);
     writeln!(writer, "    {base}: known {known}, wanted {there}")
 }
 
 /// Writes which bytes of the stack a load may touch, and which of them are stored.
-pub(crate) fn write_bytes<W: Write>(state: &State, op: &Op, writer: &mut W) -> io::Result<()> {
+pub(crate) fn write_bytes<W: Write>(
+    length: Length,
+    state: &State,
+    op: &Op,
+    writer: &mut W,
+) -> io::Result<()> {
     let Some(
         Access {
             base,
@@ -167,7 +174,7 @@ pub(crate) fn write_bytes<W: Write>(state: &State, op: &Op, writer: &mut W) -> i
     let Reg::Known(range) = state.register(base) else {
         return Ok(());
     };
-    let place = place_of_access(RECORD_LENGTH, range, offset as i32, count);
+    let place = place_of_access(length.bytes(), range, offset as i32, count);
     let Place::Stack(first) = place else {
         return Ok(());
     };

@@ -6,31 +6,24 @@ use crate::ways::{Ways, is_unset, target_of};
 use bpf_decode::{Code, Op, Operand, Program, Register};
 use bpf_helpers::{Range, Sigs};
 use bpf_regstate::{Reg, State};
-use bpf_verifier::{Explanation, Fault};
+use bpf_verifier::Fault;
 use std::io::{self, Write};
 
 /// The helpers that are told of are those with a number below this one.
 const MOST_TOLD: u32 = 64;
 
 /// Writes the first fault of a program with its reason, and the verdict.
-pub(crate) fn write_fault<W: Write>(
-    program: &Program,
-    explanation: &Explanation,
-    sigs: &Sigs,
+pub(crate) fn write_fault<'a, W: Write>(
+    ways: Ways<'a>,
     fault: Fault,
     slot: usize,
     writer: &mut W,
 ) -> io::Result<()> {
     let code = fault.code();
     writeln!(writer, "fault {code} at slot {slot}: {fault}")?;
-    if let Some(op) = program.ops().get(slot) {
-        write_flow(program, sigs, fault, slot, op, writer)?;
-        if let Some(Some(state)) = explanation.states.get(slot) {
-            let ways = Ways {
-                program,
-                states: explanation.states.as_slice(),
-                sigs,
-            };
+    if let Some(op) = ways.program.ops().get(slot) {
+        write_flow(ways.program, ways.sigs, fault, slot, op, writer)?;
+        if let Some(Some(state)) = ways.states.get(slot) {
             write_value(ways, state, fault, slot, op, writer)?;
         }
     }
@@ -107,8 +100,10 @@ fn write_value<'a, W: Write>(
             Op::Call { helper } => write_argument(ways, state, fault, slot, *helper, writer),
             _ => write_unset(ways, state, slot, op, writer),
         },
-        Fault::Address | Fault::WritesRecord => write_address(state, fault, op, writer),
-        Fault::StackByte => write_bytes(state, op, writer),
+        Fault::Address | Fault::WritesRecord => {
+            write_address(ways.length, state, fault, op, writer)
+        }
+        Fault::StackByte => write_bytes(ways.length, state, op, writer),
         _ => Ok(()),
     }
 }

@@ -6,6 +6,7 @@ ghost use Rattle.bpf_explain.specs.Told.{Tells, is_accepted};
 use crate::bytes_text::write_unreadable;
 use crate::fault_text::write_fault;
 use crate::state_text::write_known;
+use crate::ways::Ways;
 use bpf_decode::{DecodeError, Fault, Program, decode, line};
 use bpf_helpers::Sigs;
 use bpf_regstate::Length;
@@ -16,9 +17,11 @@ use std::io::{self, Write};
 /// What is told of the bytes of a program.
 #[derive(Drop)]
 pub enum Told {
-    /// They encode this program; what is known before its slots, up to its first fault.
+    /// They encode this program; what is known before its slots beside a record of this length, up
+    /// to its first fault.
     Encoded {
         program: Program,
+        length: Length,
         explanation: Explanation,
     },
     /// They encode none: their first fault and its slot, counted from 0.
@@ -28,20 +31,21 @@ pub enum Told {
     },
 }
 
-/// What there is to tell of these bytes under these signatures, beside a record of 128 bytes: the program that they encode with
-/// what `verify` knows before its slots and its verdict, or their first fault. `Err` only where
-/// there is no memory.
-pub fn read(alloc: Global, bytes: &[u8], sigs: &Sigs) -> Result<Told, AllocError>
-    ensures { IfOk result (Tells sigs.now bytes.now) }
+/// What there is to tell of these bytes under these signatures, beside a record of this length: the
+/// program that they encode with what `verify` knows before its slots and its verdict, or their
+/// first fault. `Err` only where there is no memory.
+pub fn read(alloc: Global, bytes: &[u8], sigs: &Sigs, length: Length) -> Result<Told, AllocError>
+    ensures { IfOk result (Tells sigs.now length bytes.now) }
 {
     let program = match decode(alloc, bytes) {
         Ok(program) => program,
         Err(DecodeError::Refused { fault, slot }) => return Ok(Told::Unreadable { fault, slot }),
         Err(DecodeError::Memory) => return Err(AllocError),
     };
-    let explanation = explain(alloc, &program, sigs, Length::L128)?;
+    let explanation = explain(alloc, &program, sigs, length)?;
     Ok(Told::Encoded {
         program,
+        length,
         explanation,
     })
 }
@@ -64,8 +68,9 @@ impl Told {
         match self {
             Told::Encoded {
                 program,
+                length,
                 explanation,
-            } => write_program(program, explanation, sigs, writer),
+            } => write_program(program, *length, explanation, sigs, writer),
             Told::Unreadable { fault, slot } => write_unreadable(*fault, *slot, bytes, writer),
         }
     }
@@ -73,6 +78,7 @@ impl Told {
 
 fn write_program<W: Write>(
     program: &Program,
+    length: Length,
     explanation: &Explanation,
     sigs: &Sigs,
     writer: &mut W,
@@ -87,7 +93,15 @@ fn write_program<W: Write>(
         write_known(program.op(slot), state, writer)?;
     }
     match &explanation.fault {
-        Some((fault, slot)) => write_fault(program, explanation, sigs, *fault, *slot, writer),
+        Some((fault, slot)) => {
+            let ways = Ways {
+                program,
+                length,
+                states: explanation.states.as_slice(),
+                sigs,
+            };
+            write_fault(ways, *fault, *slot, writer)
+        },
         None => writeln!(writer, "accepted {slots}"),
     }
 }

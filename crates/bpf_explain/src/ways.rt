@@ -85,10 +85,11 @@ fn leads(state: &State, from: usize, op: &Op, to: usize) -> bool {
     jumps && is_open(state, op, true) || falls && is_open(state, op, false)
 }
 
-/// The edges between the slots of a program, as far as it was told.
+/// The edges between the slots of a program beside a record of this length, as far as it was told.
 #[derive(Clone, Copy)]
 pub(crate) struct Ways<'a> {
     pub program: &'a Program,
+    pub length: Length,
     pub states: &'a [Option<State>],
     pub sigs: &'a Sigs,
 }
@@ -101,7 +102,7 @@ impl<'a> Ways<'a> {
         if !leads(state, from, op, to) {
             return None;
         }
-        let after = state.transfer(Length::L128, *op, self.sigs).ok()?;
+        let after = state.transfer(self.length, *op, self.sigs).ok()?;
         Some(!is_unset(&after, register))
     }
 

@@ -8,6 +8,7 @@ mod words;
 use crate::programs::{exited, same_text, slot};
 use bpf_explain::{Told, read};
 use bpf_helpers::{Range, Signature, Sigs};
+use bpf_regstate::Length;
 use std::alloc::Global;
 use std::process::Abort;
 
@@ -88,12 +89,50 @@ fn is_written(
 
 /// This is written of the bytes, and whether they are a program that is accepted.
 fn tells(rt: &impl Abort, alloc: Global, shows: &str, bytes: &[u8], is_accepted: bool, text: &str) {
+    tells_beside(rt, alloc, Length::L128, shows, bytes, is_accepted, text);
+}
+
+/// The same beside records of this length.
+fn tells_beside(
+    rt: &impl Abort,
+    alloc: Global,
+    length: Length,
+    shows: &str,
+    bytes: &[u8],
+    is_accepted: bool,
+    text: &str,
+) {
     let sigs = signatures(rt, alloc);
-    let told = read(alloc, bytes, &sigs).expect(rt, shows);
+    let told = read(alloc, bytes, &sigs, length).expect(rt, shows);
     assert!(rt; told.is_accepted() == is_accepted, "{shows}");
     is_written(rt, alloc, shows, &told, &sigs, bytes, text);
     drop(told);
     drop(sigs);
+}
+
+/// A load of four bytes of which the last is behind a record of 160.
+static BEHIND_IT: [u8; 16] = [0x61, 0x10, 0x9d, 0, 0, 0, 0, 0, 0x95, 0, 0, 0, 0, 0, 0, 0];
+
+static TOLD_OF_IT: &str = r#"0: ldxw r0, [r1+157]
+    r1 = record+0, r2 = 160, r3 = 0 to 4294967295, r4 = 1 to 16, r10 = stack+0
+fault 309 at slot 0: address outside the record and the stack
+    address [r1+157], size 4: known record+157, wanted record+0 to record+156 or stack-512 to stack-4
+    r1: known record+0, wanted record-157 to record-1 or stack-669 to stack-161
+refused 309 0
+"#;
+
+#[test]
+fn longer_records_are_told(rt: HostRuntime) {
+    let shows = "a longer record";
+    tells_beside(
+        &rt,
+        rt.alloc(),
+        Length::L160,
+        shows,
+        &BEHIND_IT,
+        false,
+        TOLD_OF_IT,
+    );
 }
 
 /// What is told of a program of these slots, each with its bytes in their order.

@@ -28,7 +28,7 @@ not_before n ops sigs s t c d h f g =
     let some : fault_at n ops sigs s ≡ Some c = f.fault in
     cc
 
-one_fault : (n : ℕ) (ops : List Op) (sigs : List (ℕ × Promise)) (s t c d : ℕ)
+pub one_fault : (n : ℕ) (ops : List Op) (sigs : List (ℕ × Promise)) (s t c d : ℕ)
     → IsFirstFault n ops sigs s c → IsFirstFault n ops sigs t d → (c ≡ d) × (s ≡ t)
 one_fault n ops sigs s t c d f g =
     let low : s < t → ⊥ = λ h. not_before n ops sigs s t c d h f g in
@@ -45,7 +45,7 @@ one_verified : (v w : Verified) → v.ops ≡ w.ops → v.sigs ≡ w.sigs
     → v.record_length ≡ w.record_length → v ≡ w
 one_verified v w e f g = λ i. record { record_length = g i; ops = e i; sigs = f i }
 
-same_fault : (f g : ℕ × ℕ) → (f.0 ≡ g.0) × (f.1 ≡ g.1) → f ≡ g
+pub same_fault : (f g : ℕ × ℕ) → (f.0 ≡ g.0) × (f.1 ≡ g.1) → f ≡ g
 same_fault f g e =
     let with_code : ℕ → ℕ × ℕ = λ code. (code, f.1) in
     let with_slot : ℕ → ℕ × ℕ = λ slot. (g.0, slot) in

@@ -1,5 +1,6 @@
 //! What command lines ask for.
 use acdm_command_line::{Line, parse};
+use bpf_regstate::Length;
 use std::alloc::Global;
 
 // Whether these words ask for this.
@@ -59,7 +60,14 @@ fn other_words_are_refused(rt: HostRuntime) {
 fn a_file_to_judge_is_taken_as_it_stands(rt: HostRuntime) {
     let alloc = rt.alloc();
     let file = "rules/tobt.bin";
-    assert!(rt; asks_for(alloc, &["acdm", "verify", file], &Line::Verify { file }));
+    let length = Length::L128;
+    assert!(rt;
+        asks_for(
+            alloc,
+            &["acdm", "verify", file],
+            &Line::Verify { length, file }
+        )
+    );
     assert!(rt; is_refused(alloc, &["acdm", "verify"]));
     let file = "days/monday.txt";
     assert!(rt; asks_for(alloc, &["acdm", "audit", file], &Line::Audit { file }));
@@ -69,8 +77,33 @@ fn a_file_to_judge_is_taken_as_it_stands(rt: HostRuntime) {
 fn a_file_to_explain_is_taken_as_it_stands(rt: HostRuntime) {
     let alloc = rt.alloc();
     let file = "rules/slot.bin";
-    assert!(rt; asks_for(alloc, &["acdm", "explain", file], &Line::Explain { file }));
+    let length = Length::L128;
+    assert!(rt;
+        asks_for(
+            alloc,
+            &["acdm", "explain", file],
+            &Line::Explain { length, file }
+        )
+    );
     assert!(rt; is_refused(alloc, &["acdm", "explain"]));
+}
+
+#[test]
+fn a_program_is_judged_beside_records_of_the_length_that_is_named(rt: HostRuntime) {
+    let alloc = rt.alloc();
+    let file = "rules/ice.bin";
+    let length = Length::L160;
+    let words = ["acdm", "verify", "--length", "160", file];
+    assert!(rt; asks_for(alloc, &words, &Line::Verify { length, file }));
+    let words = ["acdm", "explain", file, "--length=160"];
+    assert!(rt; asks_for(alloc, &words, &Line::Explain { length, file }));
+    let length = Length::L128;
+    let words = ["acdm", "verify", "--length", "128", file];
+    assert!(rt; asks_for(alloc, &words, &Line::Verify { length, file }));
+    assert!(rt; is_refused(alloc, &["acdm", "verify", "--length", "129", file]));
+    assert!(rt; is_refused(alloc, &["acdm", "explain", "--length", "0160", file]));
+    assert!(rt; is_refused(alloc, &["acdm", "verify", "--length", "160"]));
+    assert!(rt; is_refused(alloc, &["acdm", "audit", "--length", "160", file]));
 }
 
 // Whether these words ask to serve, with such a file for the journal and such an address for

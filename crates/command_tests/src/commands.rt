@@ -11,6 +11,7 @@ use acdm_commands::{complete, run_on, verify_on};
 use acdm_failures::Failure;
 use acdm_sessions::{Sink, Source, run};
 use bpf_helpers::{Bank, Helpers};
+use bpf_regstate::Length;
 use std::alloc::Global;
 use std::fs::Files;
 use std::io::{self, Read, Write};
@@ -289,10 +290,22 @@ fn programs_ask_the_known_helpers(rt: HostRuntime) {
 
 // Of these bytes `verify` writes this, with this status, and no complaint.
 fn is_judged(rt: &impl Abort, alloc: Global, bytes: &[u8], status: u8, text: &str) {
+    is_judged_beside(rt, alloc, Length::L128, bytes, status, text);
+}
+
+// The same beside records of this length.
+fn is_judged_beside(
+    rt: &impl Abort,
+    alloc: Global,
+    length: Length,
+    bytes: &[u8],
+    status: u8,
+    text: &str,
+) {
     let mut reader = Source::new(bytes);
     let mut written = Sink::new(Vec::new(alloc));
     let mut errors = Sink::new(Vec::new(alloc));
-    let ended = verify_on(alloc, &mut reader, &mut written, &mut errors);
+    let ended = verify_on(alloc, length, &mut reader, &mut written, &mut errors);
     assert!(rt; ended == status, "{text}");
     assert!(rt;
         written.into_inner().as_slice() == text.as_bytes(),
@@ -306,6 +319,21 @@ fn a_program_is_listed(rt: HostRuntime) {
     let bytes = [0xb7, 0, 0, 0, 0, 0, 0, 0, 0x95, 0, 0, 0, 0, 0, 0, 0];
     let listing = "0: mov64 r0, 0\n1: exit\naccepted 2\n";
     is_judged(&rt, rt.alloc(), &bytes, 0, listing);
+}
+
+// The last four bytes of a record of 160, and four of which the last is behind it.
+static LAST_BYTES: [u8; 16] = [0x61, 0x10, 0x9c, 0, 0, 0, 0, 0, 0x95, 0, 0, 0, 0, 0, 0, 0];
+
+static BEHIND_IT: [u8; 16] = [0x61, 0x10, 0x9d, 0, 0, 0, 0, 0, 0x95, 0, 0, 0, 0, 0, 0, 0];
+
+#[test]
+fn programs_are_judged_beside_records_of_either_length(rt: HostRuntime) {
+    let alloc = rt.alloc();
+    let listing = "0: ldxw r0, [r1+156]\n1: exit\naccepted 2\n";
+    is_judged_beside(&rt, alloc, Length::L160, &LAST_BYTES, 0, listing);
+    is_judged_beside(&rt, alloc, Length::L128, &LAST_BYTES, 1, "refused 309 0\n");
+    is_judged_beside(&rt, alloc, Length::L160, &BEHIND_IT, 1, "refused 309 0\n");
+    is_judged_beside(&rt, alloc, Length::L128, &BEHIND_IT, 1, "refused 309 0\n");
 }
 
 // Faulty programs, and what `verify` tells of them.
@@ -446,7 +474,7 @@ fn verify_fails<R: Read + Drop, W: Write + Drop>(
     let mut errors = Sink::new(Vec::new(alloc));
     let mut reader = Source::new(reader);
     let mut writer = Sink::new(writer);
-    let status = verify_on(alloc, &mut reader, &mut writer, &mut errors);
+    let status = verify_on(alloc, Length::L128, &mut reader, &mut writer, &mut errors);
     assert!(rt; status == 2);
     assert!(rt; errors.into_inner().as_slice() == complaint.as_bytes());
 }

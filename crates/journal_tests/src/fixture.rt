@@ -1,9 +1,9 @@
 //! Commands on flight 7, and what tests compare by.
 //!
 //! Minute 29000580 is 2025-02-20T07:00Z, and 29000760 is 10:00Z of that day.
-use acdm_milestones::Milestone;
+use acdm_milestones::{DeicingTime, Milestone};
 use acdm_record::Text;
-use acdm_step::{Command, FlightCommand, Plan, Report, Schedule};
+use acdm_step::{Command, Deice, FlightCommand, FlightNumber, Plan, Report, Schedule};
 use std::process::Abort;
 
 pub(crate) const SEVEN: u32 = 29_000_580;
@@ -35,6 +35,16 @@ pub(crate) fn scheduled(rt: &impl Abort) -> Command {
 pub(crate) fn planned(rt: &impl Abort) -> Command {
     let report = Report::new(7, Milestone::FlightPlanActivated, TEN, Some(plan(rt)));
     Command::Flight(FlightCommand::Report(report))
+}
+
+/// A time of de-icing.
+pub(crate) fn deiced(which: DeicingTime, time: u32) -> Command {
+    let flight = FlightNumber::new(7);
+    Command::Flight(FlightCommand::Deice(Deice {
+        flight,
+        which,
+        time,
+    }))
 }
 
 /// A report of a milestone after the flight plan.

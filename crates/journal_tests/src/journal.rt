@@ -1,8 +1,8 @@
 //! Entries written, and lines read.
-use crate::fixture::{SEVEN, TEN, planned, reported, same_number, scheduled};
+use crate::fixture::{SEVEN, TEN, deiced, planned, reported, same_number, scheduled};
 use acdm_journal::{Asked, LineError, Stated, WriteError, read_line, write_entry};
 use acdm_lines::Sink;
-use acdm_milestones::{Milestone, Refusal, Role};
+use acdm_milestones::{DeicingTime, Milestone, Refusal, Role};
 use acdm_slots::Kind;
 use acdm_step::{
     Answers, Command, Entry, FlightCommand, FlightNumber, Load, Report, Schedule, Unload, Verdict,
@@ -14,18 +14,18 @@ use bpf_verifier::{Checked, verify};
 use std::alloc::Global;
 use std::process::Abort;
 
-// A program that answers 0.
-fn program(rt: &impl Abort, alloc: Global) -> Checked {
+// A program that answers 0, for records of this length.
+fn program(rt: &impl Abort, alloc: Global, length: Length) -> Checked {
     let bytes = [0xb7, 0, 0, 0, 0, 0, 0, 0, 0x95, 0, 0, 0, 0, 0, 0, 0];
     let program = decode(alloc, &bytes).expect(rt, "a program");
-    verify(alloc, program, &Sigs::new(alloc), Length::L128).expect(rt, "an accepted program")
+    verify(alloc, program, &Sigs::new(alloc), length).expect(rt, "an accepted program")
 }
 
-fn loaded(rt: &impl Abort, alloc: Global) -> Command {
+fn loaded(rt: &impl Abort, alloc: Global, length: Length) -> Command {
     Command::Load(Load {
         milestone: Milestone::TobtUpdate,
         kind: Kind::Alert,
-        program: program(rt, alloc),
+        program: program(rt, alloc, length),
     })
 }
 
@@ -116,7 +116,7 @@ fn changes_of_slots_are_written(rt: HostRuntime) {
         &rt,
         alloc,
         (0, 1, Role::AirportOperator),
-        loaded(&rt, alloc),
+        loaded(&rt, alloc, Length::L128),
         Verdict::Accepted,
         Answers::none(alloc),
         "0 1 29000580 APT 0 0 load 9 alert b7000000000000009500000000000000\n",
@@ -129,6 +129,38 @@ fn changes_of_slots_are_written(rt: HostRuntime) {
         Verdict::Refused(Refusal::EmptySlot),
         Answers::none(alloc),
         "1 1 29000580 APT 321 0 unload 7 tobt\n",
+    );
+}
+
+#[test]
+fn a_winter_is_written(rt: HostRuntime) {
+    let alloc = rt.alloc();
+    writes(
+        &rt,
+        alloc,
+        (2, 1, Role::AirportOperator),
+        Command::Migrate,
+        Verdict::Accepted,
+        Answers::none(alloc),
+        "2 1 29000580 APT 0 0 migrate\n",
+    );
+    writes(
+        &rt,
+        alloc,
+        (3, 6, Role::DeicingCompany),
+        deiced(DeicingTime::ActualEnd, TEN),
+        Verdict::Refused(Refusal::TimeOrder),
+        Answers::none(alloc),
+        "3 6 29000580 DIC 206 0 deice 7 aezt 29000760\n",
+    );
+    writes(
+        &rt,
+        alloc,
+        (4, 1, Role::AirportOperator),
+        loaded(&rt, alloc, Length::L160),
+        Verdict::Accepted,
+        Answers::none(alloc),
+        "4 1 29000580 APT 0 0 load 9 alert b7000000000000009500000000000000 160\n",
     );
 }
 
@@ -257,9 +289,25 @@ fn the_bytes_of_a_load_are_read(rt: HostRuntime) {
         Asked::Load(load) => {
             assert!(rt; load.milestone == Milestone::TobtUpdate && load.kind == Kind::Alert);
             assert!(rt; load.program.as_slice() == [0x95, 0, 0xfe].as_slice());
+            assert!(rt; load.record_length == Length::L128);
         }
         _ => panic!(rt; "no load"),
     }
+    drop(stated);
+}
+
+#[test]
+fn a_time_of_deicing_is_read(rt: HostRuntime) {
+    let line = "0 6 29000580 DIC 0 0 deice 7 eezt 29000760";
+    let stated = read(&rt, rt.alloc(), line);
+    match &stated.asked {
+        Asked::Plain(Command::Flight(FlightCommand::Deice(deice))) => {
+            same_number(&rt, deice.flight.get(), 7);
+            assert!(rt; deice.which == DeicingTime::EstimatedEnd && deice.time == TEN);
+        }
+        _ => panic!(rt; "no time of de-icing"),
+    }
+    assert!(rt; stated.role == Role::DeicingCompany);
     drop(stated);
 }
 

@@ -3,9 +3,9 @@ ghost use Rattle.std.specs.Prelude.{◌≡◌, ◌≤◌};
 ghost use Rattle.std.specs.Arc.{arc_value};
 ghost use Rattle.acdm_board.specs.Desk.{row_of};
 
-use crate::fixture::{SEVEN, planned, reported, same_number, scheduled};
+use crate::fixture::{SEVEN, TEN, deiced, planned, reported, same_number, scheduled};
 use acdm_board::Desk;
-use acdm_milestones::{Milestone, Role};
+use acdm_milestones::{DeicingTime, Milestone, Role};
 use acdm_record::Field;
 use acdm_row::{Pass, Row};
 use acdm_step::Command;
@@ -211,6 +211,31 @@ fn watches<H: Helpers + Drop>(rt: &impl Abort, alloc: Global, helpers: H) {
     drop(table);
 }
 
+// The board of the watch has flight 7 in this layout, and with this end of de-icing.
+fn sees_deicing<H: Helpers + Drop>(rt: &impl Abort, table: &Table<H>, layout: u64, end: u64) {
+    let flight = table.watch.board().record_of(7).expect(rt, "flight 7");
+    same_number(rt, flight.get(Field::Layout), layout);
+    same_number(rt, flight.get(Field::Aezt), end);
+    let long = if layout == 2 { 160 } else { 128 };
+    same_number(rt, flight.bytes().len() as u64, long);
+}
+
+// A watch looks on while the board is migrated, and sees the times that come then.
+fn migrates<H: Helpers + Drop>(rt: &impl Abort, alloc: Global, helpers: H) {
+    let mut table = table_of(rt, alloc, helpers, 5);
+    begin(rt, &mut table);
+    takes(rt, &mut table, 5, 2);
+    sees_deicing(rt, &table, 1, 0);
+    enter(rt, &mut table, 3, Role::AirportOperator, Command::Migrate);
+    takes(rt, &mut table, 5, 1);
+    sees_deicing(rt, &table, 2, 0);
+    let ended = deiced(DeicingTime::ActualEnd, TEN);
+    enter(rt, &mut table, 6, Role::DeicingCompany, ended);
+    takes(rt, &mut table, 5, 1);
+    sees_deicing(rt, &table, 2, 29_000_760);
+    drop(table);
+}
+
 // So many ticks.
 fn fill<H: Helpers + Drop>(rt: &impl Abort, table: &mut Table<H>, count: usize) {
     for _ in 0..count {
@@ -239,6 +264,12 @@ fn catches_up<H: Helpers + Drop>(rt: &impl Abort, alloc: Global, helpers: H) {
 fn a_watch_far_behind_catches_up(rt: HostRuntime) {
     let alloc = rt.alloc();
     catches_up(&rt, alloc, Bank::new(alloc).expect(&rt, "a bank"));
+}
+
+#[test]
+fn a_watch_sees_a_migrate(rt: HostRuntime) {
+    let alloc = rt.alloc();
+    migrates(&rt, alloc, Bank::new(alloc).expect(&rt, "a bank"));
 }
 
 #[test]

@@ -2,6 +2,7 @@
 mod ample;
 mod board;
 mod codes;
+mod deicing;
 mod keys;
 mod programs;
 mod threads;

@@ -3,6 +3,7 @@
 use crate::explain::{EXIT, bytes_of, signatures};
 use crate::programs::same_text;
 use bpf_explain::read;
+use bpf_regstate::Length;
 use std::alloc::Global;
 use std::process::Abort;
 
@@ -13,7 +14,7 @@ pub(crate) type Row = (u16, usize, &'static [u64], &'static str);
 /// What is written of these bytes.
 pub(crate) fn text_of(rt: &impl Abort, alloc: Global, bytes: &[u8]) -> String {
     let sigs = signatures(rt, alloc);
-    let told = read(alloc, bytes, &sigs).expect(rt, "memory");
+    let told = read(alloc, bytes, &sigs, Length::L128).expect(rt, "memory");
     let mut text = Vec::new(alloc);
     told.write(bytes, &sigs, &mut text).expect(rt, "room");
     drop(told);

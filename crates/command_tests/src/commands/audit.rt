@@ -180,6 +180,60 @@ static FIRST_ENTRIES: [(&str, u16); 52] = [
     ("0 2 9 NM 202 0 tick", 405),
 ];
 
+// The same of migrates, times of de-icing and loads for longer records, as first entries.
+static FIRST_WINTER_ENTRIES: [(&str, u16); 26] = [
+    ("0 1 9 APT 0 0 migrate", 0),
+    ("0 1 9 APT 324 0 migrate", 405),
+    ("0 6 9 DIC 201 0 migrate", 0),
+    ("0 6 9 DIC 0 0 migrate", 405),
+    ("0 1 9 APT 0 1 5 migrate", 404),
+    ("0 1 9 APT 0 0 migrate ", 401),
+    ("0 1 9 APT 0 0 Migrate", 401),
+    ("0 6 9 DIC 325 0 deice 7 eczt 9", 0),
+    ("0 6 9 DIC 325 0 deice 7 eezt 0", 0),
+    (
+        "0 6 9 DIC 325 0 deice 18446744073709551615 aczt 4294967295",
+        0,
+    ),
+    ("0 1 9 APT 201 0 deice 7 aezt 9", 0),
+    ("0 6 9 DIC 202 0 deice 7 eczt 9", 405),
+    ("0 6 9 DIC 325 1 5 deice 7 eczt 9", 404),
+    ("0 6 9 DIC 325 0 deice 0 eczt 9", 401),
+    ("0 6 9 DIC 325 0 deice 7 eczt 4294967296", 401),
+    ("0 6 9 DIC 325 0 deice 7 aobt 9", 401),
+    ("0 6 9 DIC 325 0 deice 7 ECZT 9", 401),
+    ("0 6 9 DIC 325 0 deice 7 eczt", 401),
+    ("0 6 9 dic 325 0 deice 7 eczt 9", 401),
+    (
+        "0 1 9 APT 323 0 load 9 alert b7000000000000009500000000000000 160",
+        0,
+    ),
+    (
+        "0 1 9 APT 0 0 load 9 alert b7000000000000009500000000000000 160",
+        405,
+    ),
+    (
+        "0 1 9 APT 0 0 load 9 alert b7000000000000009500000000000000 128",
+        401,
+    ),
+    (
+        "0 1 9 APT 323 0 load 9 alert b7000000000000009500000000000000 0160",
+        401,
+    ),
+    (
+        "0 1 9 APT 323 0 load 9 alert 61109c00000000009500000000000000 160",
+        0,
+    ),
+    (
+        "0 1 9 APT 323 0 load 9 alert 61109d00000000009500000000000000 160",
+        403,
+    ),
+    (
+        "0 1 9 APT 0 0 load 9 alert 61109c00000000009500000000000000",
+        403,
+    ),
+];
+
 fn is_judged(rt: &impl Abort, alloc: Global, line: &str, clause: u16) {
     let told = match clause {
         0 => "legal 1\n",
@@ -199,6 +253,38 @@ fn the_first_clause_that_is_broken_is_told(rt: HostRuntime) {
     for (line, clause) in &FIRST_ENTRIES {
         is_judged(&rt, rt.alloc(), *line, *clause);
     }
+}
+
+#[test]
+fn the_first_clause_that_a_winter_breaks_is_told(rt: HostRuntime) {
+    for (line, clause) in &FIRST_WINTER_ENTRIES {
+        is_judged(&rt, rt.alloc(), *line, *clause);
+    }
+}
+
+const MIGRATED: &str = "2 1 29000580 APT 0 0 migrate\n";
+
+const DEICED: &str = "3 6 29000580 DIC 0 0 deice 7 eczt 29000760\n";
+
+const LOADED_LONG: &str = "4 1 29000580 APT 0 0 load 7 tobt b7000000000000009500000000000000 160\n";
+
+#[test]
+fn a_migrated_board_is_judged_by_its_entries(rt: HostRuntime) {
+    let alloc = rt.alloc();
+    let parts = [PLANNED, MIGRATED, DEICED, LOADED_LONG];
+    audits_to(&rt, alloc, &parts, 0, "legal 5\n");
+    let ticked = "2 1 29000580 APT 0 0 tick\n";
+    let parts = [PLANNED, ticked, DEICED];
+    audits_to(&rt, alloc, &parts, 1, "entry 3 405\n");
+    let again = "3 1 29000580 APT 0 0 migrate\n";
+    let parts = [PLANNED, MIGRATED, again];
+    audits_to(&rt, alloc, &parts, 1, "entry 3 405\n");
+    let short = "4 1 29000580 APT 0 0 load 7 tobt b7000000000000009500000000000000\n";
+    let parts = [PLANNED, MIGRATED, DEICED, short];
+    audits_to(&rt, alloc, &parts, 1, "entry 4 405\n");
+    let skipped = "4 6 29000580 DIC 0 0 deice 7 eczt 29000760\n";
+    let parts = [PLANNED, MIGRATED, skipped];
+    audits_to(&rt, alloc, &parts, 1, "entry 3 402\n");
 }
 
 // A helper, its first argument, an answer, and whether it is promised.

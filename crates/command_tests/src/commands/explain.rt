@@ -2,6 +2,7 @@
 use crate::commands::{Broken, Short, completes};
 use acdm_commands::{explain_on, verify_on};
 use acdm_sessions::{Sink, Source};
+use bpf_regstate::Length;
 use std::alloc::Global;
 use std::io::{Read, Write};
 use std::process::Abort;
@@ -18,7 +19,14 @@ fn explain_ends<R: Read + Drop, W: Write + Drop>(
     let mut reader = Source::new(reader);
     let mut writer = Sink::new(writer);
     let file = "rules/slot.bin";
-    let status = explain_on(alloc, file, &mut reader, &mut writer, &mut errors);
+    let status = explain_on(
+        alloc,
+        Length::L128,
+        file,
+        &mut reader,
+        &mut writer,
+        &mut errors,
+    );
     let (wanted, complaint) = expected;
     assert!(rt; status == wanted);
     assert!(rt; errors.into_inner().as_slice() == complaint.as_bytes());
@@ -67,10 +75,17 @@ fn both_end_with(rt: &impl Abort, alloc: Global, bytes: &[u8], line: &str) {
     let mut text = Sink::new(Vec::new(alloc));
     let mut errors = Sink::new(Vec::new(alloc));
     let mut reader = Source::new(bytes);
-    let wanted = verify_on(alloc, &mut reader, &mut verdict, &mut errors);
+    let wanted = verify_on(alloc, Length::L128, &mut reader, &mut verdict, &mut errors);
     let mut reader = Source::new(bytes);
     let file = "rules/slot.bin";
-    let status = explain_on(alloc, file, &mut reader, &mut text, &mut errors);
+    let status = explain_on(
+        alloc,
+        Length::L128,
+        file,
+        &mut reader,
+        &mut text,
+        &mut errors,
+    );
     assert!(rt; status == wanted, "{line}");
     assert!(rt;
         verdict.into_inner().as_slice().ends_with(line.as_bytes()),

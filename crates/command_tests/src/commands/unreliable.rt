@@ -2,6 +2,7 @@
 use crate::commands::{FLIGHT_PLAN, SCHEDULE};
 use acdm_commands::{audit_on, run_on, verify_on};
 use acdm_sessions::{Sink, Source};
+use bpf_regstate::Length;
 use faulty_streams::{Fault, Faulty, Narrow};
 use std::alloc::Global;
 use std::process::Abort;
@@ -145,7 +146,7 @@ fn file_judged(alloc: Global, bytes: &[u8], row: &FileRow, is_audit: bool) -> Ca
     let status = if is_audit {
         audit_on(alloc, &mut reader, &mut writer, &mut errors)
     } else {
-        verify_on(alloc, &mut reader, &mut writer, &mut errors)
+        verify_on(alloc, Length::L128, &mut reader, &mut writer, &mut errors)
     };
     Came {
         status,

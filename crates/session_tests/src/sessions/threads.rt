@@ -441,7 +441,10 @@ struct Alone {
 const FAULTY_LINES: &str =
     "tick\n{\"cmd\":\"tack\"}\n{\"cmd\":\"show\"}\n{\"cmd\":\"show\",\"flight\":0}\n{\"cmd\":\"load\",\"milestone\":7,\"kind\":\"tobt\",\"program\":\"95\"}\n{\"cmd\":\"ti";
 
-static ALONE: [Alone; 4] = [
+const DEICING_LINES: &str =
+    "{\"cmd\":\"deice\",\"flight\":7,\"field\":\"eczt\",\"time\":null}\n{\"cmd\":\"migrate\"}\n{\"cmd\":\"deice\",\"flight\":7,\"field\":\"aobt\",\"time\":null}\n";
+
+static ALONE: [Alone; 5] = [
     Alone {
         shows: "a clock without a minute makes no entry",
         role: Role::AirportOperator,
@@ -480,6 +483,16 @@ static ALONE: [Alone; 4] = [
         capacity: 4,
         told: "1 2 End: no 2 201\nbad 102\nno 3 202\nbad 502\n",
         calls: 3,
+        length: 4,
+    },
+    Alone {
+        shows: "the de-icing company before a migrate",
+        role: Role::DeicingCompany,
+        text: DEICING_LINES,
+        minute: Some(29_000_590),
+        capacity: 10,
+        told: "1 2 End: no 2 325\nno 3 201\nbad 104\n",
+        calls: 2,
         length: 4,
     },
 ];
@@ -601,12 +614,22 @@ fn ticks(rt: &impl Abort, alloc: Global, count: usize) -> String {
     text
 }
 
-// The sessions of a full house, with so many lines each.
+static ROLES: [Role; 6] = [
+    Role::AirportOperator,
+    Role::NetworkManager,
+    Role::AirTrafficControl,
+    Role::AircraftOperator,
+    Role::GroundHandler,
+    Role::DeicingCompany,
+];
+
+// The sessions of a full house, of each role in turn, with so many lines each. A tick that is
+// refused is an entry too.
 fn full_house(rt: &impl Abort, alloc: Global, lines: usize) -> Vec<Opened<Vec<u8>>> {
     let text = ticks(rt, alloc, lines);
     let mut sessions = Vec::new(alloc);
-    for _ in 0..64 {
-        let role = Role::AirportOperator;
+    for number in 0..64 {
+        let role = ROLES[number % 6];
         let minute = Some(29_000_590);
         let session = opened(rt, alloc, role, text.as_str(), minute, Vec::new(alloc));
         push(rt, &mut sessions, session);

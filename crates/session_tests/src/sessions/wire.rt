@@ -41,10 +41,19 @@ static ACTIVATION_FIELDS: [Field; 7] = [
 
 const LOAD: &str = r#"1 29000580 APT {"cmd":"load""#;
 
-static LOAD_FIELDS: [Field; 3] = [
+static LOAD_FIELDS: [Field; 4] = [
     ("milestone", "7", "17"),
     ("kind", r#""tobt""#, r#""""#),
     ("program", r#""95""#, r#""9""#),
+    ("length", "160", "129"),
+];
+
+const DEICE: &str = r#"6 29000580 DIC {"cmd":"deice""#;
+
+static DEICE_FIELDS: [Field; 3] = [
+    ("flight", "7", "0"),
+    ("field", r#""eczt""#, r#""aobt""#),
+    ("time", "null", r#""""#),
 ];
 
 fn push(rt: &impl Abort, line: &mut String, part: &str) {
@@ -204,6 +213,55 @@ fn each_field_of_a_flight_plan_has_its_limits(rt: HostRuntime) {
     );
 }
 
+// Every such line is refused on a board of layout 1.
+const NO_DEICING: &str = "no 0 325\n";
+
+static DEICE_LIMITS: [Limit; 18] = [
+    ("flight", "1", NO_DEICING),
+    ("flight", "0", OUT_OF_RANGE),
+    ("flight", "18446744073709551615", NO_DEICING),
+    ("flight", "18446744073709551616", WRONG_KIND),
+    ("field", r#""eczt""#, NO_DEICING),
+    ("field", r#""eezt""#, NO_DEICING),
+    ("field", r#""aczt""#, NO_DEICING),
+    ("field", r#""aezt""#, NO_DEICING),
+    ("field", r#""ECZT""#, OUT_OF_RANGE),
+    ("field", r#""""#, OUT_OF_RANGE),
+    ("field", "null", WRONG_KIND),
+    ("field", "0", WRONG_KIND),
+    ("time", "null", NO_DEICING),
+    ("time", r#""1970-01-01T00:01:00Z""#, NO_DEICING),
+    ("time", r#""1970-01-01T00:00:59Z""#, OUT_OF_RANGE),
+    ("time", r#""null""#, OUT_OF_RANGE),
+    ("time", "0", WRONG_KIND),
+    ("time", "false", WRONG_KIND),
+];
+
+#[test]
+fn each_field_of_a_time_of_deicing_has_its_limits(rt: HostRuntime) {
+    are_limits(&rt, rt.alloc(), DEICE, &DEICE_FIELDS, &DEICE_LIMITS);
+}
+
+// One byte is no program, which is told once the fields are read.
+const NO_PROGRAM: &str = "bad 301 0\n";
+
+static LENGTH_LIMITS: [Limit; 9] = [
+    ("length", "128", NO_PROGRAM),
+    ("length", "160", NO_PROGRAM),
+    ("length", "127", OUT_OF_RANGE),
+    ("length", "129", OUT_OF_RANGE),
+    ("length", "161", OUT_OF_RANGE),
+    ("length", "0", OUT_OF_RANGE),
+    ("length", "null", WRONG_KIND),
+    ("length", "-128", WRONG_KIND),
+    ("length", r#""128""#, WRONG_KIND),
+];
+
+#[test]
+fn records_have_two_lengths(rt: HostRuntime) {
+    are_limits(&rt, rt.alloc(), LOAD, &LOAD_FIELDS, &LENGTH_LIMITS);
+}
+
 // The first faulty field from a place on decides.
 fn are_in_order(rt: &impl Abort, alloc: Global, front: &str, fields: &[Field]) {
     for place in 0..fields.len() {
@@ -219,6 +277,7 @@ fn the_first_faulty_field_decides(rt: HostRuntime) {
     are_in_order(&rt, rt.alloc(), SCHEDULE, &SCHEDULE_FIELDS);
     are_in_order(&rt, rt.alloc(), ACTIVATION, &ACTIVATION_FIELDS);
     are_in_order(&rt, rt.alloc(), LOAD, &LOAD_FIELDS);
+    are_in_order(&rt, rt.alloc(), DEICE, &DEICE_FIELDS);
 }
 
 // Milestones without a time, and what they are answered.
@@ -244,7 +303,7 @@ fn two_milestones_alone_may_have_no_time(rt: HostRuntime) {
 }
 
 // What stands before the JSON of a line, and what the line is answered.
-static FRONTS: [(&str, &str); 15] = [
+static FRONTS: [(&str, &str); 16] = [
     ("0 29000580 APT", "bad 100\n"),
     ("1 29000580 APT", "alerts 0 -\n"),
     ("64 29000580 APT", "alerts 0 -\n"),
@@ -258,7 +317,8 @@ static FRONTS: [(&str, &str); 15] = [
     ("1 29000580 ATC", "alerts 0 -\n"),
     ("1 29000580 AO", "alerts 0 -\n"),
     ("1 29000580 GH", "alerts 0 -\n"),
-    ("1 29000580 DIC", "bad 100\n"),
+    ("1 29000580 DIC", "alerts 0 -\n"),
+    ("1 29000580 DI", "bad 100\n"),
     ("1 29000580 apt", "bad 100\n"),
 ];
 

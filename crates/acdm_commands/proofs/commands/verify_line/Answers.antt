@@ -20,7 +20,7 @@ returns-in-Ok g c =
           ap (λ s. s.faults) c.new.ensures,
           ap (λ s. s.ended) c.new.ensures,
         ),
-        verified_any helpers file later _ _ e.work e.comes,
+        verified_any helpers file later _ _ _ e.work e.comes,
       );
       ends = e.ends;
     }

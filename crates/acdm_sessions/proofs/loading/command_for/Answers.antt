@@ -19,4 +19,3 @@ returns-in-Ok-clause-reads c =
 pub returns-in-Ok-clause-checked : goal.returns-in-Ok-clause-checked
 returns-in-Ok-clause-checked c =
     checked_is_no_other c.args.sigs.now c.in-Ok.program c.in-Ok.ensures.reads.checked
-    c.in-Ok.ensures.reads.long

@@ -1,12 +1,12 @@
 use Rattle.std.proofs.Common.{◌<◌, ◌++◌, ◌∷◌, [], true, not, nat_lt, set, refl, ap, sym, ◌∙◌, subst}
-use Rattle.std.proofs.Common.{None, arith}
+use Rattle.std.proofs.Common.{arith}
 use Rattle.acdm_record.specs.Fields.{length_of}
 use Rattle.bpf_helpers.proofs.OracleLemmas.{unasked}
 use Rattle.acdm_step.specs.declared.command.Command.TheVariants as commands
 use Rattle.acdm_step.specs.declared.outcome.Outcome.TheVariants as outcomes
 use Rattle.acdm_step.specs.Commands.{is_accepted}
 use Rattle.acdm_step.specs.Verdicts.{verdict_for}
-use Rattle.acdm_step.specs.Board.{board_of, programs_on}
+use Rattle.acdm_step.specs.Board.{board_of, obstacle_on, programs_on}
 use Rattle.acdm_step.proofs.Steps.{flight_refused, flight_unanswered, flight_changed, put_there}
 use Rattle.acdm_step.proofs.Steps.{put_absent, when_ok, when_err, no_lt}
 use Rattle.acdm_step.proofs.Planned.{left_so, plans_nothing}
@@ -34,7 +34,7 @@ returns-then-not-is_accepted-clause-comes g c =
     c.len-count.ensures refl
     c.record_at-record.result c.verdict-verdict.result
     (nat_lt c.place-place.result c.len-count.result) refl c.record_at-record.ensures
-    c.verdict-verdict.ensures c.args.moment (g.O.Oracle.view c.args.oracle.now)
+    c.verdict-verdict.ensures.value c.args.moment (g.O.Oracle.view c.args.oracle.now)
     (g.O.Oracle.view c.args.oracle.now) c.of.result
     (sym c.is_accepted.ensures ∙ c.if-not-is_accepted.true) (unasked _) c.of.ensures
 
@@ -50,7 +50,7 @@ returns-then-is_err-clause-comes g c =
     c.len-count.ensures refl
     c.record_at-record.result c.verdict-verdict.result
     (nat_lt c.place-place.result c.len-count.result) refl c.record_at-record.ensures
-    c.verdict-verdict.ensures c.args.moment (g.O.Oracle.view c.args.oracle.now)
+    c.verdict-verdict.ensures.value c.args.moment (g.O.Oracle.view c.args.oracle.now)
     (g.O.Oracle.view c.change.new.oracle) c.refused-then-is_err.result.outcome
     (sym c.is_accepted.ensures ∙ c.if-not-is_accepted.false) c.refused-then-is_err.ensures.outcome
     c.args.flights.now refl (when_err c.change.result (c.is_err.ensures.negation
@@ -64,7 +64,7 @@ returns-then-place-count-clause-comes g c =
     c.len-count.ensures refl
     c.record_at-record.result c.verdict-verdict.result
     (nat_lt c.place-place.result c.len-count.result) refl c.record_at-record.ensures
-    c.verdict-verdict.ensures c.args.moment (g.O.Oracle.view c.args.oracle.now)
+    c.verdict-verdict.ensures.value c.args.moment (g.O.Oracle.view c.args.oracle.now)
     (g.O.Oracle.view c.change.new.oracle) outcomes.Done
     (sym c.is_accepted.ensures ∙ c.if-not-is_accepted.false) refl c.change.new.record _
     (when_ok c.change.result (c.is_err.ensures.negation
@@ -78,7 +78,7 @@ returns-then-place-count-clause-comes g c =
 pub returns-then-place-count-clause-fits : goal.returns-then-place-count-clause-fits
 returns-then-place-count-clause-fits g c = (
   subst (λ n. c.place-place.result < n) c.len-count.ensures c.if-place-count.true,
-  change_keeps c.args.flights.now
+  change_keeps (board_of c.args.flights.now c.args.slots.now)
       (programs_on c.args.slots.now (commands.Flight c.args.command.now)) c.args.moment
       (commands.Flight c.args.command.now) (g.O.Oracle.view c.args.oracle.now)
       (g.O.Oracle.view c.change.new.oracle) c.flight_of_command-flight.result c.place-place.result
@@ -87,15 +87,15 @@ returns-then-place-count-clause-fits g c = (
       ∙ ap not c.if-is_err.false) c.change.ensures.changed)
       (subst (λ n. c.place-place.result < n) c.len-count.ensures c.if-place-count.true),
   long c.args.slots.now.record_length c.change.new.record
-      (change_as_long c.args.flights.now
+      (change_as_long (board_of c.args.flights.now c.args.slots.now)
       (programs_on c.args.slots.now (commands.Flight c.args.command.now)) c.args.moment
       (commands.Flight c.args.command.now) (g.O.Oracle.view c.args.oracle.now)
       (g.O.Oracle.view c.change.new.oracle) c.flight_of_command-flight.result c.place-place.result
       c.record_at-record.result c.change.new.record c.place-place.ensures c.record_at-record.ensures
       (when_ok c.change.result (c.is_err.ensures.negation
       ∙ ap not c.if-is_err.false) c.change.ensures.changed)
-      ∙ length_on c.args.slots.now.record_length c.args.flights.now
-      c.flight_of_command-flight.result c.requires.long c.requires.as_long),
+      ∙ length_on (board_of c.args.flights.now c.args.slots.now)
+      c.flight_of_command-flight.result c.requires.as_long),
 )
 
 pub returns-else-place-count-clause-comes : goal.returns-else-place-count-clause-comes
@@ -106,7 +106,7 @@ returns-else-place-count-clause-comes g c =
     c.len-count.ensures refl
     c.record_at-record.result c.verdict-verdict.result
     (nat_lt c.place-place.result c.len-count.result) refl c.record_at-record.ensures
-    c.verdict-verdict.ensures c.args.moment (g.O.Oracle.view c.args.oracle.now)
+    c.verdict-verdict.ensures.value c.args.moment (g.O.Oracle.view c.args.oracle.now)
     (g.O.Oracle.view c.change.new.oracle) outcomes.Done
     (sym c.is_accepted.ensures ∙ c.if-not-is_accepted.false) refl c.change.new.record _
     (when_ok c.change.result (c.is_err.ensures.negation
@@ -121,13 +121,14 @@ pub returns-else-place-count-clause-fits : goal.returns-else-place-count-clause-
 returns-else-place-count-clause-fits g c = (
   subst (λ n. n < MOST_FLIGHTS) c.len-count.ensures
       (room_left (commands.Flight c.args.command.now) c.len-count.result c.record_at-record.result
-      c.args.role refl
-      (ap (λ t. is_accepted (verdict_for t c.len-count.result c.record_at-record.result None
-      c.args.role (commands.Flight c.args.command.now)))
+      (obstacle_on c.args.slots.now (commands.Flight c.args.command.now)) c.args.role refl
+      (ap (λ t. is_accepted (verdict_for t c.len-count.result c.record_at-record.result
+      (obstacle_on c.args.slots.now (commands.Flight c.args.command.now)) c.args.role
+      (commands.Flight c.args.command.now)))
       (sym (no_lt c.place-place.result c.len-count.result c.if-place-count.false))
-      ∙ sym (ap is_accepted c.verdict-verdict.ensures) ∙ sym c.is_accepted.ensures
+      ∙ sym (ap is_accepted c.verdict-verdict.ensures.value) ∙ sym c.is_accepted.ensures
       ∙ c.if-not-is_accepted.false)),
-  change_is_new c.args.flights.now
+  change_is_new (board_of c.args.flights.now c.args.slots.now)
       (programs_on c.args.slots.now (commands.Flight c.args.command.now)) c.args.moment
       (commands.Flight c.args.command.now) (g.O.Oracle.view c.args.oracle.now)
       (g.O.Oracle.view c.change.new.oracle) c.flight_of_command-flight.result c.place-place.result
@@ -136,20 +137,28 @@ returns-else-place-count-clause-fits g c = (
       ∙ ap not c.if-is_err.false) c.change.ensures.changed)
       (omega (arith, c.len-count.ensures, c.if-place-count.false)),
   long c.args.slots.now.record_length c.change.new.record
-      (change_as_long c.args.flights.now
+      (change_as_long (board_of c.args.flights.now c.args.slots.now)
       (programs_on c.args.slots.now (commands.Flight c.args.command.now)) c.args.moment
       (commands.Flight c.args.command.now) (g.O.Oracle.view c.args.oracle.now)
       (g.O.Oracle.view c.change.new.oracle) c.flight_of_command-flight.result c.place-place.result
       c.record_at-record.result c.change.new.record c.place-place.ensures c.record_at-record.ensures
       (when_ok c.change.result (c.is_err.ensures.negation
       ∙ ap not c.if-is_err.false) c.change.ensures.changed)
-      ∙ length_on c.args.slots.now.record_length c.args.flights.now
-      c.flight_of_command-flight.result c.requires.long c.requires.as_long),
+      ∙ length_on (board_of c.args.flights.now c.args.slots.now)
+      c.flight_of_command-flight.result c.requires.as_long),
 )
 
 -- the record has the length of which its programs were told
 pub change-requires-clause-long : goal.change-requires-clause-long
 change-requires-clause-long g c =
     ap length_of c.record_at-record.ensures
-    ∙ length_on c.args.slots.now.record_length c.args.flights.now c.flight_of_command-flight.result
-    c.requires.long c.requires.as_long
+    ∙ length_on (board_of c.args.flights.now c.args.slots.now) c.flight_of_command-flight.result
+    c.requires.as_long
+
+-- the tests of a verdict look at a record of the board's length
+pub verdict-verdict-requires : goal.verdict-verdict-requires
+verdict-verdict-requires g c = record {
+  long = ap length_of c.record_at-record.ensures
+      ∙ length_on (board_of c.args.flights.now c.args.slots.now) c.flight_of_command-flight.result
+      c.requires.as_long;
+}

@@ -5,12 +5,14 @@ use Rattle.acdm_step.specs.declared.command.Command.{Command}
 use Rattle.acdm_step.specs.declared.outcome.Outcome.TheVariants as outcomes
 use Rattle.acdm_step.specs.Commands.{is_accepted, is_alerts}
 use Rattle.acdm_step.specs.Verdicts.{load_obstacle, load_verdict, show_verdict, outcome_with}
+use Rattle.acdm_step.specs.Verdicts.{migrate_obstacle, migrate_verdict}
 use Rattle.acdm_step.specs.History.{Board}
 use Rattle.acdm_step.specs.Board.{is_there, record_on, board_loads}
 use Rattle.acdm_step.specs.Prepared.{Fits}
-use Rattle.acdm_step.proofs.Steps.{comes_left, comes_show, comes_alerts, loading, on_err}
+use Rattle.acdm_step.proofs.Steps.{comes_left, comes_show, comes_alerts, loading, migrating}
+use Rattle.acdm_step.proofs.Steps.{on_err}
 use Rattle.acdm_step.proofs.Planned.{planned_as, plans_load, plans_unload, plans_tick, fits_load}
-use Rattle.acdm_step.proofs.Planned.{fits_unload}
+use Rattle.acdm_step.proofs.Planned.{fits_unload, plans_migrate, fits_migrate}
 use Rattle.acdm_step.proofs.state.Core.prepare.Goals as goal
 
 pub returns-in_err-prepared-in-Load-clause-memory :
@@ -79,7 +81,7 @@ returns-in-Show-clause-comes g c =
     c.self.view_is c.in-Show.is
     (comes_show b c.args.role c.args.moment at at c.show.result (unasked at) c.in-Show.flight
     (c.show.ensures
-    ∙ ap (λ f. outcome_with (outcomes.Shown (record_on b.records f))
+    ∙ ap (λ f. outcome_with (outcomes.Shown (record_on b f))
     (show_verdict (is_there b.records f))) c.get.ensures.value))
 
 pub returns-in_ok-list-in-Alerts-clause-comes : goal.returns-in_ok-list-in-Alerts-clause-comes
@@ -90,3 +92,35 @@ returns-in_ok-list-in-Alerts-clause-comes g c =
     (outcomes.Listed c.in_ok-list-in-Alerts.list) c.self.view_is c.in-Alerts.is
     (comes_alerts b c.args.role c.args.moment at at (outcomes.Listed c.in_ok-list-in-Alerts.list)
     (unasked at) (ap outcomes.Listed c.in_ok-list-in-Alerts.ensures))
+
+pub returns-in_err-prepared-in-Migrate-clause-memory :
+    goal.returns-in_err-prepared-in-Migrate-clause-memory
+returns-in_err-prepared-in-Migrate-clause-memory g c =
+    let b : Board = record { records = c.self.inside.flights; slots = c.self.inside.slots } in
+    on_err c.from_residual-in_err-prepared-in-Migrate.result
+    (subst (λ (x : Board). (is_alerts c.args.command.now
+    || board_loads x c.args.role c.args.command.now) ≡ true) c.self.view_is
+    (subst (λ (x : Command). (is_alerts x || board_loads b c.args.role x) ≡ true)
+    (sym c.in-Migrate.is) (migrating b c.args.role
+    c.in_err-prepared-in-Migrate.ensures.migrating)))
+
+pub returns-in_ok-prepared-in-Migrate-clause-comes :
+    goal.returns-in_ok-prepared-in-Migrate-clause-comes
+returns-in_ok-prepared-in-Migrate-clause-comes g c =
+    let b : Board = record { records = c.self.inside.flights; slots = c.self.inside.slots } in
+    let at : OracleView = g.O.Oracle.view c.args.oracle.now in
+    let p = c.in_ok-prepared-in-Migrate.prepared in
+    planned_as b c.args.self.now c.args.role c.args.moment _ c.args.command.now at at p.outcome
+    p.change c.self.view_is c.in-Migrate.is
+    (plans_migrate b c.args.role c.args.moment at at p.outcome (unasked at) p.change
+    c.in_ok-prepared-in-Migrate.ensures.outcome c.in_ok-prepared-in-Migrate.ensures.change)
+
+pub returns-in_ok-prepared-in-Migrate-clause-fits :
+    goal.returns-in_ok-prepared-in-Migrate-clause-fits
+returns-in_ok-prepared-in-Migrate-clause-fits g c =
+    let b : Board = record { records = c.self.inside.flights; slots = c.self.inside.slots } in
+    let p = c.in_ok-prepared-in-Migrate.prepared in
+    subst (λ (x : Board). Fits x p.change) c.self.view_is
+    (fits_migrate b (is_accepted
+    (migrate_verdict (migrate_obstacle b.slots.record_length) c.args.role)) p.change
+    c.in_ok-prepared-in-Migrate.ensures.change c.in_ok-prepared-in-Migrate.ensures.first)
