@@ -11,21 +11,23 @@ import sys
 from datetime import datetime, timedelta, timezone
 
 TIMES = "SOBT EOBT CTOT OTOT ELDT ALDT AIBT ACGT TOBT TSAT ASBT ARDT ASRT ASAT AOBT ATOT".split()
+DEICING = "ECZT EEZT ACZT AEZT".split()
 FIELDS = [
     "flight", "callsign", "scheduled type", "planned type", "scheduled registration",
     "planned registration", "scheduled destination", "planned destination", "reached", "alerts",
     "MTTT", "EXOT", "stand", "layout", "EXIT", *TIMES,
 ]  # fmt: skip
-LAYOUT = struct.Struct("<Q8s4s4s8s8s4s4s2I3H2B16I")
+LAYOUTS = {128: struct.Struct("<Q8s4s4s8s8s4s4s2I3H2B16I"), 160: struct.Struct("<Q8s4s4s8s8s4s4s2I3H2B20I16x")}
 MILESTONES = 16
 EPOCH = datetime(1970, 1, 1, tzinfo=timezone.utc)
 
 
 def record_of(digits):
-    """The fields of a record by name, from its 256 hexadecimal digits: numbers, and texts without zeros."""
-    values = LAYOUT.unpack(bytes.fromhex(digits))
+    """The fields of a record by name, from its 256 or 320 hexadecimal digits: numbers, and texts without zeros."""
+    record = bytes.fromhex(digits)
+    values = LAYOUTS[len(record)].unpack(record)
     texts = (value.rstrip(b"\0").decode("ascii") if isinstance(value, bytes) else value for value in values)
-    return dict(zip(FIELDS, texts))
+    return dict(zip([*FIELDS, *DEICING], texts))
 
 
 def clock(minute):
@@ -54,7 +56,7 @@ def is_reached(record, milestone):
 def printed(name, record):
     """What is printed for a field."""
     value = record[name]
-    if name in TIMES:
+    if name in TIMES or name in DEICING:
         value = day_and_clock(value)
     elif name == "alerts":
         value = " ".join(alert_names(value))
@@ -73,7 +75,7 @@ def main():
         if len(words) == 3 and words[0] == "rec":
             record = record_of(words[2])
             print(f"entry {words[1]}")
-            for name in FIELDS:
+            for name in record:
                 print(f"  {name:22} {printed(name, record)}")
 
 

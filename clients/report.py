@@ -21,11 +21,12 @@ sys.path.insert(0, str(TOP / "bench" / "model"))
 import journal  # noqa: E402
 from board import MILESTONES  # noqa: E402
 
-TARGETS = ("sobt", "eobt", "ctot", "eldt", "tobt", "tsat")
+TARGETS = ("sobt", "eobt", "ctot", "eldt", "tobt", "tsat", "eczt", "eezt")
 MEANINGS = {
     201: "the role does not own the command", 202: "no such flight", 203: "a needed milestone was not reached",
     204: "a milestone that bars this one was reached", 205: "TOBT or TSAT is not set", 206: "times in the wrong order",
-    207: "schedule and flight plan are there", 321: "no program in the slot", 503: "4,096 flights already",
+    207: "schedule and flight plan are there", 321: "no program in the slot", 323: "the program is for records of another length", 324: "migrated already",
+    325: "no times of de-icing before a migrate", 503: "4,096 flights already",
 }  # fmt: skip
 WIDTH, LEFT, RIGHT = 1080, 20, 90
 HALF_A_DAY = 720
@@ -87,7 +88,7 @@ class Day:
 
 def flight_of(entry):
     """The flight that an entry is about, if it is about one."""
-    return entry.arguments[0] if entry.command in ("schedule", "report", "show") else None
+    return entry.arguments[0] if entry.command in ("schedule", "report", "deice", "show") else None
 
 
 def told(lines):
@@ -265,7 +266,7 @@ def overview(stories):
 def asked(entry):
     """The words of a command, with times as clock times and without the bytes of a program."""
     words = [str(word) for word in entry.words()]
-    times = {"report": 3, "schedule": 6}
+    times = {"report": 3, "deice": 3, "schedule": 6}
     if entry.command in times:
         place = times[entry.command]
         words[place] = clock(int(words[place])) or "no time"

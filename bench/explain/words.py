@@ -125,7 +125,7 @@ class Refusal:
         base, size = self.access()
         given, offset = self.state.registers[base], self.insn.off
         first, last = model.place(self.insn, self.state)
-        over = first < model.RECORD + model.RECORD_BYTES and last >= model.STACK
+        over = first < model.RECORD + 128 and last >= model.STACK
 
         def wanted(offset):
             record = f"{span(f'record{-offset:+}', f'record{128 - size - offset:+}')} or " if in_record else ""

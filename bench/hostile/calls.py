@@ -22,7 +22,7 @@ import sys
 import tempfile
 
 from cases import ALERTS, DAY, SCHEDULE, TAXI, TOP, Cases, text
-from refused import LATER, SPILLED, Refusing, at, load, owed, report
+from refused import DEICED, LATER, SHORT_ALONE, SPILLED, Refusing, at, load, owed, report
 
 sys.path.insert(0, str(TOP / "bench" / "gate"))
 
@@ -67,6 +67,11 @@ def scene():
         at(NOW, 1, "APT", '{"cmd":"unload","milestone":9,"kind":"tobt"}'),
         at(NOW, 4, "AO", report(9, 9, "10:00")),
         at(NOW, 2, "NM", '{"cmd":"show","flight":9}'),
+        at(NOW, 1, "APT", load(7, "tobt", SHORT_ALONE)),
+        at(NOW, 1, "APT", '{"cmd":"migrate"}'),
+        at(NOW, 1, "APT", load(7, "alert", DEICED, ',"length":160')),
+        at(NOW, 6, "DIC", '{"cmd":"deice","flight":7,"field":"aezt","time":"2025-02-20T07:30:00Z"}'),
+        at(NOW, 4, "AO", '{"cmd":"show","flight":7}'),
         at(NOW, 1, "APT", ALERTS),
     ]
 

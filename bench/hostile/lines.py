@@ -3,7 +3,7 @@
 
     python3 bench/hostile/lines.py [--program PATH] [--seed S] [--lines N] [--stride N]
 
-Each change of one byte of ten worked lines, and each cut of them; bytes that are no UTF-8, of each kind; keys twice; numbers at each
+Each change of one byte of thirteen worked lines, and each cut of them; bytes that are no UTF-8, of each kind; keys twice; numbers at each
 limit and beside it; JSON nested 1 to 200 deep; lines of 70,000 bytes and of more; N lines with changes by chance; and 10,000,000
 bytes without a line feed, in bounded memory, in `run` and in a session. A case is a line. `--stride` takes every N-th of the lines with
 a changed byte alone. The last line is `N cases, M failed`; status 1 where one failed. The same words send the same lines.
@@ -36,6 +36,9 @@ WORKED = [
     (b"1 4294967295 APT ", '{"cmd":"tick"}'),
     (b"4 29000580 AO ", '{"cmd":"show","flight":7}'),
     (b"2 29000580 NM ", ALERTS),
+    (b"1 29000580 APT ", '{"cmd":"migrate"}'),
+    (b"6 29000580 DIC ", '{"cmd":"deice","flight":7,"field":"aezt","time":"2025-02-20T07:30:00Z"}'),
+    (b"1 29000580 APT ", LOAD[:-1] + ',"length":160}'),
 ]
 LINES = [front + json.encode() for front, json in WORKED]
 START = LINES[:2]

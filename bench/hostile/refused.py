@@ -44,6 +44,11 @@ LATER = "bf31000000000000b70200000500000085000000030000009500000000000000"
 SPILLED = "7b1af8ff0000000015040100010000007b1af8ff0000000079a1f8ff0000000071103f00000000009500000000000000"
 
 
+# r0 is set only beside records of at most 128 bytes, so a migrate unloads it. The other reads the end of de-icing.
+SHORT_ALONE = "2502010080000000b7000000000000009500000000000000"
+DEICED = "61108c00000000009500000000000000"
+
+
 def at(minute, session, role, command):
     return f"{session} {minute} {role} {command}"
 
@@ -52,8 +57,8 @@ def report(flight, milestone, time_of_day):
     return f'{{"cmd":"report","flight":{flight},"milestone":{milestone},"time":"2025-02-20T{time_of_day}:00Z"}}'
 
 
-def load(milestone, kind, program):
-    return f'{{"cmd":"load","milestone":{milestone},"kind":"{kind}","program":"{program}"}}'
+def load(milestone, kind, program, more=""):
+    return f'{{"cmd":"load","milestone":{milestone},"kind":"{kind}","program":"{program}"{more}}}'
 
 
 def scene():
@@ -82,6 +87,12 @@ def scene():
         at(now, 1, "APT", '{"cmd":"unload","milestone":7,"kind":"tobt"}'),
         at(now, 1, "APT", SCHEDULE),
         at(now, 1, "APT", '{"cmd":"tack"}'),
+        *shown,
+        at(now, 1, "APT", load(16, "alert", SHORT_ALONE)),
+        at(now, 1, "APT", '{"cmd":"migrate"}'),
+        at(now, 1, "APT", load(8, "alert", DEICED, ',"length":160')),
+        at(now, 6, "DIC", '{"cmd":"deice","flight":7,"field":"aezt","time":"2025-02-20T09:30:00Z"}'),
+        at(now, 5, "GH", report(7, 8, "09:05")),
         *shown,
         listed,
     ]

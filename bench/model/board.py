@@ -26,7 +26,8 @@ MOST_FLIGHTS = 4096
 MOST_MINUTES = 2**32 - 1
 LAST_INSTANT = 4_223_370_120  # the last minute that `jiff` reads, 9999-12-30T22:00Z
 DAY = 1440
-ROLES = ("NM", "ATC", "APT", "AO", "GH")
+ROLES = ("NM", "ATC", "APT", "AO", "GH", "DIC")
+DEICING = ("eczt", "eezt", "aczt", "aezt")
 
 
 class Bad(Exception):
@@ -203,13 +204,29 @@ def read_slot(fields):
     return number(fields, "milestone", 1, 16), kind_of(fields)
 
 
+def length_of(fields):
+    length = number(fields, "length", 0, 2**64 - 1) if "length" in fields else 128
+    if length not in programs.RECORD_LENGTHS:
+        raise Bad(104)
+    return length
+
+
 def read_load(fields):
-    place, code = read_slot(fields), digits(fields, "program")
+    place, code, length = read_slot(fields), digits(fields, "program"), length_of(fields)
     try:
-        programs.accepted(code)
+        programs.accepted(code, length)
     except programs.Fault as fault:
         raise Bad(fault.code, fault.slot) from None
-    return *place, code
+    return *place, code, length
+
+
+def read_deice(fields):
+    flight, name = flight_of(fields), fields.get("field")
+    if not isinstance(name, str):
+        raise Bad(103)
+    if name not in DEICING:
+        raise Bad(104)
+    return flight, name, time(fields, "time", optional=True)
 
 
 COMMANDS = {
@@ -217,6 +234,8 @@ COMMANDS = {
     "report": read_report,
     "load": read_load,
     "unload": read_slot,
+    "migrate": lambda fields: (),
+    "deice": read_deice,
     "tick": lambda fields: (),
     "show": lambda fields: (flight_of(fields),),
     "alerts": lambda fields: (),
@@ -274,6 +293,8 @@ MILESTONES = {
     16: Rule(("ATC",), "atot", (1, 15), barred=16),
 }
 
+DEICING_ORDER = (("eczt", "eezt"), ("aczt", "aezt"))
+
 TIME_ORDER = (("aldt", "aibt"), ("aibt", "acgt"), ("asrt", "asat"), ("aobt", "atot"))
 
 TIMES = (
@@ -295,7 +316,7 @@ class Flight:
     exot: int = 0
     stand: int = 0
     exit: int = 0
-    times: dict = field(default_factory=lambda: dict.fromkeys(TIMES, 0))
+    times: dict = field(default_factory=lambda: dict.fromkeys((*TIMES, *DEICING), 0))
 
     def has(self, *milestones):
         return all(self.reached >> milestone & 1 for milestone in milestones)
@@ -303,15 +324,22 @@ class Flight:
     def mark(self, milestone):
         self.reached |= 1 << milestone
 
-    def record(self):
-        """The 128 bytes of the record."""
+    def record(self, layout=1):
+        """The bytes of the record, 128 in layout 1 and 160 in layout 2."""
         parts = [self.number.to_bytes(8, "little"), self.callsign.ljust(8, b"\0")]
         for key, width in (("type", 4), ("reg", 8), ("dest", 4)):
             parts += [self.scheduled[key].ljust(width, b"\0"), self.plan[key].ljust(width, b"\0")]
-        widths = ((self.reached, 4), (self.alerts, 4), (self.mttt, 2), (self.exot, 2), (self.stand, 2), (1, 1), (self.exit, 1))
+        widths = ((self.reached, 4), (self.alerts, 4), (self.mttt, 2), (self.exot, 2), (self.stand, 2), (layout, 1), (self.exit, 1))
         parts += [value.to_bytes(width, "little") for value, width in widths]
         parts += [self.times[name].to_bytes(4, "little") for name in TIMES]
+        if layout == 2:
+            parts += [self.times[name].to_bytes(4, "little") for name in DEICING] + [bytes(16)]
         return b"".join(parts)
+
+
+def out_of_order(times, pairs):
+    """Whether the second time of a pair lies before the first, both set."""
+    return any(times[first] and times[then] and times[then] < times[first] for first, then in pairs)
 
 
 # --- alerts
@@ -362,12 +390,13 @@ def names_of(word):
 class Board:
     """The flights in order of creation, the programs by milestone and kind, and how many commands were taken.
 
-    `used` has what the helpers answered the programs of the last command.
+    `used` has what the helpers answered the programs of the last command, and `layout` is that of all records.
     """
 
     def __init__(self, capacity):
         self.flights = {}
         self.programs = {}
+        self.layout = 1
         self.length = 0
         self.capacity = capacity
         self.helpers = programs.HELPERS
@@ -437,7 +466,7 @@ class Board:
         times[rule.sets] = minute
         if milestone == 9 and not minute:
             times["tsat"] = 0
-        if any(times[first] and times[then] and times[then] < times[first] for first, then in TIME_ORDER):
+        if out_of_order(times, TIME_ORDER):
             raise Refused(206)
         flight.times = times
         if plan:
@@ -470,13 +499,15 @@ class Board:
         program = self.programs.get((milestone, kind))
         if program is None:
             return None
-        ended = programs.run(program, flight.record(), moment, milestone, self.helpers)
+        ended = programs.run(program, flight.record(self.layout), moment, milestone, self.helpers)
         self.used += ended.answers
         return ended.r0
 
-    def load(self, role, moment, milestone, kind, code):
+    def load(self, role, moment, milestone, kind, code, length):
         if role != "APT":
             raise Refused(201)
+        if length != programs.RECORD_LENGTHS[self.layout - 1]:
+            raise Refused(323)
         self.programs[milestone, kind] = programs.decode(code)
         return "ok", ""
 
@@ -488,6 +519,37 @@ class Board:
         del self.programs[milestone, kind]
         return "ok", ""
 
+    def migrate(self, role, moment):
+        if role != "APT":
+            raise Refused(201)
+        if self.layout == 2:
+            raise Refused(324)
+        self.layout = 2
+        unloaded = []
+        for milestone, kind in sorted(self.programs, key=lambda place: (place[0], place[1] == "alert")):
+            try:
+                programs.verify(self.programs[milestone, kind], length=160)
+            except programs.Fault as fault:
+                del self.programs[milestone, kind]
+                unloaded.append(f"{milestone}:{kind}:{fault.code}:{fault.slot}")
+        return "migrated", f" {';'.join(unloaded) or '-'}"
+
+    def deice(self, role, moment, number, name, minute):
+        if role != "DIC":
+            raise Refused(201)
+        if self.layout == 1:
+            raise Refused(325)
+        flight = self.known(number)
+        if not flight.has(1):
+            raise Refused(203)
+        if flight.has(16):
+            raise Refused(204)
+        times = flight.times | {name: minute}
+        if out_of_order(times, DEICING_ORDER):
+            raise Refused(206)
+        flight.times = times
+        return self.touch(flight, moment)
+
     def tick(self, role, moment):
         if role != "APT":
             raise Refused(201)
@@ -496,7 +558,7 @@ class Board:
         return "ok", ""
 
     def show(self, role, moment, number):
-        return "rec", f" {self.known(number).record().hex()}"
+        return "rec", f" {self.known(number).record(self.layout).hex()}"
 
     def alerts(self, role, moment):
         raised = [flight for flight in self.flights.values() if flight.alerts]

@@ -15,7 +15,7 @@ import sys
 from dataclasses import dataclass
 
 import programs
-from board import MILESTONES, MOST_MINUTES, ROLES, Bad, Board, meaning
+from board import COMMANDS, DEICING, MILESTONES, MOST_MINUTES, ROLES, Bad, Board, meaning
 
 LONGEST_LINE = 200_000
 MOST_WORD = 2**64 - 1
@@ -57,6 +57,7 @@ class Entry:
         arguments = list(self.arguments)
         if self.command == "load":
             arguments[2] = arguments[2].hex()
+            arguments = arguments[: 3 if arguments[3] == 128 else 4]
         elif self.command in ("schedule", "report"):
             given = arguments.pop() or {}
             arguments += [given[key].decode("ascii") for key, _ in PLAN if given]
@@ -125,11 +126,16 @@ class Words:
         place, digits = self.place(), self.next()
         if not re.fullmatch(rb"([0-9a-f]{2})*", digits):
             raise Unreadable
-        return *place, bytes.fromhex(digits.decode())
+        if not self.words:
+            return *place, bytes.fromhex(digits.decode()), 128
+        return *place, bytes.fromhex(digits.decode()), self.number(160, 160)
+
+    def deice(self):
+        return self.number(1, MOST_WORD), self.one_of(DEICING), self.number(0, MOST_MINUTES)
 
     def arguments(self, command):
         match command:
-            case "schedule" | "report" | "load":
+            case "schedule" | "report" | "load" | "deice":
                 return getattr(self, command)()
             case "unload":
                 return self.place()
@@ -146,7 +152,7 @@ def read(line):
     number, session, moment = words.number(0, MOST_WORD), words.number(1, 64), words.number(1, MOST_MINUTES)
     role, out = words.one_of(ROLES), words.number(0, MOST_WORD)
     answers = [words.number(0, MOST_WORD) for _ in range(min(words.number(0, MOST_WORD), len(line)))]
-    command = words.one_of(("schedule", "report", "load", "unload", "tick", "show", "alerts"))
+    command = words.one_of(COMMANDS)
     entry = Entry(number, session, moment, role, out, answers, command, words.arguments(command))
     if words.words:
         raise Unreadable
@@ -164,7 +170,7 @@ def judged(board, line):
         raise Faulty(place, 402)
     try:
         if entry.command == "load":
-            programs.accepted(entry.arguments[2])
+            programs.accepted(*entry.arguments[2:])
         left = list(entry.answers)
         board.helpers = programs.answered_by(left)
         out, _ = board.enter(entry.moment, entry.role, entry.command, entry.arguments)

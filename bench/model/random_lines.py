@@ -16,7 +16,8 @@ from datetime import datetime, timedelta, timezone
 from random_programs import Programs
 
 OWNERS = {1: "NM", 2: "NM", 3: "NM", 7: "APT", 8: "GH", 9: "GH", 11: "AO", 12: "AO"}
-ROLES = ("NM", "ATC", "APT", "AO", "GH")
+ROLES = ("NM", "ATC", "APT", "AO", "GH", "DIC")
+DEICING = ("eczt", "eezt", "aczt", "aezt")
 EPOCH = datetime(1970, 1, 1, tzinfo=timezone.utc)
 START = 29_000_580
 FLIGHT_LINES = 60
@@ -31,12 +32,13 @@ class Lines:
         self.programs = Programs(self.chance)
         self.moment = START
         self.flight = 1
+        self.length = 128
 
     def line(self):
         self.moment += self.chance.choice((-3, 0, 0, 1, 1, 2, 6))
         self.flight += self.chance.random() < 1 / FLIGHT_LINES
-        draws = (self.report, self.schedule, self.question, self.load, self.unload)
-        role, command = self.chance.choices(draws, (24, 2, 8, 3, 1))[0]()
+        draws = (self.report, self.schedule, self.question, self.load, self.unload, self.deice, self.migrate)
+        role, command = self.chance.choices(draws, (24, 2, 8, 3, 1, 3, 0.02))[0]()
         if self.chance.random() < 0.03:
             role = self.chance.choice(ROLES)
         if self.chance.random() < 0.05:
@@ -89,10 +91,21 @@ class Lines:
         """A program by chance, or one whose answer is a target near the moment."""
         near = f"bf3000000000000007000000{self.chance.choice(MINUTES)}9500000000000000"
         program = near if self.chance.random() < 0.3 else self.programs.program().hex()
-        return "APT", {"cmd": "load", **self.slot(), "program": program}
+        length = self.length if self.chance.random() < 0.9 else self.chance.choice((128, 160))
+        named = {} if length == 128 and self.chance.random() < 0.7 else {"length": length}
+        return "APT", {"cmd": "load", **self.slot(), "program": program, **named}
 
     def unload(self):
         return "APT", {"cmd": "unload", **self.slot()}
+
+    def deice(self):
+        time = None if self.chance.random() < 0.2 else self.instant()
+        return "DIC", {"cmd": "deice", "flight": self.some_flight(), "field": self.chance.choice(DEICING), "time": time}
+
+    def migrate(self):
+        """From now on most programs are for the longer records."""
+        self.length = 160
+        return "APT", {"cmd": "migrate"}
 
     def spoil(self, command):
         """One key goes, gets another value, or stands under a name that nobody asks for."""

@@ -31,8 +31,18 @@ IN_FIVE_MINUTES = "bf31000000000000b7020000050000008500000003000000" + EXIT
 TAXI_TIME = "69113c000000000057010000ff0100008500000002000000" + EXIT
 
 
-def load(milestone, kind, program):
-    return {"cmd": "load", "milestone": milestone, "kind": kind, "program": program}
+MIGRATE = {"cmd": "migrate"}
+READS_LENGTH = "2502010080000000b700000000000000" + EXIT  # r0 is set only where r2 is more than 128
+STAYS_SET = "b700000000000000" + EXIT
+
+
+def load(milestone, kind, program, **more):
+    return {"cmd": "load", "milestone": milestone, "kind": kind, "program": program, **more}
+
+
+def deice(field, time, flight=7):
+    instant = None if time is None else f"2025-02-20T{time}:00Z"
+    return {"cmd": "deice", "flight": flight, "field": field, "time": instant}
 
 
 def unload(milestone, kind):
@@ -156,6 +166,49 @@ class Replies(unittest.TestCase):
         record = bytes.fromhex(replies[-1].split()[2])
         self.assertEqual(int.from_bytes(record[96:100], "little"), 29_000_585)
         self.assertEqual(int.from_bytes(record[54:56], "little"), 29_000_585 % 65_536)
+
+    def test_a_winter_morning(self):
+        commands = [
+            ("DIC", deice("eczt", "10:00")), ("APT", MIGRATE), ("APT", SHOW), ("DIC", deice("eczt", "10:00")),
+            ("DIC", deice("eezt", "09:59")), ("DIC", deice("eezt", "10:00")), ("APT", MIGRATE),
+            ("APT", load(7, "tobt", STAYS_SET)), ("APT", load(7, "tobt", STAYS_SET, length=160)),
+        ]  # fmt: skip
+        migrated = RECORD[:124] + "02" + RECORD[126:144] + "0" * 176
+        expected = ["no 2 325", "migrated 3 -", f"rec 4 {migrated}", "ok 5", "no 6 206", "ok 7", "no 8 324", "no 9 323", "ok 10"]
+        self.assertEqual(self.replies(START + commands)[2:], expected)
+
+    def test_a_migrate_unloads_what_is_refused_beside_longer_records(self):
+        commands = [
+            ("APT", load(7, "tobt", READS_LENGTH)), ("APT", load(9, "alert", STAYS_SET)), ("APT", MIGRATE),
+            ("APT", unload(7, "tobt")), ("APT", unload(9, "alert")),
+        ]  # fmt: skip
+        self.assertEqual(self.replies(commands), ["ok 0", "ok 1", "migrated 2 7:tobt:308:2", "no 3 321", "ok 4"])
+
+    def test_deicing_is_refused_in_its_order(self):
+        rows = (
+            ("APT", deice("eczt", "10:00"), 201), ("DIC", deice("eczt", "10:00", 8), 202),
+            ("DIC", deice("aczt", "10:00"), 0), ("DIC", deice("aezt", "09:59"), 206), ("DIC", deice("aezt", "10:00"), 0),
+            ("DIC", deice("aczt", "10:01"), 206), ("DIC", deice("aezt", None), 0), ("DIC", deice("aczt", "10:01"), 0),
+            ("NM", MIGRATE, 201), ("DIC", TICK, 201), ("DIC", ALERTS, 0),
+        )  # fmt: skip
+        replies = self.replies(START + [("APT", MIGRATE)] + [(role, command) for role, command, _ in rows])[3:]
+        self.assertEqual([0 if reply[0] != "n" else int(reply.split()[2]) for reply in replies], [code for *_, code in rows])
+        scheduled = [("APT", SCHEDULE), ("APT", MIGRATE), ("DIC", deice("eczt", "10:00"))]
+        self.assertEqual(self.replies(scheduled)[2], "no 2 203")
+
+    def test_lines_of_deicing(self):
+        long, behind = "61109c0000000000" + EXIT, "61109d0000000000" + EXIT
+        rows = (
+            ({"cmd": "deice", "flight": 7, "time": None}, "bad 103"), (deice("aobt", "10:00"), "bad 104"),
+            ({"cmd": "deice", "flight": 7, "field": "eczt"}, "bad 103"), (deice("eczt", "1000"), "bad 104"),
+            (load(7, "tobt", STAYS_SET, length=None), "bad 103"), (load(7, "tobt", STAYS_SET, length="160"), "bad 103"),
+            (load(7, "tobt", STAYS_SET, length=129), "bad 104"), (load(7, "tobt", "9", length=129), "bad 104"),
+            (load(7, "tobt", STAYS_SET, length=128), "ok 0"), (load(7, "tobt", STAYS_SET, length=160), "no 0 323"),
+            (load(7, "tobt", long), "bad 309 0"), (load(7, "tobt", long, length=160), "no 0 323"),
+            (load(7, "tobt", behind), "bad 309 0"), (load(7, "tobt", behind, length=160), "bad 309 0"),
+        )  # fmt: skip
+        for command, expected in rows:
+            self.assertEqual(self.replies([("APT", command)]), [expected])
 
     def test_slots_belong_to_the_airport(self):
         removed = unload(9, "alert")

@@ -65,6 +65,23 @@ class Journals(unittest.TestCase):
         for answer, expected in (("11", "legal 5"), ("60", "legal 5"), ("61", "entry 3 404"), ("0", "entry 3 404")):
             self.assertEqual(self.said(other, "0 1 10", f"0 1 {answer}"), expected)
 
+    def test_deicing(self):
+        exit_at_once = "b7000000000000009500000000000000"
+        text = (
+            THREE.replace("2 3 29000580 ATC 205 0 report 7 10 29000760", "2 1 29000580 APT 0 0 migrate")
+            + "3 6 29000580 DIC 0 0 deice 7 eczt 29000760\n"
+            + f"4 1 29000580 APT 0 0 load 7 tobt {exit_at_once} 160\n"
+        )
+        self.assertEqual(self.said(text), "legal 5")
+        self.assertEqual(self.said(text, "APT 0 0 migrate", "APT 324 0 migrate"), "entry 2 405")
+        self.assertEqual(self.said(text, "DIC 0", "DIC 325"), "entry 3 405")
+        self.assertEqual(self.said(text, "2 1 29000580 APT 0 0 migrate", "2 1 29000580 APT 0 0 tick"), "entry 3 405")
+        self.assertEqual(self.said(text, "eczt 29000760", "eczt 0"), "legal 5")
+        for old, new in (("eczt", "ECZT"), (" 160", " 128"), (" 160", " 0160"), (" 160", " 160 160"), ("migrate", "migrate 2")):
+            self.assertIn(" 401", self.said(text, old, new), new)
+        self.assertEqual(self.said(text, exit_at_once + " 160", "9500000000000000 160"), "entry 4 403")
+        self.assertEqual(self.said(text, exit_at_once + " 160", exit_at_once), "entry 4 405")
+
     def test_programs(self):
         for other in ("9500000000000000", "95", ""):
             self.assertEqual(self.said(FIVE, PROGRAM, other), "entry 0 403")
@@ -95,7 +112,7 @@ class Journals(unittest.TestCase):
         self.assertEqual(self.said(FIVE, PROGRAM, "00" * 99_984), "entry 0 401")
 
     def test_the_examples(self):
-        for name, count in (("turn-round", 5), ("day", 85), ("rules-day", 33)):
+        for name, count in (("turn-round", 5), ("day", 85), ("rules-day", 33), ("winter", 34)):
             with (EXAMPLES / f"{name}.txt").open("rb") as stream:
                 journal = [entry.line() for entry in written(stream)]
             self.assertEqual(audit(journal), (f"legal {count}", 0))

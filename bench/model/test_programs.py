@@ -35,9 +35,9 @@ def flight(kind=b"A320", stand=12, local=0, landed=False, **times):
     return made.record()
 
 
-def verdict(digits):
+def verdict(digits, length=128):
     try:
-        return f"accepted {len(accepted(bytes.fromhex(digits)))}"
+        return f"accepted {len(accepted(bytes.fromhex(digits), length))}"
     except Fault as fault:
         return f"{fault.code} {fault.slot}"
 
@@ -139,8 +139,22 @@ class Verdicts(unittest.TestCase):
     def test_the_shipped_rules(self):
         for source in EXAMPLES.glob("*.hex"):
             listing = source.with_suffix(".lst").read_text().splitlines()
-            found = verdict(source.read_text())
+            found = verdict(source.read_text(), 160 if source.stem == "hold-over" else 128)
             self.assertEqual(found if found.startswith("accepted") else f"refused {found}", listing[-1], source.name)
+
+    def test_records_of_both_lengths(self):
+        rows = (
+            ("61109c0000000000", "309 0", "accepted 2"), ("61109d0000000000", "309 0", "309 0"),
+            ("71107f0000000000", "accepted 2", "accepted 2"), ("7110800000000000", "309 0", "accepted 2"),
+            ("2502010080000000" + ZERO, "accepted 3", "308 2"),
+        )  # fmt: skip
+        for digits, short, long in rows:
+            self.assertEqual((verdict(digits + EXIT), verdict(digits + EXIT, 160)), (short, long), digits)
+        self.assertEqual(verdict((EXAMPLES / "hold-over.hex").read_text()), "309 3")
+        record = flight() + bytes(12) + bytes.fromhex("8483ba01") + bytes(16)
+        for now, expected in ((29_000_610, 0), (29_000_611, 512)):
+            program = accepted(bytes.fromhex((EXAMPLES / "hold-over.hex").read_text()), 160)
+            self.assertEqual(run(program, record, now, 15).r0, expected)
 
 
 class Runs(unittest.TestCase):

@@ -30,6 +30,7 @@ def cells():
     found += [f"alert {it} {part}" for it, parts in rules["alerts"].items() if it != "CDM14" for part in parts]
     found += [f"target {it}" for it in rules["target"]] + [f"local {it}" for it in rules["local"]]
     found += [f"local rule {it}" for it in rules["local_rules"]] + [f"touch {it}" for it in rules["touch"]]
+    found += [f"winter {it}" for it in rules["winter"]]
     found += [f"code {it}" for it in rules["codes"]] + [f"before {one} {other}" for one, other in rules["before"]]
     for number, helper in rules["helpers"].items():
         found += [f"helper {number} {kind} {key}" for kind in ("table", "else") for key in helper[kind]]

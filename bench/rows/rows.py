@@ -43,6 +43,14 @@ def owner_rows():
     for role in ROLES:
         row.tick(reply="ok" if role == "APT" else "no 201", role=role)
     yield row
+    row = Talk("who migrates", *(f"owners migrate {it}" for it in ROLES), "code 324", "before 201 324")
+    for role in sorted(ROLES, key=lambda it: it == "APT"):
+        row.migrate(reply="migrated -" if role == "APT" else "no 201", role=role)
+    yield row.migrate(reply="no 201", role="DIC").migrate(reply="no 324")
+    row = Talk("who de-ices", *(f"owners deice {it}" for it in ROLES), "code 325", "before 201 325", "before 325 202")
+    for role in ROLES:
+        row.deice("eczt", "10:00", "no 325" if role == "DIC" else "no 201", role)
+    yield row
     row = Talk("who asks", *(f"owners {what} {it}" for what in ("show", "alerts") for it in ROLES))
     for role in ROLES:
         row.say(role, {"cmd": "show", "flight": 7}, "no 202")
@@ -393,6 +401,68 @@ def touch_rows():
            .alerts("8:CDM01", "9:50"))
 
 
+# r0 is set only where r2 is at most 128.
+SHORT_ALONE = "2502010080000000" + "b700000000000000" + EXIT
+
+
+def winter_rows():
+    def row(name, *cells, now="9:00"):
+        return Talk(f"winter: {name}", *cells, now=now)
+
+    yield (row("an empty board is migrated", "winter later flights").migrate().schedule()
+           .show(layout=2, **SCHEDULED, reached=1, alerts=bits(13)))
+    yield (row("a board with flights is migrated", "winter all flights").start().plan(flight=8).migrate().show(layout=2, **BOTH, reached=3)
+           .alerts("8:CDM01"))
+    for name in ("eczt", "eezt", "aczt", "aezt"):
+        yield (row(f"{name} is set and taken back", f"winter {name}").start().migrate().deice(name, "10:00")
+               .show(layout=2, **BOTH, reached=3, **{name.upper(): "10:00"}).deice(name, "1:00")
+               .show(layout=2, **BOTH, reached=3, **{name.upper(): "1:00"}).deice(name, None).show(layout=2, **BOTH, reached=3))
+    for first, then in (("eczt", "eezt"), ("aczt", "aezt")):
+        yield (row(f"{then} is not before {first}", f"winter {then} behind {first}").start().migrate().deice(first, "10:00")
+               .deice(then, "9:59", "no 206").deice(then, "10:00").deice(first, "10:01", "no 206").deice(then, None)
+               .deice(first, "10:01").deice(then, "10:00", "no 206"))
+    yield (row("the two pairs are apart", "winter pairs").start().migrate().deice("eczt", "10:00").deice("eezt", "10:30")
+           .deice("aezt", "9:00").deice("aczt", "8:00")
+           .show(layout=2, **BOTH, reached=3, ECZT="10:00", EEZT="10:30", ACZT="8:00", AEZT="9:00"))
+    yield (row("layout, flight, plan", "before 325 202", "winter 203", "winter 202").deice("eczt", "10:00", "no 325", flight=8).migrate()
+           .deice("eczt", "10:00", "no 202").schedule().deice("eczt", "10:00", "no 203").plan().deice("eczt", "10:00"))
+    yield (row("gone", "winter 204").start(9, 10, 13, 14, 15).migrate().deice("eczt", "10:00").report(16).deice("eezt", "9:00", "no 204")
+           .deice("eczt", None, "no 204"))
+    yield (row("a time is a touch", "touch deice", now="9:49").start(9).plan(flight=8).migrate().alerts("8:CDM01", "9:50")
+           .deice("eczt", "10:00", now="9:50", flight=8).alerts("8:CDM01", "9:50").deice("eczt", "9:00", now="9:50")
+           .alerts("7:CDM09;8:CDM01", "9:50"))
+    yield (row("a migrate is no touch", "touch migrate", now="9:49").start(9).migrate(now="9:50").alerts("", "9:50").tick("9:50")
+           .alerts("CDM09", "9:50").show(layout=2, **BOTH, TOBT="10:00", reached=bits(0, 1, 9), alerts=bits(9)))
+    yield (row("local alerts and CDM14 stay", "winter local alerts").start().load(6, "alert", answers(2)).load(6, "tobt", later(-1)).reports(6)
+           .alerts("CDM14,LOC01").migrate().alerts("CDM14,LOC01").deice("eczt", "10:00").alerts("CDM14,LOC01"))
+    # r2 is 128, bit 7, and then 160, bits 5 and 7.
+    yield (row("programs see the length", "winter programs stay").start().load(6, "alert", "bf20000000000000" + EXIT).reports(6)
+           .alerts("LOC07").migrate().report(6).alerts("LOC05,LOC07").deice("eczt", "10:00").alerts("LOC05,LOC07"))
+    # 29000760 is 442 * 65536 + 33848, which has the bits 3, 4, 5, 10 and 15.
+    yield (row("a program reads a time of de-icing", "winter programs read").start().migrate().load(6, "alert", word_at(140), length=160)
+           .deice("aezt", "10:00").alerts("").reports(6).alerts("LOC03,LOC04,LOC05,LOC10,LOC15"))
+    yield (row("programs are unloaded", "winter programs go").load(16, "alert", SHORT_ALONE).load(9, "alert", answers(0)).load(16, "tobt", SHORT_ALONE)
+           .load(1, "tobt", SHORT_ALONE).migrate("1:tobt:308:2;16:tobt:308:2;16:alert:308:2").unload(16, "tobt", "no 321")
+           .unload(16, "alert", "no 321").unload(1, "tobt", "no 321").unload(9, "alert"))
+    yield (row("an unloaded program runs no more", "winter programs go").start().load(6, "alert", "2502010080000000" + "b700000002000000" + EXIT).reports(6).alerts("LOC01").migrate("6:alert:308:2").report(6).alerts("LOC01")
+           .show(layout=2, **BOTH, ALDT="9:00", reached=bits(0, 1, 6), alerts=bits(17)))
+    yield (row("the length of a program", "code 323", "before 201 323", "before 309 323").load(7, "tobt", answers(0), "no 323", length=160)
+           .load(7, "tobt", answers(0), "no 201", "NM", length=160).load(7, "tobt", answers(0), length=128).migrate()
+           .load(7, "tobt", answers(0), "no 323").load(7, "tobt", answers(0), "no 323", length=128).load(7, "tobt", answers(0), length=160)
+           .load(7, "tobt", word_at(156), "bad 309 0").load(7, "tobt", word_at(156), length=160).load(7, "tobt", word_at(157), "bad 309 0", length=160))
+    yield (row("the fields of a load", "winter lengths").load(7, "tobt", answers(0), "bad 103", length=None).load(7, "tobt", answers(0), "bad 103", length="160")
+           .load(7, "tobt", answers(0), "bad 104", length=127).load(7, "tobt", answers(0), "bad 104", length=129)
+           .load(7, "tobt", answers(0), "bad 104", length=161).load(7, "tobt", EXIT, "bad 104", length=0).load(7, "tobt", "9z", "bad 104", length=None))
+    deice = {"cmd": "deice", "flight": 7, "field": "eczt", "time": stamp("10:00")}
+    talk = row("the fields of a time", "winter fields")
+    for key, value, code in (
+        ("flight", 0, 104), ("flight", "7", 103), ("field", "aobt", 104), ("field", "ECZT", 104), ("field", "", 104), ("field", 7, 103),
+        ("field", None, 103), ("time", 7, 103), ("time", "10:00", 104),
+    ):
+        talk.say("DIC", {**deice, key: value}, f"bad {code}")
+    yield talk.line('6 29000700 DIC {"cmd":"deice","flight":7,"field":"eczt"}', "bad 103").line('6 29000700 DIC {"cmd":"deice","flight":7}', "bad 103")
+
+
 def code_rows():
     def row(name, *cells, capacity=100):
         return Talk(f"code: {name}", *cells, capacity=capacity)
@@ -406,7 +476,7 @@ def code_rows():
     yield lines(
         "the words before the object", ["code 100", "before 100 101"], ("65 29000700 APT {", "bad 100"), ("0 29000700 APT {", "bad 100"),
         ("1 0 APT {", "bad 100"), ("1 4294967296 APT {", "bad 100"), ("1 29000700 apt {", "bad 100"), ("01 29000700 APT {", "bad 100"),
-        ("1 29000700 DIC {", "bad 100"), ("1  29000700 APT {", "bad 100"), ("1 29000700 APT {", "bad 101"), ("64 4294967295 GH {", "bad 101"),
+        ("1 29000700 DEI {", "bad 100"), ("1  29000700 APT {", "bad 100"), ("1 29000700 APT {", "bad 101"), ("64 4294967295 GH {", "bad 101"),
         ("1 1 AO {", "bad 101"))
     head = "1 29000700 APT "
     yield lines(
@@ -561,7 +631,7 @@ def limit_rows():
 
 GROUPS = {
     "owners": owner_rows, "needs": need_rows, "bars": bar_rows, "order": order_rows, "fields": field_rows, "alerts": alert_rows, "moments": moment_rows,
-    "targets": target_rows, "local": local_rows, "touches": touch_rows, "codes": code_rows, "helpers": helper_rows,
+    "targets": target_rows, "local": local_rows, "touches": touch_rows, "winter": winter_rows, "codes": code_rows, "helpers": helper_rows,
     "limits": limit_rows,
 }
 ABOUT = {
@@ -569,7 +639,7 @@ ABOUT = {
     "order": "The order of times.", "fields": "What a milestone, a schedule and a flight plan set.",
     "alerts": "Each condition of the alerts up to CDM07a, on both sides.",
     "moments": "Each condition of the alerts from CDM08 on, on both sides.", "targets": "What comes of the answer of a program of kind `tobt`.",
-    "local": "Local alerts.", "touches": "When alerts are computed anew.", "codes": "Each code, and which of two comes first.",
+    "local": "Local alerts.", "touches": "When alerts are computed anew.", "winter": "Migrates, and times of de-icing.", "codes": "Each code, and which of two comes first.",
     "helpers": "The entries and limits of the three helpers.", "limits": "The longest lines and programs, and the most flights.",
     "marks": "What one byte stands for in the tables.",
 }
@@ -594,6 +664,7 @@ MARKS = {
     "@": 'load","milestone":6,"kind":"alert","program":"', "V": '9500000000000000"}', "U": "000000000000", "`": "000000",
     "Y": "0700000000000000444c4837000000004133323041333230444149424300000044414942430000004544444d4544444d",
     "j": "28000a000c0001053884ba013884ba01", "^": "ok #", "_": "no # ", "|": "alerts #", "~": "rec # ",
+    "R": '6 29000700 DIC {"cmd":"', "q": 'deice","flight":7,"field":"', "v": "migrated #", ".": "28000a000c0002053884ba013884ba01",
 }
 
 

@@ -7,8 +7,8 @@ as texts, and the record that a show answers is laid out from the values of its 
 import datetime
 import json
 
-SESSIONS = {"APT": 1, "NM": 2, "ATC": 3, "AO": 4, "GH": 5}
-ROLES = ["NM", "ATC", "APT", "AO", "GH"]
+SESSIONS = {"APT": 1, "NM": 2, "ATC": 3, "AO": 4, "GH": 5, "DIC": 6}
+ROLES = ["NM", "ATC", "APT", "AO", "GH", "DIC"]
 # 2025-02-20T00:00Z.
 DAY = 29000160
 
@@ -20,6 +20,7 @@ LAYOUT = [
     ("ACGT", 92, 4), ("TOBT", 96, 4), ("TSAT", 100, 4), ("ASBT", 104, 4), ("ARDT", 108, 4), ("ASRT", 112, 4),
     ("ASAT", 116, 4), ("AOBT", 120, 4), ("ATOT", 124, 4),
 ]
+DEICING = [("ECZT", 128, 4), ("EEZT", 132, 4), ("ACZT", 136, 4), ("AEZT", 140, 4)]
 
 
 def at(clock):
@@ -36,15 +37,16 @@ def stamp(clock):
 
 
 def record(fields):
-    """The 128 bytes of a record as digits."""
-    data = bytearray(128)
-    for name, place, width in LAYOUT:
+    """The bytes of a record as digits: 128, or 160 in layout 2."""
+    is_long = fields.get("layout") == 2
+    data, layout = bytearray(160 if is_long else 128), LAYOUT + DEICING * is_long
+    for name, place, width in layout:
         value = fields.get(name, 1 if name == "layout" else 0)
         if isinstance(value, str) and ":" in value:
             value = at(value)
         part = value.encode().ljust(width, b"\0") if isinstance(value, str) else value.to_bytes(width, "little")
         data[place : place + width] = part
-    assert set(fields) <= {name for name, _, _ in LAYOUT}, fields
+    assert set(fields) <= {name for name, _, _ in layout}, fields
     return data.hex()
 
 
@@ -99,9 +101,16 @@ class Talk:
     def tick(self, now=None, reply="ok", role="APT"):
         return self.say(role, {"cmd": "tick"}, reply, now)
 
-    def load(self, milestone, kind, program, reply="ok", role="APT", now=None):
-        command = {"cmd": "load", "milestone": milestone, "kind": kind, "program": program}
+    def load(self, milestone, kind, program, reply="ok", role="APT", now=None, **length):
+        command = {"cmd": "load", "milestone": milestone, "kind": kind, "program": program, **length}
         return self.say(role, command, reply, now)
+
+    def migrate(self, unloaded="-", reply=None, role="APT", now=None):
+        return self.say(role, {"cmd": "migrate"}, reply or f"migrated {unloaded}", now)
+
+    def deice(self, name, time, reply="ok", role="DIC", now=None, flight=7):
+        text = None if time is None else stamp(time)
+        return self.say(role, {"cmd": "deice", "flight": flight, "field": name, "time": text}, reply, now)
 
     def unload(self, milestone, kind, reply="ok", role="APT", now=None):
         return self.say(role, {"cmd": "unload", "milestone": milestone, "kind": kind}, reply, now)

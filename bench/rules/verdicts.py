@@ -32,6 +32,7 @@ class Rule:
         self.source, self.section = source, section
         self.is_of_pair = source.parent == PAIRS
         self.name = f"{source.stem}.{section}" if self.is_of_pair else source.stem
+        self.length = 160 if "struct migrated_flight" in source.read_text() else 128
 
     def file(self, ending):
         return self.source.with_name(f"{self.name}.{ending}")
@@ -67,13 +68,26 @@ def rules():
 
 
 def judged(codes, acdm, room):
-    """What `acdm verify` prints of each of some programs, by their names."""
+    """What `acdm verify` prints of each of some programs, by their names, beside the records that each is for."""
+    found = {}
+    for length in (128, 160):
+        named = {rule.name for rule in rules() if rule.length == length}
+        some = {name: code for name, code in codes.items() if name.removesuffix(".compiled") in named}
+        folder = room / str(length)
+        folder.mkdir()
+        found |= judged_beside(length, some, acdm, folder)
+    return found
+
+
+def judged_beside(length, codes, acdm, room):
+    """The same beside records of one length."""
     for name, code in codes.items():
         (room / name).write_bytes(code)
+    words = ["verify", "--length", str(length)]
     if acdm or ran([str(TOP / "acdm"), "--version"], {0}).startswith("acdm: the proved program"):
-        return {name: ran([acdm or str(TOP / "acdm"), "verify", str(room / name)], {0, 1}) for name in codes}
+        return {name: ran([acdm or str(TOP / "acdm"), *words, str(room / name)], {0, 1}) for name in codes}
     print("judged by a build without proofs, in some minutes", file=sys.stderr, flush=True)
-    said = ran(["rt", "try", "--cases", str(room), "--", "verify", "{}"], range(256), TOP / "crates" / "acdm")
+    said = ran(["rt", "try", "--cases", str(room), "--", *words, "{}"], range(256), TOP / "crates" / "acdm")
     parts = re.split(r"^== (.*)\n", said, flags=re.MULTILINE)[1:]
     found = {name: text.rstrip("\n") for name, text in zip(parts[::2], parts[1::2])}
     if found.keys() != codes.keys():

@@ -12,6 +12,7 @@ pub enum Role {
     Apt,
     Ao,
     Gh,
+    Dic,
 }
 
 use Role::*;
@@ -34,9 +35,18 @@ pub struct Report {
     pub plan: Option<([u8; 8], Craft)>,
 }
 
+/// A time of de-icing by its place among the times.
+pub struct Deice {
+    pub flight: u64,
+    pub place: usize,
+    pub time: u32,
+}
+
 pub enum Command {
     Schedule(Schedule),
     Report(Report),
+    Deice(Deice),
+    Migrate,
     Tick,
     Show(u64),
     Alerts,
@@ -55,7 +65,8 @@ pub struct Entry {
 /// What comes of a command.
 pub enum Outcome<'a> {
     Done,
-    Shown(&'a Record),
+    Shown(&'a Record, u8),
+    Migrated,
     Listed,
     Refused(u16),
 }
@@ -101,9 +112,12 @@ const RULES: [Rule; 16] = [
 
 const IN_ORDER: [(usize, usize); 4] = [(ALDT, AIBT), (AIBT, ACGT), (ASRT, ASAT), (AOBT, ATOT)];
 
+const DEICED_IN_ORDER: [(usize, usize); 2] = [(ECZT, EEZT), (ACZT, AEZT)];
+
 #[derive(Default)]
 pub struct Board {
     pub flights: IndexMap<u64, Record>,
+    pub is_migrated: bool,
 }
 
 impl Board {
@@ -111,6 +125,13 @@ impl Board {
         match command {
             Command::Schedule(schedule) => self.schedule(role, moment, schedule),
             Command::Report(report) => self.report(role, moment, report),
+            Command::Deice(deice) => self.deice(role, moment, deice),
+            Command::Migrate if role != Apt => Outcome::Refused(201),
+            Command::Migrate if self.is_migrated => Outcome::Refused(324),
+            Command::Migrate => {
+                self.is_migrated = true;
+                Outcome::Migrated
+            }
             Command::Tick => {
                 if role != Apt {
                     return Outcome::Refused(201);
@@ -119,7 +140,7 @@ impl Board {
                 Outcome::Done
             }
             Command::Show(flight) => match self.flights.get(flight) {
-                Some(record) => Outcome::Shown(record),
+                Some(record) => Outcome::Shown(record, 1 + u8::from(self.is_migrated)),
                 None => Outcome::Refused(202),
             },
             Command::Alerts => Outcome::Listed,
@@ -152,6 +173,32 @@ impl Board {
         record.exot = given.exot;
         record.stand = given.stand;
         record.reached |= 1;
+        record.touch(moment);
+        Outcome::Done
+    }
+
+    fn deice(&mut self, role: Role, moment: u32, given: &Deice) -> Outcome<'static> {
+        if role != Dic {
+            return Outcome::Refused(201);
+        }
+        if !self.is_migrated {
+            return Outcome::Refused(325);
+        }
+        let Some(record) = self.flights.get_mut(&given.flight) else {
+            return Outcome::Refused(202);
+        };
+        if !record.has(PLANNED) {
+            return Outcome::Refused(203);
+        }
+        if record.has(1 << 16) {
+            return Outcome::Refused(204);
+        }
+        let mut times = record.times;
+        times[given.place] = given.time;
+        if DEICED_IN_ORDER.iter().any(|(first, then)| times[*then] != 0 && times[*then] < times[*first]) {
+            return Outcome::Refused(206);
+        }
+        record.times = times;
         record.touch(moment);
         Outcome::Done
     }

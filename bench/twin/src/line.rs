@@ -1,7 +1,7 @@
 //! What a line asks for, or the number of its first fault, in the order of docs/RULES.md.
 
-use crate::board::{Command, Report, Role, Schedule};
-use crate::record::Craft;
+use crate::board::{Command, Deice, Report, Role, Schedule};
+use crate::record::{Craft, ACZT, AEZT, ECZT, EEZT};
 use serde_json::{Map, Value};
 
 const LONGEST: usize = 70_000;
@@ -32,6 +32,7 @@ pub fn read(line: &[u8]) -> Result<Line, u16> {
         b"APT" => Role::Apt,
         b"AO" => Role::Ao,
         b"GH" => Role::Gh,
+        b"DIC" => Role::Dic,
         _ => return Err(100),
     };
     let value: Value = serde_json::from_slice(json).map_err(|_| 101u16)?;
@@ -39,6 +40,8 @@ pub fn read(line: &[u8]) -> Result<Line, u16> {
     let command = match fields.get("cmd").and_then(Value::as_str) {
         Some("schedule") => schedule(fields)?,
         Some("report") => report(fields)?,
+        Some("deice") => deice(fields)?,
+        Some("migrate") => Command::Migrate,
         Some("tick") => Command::Tick,
         Some("show") => Command::Show(number(fields, "flight", 1, u64::MAX)?),
         Some("alerts") => Command::Alerts,
@@ -107,6 +110,19 @@ fn report(fields: &Fields) -> Result<Command, u16> {
     let time = time(fields, "time", matches!(milestone, 2 | 9))?;
     let plan = if milestone == 1 { Some(names(fields)?) } else { None };
     Ok(Command::Report(Report { flight, milestone, time, plan }))
+}
+
+fn deice(fields: &Fields) -> Result<Command, u16> {
+    let flight = number(fields, "flight", 1, u64::MAX)?;
+    let place = match fields.get("field").and_then(Value::as_str).ok_or(103u16)? {
+        "eczt" => ECZT,
+        "eezt" => EEZT,
+        "aczt" => ACZT,
+        "aezt" => AEZT,
+        _ => return Err(104),
+    };
+    let time = time(fields, "time", true)?;
+    Ok(Command::Deice(Deice { flight, place, time }))
 }
 
 /// The minute of an instant as `2025-02-20T10:00:00Z`, with a fraction of a second or an offset as `+01:00`.

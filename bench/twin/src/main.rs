@@ -51,10 +51,14 @@ impl Twin {
         let mut refusal = 0;
         match self.board.apply(line.role, line.moment, &line.command) {
             Outcome::Done => number(reply, b"ok ", place),
-            Outcome::Shown(record) => {
+            Outcome::Shown(record, layout) => {
                 number(reply, b"rec ", place);
                 reply.push(b' ');
-                hexadecimal(reply, &record.bytes());
+                hexadecimal(reply, &record.bytes(layout)[..if layout == 2 { 160 } else { 128 }]);
+            }
+            Outcome::Migrated => {
+                number(reply, b"migrated ", place);
+                reply.extend_from_slice(b" -");
             }
             Outcome::Listed => {
                 number(reply, b"alerts ", place);

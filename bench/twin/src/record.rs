@@ -16,6 +16,10 @@ pub const ASRT: usize = 12;
 pub const ASAT: usize = 13;
 pub const AOBT: usize = 14;
 pub const ATOT: usize = 15;
+pub const ECZT: usize = 16;
+pub const EEZT: usize = 17;
+pub const ACZT: usize = 18;
+pub const AEZT: usize = 19;
 
 /// What set CDM14 and the local alerts, which a program alone changes.
 const OF_PROGRAMS: u32 = 0xFFFF_4000;
@@ -46,7 +50,7 @@ pub struct Record {
     pub exot: u16,
     pub stand: u16,
     pub exit: u8,
-    pub times: [u32; 16],
+    pub times: [u32; 20],
 }
 
 impl Record {
@@ -54,9 +58,9 @@ impl Record {
         self.reached & milestones == milestones
     }
 
-    /// The 128 bytes of docs/FORMATS.md.
-    pub fn bytes(&self) -> [u8; 128] {
-        let mut bytes = [0; 128];
+    /// The bytes of docs/FORMATS.md: those of layout 2, of which layout 1 has the first 128.
+    pub fn bytes(&self, layout: u8) -> [u8; 160] {
+        let mut bytes = [0; 160];
         let mut at = 0;
         let mut put = |part: &[u8]| {
             bytes[at..at + part.len()].copy_from_slice(part);
@@ -75,7 +79,7 @@ impl Record {
         put(&self.mttt.to_le_bytes());
         put(&self.exot.to_le_bytes());
         put(&self.stand.to_le_bytes());
-        put(&[1, self.exit]);
+        put(&[layout, self.exit]);
         for time in self.times {
             put(&time.to_le_bytes());
         }

@@ -14,6 +14,7 @@ mod order;
 mod owners;
 mod targets;
 mod touches;
+mod winter;
 
 use crate::known::{minutes_later, taxi_minutes, turn_round_minutes};
 use crate::rows::marks::MARKS;

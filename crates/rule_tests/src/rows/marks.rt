@@ -1,6 +1,6 @@
 //! What one byte stands for in the tables. Written by `bench/rows/rows.py`.
 /// Each mark, and what it stands for.
-pub(crate) static MARKS: [(u8, &str); 27] = [
+pub(crate) static MARKS: [(u8, &str); 31] = [
     (b'!', r#"1 29000700 APT {"cmd":""#),
     (b'$', r#"2 29000700 NM {"cmd":""#),
     (b'%', r#"3 29000700 ATC {"cmd":""#),
@@ -43,4 +43,8 @@ pub(crate) static MARKS: [(u8, &str); 27] = [
     (b'_', r#"no # "#),
     (b'|', r#"alerts #"#),
     (b'~', r#"rec # "#),
+    (b'R', r#"6 29000700 DIC {"cmd":""#),
+    (b'q', r#"deice","flight":7,"field":""#),
+    (b'v', r#"migrated #"#),
+    (b'.', r#"28000a000c0002053884ba013884ba01"#),
 ];
