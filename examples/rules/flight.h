@@ -24,9 +24,18 @@ struct flight {
     u32 tobt, tsat, asbt, ardt, asrt, asat, aobt, atot;
 };
 
+/* The record once the board was migrated, of 160 bytes. */
+struct migrated_flight {
+    struct flight flight;
+    u32 eczt, eezt; /* estimated commencement and end of de-icing */
+    u32 aczt, aezt; /* actual commencement and end of de-icing */
+    u8 zeros[16];
+};
+
 /* The bit of a local alert in the answer of a rule of kind alert, 0 to 15. */
 #define LOC(number) (1ull << (number))
 
 _Static_assert(sizeof(struct flight) == 128, "the record has 128 bytes");
+_Static_assert(sizeof(struct migrated_flight) == 160, "and 160 once the board was migrated");
 
 #endif
