@@ -1,138 +1,57 @@
 #!/usr/bin/env python3
-"""A live board for the terminal: a partner of `acdm serve` that only asks.
+"""A live board for the terminal: a display of `acdm serve --changes`. It makes no entry.
 
-    clients/board.py ADDRESS [FLIGHT ..] [--every SECONDS] [--once]
+    clients/board.py ADDRESS [FLIGHT ..] [--names FILE] [--once]
 
-ADDRESS is one that `acdm serve` listens at, as 127.0.0.1:4006, of any role. Shown are the flights named and
-those that have had an alert since the board began to look. Outside what is proved.
+ADDRESS is that of --changes, as 127.0.0.1:4100. Shown are all flights, or those named, by TOBT; those that have taken off are hidden.
+FILE has the airport's names of its local alerts, a line each, as `LOC03 de-icing late`. Outside what is proved.
 """
 import argparse
-import collections
 import os
 import select
 import shutil
 import signal
-import socket
-import struct
 import sys
 import termios
 import time
 import tty
 
-from record import MILESTONES, alert_names, clock, is_reached, record_of
+from feed import REFUSALS, Board, Closed, Link, address, alert_names, clock, words_of
 
-COLUMNS = ("CALLSIGN", "EOBT", "TOBT", "TSAT", "MILESTONES")
-MARKS = "S" + "".join(str(place % 10) for place in range(1, MILESTONES + 1))
-WIDTHS = {"CALLSIGN": 8, "EOBT": 5, "TOBT": 5, "TSAT": 5, "MILESTONES": len(MARKS)}
-FIRST_TO_GO = ("EOBT", "CALLSIGN", "MILESTONES", "TSAT", "TOBT")
-ROOM_FOR_ALERTS = 13
-MOST_WAITING = 32
+MARKS = "S" + "".join(str(place % 10) for place in range(1, 17))
+COLUMNS = {"CALLSIGN": 8, "STND": 4, "EOBT": 5, "TOBT": 5, "TSAT": 5, "MILESTONES": len(MARKS)}
+FIRST_TO_GO = ("STND", "EOBT", "CALLSIGN", "MILESTONES", "TSAT", "TOBT")
+ROOM_FOR_ALERTS = 22
 PLAIN, RED, GREEN, YELLOW, REVERSE = "", "31", "32", "33", "7"
 KEYS = {b"j": 1, b"\x1b[B": 1, b"k": -1, b"\x1b[A": -1, b" ": 10, b"\x1b[6~": 10, b"b": -10, b"\x1b[5~": -10}
 
 
-class Closed(Exception):
-    """There is no connection."""
-
-
-class Link:
-    """A connection: questions are sent at once, and replies come in their order."""
-
-    def __init__(self, address):
-        try:
-            self.stream = socket.create_connection(address, timeout=2)
-        except OSError as error:
-            raise Closed(error.strerror or str(error)) from None
-        self.stream.settimeout(None)
-        self.waiting = collections.deque()
-        self.rest = b""
-
-    def ask(self, command, flight=None):
-        fields = f'"cmd":"{command}"' + (f',"flight":{flight}' if flight else "")
-        try:
-            self.stream.sendall(f"{{{fields}}}\n".encode())
-        except OSError:
-            raise Closed("the server closed the connection") from None
-        self.waiting.append(flight)
-
-    def replies(self):
-        """The replies that have come, each with the flight that was asked for."""
-        try:
-            came = self.stream.recv(65536)
-        except OSError:
-            came = b""
-        if not came:
-            raise Closed("the server closed the connection")
-        *lines, self.rest = (self.rest + came).split(b"\n")
-        if len(lines) > len(self.waiting):
-            raise Closed("the server replied unasked")
-        return [(self.waiting.popleft(), line.decode("ascii", "replace")) for line in lines]
-
-
-class Board:
-    """What was last heard: for each flight its record, if there is one, and the names of its alerts."""
-
-    def __init__(self, named):
-        self.named = named
-        self.clear()
-
-    def clear(self):
-        self.records = dict.fromkeys(self.named)
-        self.alerts, self.absent = {}, set()
-        self.entry, self.heard, self.trouble = "", "", ""
-
-    def take(self, flight, reply):
-        """Takes a reply to `show` of a flight, or to `alerts` where there is no flight."""
-        word, entry, *rest = reply.split(" ") + [""]
-        self.trouble = ""
-        if word == "bad":
-            self.trouble = "the journal is full (502)" if entry == "502" else reply
-            return
-        self.entry, self.heard = entry, time.strftime("%H:%M:%S")
-        if word == "alerts":
-            parts = [part.split(":") for part in rest[0].split(";") if part != "-"]
-            self.alerts = {int(number): names.split(",") for number, names in parts}
-            for number in self.alerts:
-                self.records.setdefault(number)
-        elif word == "rec":
-            self.absent.discard(flight)
-            self.records[flight] = record_of(rest[0])
-            self.alerts[flight] = alert_names(self.records[flight]["alerts"])
-        elif word == "no":
-            self.absent.add(flight)
-
-    def raised(self):
-        return sum(bool(names) for names in self.alerts.values())
-
-
-def milestones(record):
-    """The mark of each milestone that was reached, and dots."""
-    return "".join(mark if is_reached(record, place) else "." for place, mark in enumerate(MARKS))
-
-
-def cell(name, record):
-    if record is None:
-        return ""
+def cell(name, flight):
     if name == "MILESTONES":
-        return milestones(record)
-    return record["callsign"] if name == "CALLSIGN" else clock(record[name]) or "-"
+        return "".join(mark if place in flight["reached"] else "." for place, mark in enumerate(MARKS))
+    if name == "STND":
+        return f"{flight['stand'] or '-':>4}"
+    return flight["callsign"] if name == "CALLSIGN" else clock(flight[name.lower()]) or "-"
 
 
-def listed(names, width):
-    """As many names as fit, and how many are left out."""
-    shown, more = len(names), ""
-    while shown and len(" ".join(names[:shown]) + more) > width:
+def listed(names, width, local):
+    """As many alerts as fit, in words, and how many are left out."""
+    words = [words_of(name, local) for name in names]
+    shown, more = len(words), ""
+    while shown and len(", ".join(words[:shown]) + more) > width:
         shown -= 1
-        more = f" +{len(names) - shown}"
-    parts = [(f"{name} ", YELLOW if name.startswith("LOC") else RED) for name in names[:shown]]
-    return parts + [(more.strip(), RED)]
+        more = f" +{len(words) - shown}"
+    parts = []
+    for place, (name, word) in enumerate(zip(names[:shown], words)):
+        parts += [(", " if place else "", PLAIN), (word, YELLOW if name.startswith("LOC") else RED)]
+    return parts + [(more if shown else more.strip(), RED)]
 
 
 def columns_for(width, first):
     """The columns that leave room for alerts."""
     columns = list(COLUMNS)
     for name in FIRST_TO_GO:
-        if first + sum(1 + WIDTHS[column] for column in columns) + 1 + ROOM_FOR_ALERTS > width:
+        if first + sum(1 + COLUMNS[column] for column in columns) + 1 + ROOM_FOR_ALERTS > width:
             columns.remove(name)
     return columns
 
@@ -142,32 +61,17 @@ def painted(parts, width, is_coloured):
     line = ""
     for text, colour in parts:
         text, width = text[:width], width - len(text[:width])
-        line += f"\x1b[{colour}m{text}\x1b[0m" if colour and is_coloured else text
+        line += f"\x1b[{colour}m{text}\x1b[0m" if colour and text and is_coloured else text
     return line
 
 
-def row_of(board, flight, columns, first, width):
-    record = board.records[flight]
-    parts = [(f"{flight:>{first}}", PLAIN)]
+def row_of(flight, columns, first, width, local):
+    parts = [(f"{flight['flight']:>{first}}", PLAIN)]
     for name in columns:
         colour = GREEN if name == "MILESTONES" else PLAIN
-        parts.append((f" {cell(name, record):{WIDTHS[name]}}", colour))
+        parts.append((f" {cell(name, flight):{COLUMNS[name]}}", colour))
     left = width - sum(len(text) for text, _ in parts) - 1
-    if flight in board.absent:
-        return parts + [(" not on board", PLAIN)]
-    return parts + [(" ", PLAIN)] + listed(board.alerts.get(flight, []), left)
-
-
-def picture(board, flights, title, status, size, is_coloured):
-    """The lines of the screen."""
-    width, _ = size
-    first = max([6] + [len(str(flight)) for flight in flights])
-    columns = columns_for(width, first)
-    heads = [MARKS if name == "MILESTONES" else f"{name:{WIDTHS[name]}}" for name in columns]
-    lines = [[(title, PLAIN)], [(" ".join([f"{'FLIGHT':>{first}}", *heads, "ALERTS"]).ljust(width), REVERSE)]]
-    lines += [row_of(board, flight, columns, first, width) for flight in flights]
-    lines.append([(status, RED if board.trouble else PLAIN)])
-    return [painted(parts, width, is_coloured) for parts in lines]
+    return parts + [(" ", PLAIN)] + listed(flight["alerts"], left, local)
 
 
 class Screen:
@@ -192,67 +96,71 @@ class Screen:
 
 
 class Looking:
-    """The board, the connection if there is one, and the flights in sight."""
+    """The board, the connection if there is one, and what is shown."""
 
     def __init__(self, asked):
-        self.address, self.every = asked.address, asked.every
-        self.board = Board(asked.flight)
-        self.link, self.due, self.top = None, 0, 0
-        self.to_ask = collections.deque()
+        self.where, self.named = asked.address, set(asked.flight)
+        self.local = alert_names(asked.names) if asked.names else {}
+        self.board, self.link, self.heard = Board(), None, ""
+        self.due, self.top, self.trouble = 0, 0, ""
+        self.departed = self.alerted = False
 
-    def in_sight(self, height):
-        """The flights for which there are lines."""
-        flights = list(self.board.records)
-        room = max(1, height - 3)
-        self.top = max(0, min(self.top, len(flights) - room))
-        return flights[self.top : self.top + room]
+    def hear(self):
+        for line in self.link.lines():
+            try:
+                self.board.take(line)
+            except (KeyError, TypeError, AttributeError):
+                raise Closed("the server does not tell the feed") from None
+        self.heard = time.strftime("%H:%M:%S")
 
     def begin(self):
-        """Connects where there is no connection, and asks for alerts."""
-        self.due = time.monotonic() + self.every
-        if self.link is None:
-            self.link = Link(self.address)
-            self.board.clear()
-        self.link.ask("alerts")
-
-    def hear(self, height):
-        """Takes replies, and asks for the flights in sight once the alerts are known, a few at a time."""
-        for flight, reply in self.link.replies():
-            try:
-                self.board.take(flight, reply)
-            except (ValueError, LookupError, struct.error):
-                raise Closed("the server does not reply as acdm") from None
-            if flight is None and reply.startswith("alerts"):
-                self.to_ask.extend(self.in_sight(height))
-        while self.to_ask and len(self.link.waiting) < MOST_WAITING:
-            self.link.ask("show", self.to_ask.popleft())
+        """Connects; the board comes first then, whatever was there before."""
+        self.due = time.monotonic() + 3
+        link = Link(self.where, "board")
+        self.board, self.link, self.trouble = Board(), link, ""
 
     def lost(self, why):
-        self.link, self.board.trouble = None, f"{why}; trying again"
-        self.to_ask.clear()
+        if self.link:
+            self.link.close()
+        self.link, self.trouble = None, f"{why}; trying again"
+
+    def flights(self):
+        found = self.board.shown(self.departed, self.alerted)
+        return [it for it in found if it["flight"] in self.named] if self.named else found
 
     def lines(self, size, is_coloured):
-        board, flights = self.board, self.in_sight(size[1])
-        host, port = self.address
-        title = f"acdm {host}:{port}  flights {len(board.records)}, alerted {board.raised()}"
-        title += f", entry {board.entry} at {board.heard}" if board.heard else ""
-        status = "q ends, r asks now, j and k scroll"
-        if self.link and self.link.waiting:
-            status = "waiting for the server"
-        if board.trouble:
-            status = board.trouble
-        return picture(board, flights, title, status, size, is_coloured)
+        width, height = size
+        flights = self.flights()
+        room = max(1, height - 3)
+        self.top = max(0, min(self.top, len(flights) - room))
+        first = max([6] + [len(str(it["flight"])) for it in flights])
+        columns = columns_for(width, first)
+        heads = [MARKS if name == "MILESTONES" else f"{name:{COLUMNS[name]}}" for name in columns]
+        alerted = sum(bool(it["alerts"]) for it in self.board.flights.values())
+        title = f"acdm {self.where[0]}:{self.where[1]}  flights {len(flights)} of {len(self.board.flights)}, alerted {alerted}"
+        title += f", entry {self.board.next - 1} at {self.heard}" if self.heard and self.board.next else ""
+        lines = [[(title, PLAIN)], [(" ".join([f"{'FLIGHT':>{first}}", *heads, "ALERTS"]).ljust(width), REVERSE)]]
+        lines += [row_of(it, columns, first, width, self.local) for it in flights[self.top : self.top + room]]
+        lines.append([(self.status(), RED if self.trouble else PLAIN)])
+        return [painted(parts, width, is_coloured) for parts in lines]
+
+    def status(self):
+        if self.trouble:
+            return self.trouble
+        last = self.board.refused[-1:]
+        said = [f"entry {it['entry']} of {it['role']}: {REFUSALS.get(it['outcome']['code'], '')}" for it in last]
+        return "  ".join(["q ends, j and k scroll, d departed, a alerts only", *said])
 
 
-def step(looking, height, keyboard):
-    """Waits for half a second, a reply or a key, and gives the key."""
+def step(looking, keyboard):
+    """Waits for half a second, a line or a key, and gives the key."""
     try:
-        if time.monotonic() >= looking.due and not (looking.link and looking.link.waiting):
+        if looking.link is None and time.monotonic() >= looking.due:
             looking.begin()
         sources = keyboard + ([looking.link.stream] if looking.link else [])
         ready = select.select(sources, [], [], 0.5)[0]
         if looking.link and looking.link.stream in ready:
-            looking.hear(height)
+            looking.hear()
         return (os.read(0, 16) or b"q") if 0 in ready else b""
     except Closed as closed:
         looking.lost(str(closed))
@@ -260,33 +168,29 @@ def step(looking, height, keyboard):
 
 
 def watch(looking):
-    """Looks again and again, until q."""
+    """Looks until q; what comes is drawn five times a second at most."""
     with Screen() as screen:
-        key = b""
+        key, drawn = b"", 0.0
         while b"q" not in key:
-            size = shutil.get_terminal_size()
-            screen.draw(looking.lines(size, screen.is_coloured)[: size.lines])
-            key = step(looking, size.lines, [0])
+            if key or time.monotonic() - drawn >= 0.2:
+                size = shutil.get_terminal_size()
+                screen.draw(looking.lines(size, screen.is_coloured)[: size.lines])
+                drawn = time.monotonic()
+            key = step(looking, [0])
             looking.top += sum(rows * key.count(code) for code, rows in KEYS.items())
-            if b"r" in key:
-                looking.due = 0
+            looking.departed ^= b"d" in key
+            looking.alerted ^= b"a" in key
 
 
 def once(looking):
-    """Looks once, and prints what came without colours."""
-    width = shutil.get_terminal_size().columns
+    """Prints the board as it is now, without colours."""
     looking.begin()
-    while looking.link.waiting:
-        looking.hear(5000)
-    for line in looking.lines((width, 5000), False)[:-1]:
+    while not looking.heard:
+        for line in looking.link.lines():
+            looking.board.take(line)
+            looking.heard = time.strftime("%H:%M:%S")
+    for line in looking.lines((shutil.get_terminal_size().columns, 5000), False)[:-1]:
         print(line.rstrip())
-    if looking.board.trouble:
-        sys.exit(f"board: {looking.board.trouble}")
-
-
-def address(word):
-    host, _, port = word.rpartition(":")
-    return host.strip("[]"), int(port)
 
 
 def flight(word):
@@ -298,9 +202,9 @@ def flight(word):
 
 def main():
     words = argparse.ArgumentParser(description="A live board for the terminal.")
-    words.add_argument("address", type=address, help="an address of acdm serve, as 127.0.0.1:4006")
-    words.add_argument("flight", nargs="*", type=flight, help="a flight that is shown though it has no alert")
-    words.add_argument("--every", type=float, default=15, metavar="SECONDS", help="how often it asks; 15")
+    words.add_argument("address", type=address, help="the address of acdm serve --changes, as 127.0.0.1:4100")
+    words.add_argument("flight", nargs="*", type=flight, help="show these flights alone")
+    words.add_argument("--names", metavar="FILE", help="the names of local alerts, a line each, as `LOC03 de-icing late`")
     words.add_argument("--once", action="store_true", help="print one picture, and end")
     asked = words.parse_args()
     looking = Looking(asked)

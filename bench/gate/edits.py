@@ -5,21 +5,24 @@ usage: bench/gate/edits.py [--after-ci] [CRATE..]       as bench/gate/edits.py a
        bench/gate/edits.py --left-out [CRATE..]
        bench/gate/edits.py --alone CRATE [EDIT..]        as bench/gate/edits.py --alone acdm_step command-commands_tell_other_numbers
 
-An edit in crates/CRATE/must-fail-each/ puts several wrong bodies together, a pair of lines 'old:' and 'new:' for each.
-rt ci does not try it: it would cost a check, and show only that one of the bodies is refused. Here
-one check of each crate has all pairs of all such edits at once, and each function that a pair turns has to have a goal of
-its own that is not proved. A function is proved by its own body and by the contracts of those that it calls, so such a
-goal is that pair's alone. The bodies of all other functions are left out, which only saves time: what is asked is not
-whether they are proved, and the gate has proved them. Where two pairs turn one function, the second has a check of its
-own. A pair that turns no function's body (but a constant, a type or a contract) fails: make it an edit of must-fail/. What
-only a name that a proof file misses refuses counts as not refused. The exit status is 1 if anything was not refused.
+An edit in crates/CRATE/must-fail-each/ has one wrong body or several, a pair of lines 'old:' and 'new:' for each; a
+line 'and old:' in the place of 'old:' begins a further replacement of the same wrong body. rt ci does not try them:
+each would cost it half a minute, and of several wrong bodies it would show only that one is refused. Here one check of
+each crate has all pairs of all such edits at once, and each function that a pair turns has to have a goal of its own
+that is not proved. A function is proved by its own body and by the contracts of those that it calls, so such a goal is
+that pair's alone. The bodies of all other functions are left out, which only saves time: what is asked is not whether
+they are proved, and the gate has proved them. Where two pairs turn one function, the second has a check of its own. A
+pair whose function had no such goal is tried once more, alone and over all bodies: its goals may have waited for the
+proof of a function that it calls. One that turns no function's body (but a constant, a type or a contract) fails: make
+it an edit of must-fail/. What only a name that a proof file misses refuses counts as not refused. The exit status is 1
+if anything was not refused.
 
 With --after-ci, as .ci/run has it, the libraries below are taken as the gate has just built them; else they are built
 where they are not. With --left-out the pairs are left out, and no such function may have a goal that is not proved: so it
 is shown that what is refused is refused for its pair.
 
 With --alone, edits of one crate are tried as the gate tries an edit, by the gate's own code, over a copy of what the
-crate's last check kept (crates/CRATE/out/incremental); of an edit of several each pair alone, and then all together.
+crate's last check kept (crates/CRATE/out/incremental); of an edit of several each pair alone.
 """
 import pathlib
 import re
@@ -74,17 +77,22 @@ def rounds_of(pairs):
     return rounds
 
 
-def judged(rt, crate, by_function, are_left_out):
-    """Checks the crate with these pairs together, or without them, and returns what is to be said of those that came to something else than they must."""
+def judged(rt, crate, by_function, are_left_out, kept, with_bodies=False):
+    """Checks the crate with these pairs together, or without them, over what an earlier check kept, and returns what is to be said of those that came to something else than they must."""
     texts, why = rt.edited("".join(it.alone() for it in by_function.values()), crate.folder)
+    if why and len(by_function) > 1:
+        # (one of them writes what another one takes away)
+        parts = [*by_function.items()]
+        halves = dict(parts[: len(parts) // 2]), dict(parts[len(parts) // 2 :])
+        return [it for half in halves for it in judged(rt, crate, half, are_left_out, kept, with_bodies)]
     if why:
-        return [f"the pairs can't be put together: {why}"]
+        return [f"the pair can't be put in: {why}"]
     texts = {} if are_left_out else texts
-    for file in sorted(pathlib.Path(crate.folder, "src").rglob("*.rt")):
+    for file in [] if with_bodies else sorted(pathlib.Path(crate.folder, "src").rglob("*.rt")):
         path = str(file.relative_to(crate.folder))
         texts[path] = bared(path, texts.get(path) or file.read_text(encoding="utf-8"), by_function)
     only = [word for it in by_function for word in ("--only", it)]
-    ran = rt.checked(crate, texts, [*FLAGS, *only], None)
+    ran = rt.checked(crate, texts, [*FLAGS, *only], kept)
     if ran.returncode == -signal.SIGKILL:
         # most likely for memory
         ran = rt.checked(crate, texts, [*FLAGS, *only], None)
@@ -95,11 +103,15 @@ def judged(rt, crate, by_function, are_left_out):
     found, shapes = refusals(ran.stdout, by_function)
     wrong = []
     for function, pair in by_function.items():
+        if not (are_left_out or with_bodies or function in {**shapes, **found}):
+            # (its goals may wait for the proof of a function that it calls)
+            wrong += judged(rt, crate, {function: pair}, False, kept, True)
+            continue
         if are_left_out and function in {**shapes, **found}:
             wrong.append(f"{pair}: {function} is refused without it: {({**shapes, **found})[function]}")
         if not are_left_out and function not in found:
             how = f" (only a proof file misses a name: {shapes[function]})" if function in shapes else ""
-            wrong.append(f"{pair}: NOT REFUSED by a goal of {function}{how}: {pair.old.strip()}")
+            wrong.append(f"{pair}: NOT REFUSED by a goal of {function}{how}: {pair.told()}")
     return wrong
 
 
@@ -115,19 +127,23 @@ def judge_all(rt, every, are_left_out):
                 print(f"         {it}", flush=True)
         bad.extend(wrong)
 
-    def judge(crate, by_function):
-        began = time.monotonic()
-        tell(began, crate, len(by_function), judged(rt, crate, by_function, are_left_out))
+    def judge(crate, rounds):
+        # (one after the other, since the second finds what the first has read of the crate and its libraries)
+        with tempfile.TemporaryDirectory(prefix="edits-") as kept:
+            for by_function in rounds:
+                began = time.monotonic()
+                tell(began, crate, len(by_function), judged(rt, crate, by_function, are_left_out, kept))
 
     for crate in every:
         pairs = [it for edit in merged_edits(crate) for it in pairs_of(crate, edit)]
         count += len(pairs)
-        lost = [f"{it}: it turns no function's body, so make it an edit of its own: {it.old.strip()}" for it in pairs if not it.function]
+        lost = [f"{it}: it turns no function's body, so make it an edit of its own: {it.told()}" for it in pairs if not it.function]
         if lost:
             tell(time.monotonic(), crate, len(lost), lost)
-        for at, by_function in enumerate(rounds_of(it for it in pairs if it.function)):
-            run = lambda given, jobs, crate=crate, by_function=by_function: judge(crate, by_function)
-            tasks[crate.name, "edits", at] = [], len(by_function), getattr(rt, "OVER", 1) * rt.need(crate), run
+        rounds = rounds_of(it for it in pairs if it.function)
+        if rounds:
+            run = lambda given, jobs, crate=crate, rounds=rounds: judge(crate, rounds)
+            tasks[crate.name, "edits"] = [], len(pairs), getattr(rt, "OVER", 1) * rt.need(crate), run
     rt.in_lanes(tasks)
     return count, bad
 
@@ -144,8 +160,9 @@ def try_alone(rt, crate, edits):
             for it in pairs_of(crate, edit) if is_merged(edit) else []:
                 alone = pathlib.Path(room, f"{edit.stem}.{it.number}.edit")
                 alone.write_text(it.alone(), encoding="utf-8")
-                tries.append((alone, it.old))
-            tries.append((edit, ""))
+                tries.append((alone, it.told()))
+            if not is_merged(edit):
+                tries.append((edit, ""))
         for file, told in tries:
             began = time.monotonic()
             came_to, said = rt.must_fail(crate, str(file), FLAGS, kept)

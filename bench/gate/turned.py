@@ -13,18 +13,27 @@ Function = collections.namedtuple("Function", "name first last")
 
 
 class Pair:
-    """One wrong body: its edit, its place in it from 1, the file, what is replaced and by what, and the function that has it."""
+    """One wrong body: its edit, its place in it from 1, the file, what is replaced by what, and the function that has it."""
 
-    def __init__(self, edit, number, file, old, new, text):
-        self.edit, self.number, self.file, self.old, self.new = edit, number, file, old, new
-        self.function = function_at(file, text, old)
+    def __init__(self, edit, number, file):
+        self.edit, self.number, self.file, self.changes, self.function = edit, number, file, [], None
 
     def __str__(self):
         return f"{self.edit}, pair {self.number}"
 
+    def add(self, old, new, text):
+        """Adds a replacement. All of one wrong body stand in one function, or it has none."""
+        function = function_at(self.file, text, old)
+        self.function = function if not self.changes or function == self.function else None
+        self.changes.append((old, new))
+
+    def told(self):
+        """Returns what is replaced first."""
+        return self.changes[0][0].strip()
+
     def alone(self):
         """Returns the pair as an edit of its own."""
-        return f"file: {self.file}\nold: {self.old}\nnew:{self.new}\n"
+        return f"file: {self.file}\n" + "".join(f"old: {old}\nnew:{new}\n" for old, new in self.changes)
 
 
 def is_merged(edit):
@@ -37,16 +46,19 @@ def merged_edits(crate):
 
 
 def pairs_of(crate, edit):
-    """Returns the pairs of an edit, in its order."""
-    file, old, pairs, texts = "", "", [], {}
+    """Returns the pairs of an edit, in its order. A line 'and old:' goes on with the wrong body before it."""
+    file, old, goes_on, pairs, texts = "", "", False, [], {}
     for line in edit.read_text(encoding="utf-8").split("\n"):
         if line.startswith("file: "):
             file = line[len("file: ") :].strip()
             texts[file] = pathlib.Path(crate.folder, file).read_text(encoding="utf-8")
-        elif line.startswith("old: "):
-            old = line[len("old: ") :]
+        elif line.startswith(("old: ", "and old: ")):
+            goes_on = line.startswith("and ")
+            old = line.removeprefix("and ")[len("old: ") :]
         elif line.startswith("new:"):
-            pairs.append(Pair(edit.stem, len(pairs) + 1, file, old, line[len("new:") :], texts[file]))
+            if not goes_on:
+                pairs.append(Pair(edit.stem, len(pairs) + 1, file))
+            pairs[-1].add(old, line[len("new:") :], texts[file])
     return pairs
 
 
@@ -85,7 +97,8 @@ def functions_of(file, text):
         if not head or head[1] and not owner.startswith("impl"):
             continue
         end = next((it for it in range(at, len(lines)) if lines[it].rstrip(";") == f"{head[1]}}}"), at)
-        first = next((it for it in range(at, end) if lines[it] == f"{head[1]}{{" or it == at and line.endswith("{")), end)
+        opens = re.compile(rf"{head[1]}(\{{|\).* \{{)$")
+        first = next((it for it in range(at, end) if opens.match(lines[it]) or it == at and line.endswith("{")), end)
         if first < end:
             named, has_trait = owner_of(owner) if head[1] else ("", True)
             # (a method without a trait has the path of its type, which may stand in another file)

@@ -334,7 +334,7 @@ class Scenes:
         self.cases.expect("no thread for displays", came == (2, "", NO_MEMORY, ""), came)
 
     def all_but_one(self, process, ports, number):
-        """The session that has no thread is told as such, and its partner nothing; the others, and the display, are served to their end."""
+        """The session that has no thread is told as such, and its partner by a closed connection; the others, and the display, are served to their end."""
         name, lost = f"thread {number}", number - 2
         talks = [[load(9, "alert", TAXI), SCHEDULE], [PLAN], [TARGET]]
         lines = [(place, line) for place, own in enumerate(talks) for line in own]
@@ -352,7 +352,7 @@ class Scenes:
             self.cases.expect(f"{name}, the others", answers == told, answers)
             display = opened.enter_context(connected(process, ports[3]))
             if lost < 3:
-                self.cases.expect(f"{name}, its partner", is_silent(streams[lost]))
+                self.cases.expect(f"{name}, its partner", is_closed(streams[lost]))
             seen = rest_of(display) if lost == 3 else ""
             for place, stream in enumerate(streams):
                 if place != lost:
@@ -377,13 +377,15 @@ def at_one_minute(entries):
     return [[*line.split(" ")[:2], *line.split(" ")[3:]] for line in entries.splitlines()]
 
 
-def is_silent(stream):
-    """Whether a partner is sent nothing, and no end either, for a while."""
+def is_closed(stream):
+    """Whether the other side has closed a connection, and sent nothing."""
+    stream.settimeout(PATIENCE)
     try:
-        stream.recv(1)
-    except TimeoutError:
+        return stream.recv(1) == b""
+    except ConnectionError:
         return True
-    return False
+    except OSError:
+        return False
 
 
 def rest_of(stream):

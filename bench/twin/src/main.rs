@@ -1,9 +1,10 @@
 //! An unverified twin of `acdm run`, to measure beside it: `twin [ENTRIES] < lines > replies`. It has all commands but `load` and
-//! `unload`, which it does not know.
+//! `unload`, which it does not know. `twin serve ENTRIES ROLE ..` is a twin of `acdm serve` (`server`).
 
 mod board;
 mod line;
 mod record;
+mod server;
 
 use board::{Board, Entry, Outcome};
 use std::io::{self, BufRead, Write};
@@ -77,6 +78,12 @@ impl Twin {
 }
 
 fn main() -> io::Result<()> {
+    let words: Vec<String> = std::env::args().collect();
+    if let [_, command, entries, roles @ ..] = words.as_slice() {
+        if command == "serve" {
+            return server::serve(entries.parse().expect("a number"), roles);
+        }
+    }
     let capacity = std::env::args().nth(1).map_or(100_000, |word| word.parse().expect("a number"));
     let mut twin = Twin { board: Board::default(), journal: Vec::new(), capacity };
     let mut input = io::BufReader::with_capacity(65_536, io::stdin().lock());

@@ -44,6 +44,10 @@ entered d session role moment c answers =
           answers;
     }
 
+-- the desk with this entry behind the others
+abbrev pub with_entry : DeskView → Entry → DeskView
+with_entry d e = record d { history = e ∷ d.history }
+
 -- a load of a program that was checked against other signatures
 abbrev pub is_foreign : List (ℕ × Promise) → Command → Bool
 is_foreign sigs (Load l) = not (is_checked sigs l.program)

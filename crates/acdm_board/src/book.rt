@@ -1,18 +1,19 @@
 //! The core, and the journal of what changed it.
-ghost use Rattle.std.specs.Prelude.{◌≡◌, ◌<◌, ◌≤◌, [], true, false, length, reverse, slice_get};
+ghost use Rattle.std.specs.Prelude.{◌≡◌, ◌<◌, ◌≤◌, [], ◌∷◌, true, false, length, reverse, slice_get};
 ghost use Rattle.std.specs.Prelude.{take, IfOk, OnOk, OnErr};
 ghost use Rattle.std.specs.Option.{option_copied};
 ghost use Rattle.acdm_step.specs.Commands.{is_accepted};
 ghost use Rattle.acdm_step.specs.InSlots.{answers_room};
 ghost use Rattle.acdm_step.specs.Verdicts.{verdict_in};
 ghost use Rattle.acdm_step.specs.History.{IsChecked, IsLegal, replay};
+ghost use Rattle.acdm_step.specs.Prepared.{Fits, after_change};
 ghost use Rattle.std.specs.Arc.{arc_value};
 ghost use Rattle.acdm_row.specs.Views.{IsSameCaller};
-ghost use Rattle.acdm_board.specs.Desk.{DeskView, Enters, Extends, row_of};
+ghost use Rattle.acdm_board.specs.Desk.{DeskView, Enters, Extends, row_of, with_entry};
 ghost use Rattle.acdm_board.specs.Desk.{is_foreign as has_other_sigs};
 
 use acdm_row::{Journal, Pass, Row};
-use acdm_step::{Answers, Command, Core, Entry, Outcome};
+use acdm_step::{Answers, Command, Core, Entry, Outcome, Prepared};
 use bpf_helpers::{Helpers, Live, Sigs};
 use std::alloc::{AllocError, Global};
 use std::marker::Model;
@@ -53,17 +54,23 @@ fn is_foreign(command: &Command, sigs: &Sigs) -> bool
 }
 
 /// The answers that the programs of an accepted command used, in no more room than they need; a
-/// refused one used none.
-fn answers_of<H: Helpers>(alloc: Global, live: Live<'_, H>, outcome: &Outcome) -> Answers
-    ensures accepted { is_accepted (verdict_in outcome.now) ≡ true → result ≡ live.entry.log }
-    ensures refused { is_accepted (verdict_in outcome.now) ≡ false → result ≡ [] }
+/// refused one used none. `Err` only where memory was refused.
+fn answers_of<H: Helpers>(
+    alloc: Global,
+    live: Live<'_, H>,
+    outcome: &Outcome,
+) -> Result<Answers, AllocError>
+    ensures accepted { IfOk result (λ answers. is_accepted (verdict_in outcome.now) ≡ true
+        → answers ≡ live.entry.log) }
+    ensures refused { IfOk result (λ answers. is_accepted (verdict_in outcome.now) ≡ false
+        → answers ≡ []) }
 {
     if !outcome.verdict().is_accepted() {
-        return Answers::none(alloc);
+        return Ok(Answers::none());
     }
     let mut answers = live.into_answers();
     answers.shrink_to_fit();
-    Answers::from(answers)
+    Answers::new(alloc, answers)
 }
 
 impl Book {
@@ -202,17 +209,33 @@ impl Book {
         let session = pass.session();
         let role = pass.role();
         let plan = self.core.plan(&mut live, role, moment, &command)?;
-        let answers = answers_of(self.journal.alloc(), live, &plan.outcome);
+        let answers = answers_of(self.journal.alloc(), live, &plan.outcome)?;
         let entry = Entry {
             number: self.journal.len() as u64,
             session,
             role,
+            verdict: plan.outcome.verdict(),
             moment,
             command,
-            verdict: plan.outcome.verdict(),
             answers,
         };
         self.journal.enter(pass, entry)?;
         Ok(self.core.commit(plan))
+    }
+    /// Puts an entry that is told of elsewhere behind the others, with which the journal stays legal,
+    /// and does to the core what was planned for it. `Err` where memory was refused, or where the
+    /// cell of the entry was set; nothing has changed then.
+    pub(crate) fn restore(&mut self, entry: Entry, plan: Prepared) -> Result<(), AllocError>
+        requires legal { IsLegal self.old.sigs (entry ∷ self.old.history) }
+        requires fits { Fits (replay self.old.sigs self.old.history) plan.change }
+        requires board { after_change (replay self.old.sigs self.old.history) plan.change
+            ≡ replay self.old.sigs (entry ∷ self.old.history) }
+        requires place { length self.old.history < self.old.capacity }
+        ensures took { OnOk result (self.new ≡ with_entry self.old entry) }
+        ensures err { OnErr result (self.new ≡ self.old) }
+    {
+        self.journal.publish(entry)?;
+        self.core.commit(plan);
+        Ok(())
     }
 }

@@ -1,19 +1,21 @@
 //! The desk: helpers, the core and the journal of what changed it.
-ghost use Rattle.std.specs.Prelude.{◌≡◌, ◌≢◌, ◌<◌, ◌≤◌, ◌↔◌, [], true, false, length, reverse};
+ghost use Rattle.std.specs.Prelude.{◌≡◌, ◌≢◌, ◌<◌, ◌≤◌, ◌↔◌, [], ◌∷◌, true, false, length, reverse};
 ghost use Rattle.std.specs.Prelude.{take};
 ghost use Rattle.std.specs.Prelude.{slice_get, IfOk, OnOk, OnErr, Err, Some, None};
 ghost use Rattle.std.specs.Option.{option_copied};
 ghost use Rattle.acdm_step.specs.History.{IsChecked, IsLegal, replay};
+ghost use Rattle.acdm_step.specs.Prepared.{Fits, after_change};
 ghost use Rattle.std.specs.Arc.{arc_value};
 ghost use Rattle.acdm_row.specs.Views.{IsSameCaller};
 ghost use Rattle.acdm_board.specs.Desk.{DeskView, Enters, Extends, is_foreign, row_of};
+ghost use Rattle.acdm_board.specs.Desk.{with_entry};
 
 use crate::book::Book;
 use crate::error::DeskError;
 use crate::passes::Passes;
 use acdm_milestones::Role;
 use acdm_row::{Pass, Row};
-use acdm_step::{Command, Core, Entry, Outcome};
+use acdm_step::{Command, Core, Entry, Outcome, Prepared};
 use bpf_helpers::{Helpers, Live, Sigs};
 use std::alloc::{AllocError, Global};
 use std::marker::Model;
@@ -84,6 +86,15 @@ impl<H: Helpers + Drop> Desk<H> {
         ensures { result ≡ length self.now.history }
     {
         self.book.len() as u64
+    }
+
+    /// How many entries the journal may have.
+    pub fn capacity(&self) -> usize
+        ensures value { result ≡ self.now.capacity }
+        ensures fits { length self.now.history ≤ result }
+    {
+        let _count = self.book.len();
+        self.book.capacity()
     }
 
     /// The row of cells in which the journal stands, for those that look at it without the desk.
@@ -230,5 +241,20 @@ impl<H: Helpers + Drop> Desk<H> {
         let result = self.call(&mut pass, moment, command);
         self.passes.put(pass);
         result
+    }
+    /// Puts an entry that is told of elsewhere, as in a saved journal, behind the others, and does to
+    /// the core what was planned for it on that core. The journal has to stay legal with it, and to
+    /// have room for it. `Err` where memory was refused, or where the cell of the entry was set;
+    /// nothing has changed then.
+    pub fn restore(&mut self, entry: Entry, plan: Prepared) -> Result<(), AllocError>
+        requires legal { IsLegal self.old.sigs (entry ∷ self.old.history) }
+        requires fits { Fits (replay self.old.sigs self.old.history) plan.change }
+        requires board { after_change (replay self.old.sigs self.old.history) plan.change
+            ≡ replay self.old.sigs (entry ∷ self.old.history) }
+        requires place { length self.old.history < self.old.capacity }
+        ensures took { OnOk result (self.new ≡ with_entry self.old entry) }
+        ensures err { OnErr result (self.new ≡ self.old) }
+    {
+        self.book.restore(entry, plan)
     }
 }

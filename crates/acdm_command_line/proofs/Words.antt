@@ -6,7 +6,8 @@ use Rattle.clap.proofs.OnLiterals.{clap_on_literals}
 use Rattle.clap.specs.Words.{Row, Text, all_of, first_of, is_simple, subcommand_of}
 use Rattle.bpf_regstate.specs.declared.length.Length.{Length}
 use Rattle.acdm_command_line.specs.declared.command_line.Line.{Line}
-use Rattle.acdm_command_line.specs.CommandLine.{Answers, AsksNothing, AuditsFile, Explains}
+use Rattle.acdm_command_line.specs.CommandLine.{Answers, Asks, AsksFor, AsksNothing, AuditsFile}
+use Rattle.acdm_command_line.specs.CommandLine.{Explains, TellsFile}
 use Rattle.acdm_command_line.specs.CommandLine.{IsJournal, IsRight, Runs, Serves, Verifies}
 use Rattle.acdm_command_line.specs.CommandLine.{program, value_in, values_in}
 
@@ -50,12 +51,21 @@ none_asked : (found : Option (Text × List Row)) → AsksNothing found
     ⊎ ((text : Text) × Serves found text × IsJournal text)
     ⊎ ((length : Length) × (file : Text) × Verifies found length file)
     ⊎ ((file : Text) × AuditsFile found file)
-    ⊎ ((length : Length) × (file : Text) × Explains found length file) → ⊥
+    ⊎ ((length : Length) × (file : Text) × Explains found length file)
+    ⊎ ((file : Text) × TellsFile found file) → ⊥
 none_asked found none (inl h) = none.run h.0 h.1 h.2
 none_asked found none (inr (inl h)) = none.serve h.0 h.1 h.2
 none_asked found none (inr (inr (inl h))) = none.verify h.0 h.1 h.2
 none_asked found none (inr (inr (inr (inl h)))) = none.audit h.0 h.1
-none_asked found none (inr (inr (inr (inr h)))) = none.explain h.0 h.1 h.2
+none_asked found none (inr (inr (inr (inr (inl h))))) = none.explain h.0 h.1 h.2
+none_asked found none (inr (inr (inr (inr (inr h))))) = none.tell h.0 h.1
+
+-- words of which something is answered ask for it
+pub some_right : (words : List Text) (found : Option (Text × List Row)) (line : Option Line) (l : Line)
+    → found ≡ subcommand_of program words → Answers found line → line ≡ Some l → AsksFor words l
+some_right words found line l same answers is =
+    subst (λ (o : Option (Text × List Row)). Asks o l) same
+    (subst (λ (it : Option Line). Answers found it) is answers)
 
 -- words of which nothing is answered are not right
 pub none_right : (words : List Text) (found : Option (Text × List Row)) (line : Option Line)

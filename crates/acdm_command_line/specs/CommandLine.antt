@@ -1,5 +1,5 @@
 -- What the words of a command line ask for, as `clap` reads them.
-use Rattle.std.specs.Prelude.{ℕ, ◌≡◌, ◌≤◌, ◌⊎◌, true, List, [], ◌∷◌, codes, Option, Some, None}
+use Rattle.std.specs.Prelude.{ℕ, ◌≡◌, ◌<◌, ◌≤◌, ◌^◌, ◌⊎◌, Bool, true, false, List, [], ◌∷◌, codes, Option, Some, None}
 use Rattle.std.specs.Prelude.{map, option_and_then, option_map, if◌then◌else◌}
 use Rattle.std.specs.Str.{bytes_eq}
 use Rattle.std.specs.Str.Parse.{IsNumeral, digits_value, without_leading_plus}
@@ -7,14 +7,14 @@ use Rattle.clap.specs.Words.{App, Row, Rule, Text, all_of, first_of, new_app, ne
 use Rattle.clap.specs.Words.{subcommand_of}
 use Rattle.clap.specs.Words.{with_rule, with_subcommand}
 use Rattle.clap.specs.Takes.{takes}
-use Rattle.clap.specs.declared.builder.action.ArgAction.TheVariants.{Append}
+use Rattle.clap.specs.declared.builder.action.ArgAction.TheVariants.{Append, SetTrue}
 use Rattle.clap.specs.declared.error.kind.ErrorKind.{ErrorKind}
 use Rattle.clap.specs.declared.error.kind.ErrorKind.TheVariants.{OutOfMemory}
 use Rattle.bpf_regstate.specs.declared.length.Length.{Length}
 use Rattle.bpf_regstate.specs.declared.length.Length.TheVariants.{L128, L160}
 use Rattle.acdm_command_line.specs.declared.command_line.Line.{Line}
 use Rattle.acdm_command_line.specs.declared.command_line.Line.TheVariants.{Run, Serve, Verify, Audit}
-use Rattle.acdm_command_line.specs.declared.command_line.Line.TheVariants.{Explain}
+use Rattle.acdm_command_line.specs.declared.command_line.Line.TheVariants.{Explain, Tell}
 
 -- `--journal N`, 100000 where it is not given
 abbrev pub journal_rule : Rule
@@ -28,15 +28,38 @@ journal_rule = record (new_rule (codes "journal")) {
 abbrev pub save_rule : Rule
 save_rule = record (new_rule (codes "save")) { long = Some (codes "save"); value_names = 1 }
 
+-- `--keep FILE`
+abbrev pub keep_rule : Rule
+keep_rule = record (new_rule (codes "keep")) { long = Some (codes "keep"); value_names = 1 }
+
 -- `--watch ADDR`
 abbrev pub watch_rule : Rule
 watch_rule = record (new_rule (codes "watch")) { long = Some (codes "watch"); value_names = 1 }
+
+-- `--changes ADDR`
+abbrev pub changes_rule : Rule
+changes_rule = record (new_rule (codes "changes")) { long = Some (codes "changes"); value_names = 1 }
+
+-- `--again`, `--control ADDR`, `--pace N`
+abbrev pub again_rule : Rule
+again_rule = record (new_rule (codes "again")) { long = Some (codes "again"); action = Some SetTrue }
+
+abbrev pub control_rule : Rule
+control_rule = record (new_rule (codes "control")) { long = Some (codes "control"); value_names = 1 }
+
+abbrev pub pace_rule : Rule
+pace_rule = record (new_rule (codes "pace")) { long = Some (codes "pace"); value_names = 1 }
 
 -- a subcommand of this name that keeps a journal
 abbrev pub keeping_app : Text → App
 keeping_app name = with_rule (with_rule (new_app name) journal_rule) save_rule
 
--- `serve [--journal N] [--save FILE] [--watch ADDR] ROLE=ADDR...`, of at least one partner
+-- `run [--journal N] [--save FILE] [--keep FILE]`
+abbrev pub run_app : App
+run_app = with_rule (keeping_app (codes "run")) keep_rule
+
+-- `serve [--journal N] [--save FILE] [--watch ADDR] [--changes ADDR] [--again] [--control ADDR]
+-- [--pace N] ROLE=ADDR...`, of at least one partner
 abbrev pub partners_rule : Rule
 partners_rule = record (new_rule (codes "partners")) {
   value_names = 1;
@@ -45,10 +68,13 @@ partners_rule = record (new_rule (codes "partners")) {
 }
 
 abbrev pub serve_options_app : App
-serve_options_app = with_rule (keeping_app (codes "serve")) watch_rule
+serve_options_app = with_rule (with_rule (keeping_app (codes "serve")) watch_rule) changes_rule
+
+abbrev pub lasting_app : App
+lasting_app = with_rule (with_rule (with_rule serve_options_app again_rule) control_rule) pace_rule
 
 abbrev pub serve_app : App
-serve_app = with_rule serve_options_app partners_rule
+serve_app = with_rule lasting_app partners_rule
 
 -- a subcommand of this name on a file, as `audit FILE`
 abbrev pub file_rule : Rule
@@ -77,15 +103,16 @@ abbrev pub bare_app : App
 bare_app = required (new_app (codes "acdm"))
 
 abbrev pub running_app : App
-running_app = with_subcommand bare_app (keeping_app (codes "run")).top
+running_app = with_subcommand bare_app run_app.top
 
 abbrev pub serving_app : App
 serving_app = with_subcommand running_app serve_app.top
 
 abbrev pub program : App
 program =
-    with_subcommand (with_subcommand (with_subcommand serving_app (program_app (codes "verify")).top)
-    (file_app (codes "audit")).top) (program_app (codes "explain")).top
+    with_subcommand (with_subcommand (with_subcommand (with_subcommand serving_app
+    (program_app (codes "verify")).top) (file_app (codes "audit")).top)
+    (program_app (codes "explain")).top) (file_app (codes "tell")).top
 
 -- the first value of an argument of the subcommand of a name
 abbrev pub value_in : List ℕ → List ℕ → Option (Text × List Row) → Option Text
@@ -99,6 +126,14 @@ value_of name id words = value_in name id (subcommand_of program words)
 abbrev pub values_in : List ℕ → List ℕ → Option (Text × List Row) → Option (List Text)
 values_in name id found = option_and_then (λ p. if bytes_eq p.0 name then all_of id p.1 else None)
     found
+
+-- an argument that takes no value was given to the subcommand of a name
+abbrev pub is_true : Option Text → Bool
+is_true (Some text) = bytes_eq text (codes "true")
+is_true None = false
+
+abbrev pub is_set_in : List ℕ → List ℕ → Option (Text × List Row) → Bool
+is_set_in name id found = is_true (value_in name id found)
 
 -- a list, empty where there is none
 abbrev pub listed : Option (List Text) → List Text
@@ -118,6 +153,27 @@ abbrev pub IsJournal : Text → Type 0
 IsJournal text =
     IsNumeral 10 (without_leading_plus text) × (1 ≤ number_of text) × (number_of text ≤ 1000000)
 
+-- a text names a number from 1 to 4,294,967,295
+abbrev pub IsPace : Text → Type 0
+IsPace text =
+    IsNumeral 10 (without_leading_plus text) × (1 ≤ number_of text) × (number_of text < 2 ^ 32)
+
+-- the pace that `serve` is asked for: none, or the number that its text names
+abbrev pub HasPace : Option (Text × List Row) → Option ℕ → Type 0
+HasPace found None = value_in (codes "serve") (codes "pace") found ≡ None
+HasPace found (Some pace) =
+    (text : Text) × (value_in (codes "serve") (codes "pace") found ≡ Some text) × IsPace text
+    × (pace ≡ number_of text)
+
+-- that it is one, or none
+abbrev pub IsPaced : Option (Text × List Row) → Type 0
+IsPaced found = (pace : Option ℕ) × HasPace found pace
+
+-- the same as an answer
+abbrev pub AnswersPace : Option (Text × List Row) → Option (Option ℕ) → Type 0
+AnswersPace found (Some pace) = HasPace found pace
+AnswersPace found None = IsPaced found → ⊥
+
 -- the length of a record that a text names
 abbrev pub length_named : Text → Option Length
 length_named text =
@@ -128,12 +184,13 @@ abbrev pub length_in : List ℕ → Option (Text × List Row) → Option Length
 length_in name found = option_and_then length_named (value_in name (codes "length") found)
 
 -- the subcommand that was entered is `run` or `serve` with this text for its journal, `verify` or
--- `explain` of this file beside records of this length, or `audit` of this file
+-- `explain` of this file beside records of this length, or `audit` or `tell` of this file
 abbrev pub Runs : Option (Text × List Row) → Text → Type 0
 Runs found text = value_in (codes "run") (codes "journal") found ≡ Some text
 
 abbrev pub Serves : Option (Text × List Row) → Text → Type 0
-Serves found text = value_in (codes "serve") (codes "journal") found ≡ Some text
+Serves found text =
+    (value_in (codes "serve") (codes "journal") found ≡ Some text) × IsPaced found
 
 abbrev pub Judges : List ℕ → Option (Text × List Row) → Length → Text → Type 0
 Judges name found length file =
@@ -148,32 +205,42 @@ AuditsFile found file = value_in (codes "audit") (codes "file") found ≡ Some f
 abbrev pub Explains : Option (Text × List Row) → Length → Text → Type 0
 Explains = Judges (codes "explain")
 
--- it is `run` or `serve` with the journal, the file, the address and the partners that are named, or
--- `verify`, `audit` or `explain` of the file that is, with the length
+abbrev pub TellsFile : Option (Text × List Row) → Text → Type 0
+TellsFile found file = value_in (codes "tell") (codes "file") found ≡ Some file
+
+-- it is `run` or `serve` with the journal, the files, the addresses and the partners that are named, or
+-- `verify`, `audit`, `explain` or `tell` of the file that is, with the length
 abbrev pub Asks : Option (Text × List Row) → Line → Type 0
-Asks found (Run journal save) =
+Asks found (Run journal save keep) =
     (text : Text) × Runs found text × IsJournal text × (journal ≡ number_of text)
     × (option_map (λ s. s.now) save ≡ value_in (codes "run") (codes "save") found)
-Asks found (Serve journal save watch partners) =
+    × (option_map (λ s. s.now) keep ≡ value_in (codes "run") (codes "keep") found)
+Asks found (Serve journal save watch changes again control pace partners) =
     (text : Text) × Serves found text × IsJournal text × (journal ≡ number_of text)
     × (option_map (λ s. s.now) save ≡ value_in (codes "serve") (codes "save") found)
     × (option_map (λ s. s.now) watch ≡ value_in (codes "serve") (codes "watch") found)
+    × (option_map (λ s. s.now) changes ≡ value_in (codes "serve") (codes "changes") found)
+    × (again ≡ is_set_in (codes "serve") (codes "again") found)
+    × (option_map (λ s. s.now) control ≡ value_in (codes "serve") (codes "control") found)
+    × HasPace found pace
     × (map (λ s. s.now) partners.items ≡ partners_in found)
 Asks found (Verify length file) = Verifies found length file.now
 Asks found (Audit file) = AuditsFile found file.now
 Asks found (Explain length file) = Explains found length file.now
+Asks found (Tell file) = TellsFile found file.now
 
 -- the words ask for this
 abbrev pub AsksFor : List Text → Line → Type 0
 AsksFor words = Asks (subcommand_of program words)
 
--- it is none of the five
+-- it is none of the six
 pub record AsksNothing (found : Option (Text × List Row)) : Type 0 where
   pub run : (text : Text) → Runs found text → IsJournal text → ⊥
   pub serve : (text : Text) → Serves found text → IsJournal text → ⊥
   pub verify : (length : Length) (file : Text) → Verifies found length file → ⊥
   pub audit : (file : Text) → AuditsFile found file → ⊥
   pub explain : (length : Length) (file : Text) → Explains found length file → ⊥
+  pub tell : (file : Text) → TellsFile found file → ⊥
 
 abbrev pub Answers : Option (Text × List Row) → Option Line → Type 0
 Answers found (Some line) = Asks found line
@@ -187,13 +254,22 @@ AnswersJournal name found (Some journal) =
 AnswersJournal name found None = (text : Text)
     → value_in name (codes "journal") found ≡ Some text → IsJournal text → ⊥
 
+-- what `run` asks for, or that it asks for nothing; the same of `serve`
+abbrev pub AnswersRun : Option (Text × List Row) → Option Line → Type 0
+AnswersRun found (Some line) = Asks found line
+AnswersRun found None = (text : Text) → Runs found text → IsJournal text → ⊥
+
+abbrev pub AnswersServe : Option (Text × List Row) → Option Line → Type 0
+AnswersServe found (Some line) = Asks found line
+AnswersServe found None = (text : Text) → Serves found text → IsJournal text → ⊥
+
 -- the length and the file of the subcommand of a name, or none
 abbrev pub AnswersJudged : List ℕ → Option (Text × List Row) → Option (Length × Text) → Type 0
 AnswersJudged name found (Some judged) = Judges name found judged.0 judged.1
 AnswersJudged name found None =
     (length : Length) (file : Text) → Judges name found length file → ⊥
 
--- `clap` takes the words, and they ask for one of the five
+-- `clap` takes the words, and they ask for one of the six
 pub record IsRight (words : List Text) : Type 0 where
   pub taken : takes program words ≡ true
   pub asks : ((text : Text) × Runs (subcommand_of program words) text × IsJournal text)
@@ -201,6 +277,7 @@ pub record IsRight (words : List Text) : Type 0 where
       ⊎ ((length : Length) × (file : Text) × Verifies (subcommand_of program words) length file)
       ⊎ ((file : Text) × AuditsFile (subcommand_of program words) file)
       ⊎ ((length : Length) × (file : Text) × Explains (subcommand_of program words) length file)
+      ⊎ ((file : Text) × TellsFile (subcommand_of program words) file)
 
 -- right words are refused only where there is no memory
 abbrev pub Refuses : List Text → ErrorKind → Type 0

@@ -8,12 +8,15 @@ ghost use Rattle.clap.specs.declared.builder.Command.TheViews.{out-Command as fi
 ghost use Rattle.acdm_command_line.specs.CommandLine.{program as the_program, file_app, keeping_app};
 ghost use Rattle.acdm_command_line.specs.CommandLine.{file_rule, length_rule, program_app};
 ghost use Rattle.acdm_command_line.specs.CommandLine.{AnswersJudged, length_named};
-ghost use Rattle.acdm_command_line.specs.CommandLine.{bare_app, running_app, serve_app};
+ghost use Rattle.acdm_command_line.specs.CommandLine.{bare_app, run_app, running_app, serve_app};
 ghost use Rattle.acdm_command_line.specs.CommandLine.{serve_options_app, serving_app};
-ghost use Rattle.acdm_command_line.specs.CommandLine.{journal_rule, save_rule, watch_rule};
+ghost use Rattle.acdm_command_line.specs.CommandLine.{changes_rule, journal_rule, keep_rule, save_rule};
+ghost use Rattle.acdm_command_line.specs.CommandLine.{is_set_in, watch_rule};
+ghost use Rattle.acdm_command_line.specs.CommandLine.{again_rule, control_rule, lasting_app, pace_rule};
+ghost use Rattle.acdm_command_line.specs.CommandLine.{AnswersPace, IsPace};
 ghost use Rattle.acdm_command_line.specs.CommandLine.{partners_in, value_in, values_in};
 ghost use Rattle.acdm_command_line.specs.CommandLine.{number_of, IsJournal, AsksFor, Refuses};
-ghost use Rattle.acdm_command_line.specs.CommandLine.{Answers, AnswersJournal};
+ghost use Rattle.acdm_command_line.specs.CommandLine.{Answers, AnswersJournal, AnswersRun, AnswersServe};
 
 use bpf_regstate::Length;
 use clap::error::ErrorKind;
@@ -27,22 +30,32 @@ const MOST_ENTRIES: usize = 1_000_000;
 #[derive(Debug, Drop, PartialEq, Eq)]
 pub enum Line<'a> {
     /// `run`, with room for so many entries in the journal, from 1 to 1,000,000, which is to be
-    /// saved in this file.
+    /// saved in this file, and kept in that one, from which it goes on.
     Run {
         journal: usize,
         save: Option<&'a str>,
+        keep: Option<&'a str>,
     },
     /// `serve`, with room for so many entries in the journal, from 1 to 1,000,000, which is to be
-    /// saved in this file and may be watched at this address, for the partners of these words, as
-    /// they stand.
+    /// saved in this file, may be watched at this address, and whose changes are told at that one, for
+    /// the partners of these words, as they stand: who may come again where `again` is true, of whom so
+    /// many lines are taken in a minute; it is closed at the control address.
     Serve {
         journal: usize,
         save: Option<&'a str>,
         watch: Option<&'a str>,
+        changes: Option<&'a str>,
+        again: bool,
+        control: Option<&'a str>,
+        pace: Option<u32>,
         partners: Vec<&'a str>,
     },
     /// `audit`, of the journal in this file.
     Audit {
+        file: &'a str,
+    },
+    /// `tell`, of the journal in this file.
+    Tell {
         file: &'a str,
     },
     /// `verify`, of the program in this file beside records of this length.
@@ -80,6 +93,16 @@ fn save<'a>(alloc: Global) -> Arg<'a>
         .help("Where the journal is written as text at the end")
 }
 
+// `--keep FILE`.
+fn keep<'a>(alloc: Global) -> Arg<'a>
+    ensures rule { rule_of result ≡ keep_rule }
+    ensures optional { (result.required ≡ false) × (result.global ≡ false) }
+{
+    Arg::new(alloc, "keep").long("keep").value_name("FILE").help(
+        "Where the journal is kept as it grows, and is gone on from",
+    )
+}
+
 // `--watch ADDR`.
 fn watch<'a>(alloc: Global) -> Arg<'a>
     ensures rule { rule_of result ≡ watch_rule }
@@ -89,6 +112,51 @@ fn watch<'a>(alloc: Global) -> Arg<'a>
         .long("watch")
         .value_name("ADDR")
         .help("The IP address and port where displays are sent the journal as text")
+}
+
+// `--changes ADDR`.
+fn changes<'a>(alloc: Global) -> Arg<'a>
+    ensures rule { rule_of result ≡ changes_rule }
+    ensures optional { (result.required ≡ false) × (result.global ≡ false) }
+{
+    Arg::new(alloc, "changes")
+        .long("changes")
+        .value_name("ADDR")
+        .help("The IP address and port where displays are told what each entry changed, as JSON")
+}
+
+// `--again`.
+fn again<'a>(alloc: Global) -> Arg<'a>
+    ensures rule { rule_of result ≡ again_rule }
+    ensures optional { (result.required ≡ false) × (result.global ≡ false) }
+{
+    Arg::new(alloc, "again")
+        .long("again")
+        .action(ArgAction::SetTrue)
+        .help("Partners come and go: each session goes on with the next who connects")
+}
+
+// `--control ADDR`.
+fn control<'a>(alloc: Global) -> Arg<'a>
+    ensures rule { rule_of result ≡ control_rule }
+    ensures optional { (result.required ≡ false) × (result.global ≡ false) }
+{
+    Arg::new(alloc, "control")
+        .long("control")
+        .value_name("ADDR")
+        .help(
+            "The IP address and port, or the local port, where the lines close and status are answered",
+        )
+}
+
+// `--pace N`.
+fn pace<'a>(alloc: Global) -> Arg<'a>
+    ensures rule { rule_of result ≡ pace_rule }
+    ensures optional { (result.required ≡ false) × (result.global ≡ false) }
+{
+    Arg::new(alloc, "pace").long("pace").value_name("N").help(
+        "How many lines of each partner are taken in a minute, 1 to 4294967295",
+    )
 }
 
 // A subcommand that keeps a journal, with `--journal` and `--save`.
@@ -102,13 +170,34 @@ fn keeping<'a>(alloc: Global, name: &'a str, about: &'a str) -> Result<Command<'
         .arg(save(alloc))
 }
 
+fn run_command<'a>(alloc: Global) -> Result<Command<'a>, AllocError>
+    ensures shape { IfOk result (λ c. app_of c ≡ run_app) }
+    ensures local { IfOk result (λ c. (fields_of c).has_globals ≡ false) }
+{
+    let about = "Answers the lines of standard input on standard output";
+    keeping(alloc, "run", about)?.arg(keep(alloc))
+}
+
 // `serve` without its partners.
 fn serve_options<'a>(alloc: Global) -> Result<Command<'a>, AllocError>
     ensures shape { IfOk result (λ c. app_of c ≡ serve_options_app) }
     ensures local { IfOk result (λ c. (fields_of c).has_globals ≡ false) }
 {
     let about = "Accepts a partner at each address, and serves all at once";
-    keeping(alloc, "serve", about)?.arg(watch(alloc))
+    keeping(alloc, "serve", about)?
+        .arg(watch(alloc))?
+        .arg(changes(alloc))
+}
+
+// `serve` with what holds it open, without its partners.
+fn lasting<'a>(alloc: Global) -> Result<Command<'a>, AllocError>
+    ensures shape { IfOk result (λ c. app_of c ≡ lasting_app) }
+    ensures local { IfOk result (λ c. (fields_of c).has_globals ≡ false) }
+{
+    serve_options(alloc)?
+        .arg(again(alloc))?
+        .arg(control(alloc))?
+        .arg(pace(alloc))
 }
 
 fn serve_command<'a>(alloc: Global) -> Result<Command<'a>, AllocError>
@@ -120,7 +209,7 @@ fn serve_command<'a>(alloc: Global) -> Result<Command<'a>, AllocError>
         .action(ArgAction::Append)
         .required(true)
         .help("A role, NM, ATC, APT, AO, GH or DIC, and the IP address and port where it connects");
-    serve_options(alloc)?.arg(partners)
+    lasting(alloc)?.arg(partners)
 }
 
 // `FILE`.
@@ -187,8 +276,7 @@ fn run_program<'a>(alloc: Global) -> Result<Command<'a>, AllocError>
     ensures shape { IfOk result (λ c. app_of c ≡ running_app) }
     ensures local { IfOk result (λ c. (fields_of c).has_globals ≡ false) }
 {
-    let about = "Answers the lines of standard input on standard output";
-    let run = keeping(alloc, "run", about)?;
+    let run = run_command(alloc)?;
     bare_program(alloc).subcommand(run)
 }
 
@@ -241,10 +329,12 @@ fn program<'a>(alloc: Global) -> Result<Command<'a>, AllocError>
     let verifies = "Lists a BPF program that may run, or tells its first fault";
     let audits = "Judges a saved journal by itself, or tells its first fault";
     let explains = "Lists a BPF program with what is known before each slot, and why it is refused";
+    let tells = "Tells what each entry of a saved journal says and changes, as lines of JSON";
     let saved = "A journal that was saved as text";
     let judging = with_program(alloc, serving_program(alloc)?, "verify", verifies)?;
     let judging = with_file(alloc, judging, "audit", audits, saved)?;
-    with_program(alloc, judging, "explain", explains)
+    let judging = with_program(alloc, judging, "explain", explains)?;
+    with_file(alloc, judging, "tell", tells, saved)
 }
 
 // The number of entries that a text names, from 1 to 1,000,000.
@@ -325,6 +415,81 @@ fn judged_by<'a>(matches: &ArgMatches<'a>, name: &str) -> Option<(Length, &'a st
     Some((length, file))
 }
 
+// Whether an argument that takes no value was given to the subcommand of this name.
+fn is_set(matches: &ArgMatches, name: &str, id: &str) -> bool
+    ensures { result ≡ is_set_in name.now id.now (subcommand_rows_of matches.now) }
+{
+    match value(matches, name, id) {
+        Some(text) => text == "true",
+        None => false,
+    }
+}
+
+// What `run` asks for, if it was entered with such a journal.
+fn run_of<'a>(matches: &ArgMatches<'a>) -> Option<Line<'a>>
+    ensures { AnswersRun (subcommand_rows_of matches.now) result }
+{
+    let journal = journal_for(matches, "run")?;
+    let save = value(matches, "run", "save");
+    let keep = value(matches, "run", "keep");
+    Some(Line::Run {
+        journal,
+        save,
+        keep,
+    })
+}
+
+// How many lines are to be taken in a minute, if a text names such a number.
+fn pace_in(text: &str) -> Option<u32>
+    ensures { SomeIff result (IsPace text.now) (number_of text.now) }
+{
+    match text.parse::<u32>() {
+        Ok(pace) if 1 <= pace => Some(pace),
+        _ => None,
+    }
+}
+
+// The pace that `serve` is asked for, if it is one or none.
+fn pace_for(matches: &ArgMatches) -> Option<Option<u32>>
+    ensures { AnswersPace (subcommand_rows_of matches.now) result }
+{
+    match value(matches, "serve", "pace") {
+        Some(text) => match pace_in(text) {
+            Some(pace) => Some(Some(pace)),
+            None => None,
+        },
+        None => Some(None),
+    }
+}
+
+// What `serve` asks for, if it was entered with such a journal.
+fn serve_of<'a>(alloc: Global, matches: &ArgMatches<'a>) -> Result<Option<Line<'a>>, AllocError>
+    ensures { IfOk result (AnswersServe (subcommand_rows_of matches.now)) }
+{
+    let Some(journal) = journal_for(matches, "serve") else {
+        return Ok(None);
+    };
+    let save = value(matches, "serve", "save");
+    let watch = value(matches, "serve", "watch");
+    let changes = value(matches, "serve", "changes");
+    let again = is_set(matches, "serve", "again");
+    let control = value(matches, "serve", "control");
+    let Some(pace) = pace_for(matches) else {
+        return Ok(None);
+    };
+    let partners = partners_of(alloc, matches)?;
+    Ok(Some(Line::Serve {
+        journal,
+        save,
+        watch,
+        changes,
+        again,
+        control,
+        pace,
+        partners,
+    }))
+}
+
 // What is asked for by the subcommand that was entered.
 fn line_of<'a>(alloc: Global, matches: &ArgMatches<'a>) -> Result<Option<Line<'a>>, AllocError>
     ensures { IfOk result (Answers (subcommand_rows_of matches.now)) }
@@ -338,22 +503,28 @@ fn line_of<'a>(alloc: Global, matches: &ArgMatches<'a>) -> Result<Option<Line<'a
     if let Some((length, file)) = judged_by(matches, "explain") {
         return Ok(Some(Line::Explain { length, file }));
     }
-    if let Some(journal) = journal_for(matches, "run") {
-        let save = value(matches, "run", "save");
-        return Ok(Some(Line::Run { journal, save }));
+    if let Some(file) = value(matches, "tell", "file") {
+        return Ok(Some(Line::Tell { file }));
     }
-    let Some(journal) = journal_for(matches, "serve") else {
-        return Ok(None);
+    if let Some(line) = run_of(matches) {
+        return Ok(Some(line));
+    }
+    serve_of(alloc, matches)
+}
+
+// Why nothing is asked for by values that `clap` has taken.
+fn reason(matches: &ArgMatches) -> &'static str {
+    let name = match matches.subcommand() {
+        Some((name, _)) => name,
+        None => "",
     };
-    let save = value(matches, "serve", "save");
-    let watch = value(matches, "serve", "watch");
-    let partners = partners_of(alloc, matches)?;
-    Ok(Some(Line::Serve {
-        journal,
-        save,
-        watch,
-        partners,
-    }))
+    if name == "verify" || name == "explain" {
+        return "invalid value for '--length <N>': it is neither 128 nor 160";
+    }
+    if pace_for(matches).is_none() {
+        return "invalid value for '--pace <N>': it is not a number from 1 to 4294967295";
+    }
+    "invalid value for '--journal <N>': it is not a number from 1 to 1000000"
 }
 
 // What these words ask for, by the definition of the program.
@@ -372,20 +543,15 @@ fn parse_by<'a>(
     if let Some(line) = line_of(alloc, &matches)? {
         return Ok(line);
     }
-    let wrong = match matches.subcommand() {
-        Some(("verify" | "explain", _)) =>
-            "invalid value for '--length <N>': it is neither 128 nor 160",
-        _ => "invalid value for '--journal <N>': it is not a number from 1 to 1000000",
-    };
-    Err(command.error(ErrorKind::ValueValidation, wrong)?)
+    Err(command.error(ErrorKind::ValueValidation, reason(&matches))?)
 }
 
 /// What these words ask for; the first is the program's name.
 ///
 /// The journal is what `--journal` says, else 100,000, the length what `--length` says, else 128,
 /// and the other words are taken as they stand. Words that name no such command are refused by
-/// `clap`; a journal outside 1 to 1,000,000 is refused, and a length that is neither 128 nor 160. A
-/// request for help counts as a refusal.
+/// `clap`; a journal outside 1 to 1,000,000 is refused, a length that is neither 128 nor 160, and a
+/// pace that is no number from 1 to 4,294,967,295. A request for help counts as a refusal.
 pub fn parse<'a>(alloc: Global, words: &'a [&'a str]) -> Result<Line<'a>, Error>
     ensures asks { IfOk result (AsksFor (map (λ w. w.now) words.entry.now)) }
     ensures refuses { IfErr result (λ error.

@@ -1,9 +1,10 @@
 -- What is done with files, whatever they are.
-use Rattle.std.proofs.Common.{◌⊎◌, ℕ, List, Option, Some, None, Result, Ok, Err, option_map, inl, inr}
+use Rattle.std.proofs.Common.{◌≡◌, ◌⊎◌, ℕ, List, Option, Some, None, Result, Ok, Err, option_map}
+use Rattle.std.proofs.Common.{arith, inl, inr, refl, sym, subst, ◌∙◌}
 use Rattle.bpf_helpers.specs.Promise.{Promise}
 use Rattle.bpf_regstate.specs.declared.length.Length.{Length}
 use Rattle.acdm_step.specs.Commands.{History}
-use Rattle.acdm_failures.specs.Failures.{EndsBy}
+use Rattle.acdm_failures.specs.Failures.{Complains, Ends, EndsBy, failure_text}
 use Rattle.acdm_failures.specs.declared.failure.Failure.{Failure}
 use Rattle.acdm_failures.specs.declared.failure.Failure.TheVariants as failures
 use Rattle.acdm_judging.specs.Explained.{Explains, FailsToRead}
@@ -14,9 +15,11 @@ use Rattle.acdm_judging.specs.declared.auditing.Finding.{Finding}
 use Rattle.acdm_judging.specs.declared.auditing.Finding.TheVariants.{Legal, Faulty}
 use Rattle.acdm_judging.specs.declared.verifying.Verdict.{Verdict}
 use Rattle.acdm_lines.specs.Counted.{SinkView, SourceView}
+use Rattle.acdm_telling.specs.Told.{Gives, Told}
 use Rattle.acdm_judging.specs.Helpers.{helpers}
 use Rattle.acdm_commands.specs.Completed.{ExplainsLine, IsUnread, IsUnwritten, read_from}
-use Rattle.acdm_commands.specs.Completed.{written_to}
+use Rattle.acdm_commands.specs.Completed.{KeepsLine, Places, RunsLine, ServesLine, Settles, written_to}
+use Rattle.acdm_commands.specs.Keeping.{KeepsTo}
 use Rattle.acdm_commands.specs.Served.{FailsToSave, IsSaved, Runs, RunsTo}
 use Rattle.acdm_commands.specs.Partners.{ServesWords, ServesWordsTo}
 
@@ -50,8 +53,51 @@ module _ {F : Type 0} (sigs : List (ℕ × Promise)) (file later : SourceView F)
   audited_any old new (Err (failures.Address n)) p = absurd p
   audited_any old new (Err (failures.Accept n)) p = absurd p
   audited_any old new (Err failures.Watch) p = absurd p
+  audited_any old new (Err failures.Control) p = absurd p
   audited_any old new (Err failures.Word) p = absurd p
   audited_any old new (Err failures.Stream) p = absurd p
+  audited_any old new (Err failures.Keep) p = absurd p
+  audited_any old new (Err failures.InUse) p = absurd p
+  audited_any old new (Err failures.Room) p = absurd p
+
+  gives_any : (J : History) (rest : List ℕ) → Gives sigs J rest file later
+      → Gives sigs J rest (read_from file) (read_from later)
+  gives_any J rest p = record { legal = p.legal; readable = p.readable; gave = p.gave }
+
+  pub told_any : {W : Type 0} (old new : SinkView W) (work : Result ℕ Failure)
+      → Told sigs file later old new work → Told sigs (read_from file) (read_from later) old new work
+  told_any old new (Ok status) p = record {
+    finding = p.finding;
+    finds = finds_any p.finding p.finds;
+    history = p.history;
+    rest = p.rest;
+    gives = gives_any p.history p.rest p.gives;
+    count = p.count;
+    leaves = p.leaves;
+    told = p.told;
+    flushed = p.flushed;
+    status_is = p.status_is;
+  }
+  told_any old new (Err failures.Read) p = record {
+    unended = p.unended;
+    history = p.history;
+    rest = p.rest;
+    gives = gives_any p.history p.rest p.gives;
+    told = p.told;
+  }
+  told_any old new (Err failures.Write) p = p
+  told_any old new (Err failures.Memory) p = p
+  told_any old new (Err failures.Save) p = absurd p
+  told_any old new (Err (failures.Role n)) p = absurd p
+  told_any old new (Err (failures.Address n)) p = absurd p
+  told_any old new (Err (failures.Accept n)) p = absurd p
+  told_any old new (Err failures.Watch) p = absurd p
+  told_any old new (Err failures.Control) p = absurd p
+  told_any old new (Err failures.Word) p = absurd p
+  told_any old new (Err failures.Stream) p = absurd p
+  told_any old new (Err failures.Keep) p = absurd p
+  told_any old new (Err failures.InUse) p = absurd p
+  told_any old new (Err failures.Room) p = absurd p
 
   gave_any : (bytes : List ℕ) → GaveBytes file later bytes
       → GaveBytes (read_from file) (read_from later) bytes
@@ -83,8 +129,12 @@ module _ {F : Type 0} (sigs : List (ℕ × Promise)) (file later : SourceView F)
   verified_any long old new (Err (failures.Address n)) p = absurd p
   verified_any long old new (Err (failures.Accept n)) p = absurd p
   verified_any long old new (Err failures.Watch) p = absurd p
+  verified_any long old new (Err failures.Control) p = absurd p
   verified_any long old new (Err failures.Word) p = absurd p
   verified_any long old new (Err failures.Stream) p = absurd p
+  verified_any long old new (Err failures.Keep) p = absurd p
+  verified_any long old new (Err failures.InUse) p = absurd p
+  verified_any long old new (Err failures.Room) p = absurd p
 
   pub explained_any : (long : Length) (work : Result ℕ Failure) → Explains sigs long file later work
       → Explains sigs long (read_from file) (read_from later) work
@@ -133,8 +183,49 @@ fails_any (Some file) (Some later) (failures.Role n) p = absurd p
 fails_any (Some file) (Some later) (failures.Address n) p = absurd p
 fails_any (Some file) (Some later) (failures.Accept n) p = absurd p
 fails_any (Some file) (Some later) failures.Watch p = absurd p
+fails_any (Some file) (Some later) failures.Control p = absurd p
 fails_any (Some file) (Some later) failures.Word p = absurd p
 fails_any (Some file) (Some later) failures.Stream p = absurd p
+fails_any (Some file) (Some later) failures.Keep p = absurd p
+fails_any (Some file) (Some later) failures.InUse p = absurd p
+fails_any (Some file) (Some later) failures.Room p = absurd p
+
+-- where the status is 0, a command's work was done, and nothing was told
+done_whole : {E : Type 0} (Comes : Result ℕ Failure → Type 0) (work : Result ℕ Failure) (status : ℕ)
+    (errors mid : SinkView E) → status ≡ 0 → Ends work status errors mid → Comes work
+    → Comes (Ok 0) × (mid ≡ errors)
+done_whole Comes (Ok given) status errors mid zero ends comes =
+    (subst (λ n. Comes (Ok n)) (sym ends.0 ∙ zero) comes, ends.1)
+done_whole Comes (Err failure) status errors mid zero ends comes =
+    absurd (omega (arith, zero, ends.0))
+
+-- a command that ends so ends so too where its file takes its place, or can't
+pub settled : {E : Type 0} (path : Option (List ℕ)) (Comes : Result ℕ Failure → Type 0)
+    (status given : ℕ) (errors mid last : SinkView E) → EndsBy Comes status errors mid
+    → Settles path status mid last given → EndsBy (Places path Comes) given errors last
+settled path Comes status given errors mid last e (inl same) = record {
+  work = e.work;
+  comes = inl e.comes;
+  ends = subst (λ n. Ends e.work n errors last) (sym same.0)
+      (subst (λ s. Ends e.work status errors s) (sym same.1) e.ends);
+}
+settled path Comes status given errors mid last e (inr failed) =
+    let whole = done_whole Comes e.work status errors mid failed.1 e.ends e.comes in
+    record {
+      work = Err failures.Save;
+      comes = inr (failed.0, whole.0, refl);
+      ends = (
+        failed.2,
+        subst (λ s. Complains s last (failure_text failures.Save)) whole.1 failed.3,
+      );
+    }
+
+-- what comes of a file that takes its place stands whatever is known of the work
+pub placed_any : (path : Option (List ℕ)) (Comes Known : Result ℕ Failure → Type 0)
+    → ((work : Result ℕ Failure) → Comes work → Known work) → (work : Result ℕ Failure)
+    → Places path Comes work → Places path Known work
+placed_any path Comes Known knows work (inl p) = inl (knows work p)
+placed_any path Comes Known knows work (inr p) = inr (p.0, knows (Ok 0) p.1, p.2)
 
 -- nothing was written to a file, whatever it is
 pub unwritten_any : {F : Type 0} (path : Option (List ℕ)) (file : Option (SinkView F))
@@ -209,3 +300,97 @@ served_any sigs capacity words old new file later (Err failure) (inr p) =
     inr (served_as sigs capacity words old new (λ J. FailsToSave file later failure)
     (λ J. FailsToSave (option_map written_to file) (option_map written_to later) failure)
     (λ J. fails_any file later failure) p)
+
+-- `run` with a file that takes its place
+pub ran_line : {R W F E : Type 0} (journal : ℕ) (path : Option (List ℕ)) (file later : Option (SinkView F))
+    (input input_after : SourceView R) (output output_after : SinkView W) (status given : ℕ)
+    (errors mid last : SinkView E) → IsUnwritten path file
+    → EndsBy (RunsTo helpers journal input input_after output output_after file later) status errors mid
+    → Settles path status mid last given
+    → EndsBy (RunsLine journal path input input_after output output_after) given errors last
+ran_line journal path file later input input_after output output_after status given errors mid last made
+    ran settles =
+    let e = settled path (RunsTo helpers journal input input_after output output_after file later) status
+    given errors mid last ran settles in
+    record {
+      work = e.work;
+      comes = inl (
+        option_map written_to file,
+        option_map written_to later,
+        unwritten_any path file made,
+        placed_any path (RunsTo helpers journal input input_after output output_after file later)
+            (RunsTo helpers journal input input_after output output_after (option_map written_to file)
+            (option_map written_to later))
+            (runs_any helpers journal input input_after output output_after file later) e.work e.comes,
+      );
+      ends = e.ends;
+    }
+
+-- `serve`, the same
+pub served_line : {W F E : Type 0} (journal : ℕ) (path : Option (List ℕ)) (partners : List (List ℕ))
+    (file later : Option (SinkView F)) (output output_after : SinkView W) (status given : ℕ)
+    (errors mid last : SinkView E) → IsUnwritten path file
+    → EndsBy (ServesWordsTo helpers journal partners output output_after file later) status errors mid
+    → Settles path status mid last given
+    → EndsBy (ServesLine journal path partners output output_after) given errors last
+served_line journal path partners file later output output_after status given errors mid last made served
+    settles =
+    let e = settled path (ServesWordsTo helpers journal partners output output_after file later) status
+    given errors mid last served settles in
+    record {
+      work = e.work;
+      comes = inl (
+        option_map written_to file,
+        option_map written_to later,
+        unwritten_any path file made,
+        placed_any path (ServesWordsTo helpers journal partners output output_after file later)
+            (ServesWordsTo helpers journal partners output output_after (option_map written_to file)
+            (option_map written_to later))
+            (served_any helpers journal partners output output_after file later) e.work e.comes,
+      );
+      ends = e.ends;
+    }
+
+keeps_any : {R F : Type 0} (journal : ℕ) (input input_after : SourceView R)
+    (file later : Option (SinkView F)) (work : Result ℕ Failure)
+    → KeepsTo helpers journal input input_after file later work
+    → KeepsTo helpers journal input input_after (option_map written_to file)
+    (option_map written_to later) work
+keeps_any journal input input_after file later (Ok status) (inl p) = inl (
+  record {
+    opening = p.0.opening;
+    desk = p.0.desk;
+    room = p.0.room;
+    helpers = p.0.helpers;
+    serves = p.0.serves;
+    saves = saved_any p.0.desk.history file later p.0.saves;
+  },
+  p.1,
+)
+keeps_any journal input input_after file later (Ok status) (inr p) = inr p
+keeps_any journal input input_after file later (Err failure) p = tt
+
+-- `run --keep`, the same
+pub kept_line : {R F E : Type 0} (journal : ℕ) (path : Option (List ℕ))
+    (file later : Option (SinkView F)) (input input_after : SourceView R) (work : Result ℕ Failure)
+    (status given : ℕ) (errors mid last : SinkView E) → IsUnwritten path file
+    → KeepsTo helpers journal input input_after file later work → Ends work status errors mid
+    → Settles path status mid last given
+    → EndsBy (KeepsLine journal path input input_after) given errors last
+kept_line journal path file later input input_after work status given errors mid last made keeps ends
+    settles =
+    let e = settled path (KeepsTo helpers journal input input_after file later) status given errors mid
+    last (record { work = work; comes = keeps; ends = ends }) settles in
+    record {
+      work = e.work;
+      comes = inl (
+        option_map written_to file,
+        option_map written_to later,
+        unwritten_any path file made,
+        placed_any path (KeepsTo helpers journal input input_after file later)
+            (KeepsTo helpers journal input input_after (option_map written_to file)
+            (option_map written_to later))
+            (keeps_any journal input input_after file later) e.work e.comes,
+      );
+      ends = e.ends;
+    }

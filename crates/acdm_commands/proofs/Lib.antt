@@ -1,3 +1,4 @@
+pub mod Crossing
 pub mod Saved
 mod EndRows
 mod Counting

@@ -62,8 +62,12 @@ module _ {P : Type 0} (role : P → Role) where
   named_as words front more word n failures.Memory split all count fails = tt
   named_as words front more word n (failures.Accept k) split all count fails = absurd fails
   named_as words front more word n failures.Watch split all count fails = absurd fails
+  named_as words front more word n failures.Control split all count fails = absurd fails
   named_as words front more word n failures.Word split all count fails = absurd fails
   named_as words front more word n failures.Stream split all count fails = absurd fails
+  named_as words front more word n failures.Keep split all count fails = absurd fails
+  named_as words front more word n failures.InUse split all count fails = absurd fails
+  named_as words front more word n failures.Room split all count fails = absurd fails
 
   -- nobody listens for the next word
   pub fails_next : (words front more : List (List ℕ)) (word : List ℕ) (ps : List P)

@@ -6,8 +6,8 @@ use Rattle.clap.specs.declared.error.kind.ErrorKind.{ErrorKind}
 use Rattle.acdm_command_line.specs.CommandLine.{AsksFor, Refuses}
 use Rattle.acdm_command_line.specs.declared.command_line.Line.{Line}
 use Rattle.acdm_command_line.specs.declared.command_line.Line.TheVariants.{Audit, Explain, Run, Serve}
-use Rattle.acdm_command_line.specs.declared.command_line.Line.TheVariants.{Verify}
-use Rattle.acdm_failures.specs.Failures.{EndsBy}
+use Rattle.acdm_command_line.specs.declared.command_line.Line.TheVariants.{Tell, Verify}
+use Rattle.acdm_failures.specs.Failures.{Complains, EndsBy, failure_text}
 use Rattle.acdm_failures.specs.declared.failure.Failure.{Failure}
 use Rattle.acdm_failures.specs.declared.failure.Failure.TheVariants.{Memory, Read, Save}
 use Rattle.acdm_judging.specs.Explained.{Explains, TellsUnread}
@@ -15,6 +15,8 @@ use Rattle.acdm_judging.specs.Findings.{Audited}
 use Rattle.acdm_judging.specs.Helpers.{helpers}
 use Rattle.acdm_judging.specs.Verdicts.{Verifies}
 use Rattle.acdm_lines.specs.Counted.{SinkView, SourceView}
+use Rattle.acdm_telling.specs.Told.{Told}
+use Rattle.acdm_commands.specs.Keeping.{KeepsTo}
 use Rattle.acdm_commands.specs.Partners.{ServesWordsTo}
 use Rattle.acdm_commands.specs.Served.{RunsTo}
 
@@ -56,6 +58,24 @@ FailsToMake (Some path) Save = Unit {0}
 FailsToMake (Some path) Memory = Unit {0}
 FailsToMake path failure = ⊥
 
+-- there is a path
+abbrev pub HasPath : Option (List ℕ) → Type 0
+HasPath (Some path) = Unit {0}
+HasPath None = ⊥
+
+-- A command's work came so, and its file took the place of the one of its path; or all was done and
+-- written beside that, and it could not take its place, so what was there stays.
+abbrev pub Places : Option (List ℕ) → (Result ℕ Failure → Type 0) → Result ℕ Failure → Type 0
+Places path Comes work = Comes work ⊎ (HasPath path × Comes (Ok 0) × (work ≡ Err Save))
+
+-- the status of a command's work is the command's, or the work was done and its file could not be put
+-- in its place, which is told
+abbrev pub Settles : {E : Type 0} → Option (List ℕ) → ℕ → SinkView E → SinkView E → ℕ → Type 0
+Settles path status errors errors_after given =
+    ((given ≡ status) × (errors_after ≡ errors))
+    ⊎ (HasPath path × (status ≡ 0) × (given ≡ 2)
+    × Complains errors errors_after (failure_text Save))
+
 -- it was not made, and this is why
 abbrev pub IsNotMade : Option (List ℕ) → Result ℕ Failure → Type 0
 IsNotMade path (Ok status) = ⊥
@@ -63,20 +83,38 @@ IsNotMade path (Err failure) = FailsToMake path failure
 
 -- ---- commands
 
--- `run`: its file was made, and the run came so, or it could not be made, and nothing was done
+-- `run`: its file was made, and the run came so and the file took its place, or the file could not be
+-- made, and nothing was done
 abbrev pub RunsLine : {R W : Type 0} → ℕ → Option (List ℕ) → SourceView R → SourceView R → SinkView W
     → SinkView W → Result ℕ Failure → Type 0
 RunsLine journal path input input_after output output_after work =
     ((saved saved_after : Option (SinkView ⊤)) × IsUnwritten path saved
-    × RunsTo helpers journal input input_after output output_after saved saved_after work)
+    × Places path (RunsTo helpers journal input input_after output output_after saved saved_after) work)
     ⊎ (IsNotMade path work × (input_after ≡ input) × (output_after ≡ output))
+
+-- `run` with a journal that is kept: the file that the journal is saved in was made, and it came so and the file took its place, or the file
+-- could not be made, and nothing was done
+abbrev pub KeepsLine : {R : Type 0} → ℕ → Option (List ℕ) → SourceView R → SourceView R
+    → Result ℕ Failure → Type 0
+KeepsLine journal path input input_after work =
+    ((saved saved_after : Option (SinkView ⊤)) × IsUnwritten path saved
+    × Places path (KeepsTo helpers journal input input_after saved saved_after) work)
+    ⊎ (IsNotMade path work × (input_after ≡ input))
+
+-- `run`, with a journal that is kept in the file of this path, if there is one
+abbrev pub RunsWords : {R W E : Type 0} → ℕ → Option (List ℕ) → Option (List ℕ) → SourceView R
+    → SourceView R → SinkView W → SinkView W → ℕ → SinkView E → SinkView E → Type 0
+RunsWords journal path None input input_after output output_after status errors errors_after =
+    EndsBy (RunsLine journal path input input_after output output_after) status errors errors_after
+RunsWords journal path (Some kept) input input_after output output_after status errors errors_after =
+    EndsBy (KeepsLine journal path input input_after) status errors errors_after
 
 -- `serve`, as `run`
 abbrev pub ServesLine : {W : Type 0} → ℕ → Option (List ℕ) → List (List ℕ) → SinkView W → SinkView W
     → Result ℕ Failure → Type 0
 ServesLine journal path partners output output_after work =
     ((saved saved_after : Option (SinkView ⊤)) × IsUnwritten path saved
-    × ServesWordsTo helpers journal partners output output_after saved saved_after work)
+    × Places path (ServesWordsTo helpers journal partners output output_after saved saved_after) work)
     ⊎ (IsNotMade path work × (output_after ≡ output))
 
 -- a file could not be opened, and nothing was written
@@ -88,6 +126,13 @@ abbrev pub AuditsLine : {W : Type 0} → SinkView W → SinkView W → Result �
 AuditsLine output output_after work =
     ((file file_after : SourceView ⊤) × IsUnread file
     × Audited helpers file file_after output output_after work)
+    ⊎ FailsToOpen output output_after work
+
+-- `tell`, the same
+abbrev pub TellsLine : {W : Type 0} → SinkView W → SinkView W → Result ℕ Failure → Type 0
+TellsLine output output_after work =
+    ((file file_after : SourceView ⊤) × IsUnread file
+    × Told helpers file file_after output output_after work)
     ⊎ FailsToOpen output output_after work
 
 -- `verify`, the same, beside records of this length
@@ -109,10 +154,10 @@ ExplainsLine long path output output_after status errors errors_after =
 -- what is done for a line; none but `run` reads the input
 abbrev pub Does : {R W E : Type 0} → Line → SourceView R → SourceView R → SinkView W → SinkView W → ℕ
     → SinkView E → SinkView E → Type 0
-Does (Run journal save) input input_after output output_after status errors errors_after =
-    EndsBy (RunsLine journal (option_map (λ s. s.now) save) input input_after output output_after)
-    status errors errors_after
-Does (Serve journal save watch partners) input input_after output output_after status errors errors_after =
+Does (Run journal save keep) input input_after output output_after status errors errors_after =
+    RunsWords journal (option_map (λ s. s.now) save) (option_map (λ s. s.now) keep) input input_after
+    output output_after status errors errors_after
+Does (Serve journal save watch changes again control pace partners) input input_after output output_after status errors errors_after =
     (input_after ≡ input) × EndsBy (ServesLine journal (option_map (λ s. s.now) save)
     (map (λ s. s.now) partners.items) output output_after) status errors errors_after
 Does (Audit file) input input_after output output_after status errors errors_after =
@@ -121,6 +166,8 @@ Does (Verify long file) input input_after output output_after status errors erro
     (input_after ≡ input) × EndsBy (VerifiesLine long output output_after) status errors errors_after
 Does (Explain long file) input input_after output output_after status errors errors_after =
     (input_after ≡ input) × ExplainsLine long file.now output output_after status errors errors_after
+Does (Tell file) input input_after output output_after status errors errors_after =
+    (input_after ≡ input) × EndsBy (TellsLine output output_after) status errors errors_after
 
 -- the words ask for this line, and it was done
 pub record DoesAsked {R W E : Type 0} (words : List (List ℕ)) (input input_after : SourceView R)

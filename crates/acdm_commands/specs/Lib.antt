@@ -1,4 +1,5 @@
 pub mod Completed
+pub mod Keeping
 pub mod Minutes
 pub mod Partners
 pub mod Served

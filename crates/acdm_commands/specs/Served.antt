@@ -36,22 +36,25 @@ ServesFromEmpty sigs capacity after log log_after ended old new =
     × ServesAll log log_after ended (empty_desk sigs capacity cells) after old new
 
 -- The lines that a reader gave, to its end, were answered on a writer by a desk that was empty at
--- first. No byte of a reply waits for a flush where none waited before.
+-- first. No byte of a reply waits for a flush.
 pub record ServesDesk {R W : Type 0} (sigs : List (ℕ × Promise)) (capacity : ℕ) (desk : DeskView)
     (read read_after : SourceView R) (written written_after : SinkView W) : Type 0 where
   pub serves : ServesFromEmpty sigs capacity desk read.log read_after.log read_after.ended written.log
       written_after.log
-  pub flushed : written.waits ≡ false → written_after.waits ≡ false
+  pub flushed : written_after.waits ≡ false
 
--- no more could be read, and the whole lines before that were answered so
+-- no more could be read, and the whole lines before that were answered so; no byte of a reply waits for
+-- a flush
 pub record StopsReading {R W : Type 0} (sigs : List (ℕ × Promise)) (capacity : ℕ)
     (read read_after : SourceView R) (written written_after : SinkView W) : Type 0 where
   pub cells : List ℕ
   pub desk : DeskView
   pub serves : ServesWhole read.log read_after.log read.faults read_after.faults
       (empty_desk sigs capacity cells) desk written.log written_after.log
+  pub flushed : written_after.waits ≡ false
 
--- a reply could not be written, since the writer failed once more, and the lines before it were answered
+-- the writer failed once more: a reply could not be written, and the lines before it were answered; or the
+-- replies to all lines so far could not be let go
 pub record StopsWriting {R W : Type 0} (sigs : List (ℕ × Promise)) (capacity : ℕ)
     (read read_after : SourceView R) (written written_after : SinkView W) : Type 0 where
   pub cells : List ℕ

@@ -1,20 +1,23 @@
 //! The commands, over the files, the reader and the writers that they are handed.
 ghost use Rattle.std.specs.Prelude.{◌≡◌, ◌-◌, ◌^◌, ◌<◌, map, option_map};
-ghost use Rattle.acdm_commands.specs.Completed.{AuditsLine, Completes, ExplainsLine, RunsLine};
-ghost use Rattle.acdm_commands.specs.Completed.{ServesLine, VerifiesLine};
+ghost use Rattle.acdm_commands.specs.Completed.{AuditsLine, Completes, ExplainsLine, RunsLine, RunsWords};
+ghost use Rattle.acdm_commands.specs.Completed.{ServesLine, TellsLine, VerifiesLine};
 ghost use Rattle.acdm_failures.specs.Failures.{EndsBy};
 
-use crate::saving::file_of;
+use crate::keeping::keep_line;
+use crate::lasting::Service;
+use crate::saving::{saving_in, settle};
 use crate::serve_command::serve_words;
 use crate::serving::run_on;
 use acdm_command_line::{Line, asked};
 use acdm_failures::{Failure, ended};
 use acdm_judging::{audit_on, explain_on, unread, verify_on};
 use acdm_sessions::{Sink, Source};
+use acdm_telling::tell_on;
 use bpf_regstate::Length;
 use std::alloc::Global;
-use std::fs::{self, Files};
-use std::io::{Read, Write};
+use std::fs::{self, File, Files};
+use std::io::{Eprint, Read, Write};
 use std::net::{Net, TcpListener, TcpStream};
 use std::sync::Wait;
 use std::thread::Threads;
@@ -23,12 +26,14 @@ use std::time::Clock as SystemClock;
 /// Does what the words ask for; the first is the program's name.
 ///
 /// The status is that of the command, and 2 where the words ask for none or their file can't be
-/// opened. The file of `--save` is made before anything is answered, and in place of one that is
-/// there. What is wrong is told on the errors' writer; where that fails, the status alone says it.
+/// opened. What `--save` names is written beside it, in a file that is made before anything is
+/// answered, and that takes its place once all of it is on the disk: what was there stays until
+/// then, and where the command fails. What is wrong is told on the errors' writer; where that fails, the status alone says it.
 pub fn complete<
-    Rt: Files
+    Rt: Files<File = File>
         + Net<Listener = TcpListener, Stream = TcpStream>
         + SystemClock
+        + Eprint
         + Threads
         + Wait
         + Clone
@@ -57,11 +62,19 @@ pub fn complete<
         Err(_) => return 2,
     };
     match line {
-        Line::Run { journal, save } => { run_line(rt, alloc, journal, save, input, output, errors) }
+        Line::Run {
+            journal,
+            save,
+            keep,
+        } => run_words(rt, alloc, journal, save, keep, input, output, errors),
         Line::Serve {
             journal,
             save,
             watch,
+            changes,
+            again,
+            control,
+            pace,
             partners,
         } => serve_line(
             rt,
@@ -69,6 +82,12 @@ pub fn complete<
             journal,
             save,
             watch,
+            changes,
+            Service {
+                again,
+                control,
+                pace,
+            },
             partners.as_slice(),
             output,
             errors,
@@ -76,6 +95,30 @@ pub fn complete<
         Line::Audit { file } => audit_line(rt, alloc, file, output, errors),
         Line::Verify { length, file } => verify_line(rt, alloc, length, file, output, errors),
         Line::Explain { length, file } => { explain_line(rt, alloc, length, file, output, errors) }
+        Line::Tell { file } => tell_line(rt, alloc, file, output, errors),
+    }
+}
+
+// `run`, with the files that the journal is to be saved and kept in.
+fn run_words<Rt: Files<File = File>, R: Read, W: Write, E: Write>(
+    rt: &Rt,
+    alloc: Global,
+    journal: usize,
+    save: Option<&str>,
+    keep: Option<&str>,
+    input: &mut Source<R>,
+    output: &mut Sink<W>,
+    errors: &mut Sink<E>,
+) -> u8
+    requires reads { input.old.faults < 2 ^ 64 - 1 }
+    requires writes { output.old.faults < 2 ^ 64 - 1 }
+    ensures { RunsWords journal (option_map (λ s. s.now) save.entry)
+        (option_map (λ s. s.now) keep.entry) input.old input.new output.old output.new result
+        errors.old errors.new }
+{
+    match keep {
+        Some(path) => keep_line(rt, alloc, journal, save, path, input, output, errors),
+        None => run_line(rt, alloc, journal, save, input, output, errors),
     }
 }
 
@@ -94,8 +137,11 @@ fn run_line<Rt: Files, R: Read, W: Write, E: Write>(
     ensures { EndsBy (RunsLine journal (option_map (λ s. s.now) save.entry) input.old input.new output.old
         output.new) result errors.old errors.new }
 {
-    match file_of(rt, alloc, save) {
-        Ok(mut file) => run_on(alloc, journal, input, output, &mut file, errors),
+    match saving_in(rt, alloc, save) {
+        Ok(mut saving) => {
+            let status = run_on(alloc, journal, input, output, &mut saving.file, errors);
+            settle(rt, save, saving, status, errors)
+        }
         Err(failure) => ended(Err(failure), errors),
     }
 }
@@ -105,6 +151,7 @@ fn serve_line<
     Rt: Files
         + Net<Listener = TcpListener, Stream = TcpStream>
         + SystemClock
+        + Eprint
         + Threads
         + Wait
         + Clone
@@ -120,6 +167,8 @@ fn serve_line<
     journal: usize,
     save: Option<&str>,
     watch: Option<&str>,
+    changes: Option<&str>,
+    service: Service<'_>,
     partners: &[&str],
     output: &mut Sink<W>,
     errors: &mut Sink<E>,
@@ -127,10 +176,14 @@ fn serve_line<
     ensures { EndsBy (ServesLine journal (option_map (λ s. s.now) save.entry)
         (map (λ w. w.now) partners.now) output.old output.new) result errors.old errors.new }
 {
-    match file_of(rt, alloc, save) {
-        Ok(mut file) => serve_words(
-            rt, alloc, journal, watch, partners, output, &mut file, errors,
-        ),
+    match saving_in(rt, alloc, save) {
+        Ok(mut saving) => {
+            let saved = &mut saving.file;
+            let status = serve_words(
+                rt, alloc, journal, watch, changes, service, partners, output, saved, errors,
+            );
+            settle(rt, save, saving, status, errors)
+        }
         Err(failure) => ended(Err(failure), errors),
     }
 }
@@ -147,6 +200,22 @@ fn audit_line<Rt: Files, W: Write, E: Write>(
 {
     match fs::open(rt, file) {
         Ok(file) => audit_on(alloc, &mut Source::new(file), output, errors),
+        Err(_) => ended(Err(Failure::Read), errors),
+    }
+}
+
+// `tell`, of the journal in a file.
+fn tell_line<Rt: Files, W: Write, E: Write>(
+    rt: &Rt,
+    alloc: Global,
+    file: &str,
+    output: &mut Sink<W>,
+    errors: &mut Sink<E>,
+) -> u8
+    ensures { EndsBy (TellsLine output.old output.new) result errors.old errors.new }
+{
+    match fs::open(rt, file) {
+        Ok(file) => tell_on(alloc, &mut Source::new(file), output, errors),
         Err(_) => ended(Err(Failure::Read), errors),
     }
 }

@@ -4,7 +4,8 @@
 
 mod addresses;
 mod commands;
-mod known;
+mod keeping;
+mod lasting;
 mod minutes;
 mod partners;
 mod saving;

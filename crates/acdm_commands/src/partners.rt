@@ -15,26 +15,61 @@ ghost use Rattle.acdm_wire.specs.Writes.{Writes};
 
 use acdm_board::Desk;
 use acdm_failures::ServeError;
+use acdm_headline::serve_sessions;
 use acdm_milestones::Role;
-use acdm_sessions::{
-    Clock, Closed, End, Ended, Gate, RunError, Session, Sink, Source, run_sessions,
-};
+use acdm_partners::{PATIENCE, Patient};
+use acdm_sessions::{Clock, Closed, End, Ended, Gate, RunError, Session, Sink, Source};
 use acdm_wire::{Text, write_out, write_whole};
 use bpf_helpers::Helpers;
 use std::alloc::Global;
-use std::io::Write;
-use std::net::{SocketAddr, TcpListener, TcpStream};
+use std::io::{BufWriter, Read, Write};
+use std::net::{Shutdown, SocketAddr, TcpListener, TcpStream};
 use std::sync::Wait;
 use std::thread::Threads;
+use std::time::Duration;
 
-// Holds nobody up.
+/// What a partner's replies go to.
+pub type ReplyWriter = BufWriter<Patient<TcpStream>>;
+
+/// How many bytes of a partner's replies are sent in one piece.
+pub(crate) const REPLIES_HELD: usize = 65_536;
+
+// The connections of all sessions, in order: one is closed once its session has ended. It holds nobody
+// up.
 #[derive(Drop)]
-struct Open;
+struct Connections {
+    streams: Vec<TcpStream>,
+}
 
-impl Gate for Open {
+impl Connections {
+    // Takes a connection in, the `number`-th, which is let go where it takes nothing for 30 seconds.
+    fn add(&mut self, number: usize, stream: &TcpStream) -> Result<(), ServeError>
+        ensures fails { IfErr result IsOfAccepting }
+    {
+        let patience = Some(Duration::from_millis(PATIENCE));
+        if stream.set_write_timeout(patience).is_err() {
+            return Err(ServeError::Accept(number));
+        }
+        let Ok(same) = stream.try_clone() else {
+            return Err(ServeError::Accept(number));
+        };
+        match self.streams.push(same) {
+            Ok(()) => Ok(()),
+            Err(_) => Err(ServeError::Memory),
+        }
+    }
+}
+
+impl Gate for Connections {
     fn enter(&self, _session: u8, _call: u64) {}
 
     fn answered(&self, _session: u8, _call: u64) {}
+
+    fn ended(&self, session: u8) {
+        if let Some(stream) = self.streams.get(usize::from(session).saturating_sub(1)) {
+            let _ = stream.shutdown(Shutdown::Both);
+        }
+    }
 }
 
 /// Accepts one partner on each listener, in order, serves all at once against one desk, and tells
@@ -55,7 +90,7 @@ pub fn serve_on<
     partners: Vec<(Role, TcpListener, C)>,
     desk: Desk<H>,
     writer: &mut Sink<W>,
-) -> Result<Closed<H, TcpStream, TcpStream, C>, ServeError>
+) -> Result<Closed<H, TcpStream, ReplyWriter, C>, ServeError>
     requires few { vec_len partners ≤ 64 }
     ensures sum { IfOk result (λ c. length c.desk.history
         ≡ length desk.history + sum_by (λ e. e.calls) c.sessions.items) }
@@ -77,8 +112,11 @@ pub fn serve_on<
         (length c.desk.history) writer.old writer.new) }
     ensures fails { IfErr result (FailsToTell writer.old writer.new) }
 {
-    let sessions = arrived(alloc, partners, writer)?;
-    let closed = closed_by(rt, alloc, desk, sessions)?;
+    let mut connections = Connections {
+        streams: Vec::new(alloc),
+    };
+    let sessions = arrived(alloc, partners, &mut connections, writer)?;
+    let closed = served_by(rt, alloc, desk, sessions, &connections)?;
     match tell(&closed, writer) {
         Ok(()) => Ok(closed),
         Err(_) => Err(ServeError::Write),
@@ -89,8 +127,9 @@ pub fn serve_on<
 fn arrived<C: Clock + Drop, W: Write>(
     alloc: Global,
     partners: Vec<(Role, TcpListener, C)>,
+    connections: &mut Connections,
     writer: &mut Sink<W>,
-) -> Result<Vec<Session<TcpStream, TcpStream, C>>, ServeError>
+) -> Result<Vec<Session<TcpStream, ReplyWriter, C>>, ServeError>
     requires few { vec_len partners ≤ 64 }
     ensures len { IfOk result (λ sessions. vec_len sessions ≡ vec_len partners) }
     ensures roles { IfOk result (λ sessions. map (λ s. s.role) sessions.items
@@ -102,16 +141,24 @@ fn arrived<C: Clock + Drop, W: Write>(
     ensures fails { IfErr result (FailsToTell writer.old writer.new) }
 {
     announce(alloc, partners.as_slice(), writer)?;
-    accept_all(alloc, partners)
+    accept_all(alloc, partners, connections)
 }
 
-// Serves all sessions.
-fn closed_by<Rt: Threads + Wait + Sync, H: Helpers + Drop + Send, C: Clock + Drop + Send>(
+/// Serves all sessions. `Memory` where it was refused before they began.
+pub(crate) fn served_by<
+    Rt: Threads + Wait + Sync,
+    H: Helpers + Drop + Send,
+    R: Read + Drop + Send,
+    S: Write + Drop + Send,
+    C: Clock + Drop + Send,
+    G: Gate + Sync,
+>(
     rt: &Rt,
     alloc: Global,
     desk: Desk<H>,
-    sessions: Vec<Session<TcpStream, TcpStream, C>>,
-) -> Result<Closed<H, TcpStream, TcpStream, C>, ServeError>
+    sessions: Vec<Session<R, S, C>>,
+    gate: &G,
+) -> Result<Closed<H, R, S, C>, ServeError>
     requires few { vec_len sessions ≤ 64 }
     ensures sum { IfOk result (λ c. length c.desk.history
         ≡ length desk.history + sum_by (λ e. e.calls) c.sessions.items) }
@@ -127,7 +174,7 @@ fn closed_by<Rt: Threads + Wait + Sync, H: Helpers + Drop + Send, C: Clock + Dro
         ≡ made_since (length desk.history) c.desk.history e.number) c.sessions.items) }
     ensures fails { IfErr result IsOfAccepting }
 {
-    match run_sessions(rt, alloc, desk, sessions, &Open) {
+    match serve_sessions(rt, alloc, desk, sessions, gate) {
         Ok(closed) => Ok(closed),
         Err(_desk) => Err(ServeError::Memory),
     }
@@ -173,8 +220,8 @@ fn announce_one<W: Write>(
     }
 }
 
-// Writes the line of each listener.
-fn announce<C, W: Write>(
+/// Writes the line of each listener.
+pub(crate) fn announce<C, W: Write>(
     alloc: Global,
     partners: &[(Role, TcpListener, C)],
     writer: &mut Sink<W>,
@@ -197,7 +244,8 @@ fn announce<C, W: Write>(
 fn accept_all<C: Clock + Drop>(
     alloc: Global,
     partners: Vec<(Role, TcpListener, C)>,
-) -> Result<Vec<Session<TcpStream, TcpStream, C>>, ServeError>
+    connections: &mut Connections,
+) -> Result<Vec<Session<TcpStream, ReplyWriter, C>>, ServeError>
     ensures len { IfOk result (λ sessions. vec_len sessions ≡ vec_len partners) }
     ensures roles { IfOk result (λ sessions. map (λ s. s.role) sessions.items
         ≡ map (λ p. p.0) partners.items) }
@@ -211,16 +259,18 @@ fn accept_all<C: Clock + Drop>(
     };
     for partner in partners {
         let number = sessions.len() + 1;
-        sessions.push_reserved(accept(number, partner)?);
+        sessions.push_reserved(accept(alloc, number, partner, connections)?);
     }
     Ok(sessions)
 }
 
 // Accepts a partner.
 fn accept<C: Clock + Drop>(
+    alloc: Global,
     number: usize,
     partner: (Role, TcpListener, C),
-) -> Result<Session<TcpStream, TcpStream, C>, ServeError>
+    connections: &mut Connections,
+) -> Result<Session<TcpStream, ReplyWriter, C>, ServeError>
     ensures role { IfOk result (λ session. session.role ≡ partner.0) }
     ensures start { IfOk result (λ s. session_start s.role s.reader s.writer (C.gives s.clock)
         ≡ new_session partner.0 (C.gives partner.2)) }
@@ -233,12 +283,16 @@ fn accept<C: Clock + Drop>(
     let Ok(same) = stream.try_clone() else {
         return Err(ServeError::Accept(number));
     };
+    connections.add(number, &stream)?;
     // Where replies can't go at once they go later.
     let _ = stream.set_nodelay(true);
+    let Ok(writer) = BufWriter::with_capacity(alloc, REPLIES_HELD, Patient::new(same)) else {
+        return Err(ServeError::Memory);
+    };
     Ok(Session {
         role,
         reader: Source::new(stream),
-        writer: Sink::new(same),
+        writer: Sink::new(writer),
         clock,
     })
 }
@@ -286,8 +340,8 @@ fn closed_line(entries: u64) -> Text
 }
 
 // Writes the line of each session.
-fn tell_sessions<C: Drop, W: Write>(
-    sessions: &[Ended<TcpStream, TcpStream, C>],
+fn tell_sessions<R: Read + Drop, S: Write + Drop, C: Drop, W: Write>(
+    sessions: &[Ended<R, S, C>],
     writer: &mut Sink<W>,
 ) -> Result<(), RunError>
     ensures { Writes writer.old writer.new
@@ -302,9 +356,9 @@ fn tell_sessions<C: Drop, W: Write>(
     Ok(())
 }
 
-// Writes the line of each session, and how many entries there are.
-fn tell<H: Helpers + Drop, C: Drop, W: Write>(
-    closed: &Closed<H, TcpStream, TcpStream, C>,
+/// Writes the line of each session, and how many entries there are.
+pub(crate) fn tell<H: Helpers + Drop, R: Read + Drop, S: Write + Drop, C: Drop, W: Write>(
+    closed: &Closed<H, R, S, C>,
     writer: &mut Sink<W>,
 ) -> Result<(), RunError>
     ensures writes { Writes writer.old writer.new

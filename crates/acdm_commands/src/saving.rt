@@ -1,7 +1,7 @@
 //! The saving of a desk's journal, as text.
 ghost use Rattle.std.specs.Prelude.{◌≡◌, ◌≤◌, false, IfOk, IfErr, OnOk, Some, option_map};
 ghost use Rattle.acdm_board.specs.Desk.{row_of};
-ghost use Rattle.acdm_commands.specs.Completed.{FailsToMake, IsUnwritten};
+ghost use Rattle.acdm_commands.specs.Completed.{FailsToMake, IsUnwritten, Settles};
 ghost use Rattle.acdm_commands.specs.Served.{FailsToSave, IsSaved};
 ghost use Rattle.acdm_journal.specs.Whole.{Saves};
 
@@ -11,33 +11,146 @@ use acdm_journal::write_entry;
 use acdm_row::Row;
 use acdm_sessions::Sink;
 use bpf_helpers::Helpers;
-use std::alloc::Global;
-use std::fs::{self, Files};
-use std::io::{BufWriter, Write};
+use std::alloc::{AllocError, Global};
+use std::fs::{self, Files, OpenFile};
+use std::io::{self, BufWriter, Write};
+use std::path::Path;
 use std::sync::Arc;
 
 /// How many bytes are written at once at most.
 const BUFFER: usize = 65_536;
 
-/// Makes the file of this path, if there is one, so that a journal can be saved in it.
-pub(crate) fn file_of<Rt: Files>(
+/// The file that a journal is saved in. It is written beside the one of its path, which it takes the
+/// place of once all of it is on the disk; where the path is that of a device or a pipe, it is that.
+#[derive(Drop)]
+pub(crate) struct Saving<F: Write + Drop> {
+    pub file: Option<Sink<BufWriter<F>>>,
+    names: Option<Names>,
+}
+
+// The name of the file beside, and of the one that it takes the place of.
+#[derive(Drop)]
+struct Names {
+    part: String,
+    whole: String,
+}
+
+// Whether a path is that of something else than a file, or than nothing.
+fn is_special<Rt: Files>(rt: &Rt, path: &str) -> bool {
+    match fs::metadata(rt, path) {
+        Ok(found) => !found.is_file(),
+        Err(_) => false,
+    }
+}
+
+// The file that a path leads to, by links or not.
+fn target_of<Rt: Files>(rt: &Rt, alloc: Global, path: &str) -> Result<String, AllocError> {
+    match rt.canonicalize(alloc, path) {
+        Ok(found) => String::from_str(alloc, found.as_str()),
+        Err(_) => String::from_str(alloc, path),
+    }
+}
+
+// The names for a path, if a file is to be written beside it.
+fn names_of<Rt: Files>(rt: &Rt, alloc: Global, path: &str) -> Result<Option<Names>, AllocError> {
+    if is_special(rt, path) {
+        return Ok(None);
+    }
+    let whole = target_of(rt, alloc, path)?;
+    let mut part = String::from_str(alloc, whole.as_str())?;
+    part.push_str(".part")?;
+    Ok(Some(Names { part, whole }))
+}
+
+// Makes the file to be written.
+fn create<Rt: Files>(rt: &Rt, path: &str, names: &Option<Names>) -> io::Result<Rt::File> {
+    match names {
+        Some(names) => fs::create(rt, names.part.as_str()),
+        None => fs::create(rt, path),
+    }
+}
+
+/// Makes the file that a journal is to be saved in by this path, if there is one, and leaves the one
+/// that is there. `Save` where it can't be made, `Memory` where that was refused.
+pub(crate) fn saving_in<Rt: Files>(
     rt: &Rt,
     alloc: Global,
     path: Option<&str>,
-) -> Result<Option<Sink<BufWriter<Rt::File>>>, Failure>
-    ensures made { IfOk result (IsUnwritten (option_map (λ p. p.now) path.entry)) }
+) -> Result<Saving<Rt::File>, Failure>
+    ensures made { IfOk result (λ s. IsUnwritten (option_map (λ p. p.now) path.entry) s.file) }
     ensures fails { IfErr result (FailsToMake (option_map (λ p. p.now) path.entry)) }
 {
     let Some(path) = path else {
-        return Ok(None);
+        return Ok(Saving {
+            file: None,
+            names: None,
+        });
     };
-    let Ok(file) = fs::create(rt, path) else {
+    let Ok(names) = names_of(rt, alloc, path) else {
+        return Err(Failure::Memory);
+    };
+    let Ok(file) = create(rt, path, &names) else {
         return Err(Failure::Save);
     };
     match BufWriter::with_capacity(alloc, BUFFER, file) {
-        Ok(writer) => Ok(Some(Sink::new(writer))),
+        Ok(writer) => Ok(Saving {
+            file: Some(Sink::new(writer)),
+            names,
+        }),
         Err(_) => Err(Failure::Memory),
     }
+}
+
+// Has the folder of a file on the disk, with the file's name.
+fn settle_folder<Rt: Files>(rt: &Rt, whole: &str) -> io::Result<()> {
+    let folder = match Path::new(whole).parent() {
+        Some(folder) if !folder.as_str().is_empty() => folder.as_str(),
+        _ => ".",
+    };
+    fs::open(rt, folder)?.sync_all()
+}
+
+// Puts a file that was written in its place, once all of it is on the disk.
+fn put_in_place<Rt: Files>(
+    rt: &Rt,
+    file: Sink<BufWriter<Rt::File>>,
+    names: &Names,
+) -> io::Result<()> {
+    let writer = file.into_inner();
+    writer.get_ref().sync_all()?;
+    fs::rename(rt, names.part.as_str(), names.whole.as_str())?;
+    settle_folder(rt, names.whole.as_str())
+}
+
+/// Puts the file of a command that ended with this status in its place, where the status is 0; else
+/// what was there stays. The status is 2 where that failed, with a line on the errors' writer.
+pub(crate) fn settle<Rt: Files, E: Write>(
+    rt: &Rt,
+    path: Option<&str>,
+    saving: Saving<Rt::File>,
+    status: u8,
+    errors: &mut Sink<E>,
+) -> u8
+    ensures { Settles (option_map (λ p. p.now) path.entry) status errors.old errors.new result }
+{
+    if path.is_none() {
+        return status;
+    }
+    let Saving { file, names } = saving;
+    let Some(names) = names else {
+        return status;
+    };
+    let Some(file) = file else {
+        return status;
+    };
+    if status == 0 && put_in_place(rt, file, &names).is_ok() {
+        return status;
+    }
+    let _ = fs::remove_file(rt, names.part.as_str());
+    if status != 0 {
+        return status;
+    }
+    Failure::Save.complain(errors)
 }
 
 /// Writes the journal of a desk, one line for each entry, to a writer if there is one, and flushes

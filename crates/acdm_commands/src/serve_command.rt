@@ -7,19 +7,20 @@ ghost use Rattle.acdm_judging.specs.Helpers.{helpers as known};
 ghost use Rattle.acdm_sessions.specs.Sessions.{new_session};
 
 use crate::addresses::{Partner, listen};
-use crate::known::{minutes_later, taxi_minutes, turn_round_minutes};
+use crate::lasting::{Service, serve_again};
 use crate::partners::serve_on;
 use crate::saving::save;
 use acdm_board::Desk;
-use acdm_displays::Displays;
+use acdm_displays::{Displays, Form};
 use acdm_failures::{Failure, ended};
-use acdm_judging::bank_of;
+use acdm_judging::KnownHelpers;
 use acdm_milestones::Role;
+use acdm_partners::{Control, Terms};
 use acdm_row::Row;
 use acdm_sessions::{Clock, Sink};
-use bpf_helpers::{Code, Helpers};
+use bpf_helpers::Helpers;
 use std::alloc::Global;
-use std::io::Write;
+use std::io::{Eprint, Write};
 use std::net::{Net, TcpListener, TcpStream};
 use std::sync::{Arc, Wait};
 use std::thread::Threads;
@@ -35,6 +36,7 @@ use std::time::Clock as SystemClock;
 pub(crate) fn serve_words<
     Rt: Net<Listener = TcpListener, Stream = TcpStream>
         + SystemClock
+        + Eprint
         + Threads
         + Wait
         + Clone
@@ -50,6 +52,8 @@ pub(crate) fn serve_words<
     alloc: Global,
     journal: usize,
     watch: Option<&str>,
+    changes: Option<&str>,
+    service: Service<'_>,
     words: &[&str],
     writer: &mut Sink<W>,
     saved: &mut Option<Sink<F>>,
@@ -58,48 +62,20 @@ pub(crate) fn serve_words<
     ensures { EndsBy (ServesWordsTo known journal (map (λ w. w.now) words.now) writer.old writer.new
         saved.old saved.new) result errors.old errors.new }
 {
+    let helpers = KnownHelpers::new(alloc);
     ended(
-        serve(rt, alloc, journal, watch, words, writer, saved),
+        serve_with(
+            rt, alloc, helpers, journal, watch, changes, service, words, writer, saved,
+        ),
         errors,
     )
-}
-
-// Makes the known helpers.
-fn serve<
-    Rt: Net<Listener = TcpListener, Stream = TcpStream>
-        + SystemClock
-        + Threads
-        + Wait
-        + Clone
-        + Drop
-        + Send
-        + Sync
-        + 'static,
-    W: Write,
-    F: Write + Drop,
->(
-    rt: &Rt,
-    alloc: Global,
-    journal: usize,
-    watch: Option<&str>,
-    words: &[&str],
-    writer: &mut Sink<W>,
-    saved: &mut Option<Sink<F>>,
-) -> Result<u8, Failure>
-    ensures { ServesWordsTo known journal (map (λ w. w.now) words.now) writer.old writer.new
-        saved.old saved.new result }
-{
-    let kinds: Code = Box::new(alloc, turn_round_minutes)?;
-    let stands: Code = Box::new(alloc, taxi_minutes)?;
-    let minutes: Code = Box::new(alloc, minutes_later)?;
-    let bank = bank_of(alloc, kinds, stands, minutes)?;
-    serve_with(rt, alloc, bank, journal, watch, words, writer, saved)
 }
 
 // Makes a desk that is empty at first.
 fn serve_with<
     Rt: Net<Listener = TcpListener, Stream = TcpStream>
         + SystemClock
+        + Eprint
         + Threads
         + Wait
         + Clone
@@ -116,6 +92,8 @@ fn serve_with<
     helpers: H,
     journal: usize,
     watch: Option<&str>,
+    changes: Option<&str>,
+    asked: Service<'_>,
     words: &[&str],
     writer: &mut Sink<W>,
     saved: &mut Option<Sink<F>>,
@@ -124,7 +102,7 @@ fn serve_with<
         writer.new saved.old saved.new result }
 {
     let desk = Desk::new(alloc, helpers, journal)?;
-    serve_at(rt, alloc, desk, watch, words, writer, saved)?;
+    serve_at(rt, alloc, desk, watch, changes, asked, words, writer, saved)?;
     Ok(0)
 }
 
@@ -132,6 +110,7 @@ fn serve_with<
 fn serve_at<
     Rt: Net<Listener = TcpListener, Stream = TcpStream>
         + SystemClock
+        + Eprint
         + Threads
         + Wait
         + Clone
@@ -147,6 +126,8 @@ fn serve_at<
     alloc: Global,
     desk: Desk<H>,
     watch: Option<&str>,
+    changes: Option<&str>,
+    service: Service<'_>,
     words: &[&str],
     writer: &mut Sink<W>,
     saved: &mut Option<Sink<F>>,
@@ -154,9 +135,10 @@ fn serve_at<
     ensures { ServesNamedTo desk (map (λ w. w.now) words.now) writer.old writer.new saved.old
         saved.new result }
 {
-    let (partners, displays) = opened(rt, alloc, desk.row(), watch, words)?;
-    let ended = serve_all(rt, alloc, partners, desk, writer, saved);
-    close(rt, displays);
+    let control = service.control(rt, alloc)?;
+    let (partners, displays) = opened(rt, alloc, desk.row(), watch, changes, words)?;
+    let ended = serve_all(rt, alloc, partners, desk, service, control, writer, saved);
+    close_all(rt, displays);
     ended
 }
 
@@ -178,6 +160,53 @@ fn few_partners<'r, Rt: Net<Listener = TcpListener, Stream = TcpStream> + System
     Ok(partners)
 }
 
+// Displays that are sent the journal, and displays that are told what it changes.
+#[derive(Drop)]
+struct Outlets {
+    journal: Option<Displays>,
+    changes: Option<Displays>,
+}
+
+// Closes displays, where there are any.
+fn close<Rt: SystemClock + Threads>(rt: &Rt, displays: Option<Displays>) {
+    if let Some(displays) = displays {
+        displays.close(rt);
+    }
+}
+
+// Lets all displays go, once they were sent what there is.
+fn close_all<Rt: SystemClock + Threads>(rt: &Rt, outlets: Outlets) {
+    let Outlets { journal, changes } = outlets;
+    close(rt, journal);
+    close(rt, changes);
+}
+
+// Listens for displays of a row.
+fn outlets_of<
+    Rt: Net<Listener = TcpListener, Stream = TcpStream>
+        + SystemClock
+        + Threads
+        + Clone
+        + Drop
+        + Send
+        + 'static,
+>(
+    rt: &Rt,
+    alloc: Global,
+    row: &Arc<Row>,
+    watch: Option<&str>,
+    changes: Option<&str>,
+) -> Result<Outlets, Failure> {
+    let journal = Displays::open(rt, alloc, watch, row)?;
+    match Displays::open_as(rt, alloc, Form::Changes, changes, row) {
+        Ok(changes) => Ok(Outlets { journal, changes }),
+        Err(failure) => {
+            close(rt, journal);
+            Err(failure)
+        }
+    }
+}
+
 // Listens for partners, and for displays of a row.
 fn opened<
     'r,
@@ -193,30 +222,62 @@ fn opened<
     alloc: Global,
     row: &Arc<Row>,
     watch: Option<&str>,
+    changes: Option<&str>,
     words: &[&str],
-) -> Result<(Vec<Partner<'r, Rt>>, Option<Displays>), Failure>
+) -> Result<(Vec<Partner<'r, Rt>>, Outlets), Failure>
     ensures few { IfOk result (λ opened. vec_len opened.0 ≤ 64) }
     ensures roles { IfOk result (λ opened.
         map role_in (map (λ w. w.now) words.now) ≡ map (λ p. Some p.0) opened.0.items) }
     ensures fails { IfErr result (FailsToOpen (map (λ w. w.now) words.now)) }
 {
     let partners = few_partners(rt, alloc, words)?;
-    match Displays::open(rt, alloc, watch, row) {
+    match outlets_of(rt, alloc, row, watch, changes) {
         Ok(displays) => Ok((partners, displays)),
         Err(Failure::Memory) => Err(Failure::Memory),
         Err(_) => Err(Failure::Watch),
     }
 }
 
-// Closes displays, where there are any.
-fn close<Rt: SystemClock + Threads>(rt: &Rt, displays: Option<Displays>) {
-    if let Some(displays) = displays {
-        displays.close(rt);
+// Serves the partners, and saves what they made.
+fn serve_all<
+    Rt: SystemClock + Eprint + Threads + Wait + Clone + Drop + Send + Sync + 'static,
+    H: Helpers + Drop + Send,
+    C: Clock + Drop + Send,
+    W: Write,
+    F: Write + Drop,
+>(
+    rt: &Rt,
+    alloc: Global,
+    partners: Vec<(Role, TcpListener, C)>,
+    desk: Desk<H>,
+    service: Service<'_>,
+    control: Option<Control>,
+    writer: &mut Sink<W>,
+    saved: &mut Option<Sink<F>>,
+) -> Result<(), Failure>
+    requires { vec_len partners ≤ 64 }
+    ensures { ServesPartnersTo desk (map (λ p. p.0) partners.items)
+        (map (λ p. new_session p.0 (C.gives p.2)) partners.items) writer.old writer.new saved.old
+        saved.new result }
+{
+    if service.is_plain() {
+        serve_once(rt, alloc, partners, desk, writer, saved)
+    } else {
+        serve_lasting(
+            rt,
+            alloc,
+            partners,
+            desk,
+            service.terms(),
+            control,
+            writer,
+            saved,
+        )
     }
 }
 
-// Serves the partners, and saves what they made.
-fn serve_all<
+// Serves each partner to the end of its connection, and saves what they made.
+fn serve_once<
     Rt: Threads + Wait + Sync,
     H: Helpers + Drop + Send,
     C: Clock + Drop + Send,
@@ -237,4 +298,30 @@ fn serve_all<
 {
     let mut closed = serve_on(rt, alloc, partners, desk, writer)?;
     save(alloc, &mut closed.desk, saved)
+}
+
+// Serves partners by these terms, and saves what they made.
+fn serve_lasting<
+    Rt: SystemClock + Eprint + Threads + Wait + Clone + Drop + Send + Sync + 'static,
+    H: Helpers + Drop + Send,
+    C: Clock + Drop + Send,
+    W: Write,
+    F: Write + Drop,
+>(
+    rt: &Rt,
+    alloc: Global,
+    partners: Vec<(Role, TcpListener, C)>,
+    desk: Desk<H>,
+    terms: Terms,
+    control: Option<Control>,
+    writer: &mut Sink<W>,
+    saved: &mut Option<Sink<F>>,
+) -> Result<(), Failure>
+    requires { vec_len partners ≤ 64 }
+    ensures { ServesPartnersTo desk (map (λ p. p.0) partners.items)
+        (map (λ p. new_session p.0 (C.gives p.2)) partners.items) writer.old writer.new saved.old
+        saved.new result }
+{
+    let mut lasted = serve_again(rt, alloc, partners, terms, control, desk, writer)?;
+    save(alloc, &mut lasted.desk, saved)
 }

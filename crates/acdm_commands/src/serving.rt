@@ -4,13 +4,12 @@ ghost use Rattle.acdm_commands.specs.Served.{RunsTo, ServesDesk, Stops};
 ghost use Rattle.acdm_failures.specs.Failures.{EndsBy};
 ghost use Rattle.acdm_judging.specs.Helpers.{helpers as known};
 
-use crate::known::{minutes_later, taxi_minutes, turn_round_minutes};
 use crate::saving::save;
 use acdm_board::Desk;
 use acdm_failures::{Failure, ended};
-use acdm_judging::bank_of;
+use acdm_judging::KnownHelpers;
 use acdm_sessions::{Sink, Source, run};
-use bpf_helpers::{Code, Helpers};
+use bpf_helpers::Helpers;
 use std::alloc::Global;
 use std::io::{Read, Write};
 
@@ -33,27 +32,11 @@ pub fn run_on<R: Read, W: Write, F: Write + Drop, E: Write>(
     ensures { EndsBy (RunsTo known journal reader.old reader.new writer.old writer.new saved.old
         saved.new) result errors.old errors.new }
 {
-    ended(serve(alloc, journal, reader, writer, saved), errors)
-}
-
-// Makes the known helpers.
-fn serve<R: Read, W: Write, F: Write + Drop>(
-    alloc: Global,
-    journal: usize,
-    reader: &mut Source<R>,
-    writer: &mut Sink<W>,
-    saved: &mut Option<Sink<F>>,
-) -> Result<u8, Failure>
-    requires reads { reader.old.faults < 2 ^ 64 - 1 }
-    requires writes { writer.old.faults < 2 ^ 64 - 1 }
-    ensures { RunsTo known journal reader.old reader.new writer.old writer.new saved.old saved.new
-        result }
-{
-    let kinds: Code = Box::new(alloc, turn_round_minutes)?;
-    let stands: Code = Box::new(alloc, taxi_minutes)?;
-    let minutes: Code = Box::new(alloc, minutes_later)?;
-    let bank = bank_of(alloc, kinds, stands, minutes)?;
-    serve_with(alloc, bank, journal, reader, writer, saved)
+    let helpers = KnownHelpers::new(alloc);
+    ended(
+        serve_with(alloc, helpers, journal, reader, writer, saved),
+        errors,
+    )
 }
 
 // Serves a desk, and saves its journal.

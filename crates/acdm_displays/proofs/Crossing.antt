@@ -5,6 +5,7 @@ use denote.Param.SendFields.{declared_send}
 use Rattle.std.proofs.Crossing.{crosses}
 use Rattle.acdm_row.proofs.Crossing.{row_send, row_sync}
 use Rattle.acdm_displays.proofs.places.Shared.TheSendSync as shared
+use Rattle.acdm_displays.proofs.following.Form.TheSendSync as form
 use Rattle.acdm_displays.specs.contracts.displays.Admission as admission
 use Rattle.acdm_displays.specs.contracts.displays.Showing as showing
 use Rattle.acdm_displays.specs.contracts.places.Place as place
@@ -20,7 +21,10 @@ showing_send =
       search sendable depth 8,
       (
         search (row_send, row_sync, sendable, crosses) depth 20,
-        (place_send, (search (sendable, crosses) depth 12, tt)),
+        (
+          search (form.the_send, sendable, crosses) depth 12,
+          (place_send, (search (sendable, crosses) depth 12, tt)),
+        ),
       ),
     )
 
@@ -33,8 +37,11 @@ admission_send K k =
         (
           search (row_send, row_sync, sendable, crosses) depth 20,
           (
-            search (shared.the_send, shared.the_sync, sendable, crosses) depth 20,
-            (search (sendable, crosses) depth 12, tt),
+            search (form.the_send, sendable, crosses) depth 12,
+            (
+              search (shared.the_send, shared.the_sync, sendable, crosses) depth 20,
+              (search (sendable, crosses) depth 12, tt),
+            ),
           ),
         ),
       ),

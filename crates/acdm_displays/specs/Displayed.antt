@@ -1,30 +1,91 @@
 -- What a display is sent, and why it may get no more.
-use Rattle.std.specs.Prelude.{ℕ, ◌≡◌, ◌++◌, false, List, reverse}
+use Rattle.std.specs.Prelude.{ℕ, ◌≡◌, ◌++◌, false, List, [], length, reverse}
 use Rattle.acdm_step.specs.declared.entry.Entry.{Entry}
+use Rattle.acdm_step.specs.Commands.{History}
 use Rattle.acdm_step.specs.History.{IsLegal}
 use Rattle.acdm_row.specs.Views.{RowView}
 use Rattle.acdm_journal.specs.Whole.{Saves}
 use Rattle.acdm_failures.specs.declared.failure.Failure.{Failure}
 use Rattle.acdm_failures.specs.declared.failure.Failure.TheVariants.{Save, Memory}
+use Rattle.acdm_feed.specs.declared.known.Known.{Known}
+use Rattle.acdm_feed.specs.Knowing.{Knows}
+use Rattle.acdm_feed.specs.Resumed.{IsFront, board_text, feed_from}
 use Rattle.acdm_displays.specs.declared.following.Shown.{Shown}
+use Rattle.acdm_displays.specs.declared.asked.Start.{Start}
+use Rattle.acdm_displays.specs.declared.asked.Start.TheVariants as starts
 
--- What a watch has seen is written: where the text of what it had seen was written, from a start
--- on, the text of what it has seen then is.
-abbrev pub Follows : List Entry → List Entry → List ℕ → List ℕ → Type 0
-Follows seen later old new = (start : List ℕ) → Saves (reverse seen) start old
-    → Saves (reverse later) start new
+-- Where what a teller tells has begun: behind these bytes, with the entry of this number, and after these
+-- entries.
+pub record Begun : Type 0 where
+  pub before : List ℕ
+  pub from : ℕ
+  pub front : History
+
+-- What a teller has told, since it has begun so, of what was seen, up to these bytes.
+abbrev pub Telling : Type 0 → Type 1
+Telling T = T → List Entry → Begun → List ℕ → Type 0
+
+-- What a watch has seen is told: where a teller had told what was seen, since it has begun, it has told
+-- what is seen then.
+abbrev pub Follows : {T : Type 0} → Telling T → T → T → List Entry → List Entry → List ℕ → List ℕ
+    → Type 0
+Follows tells teller teller_after seen later old new = (start : Begun)
+    → tells teller seen start old → tells teller_after later start new
 
 -- The same of a text that stands behind whatever was written before it.
-abbrev pub Adds : List Entry → List Entry → List ℕ → List ℕ → Type 0
-Adds seen later old new = (before : List ℕ) → Follows seen later (before ++ old) (before ++ new)
+abbrev pub Adds : {T : Type 0} → Telling T → T → T → List Entry → List Entry → List ℕ → List ℕ
+    → Type 0
+Adds tells teller teller_after seen later old new = (before : List ℕ)
+    → Follows tells teller teller_after seen later (before ++ old) (before ++ new)
 
 -- A watch looks at this row, and what it has seen is legal. Behind the bytes that the writer had
--- taken before it took the text of that, and nothing else, and all of it was flushed.
-pub record WasSent {W : Type 0} (row : RowView) (before : List ℕ) (shown : Shown W) : Type 0 where
+-- taken before it took this text of that, and nothing else, and all of it was flushed.
+pub record Took {W : Type 0} (Says : List Entry → List ℕ → List ℕ → Type 0) (row : RowView)
+    (before : List ℕ) (shown : Shown W) : Type 0 where
   pub same : shown.watch.row ≡ row
   pub legal : IsLegal row.sigs (reverse shown.watch.seen)
-  pub text : Saves (reverse shown.watch.seen) before shown.writer.log
+  pub text : Says shown.watch.seen before shown.writer.log
   pub flushed : shown.writer.waits ≡ false
+
+-- the text of the journal
+abbrev pub SaysJournal : List Entry → List ℕ → List ℕ → Type 0
+SaysJournal seen before log = Saves (reverse seen) before log
+
+-- The feed from an entry on was told, since it has begun so, and what is known is that of the board.
+pub record TellsFrom (known : Known) (from : ℕ) (seen : List Entry) (start : Begun) (log : List ℕ)
+    : Type 0 where
+  pub knows : Knows (reverse seen) known
+  pub from_is : from ≡ start.from
+  pub front : IsFront start.front (reverse seen)
+  pub told : log ≡ start.before ++ feed_from start.from (reverse seen)
+
+abbrev pub at_entry : List ℕ → ℕ → Begun
+at_entry before n = record { before = before; from = n; front = [] }
+
+abbrev pub at_board : List ℕ → History → Begun
+at_board before K = record { before = before ++ board_text K; from = length K; front = K }
+
+-- A teller has begun: with the entry of a number, or with the line of the board of what was seen.
+abbrev pub Begins : Start → Known → ℕ → List Entry → List ℕ → List ℕ → Type 0
+Begins (starts.Entry n) known from seen before log = TellsFrom known from seen (at_entry before n) log
+Begins starts.Board known from seen before log =
+    TellsFrom known from seen (at_board before (reverse seen)) log
+
+-- the feed from the entry of a number on; or the line of the board after some first entries, and the feed
+-- from there on
+abbrev pub SaysFeed : Start → List Entry → List ℕ → List ℕ → Type 0
+SaysFeed (starts.Entry n) seen before log = log ≡ before ++ feed_from n (reverse seen)
+SaysFeed starts.Board seen before log = (K : History) × IsFront K (reverse seen)
+    × (log ≡ (before ++ board_text K) ++ feed_from (length K) (reverse seen))
+
+abbrev pub WasSent : {W : Type 0} → RowView → List ℕ → Shown W → Type 0
+WasSent = Took SaysJournal
+
+abbrev pub WasTold : {W : Type 0} → Start → RowView → List ℕ → Shown W → Type 0
+WasTold start = Took (SaysFeed start)
+
+abbrev pub WasToldSome : {W : Type 0} → RowView → List ℕ → Shown W → Type 0
+WasToldSome row before shown = (start : Start) × WasTold start row before shown
 
 -- Sending ends early where the writer failed, or where memory was refused, and for nothing else.
 abbrev pub CutsShort : Failure → Type 0

@@ -1,9 +1,10 @@
 //! Displays, which are sent the journal as text while partners are served.
 ghost use Rattle.std.specs.Prelude.{[], IfOk};
 ghost use Rattle.std.specs.Arc.{arc_value};
-ghost use Rattle.acdm_displays.specs.Displayed.{WasSent};
+ghost use Rattle.acdm_displays.specs.Displayed.{WasSent, WasToldSome};
 
-use crate::following::{MOST_REFUSALS, Shown, follow};
+use crate::asked::first_asked;
+use crate::following::{Form, MOST_REFUSALS, Shown, follow, follow_changes};
 use crate::leaving::has_left;
 use crate::places::{Place, Shared};
 use acdm_failures::Failure;
@@ -47,6 +48,7 @@ fn begin<Rt: Threads, T: Task + 'static>(rt: &Rt, task: T) -> Option<JoinHandle<
 struct Showing {
     alloc: Global,
     row: Arc<Row>,
+    form: Form,
     place: Place,
     stream: TcpStream,
 }
@@ -56,24 +58,30 @@ impl Task for Showing {
         let Showing {
             alloc,
             row,
+            form,
             place,
             stream,
         } = self;
-        let _ = show(alloc, &row, &place.shared.closing, stream);
+        show(alloc, &row, form, &place.shared.closing, stream);
         drop(place);
     }
 }
 
-// Sends a display the journal, until it leaves or has all of it.
-fn show(
-    alloc: Global,
-    row: &Arc<Row>,
-    closing: &AtomicBool,
-    stream: TcpStream,
-) -> Result<Shown<TcpStream>, Failure>
-    ensures { IfOk result (WasSent (arc_value row.now) []) }
-{
-    let Ok(mut reader) = stream.try_clone() else {
+// Sends a display the entries in a form, until it leaves or has all of them.
+fn show(alloc: Global, row: &Arc<Row>, form: Form, closing: &AtomicBool, stream: TcpStream) {
+    match form {
+        Form::Journal => {
+            let _ = show_journal(alloc, row, closing, stream);
+        }
+        Form::Changes => {
+            let _ = show_changes(alloc, row, closing, stream);
+        }
+    }
+}
+
+// Sets how long a display is waited for, and gives what it is read from.
+fn reader_of(stream: &TcpStream) -> Result<TcpStream, Failure> {
+    let Ok(reader) = stream.try_clone() else {
         return Err(Failure::Watch);
     };
     let pause = Duration::from_millis(PAUSE);
@@ -84,7 +92,38 @@ fn show(
     if stream.set_write_timeout(Some(patience)).is_err() {
         return Err(Failure::Watch);
     }
+    Ok(reader)
+}
+
+// Sends a display the journal.
+fn show_journal(
+    alloc: Global,
+    row: &Arc<Row>,
+    closing: &AtomicBool,
+    stream: TcpStream,
+) -> Result<Shown<TcpStream>, Failure>
+    ensures { IfOk result (WasSent (arc_value row.now) []) }
+{
+    let mut reader = reader_of(&stream)?;
     let shown = follow(alloc, row, closing, &mut reader, Sink::new(stream))?;
+    part(&mut reader);
+    Ok(shown)
+}
+
+// Sends a display the feed, as it asked by its first line. One that asked for nothing is let go.
+fn show_changes(
+    alloc: Global,
+    row: &Arc<Row>,
+    closing: &AtomicBool,
+    stream: TcpStream,
+) -> Result<Shown<TcpStream>, Failure>
+    ensures { IfOk result (WasToldSome (arc_value row.now) []) }
+{
+    let mut reader = reader_of(&stream)?;
+    let Some(start) = first_asked(&mut reader) else {
+        return Err(Failure::Watch);
+    };
+    let shown = follow_changes(alloc, row, start, closing, &mut reader, Sink::new(stream))?;
     part(&mut reader);
     Ok(shown)
 }
@@ -108,6 +147,7 @@ struct Admission<K: Drop> {
     rt: K,
     alloc: Global,
     row: Arc<Row>,
+    form: Form,
     shared: Arc<Shared>,
     listener: TcpListener,
 }
@@ -157,6 +197,7 @@ impl<K: SystemClock + Threads + Drop> Admission<K> {
         let showing = Showing {
             alloc: self.alloc,
             row: Arc::try_clone(&self.row)?,
+            form: self.form,
             place,
             stream,
         };
@@ -174,7 +215,7 @@ pub struct Displays {
 
 impl Displays {
     /// Listens for displays at an address, an IP address and a port, if there is one, and has each
-    /// sent the entries of a row, from the first one on. `Watch` where it can't be listened there,
+    /// sent the entries of a row from the first one on. `Watch` where it can't be listened there,
     /// `Memory` where that was refused.
     pub fn open<
         Rt: Net<Listener = TcpListener, Stream = TcpStream>
@@ -190,6 +231,27 @@ impl Displays {
         address: Option<&str>,
         row: &Arc<Row>,
     ) -> Result<Option<Displays>, Failure> {
+        Displays::open_as(rt, alloc, Form::Journal, address, row)
+    }
+
+    /// Listens for displays at an address, an IP address and a port, if there is one, and has each
+    /// sent the entries of a row in a form, from the first one on. `Watch` where it can't be listened there,
+    /// `Memory` where that was refused.
+    pub fn open_as<
+        Rt: Net<Listener = TcpListener, Stream = TcpStream>
+            + SystemClock
+            + Threads
+            + Clone
+            + Drop
+            + Send
+            + 'static,
+    >(
+        rt: &Rt,
+        alloc: Global,
+        form: Form,
+        address: Option<&str>,
+        row: &Arc<Row>,
+    ) -> Result<Option<Displays>, Failure> {
         let Some(address) = address else {
             return Ok(None);
         };
@@ -199,13 +261,24 @@ impl Displays {
         let Ok(listener) = TcpListener::bind(rt, address) else {
             return Err(Failure::Watch);
         };
-        Ok(Some(Displays::start(rt, alloc, listener, row)?))
+        Ok(Some(Displays::start_as(rt, alloc, form, listener, row)?))
     }
 
-    /// Has each display that a listener accepts sent the entries of a row, from the first one on.
+    /// Has each display that a listener accepts sent the entries of a row from the first one on.
     pub fn start<Rt: SystemClock + Threads + Clone + Drop + Send + 'static>(
         rt: &Rt,
         alloc: Global,
+        listener: TcpListener,
+        row: &Arc<Row>,
+    ) -> Result<Displays, Failure> {
+        Displays::start_as(rt, alloc, Form::Journal, listener, row)
+    }
+
+    /// Has each display that a listener accepts sent the entries of a row in a form, from the first one on.
+    pub fn start_as<Rt: SystemClock + Threads + Clone + Drop + Send + 'static>(
+        rt: &Rt,
+        alloc: Global,
+        form: Form,
         listener: TcpListener,
         row: &Arc<Row>,
     ) -> Result<Displays, Failure> {
@@ -217,6 +290,7 @@ impl Displays {
             rt: rt.clone()?,
             alloc,
             row: Arc::try_clone(row)?,
+            form,
             shared: Arc::try_clone(&shared)?,
             listener,
         };

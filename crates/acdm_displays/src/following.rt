@@ -1,11 +1,17 @@
-//! The journal of a row as text, written while it grows.
-ghost use Rattle.std.specs.Prelude.{◌≡◌, false, IfErr, IfOk, OnOk};
+//! The entries of a row as text, written while it grows.
+ghost use Rattle.std.specs.Prelude.{◌≡◌, ℕ, List, [], false, IfErr, IfOk, OnOk};
 ghost use Rattle.std.specs.Arc.{arc_value};
-ghost use Rattle.acdm_displays.specs.Displayed.{Adds, CutsShort, Follows, WasSent};
+ghost use Rattle.acdm_step.specs.declared.entry.Entry.{Entry as AnEntry};
+ghost use Rattle.acdm_displays.specs.Displayed.{CutsShort, Follows};
+ghost use Rattle.acdm_displays.specs.Displayed.{WasSent, WasTold};
 
+use crate::asked::Start;
+use crate::beginning::begin;
 use crate::leaving::has_left;
+use crate::telling::{Changes, Journal, Telling};
 use acdm_failures::Failure;
-use acdm_journal::{push_entry, write_whole};
+use acdm_feed::Known;
+use acdm_journal::write_whole;
 use acdm_lines::Sink;
 use acdm_row::Row;
 use acdm_watch::Watch;
@@ -19,6 +25,15 @@ const BUFFER: usize = 65_536;
 
 /// How often in a row a writer may take nothing in its time, until it is given up.
 pub(crate) const MOST_REFUSALS: u64 = 120;
+
+/// As what text entries are sent.
+#[derive(Clone, Copy, Debug, PartialEq, Eq)]
+pub enum Form {
+    /// As the journal.
+    Journal,
+    /// As the feed: what each of them says and changes, as a line of JSON.
+    Changes,
+}
 
 /// What was shown to a display: the watch that saw it, and the writer that took it.
 #[derive(Drop)]
@@ -48,15 +63,61 @@ pub fn follow<R: Read, W: Write + Drop>(
     ensures failed { IfErr result CutsShort }
 {
     let mut watch = Watch::new(alloc, row)?;
-    send_on(alloc, &mut watch, row, closing, reader, &mut writer)?;
+    let mut teller = Journal;
+    send_on(
+        alloc,
+        &mut teller,
+        &mut watch,
+        row,
+        closing,
+        reader,
+        &mut writer,
+    )?;
     let _board = watch.board();
     Ok(Shown { watch, writer })
 }
 
+/// Writes the feed of a row, where `follow` writes its journal: what each entry says and changes, as
+/// a line of JSON. It begins with the entry of a number, or with the line of the board of all entries
+/// in sight, and then goes on with the entry that comes next.
+pub fn follow_changes<R: Read, W: Write + Drop>(
+    alloc: Global,
+    row: &Arc<Row>,
+    start: Start,
+    closing: &AtomicBool,
+    reader: &mut R,
+    mut writer: Sink<W>,
+) -> Result<Shown<W>, Failure>
+    ensures sent { IfOk result (WasTold start (arc_value row.now) writer.log) }
+    ensures failed { IfErr result CutsShort }
+{
+    let mut seen = Watch::new(alloc, row)?;
+    let mut teller = Changes {
+        known: Known::new(alloc),
+        from: 0,
+    };
+    begin(alloc, start, &mut teller, &mut seen, row, &mut writer)?;
+    send_on(
+        alloc,
+        &mut teller,
+        &mut seen,
+        row,
+        closing,
+        reader,
+        &mut writer,
+    )?;
+    let _board = seen.board();
+    Ok(Shown {
+        watch: seen,
+        writer,
+    })
+}
+
 // Writes what a watch sees, as it comes, until the last entry was made or the reader has ended.
 // What tells the last one is read before the last look, so that no entry comes between.
-fn send_on<R: Read, W: Write + Drop>(
+fn send_on<T: Telling, R: Read, W: Write + Drop>(
     alloc: Global,
+    teller: &mut T,
     watch: &mut Watch,
     row: &Row,
     closing: &AtomicBool,
@@ -65,36 +126,39 @@ fn send_on<R: Read, W: Write + Drop>(
 ) -> Result<(), Failure>
     requires { row.now ≡ watch.old.row }
     ensures row { watch.new.row ≡ watch.old.row }
-    ensures sent { OnOk result (Follows watch.old.seen watch.new.seen writer.old.log writer.new.log) }
+    ensures sent { OnOk result (Follows T.tells teller.old teller.new watch.old.seen watch.new.seen
+        writer.old.log writer.new.log) }
     ensures flushed { OnOk result (writer.new.waits ≡ false) }
     ensures failed { IfErr result CutsShort }
 {
     for _ in 0..u64::MAX {
         let is_last = closing.load(Ordering::SeqCst);
-        send_all(alloc, watch, row, writer)?;
+        send_all(alloc, teller, watch, row, writer)?;
         if is_last || has_left(reader) {
             return Ok(());
         }
     }
-    send_all(alloc, watch, row, writer)
+    send_all(alloc, teller, watch, row, writer)
 }
 
 // Writes all entries that are in sight, and flushes them.
-fn send_all<W: Write + Drop>(
+fn send_all<T: Telling, W: Write + Drop>(
     alloc: Global,
+    teller: &mut T,
     watch: &mut Watch,
     row: &Row,
     writer: &mut Sink<W>,
 ) -> Result<(), Failure>
     requires { row.now ≡ watch.old.row }
     ensures row { watch.new.row ≡ watch.old.row }
-    ensures sent { OnOk result (Follows watch.old.seen watch.new.seen writer.old.log writer.new.log) }
+    ensures sent { OnOk result (Follows T.tells teller.old teller.new watch.old.seen watch.new.seen
+        writer.old.log writer.new.log) }
     ensures flushed { OnOk result (writer.new.waits ≡ false) }
     ensures failed { IfErr result CutsShort }
 {
     let mut text = Vec::new(alloc);
     for _ in watch.len()..row.len() {
-        if !add_next(watch, row, &mut text)? {
+        if !teller.add_next(watch, row, &mut text)? {
             break;
         }
         if text.len() >= BUFFER {
@@ -107,18 +171,4 @@ fn send_all<W: Write + Drop>(
         return Err(Failure::Save);
     }
     Ok(())
-}
-
-// Adds the text of the next entry, where it is in sight, and says whether it was.
-fn add_next(watch: &mut Watch, row: &Row, text: &mut Vec<u8>) -> Result<bool, Failure>
-    requires { row.now ≡ watch.old.row }
-    ensures row { watch.new.row ≡ watch.old.row }
-    ensures added { OnOk result (Adds watch.old.seen watch.new.seen text.old.items text.new.items) }
-    ensures failed { IfErr result CutsShort }
-{
-    let Some(entry) = watch.take_next(row)? else {
-        return Ok(false);
-    };
-    push_entry(text, entry)?;
-    Ok(true)
 }

@@ -5,9 +5,9 @@ ghost use Rattle.acdm_displays.specs.Leaving.{IsPassing, TellsLeaving};
 
 use std::io::{self, ErrorKind, Read};
 
-// Whether a call that failed so is made once more: nothing came in its time, or a signal came in
-// between.
-fn is_passing(error: &io::Error) -> bool
+/// Whether a call that failed so is made once more: nothing came in its time, or a signal came in
+/// between.
+pub(crate) fn is_passing(error: &io::Error) -> bool
     ensures { IsTrue result ↔ IsPassing (error_kind error.now) }
 {
     error.kind() == ErrorKind::WouldBlock || error.kind() == ErrorKind::Interrupted

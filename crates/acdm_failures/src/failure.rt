@@ -28,10 +28,18 @@ pub enum Failure {
     Accept(usize),
     /// The address for displays is none, or can't be listened at.
     Watch,
+    /// The control address is none, or can't be listened at.
+    Control,
     /// A word of the command line is no text.
     Word,
     /// A standard stream may be closed, and nothing could be put in its place.
     Stream,
+    /// The journal can't be kept in its file.
+    Keep,
+    /// Somebody else keeps a journal in the file.
+    InUse,
+    /// There is no room for the entries of the kept journal.
+    Room,
 }
 
 /// Why `serve` did not end as it should.
@@ -82,8 +90,12 @@ impl Failure {
             Failure::Address(number) => numbered(b"acdm: address ", number),
             Failure::Accept(number) => numbered(b"acdm: accept ", number),
             Failure::Watch => line(b"acdm: watch address"),
+            Failure::Control => line(b"acdm: control address"),
             Failure::Word => line(b"acdm: a word is not UTF-8"),
             Failure::Stream => line(b"acdm: no null device"),
+            Failure::Keep => line(b"acdm: keep failed"),
+            Failure::InUse => line(b"acdm: the kept journal is in use"),
+            Failure::Room => line(b"acdm: the kept journal needs a larger --journal"),
         }
     }
 

@@ -5,6 +5,7 @@ use Rattle.bpf_helpers.specs.Promise.{Promise}
 use Rattle.acdm_step.specs.declared.command.Command.{Command}
 use Rattle.acdm_step.specs.declared.command.Command.TheVariants as commands
 use Rattle.acdm_step.specs.declared.entry.Entry.{Entry}
+use Rattle.acdm_step.specs.declared.entry.Verdict.{Verdict}
 use Rattle.acdm_step.specs.Commands.{History, is_load}
 use Rattle.acdm_step.specs.Verdicts.{verdict_of}
 use Rattle.acdm_step.specs.History.{Board, IsLegal, IsChecked}
@@ -104,6 +105,32 @@ module _ (sigs : List (ℕ × Promise)) (J : History) (line : List ℕ) (s : Sta
                 (sym (asked_is sigs s.asked c states.is.asked is)) is;
             replays = e.replays s.session;
           }
+
+      -- the entry is the one that the line states, with this verdict
+      pub planned : (v : Verdict) → v ≡ verdict_of sigs J s.role c
+          → Enters sigs J s.role s.moment c s.answers s.outcome board
+          → (k : Continues sigs J line board) × (k.entry ≡ record {
+            number = s.number;
+            session = s.session;
+            role = s.role;
+            moment = s.moment;
+            command = c;
+            verdict = v;
+            answers = s.answers;
+          })
+      unfolding entered entry
+      planned v same e = (
+        entered e,
+        λ i. record {
+          number = sym number i;
+          session = s.session;
+          role = s.role;
+          moment = s.moment;
+          command = c;
+          verdict = sym same i;
+          answers = s.answers;
+        },
+      )
 
       pub judged : (r : Result (Unit {0}) AuditError)
           → JudgesCommand sigs J s.role s.moment c s.answers s.outcome board r

@@ -12,6 +12,7 @@ use Rattle.acdm_lines.specs.Counted.{SourceView, faults_after}
 use Rattle.acdm_lines.specs.Lines.{kept}
 use Rattle.acdm_lines.specs.NextLine.{TakesLine, TakesRest, TakesPart, FailsOrEndless}
 use Rattle.acdm_lines.proofs.Reading.{kept-empty, kept-some, faults-more, logged-more, gave-more}
+use Rattle.acdm_step.specs.declared.entry.Entry.{Entry}
 use Rattle.acdm_step.specs.Commands.{History}
 use Rattle.acdm_step.specs.History.{Board, IsLegal, replay}
 use Rattle.acdm_journal.specs.declared.stated.Stated.{Stated}
@@ -135,37 +136,47 @@ module _ {R : Type 0} (sigs : List (ℕ × Promise)) (r0 r1 r2 : SourceView R)
         gave-more so_far.text (history_text so_far.front) l1.window more (2 ^ 40) l1.reads_left
         left so_far.gave so_far.split g
 
+    -- an entry more, which is this one
+    pub sofar-entry : (after : Board) (e : Entry) (line : List ℕ) → TakesLine MOST_KEPT r1 r2 l1 l2
+        → line ≡ l2.line → (k : Continues sigs so_far.front line after) × (k.entry ≡ e)
+        → (s : Sofar sigs r0.log r2.log l2.window l2.reads_left (entry + 1) after)
+        × (s.front ≡ e ∷ so_far.front)
+    unfolding judged continues-line
+    sofar-entry after e line t is h =
+        let k = subst
+        (λ l. (k : Continues sigs so_far.front l after) × (k.entry ≡ e)) (is ∙ t.bytes_are) h in
+        let n = continues-line sigs so_far.front t.line after k.0 in
+        let text : List ℕ = line_of (stated_in n.entry) in
+        let count : length so_far.front ≡ entry = so_far.count in (
+          record {
+            text = history_text so_far.front ++ (l1.window ++ t.text);
+            front = n.entry ∷ so_far.front;
+            logged = logged_with t.text t.gave;
+            gave = gave_with t.text l2.reads_left t.each_gave;
+            split = ap (λ l. history_text so_far.front ++ l)
+                (t.split ∙ ap (λ l. l ++ 10 ∷ l2.window) n.line_is
+                ∙ sym (append_assoc text (10 ∷ []) l2.window))
+                ∙ sym (append_assoc (history_text so_far.front) (text ++ 10 ∷ []) l2.window);
+            legal = n.legal;
+            readable = (
+              so_far.readable,
+              record {
+                stated = n.is;
+                command = n.command;
+                short = subst (λ l. length l ≤ LONGEST_LINE) n.line_is n.short;
+              },
+            );
+            count = omega arith;
+            replays = n.replays;
+          },
+          ap (λ x. x ∷ so_far.front) k.1,
+        )
+
     -- an entry more
     pub sofar-line : (after : Board) (line : List ℕ) → TakesLine MOST_KEPT r1 r2 l1 l2
         → line ≡ l2.line → Continues sigs so_far.front line after
         → Sofar sigs r0.log r2.log l2.window l2.reads_left (entry + 1) after
-    unfolding judged
-    sofar-line after line t is h =
-        let n = continues-line sigs so_far.front t.line after
-        (subst (λ l. Continues sigs so_far.front l after) (is ∙ t.bytes_are) h) in
-        let text : List ℕ = line_of (stated_in n.entry) in
-        let count : length so_far.front ≡ entry = so_far.count in
-        record {
-          text = history_text so_far.front ++ (l1.window ++ t.text);
-          front = n.entry ∷ so_far.front;
-          logged = logged_with t.text t.gave;
-          gave = gave_with t.text l2.reads_left t.each_gave;
-          split = ap (λ l. history_text so_far.front ++ l)
-              (t.split ∙ ap (λ l. l ++ 10 ∷ l2.window) n.line_is
-              ∙ sym (append_assoc text (10 ∷ []) l2.window))
-              ∙ sym (append_assoc (history_text so_far.front) (text ++ 10 ∷ []) l2.window);
-          legal = n.legal;
-          readable = (
-            so_far.readable,
-            record {
-              stated = n.is;
-              command = n.command;
-              short = subst (λ l. length l ≤ LONGEST_LINE) n.line_is n.short;
-            },
-          );
-          count = omega arith;
-          replays = n.replays;
-        }
+    sofar-line after line t is h = (sofar-entry after h.entry line t is (h, refl)).0
 
     fault_in : (text rest : List ℕ) (clause : Clause) → text ≡ judged ++ rest
         → BreaksNext sigs so_far.front rest clause → FirstFault sigs text entry clause

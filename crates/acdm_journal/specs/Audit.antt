@@ -18,10 +18,13 @@ use Rattle.acdm_step.specs.declared.entry.Entry.{Entry}
 use Rattle.acdm_step.specs.Commands.{History, is_accepted}
 use Rattle.acdm_step.specs.declared.outcome.Outcome.{Outcome}
 use Rattle.acdm_step.specs.Verdicts.{verdict_of, verdict_in}
+use Rattle.acdm_step.specs.Prepared.{after_change}
+use Rattle.acdm_step.specs.declared.prepare.Prepared.{Prepared}
 use Rattle.acdm_step.specs.History.{Board, IsLegal, replay, after, left_by}
 use Rattle.acdm_journal.specs.declared.stated.Stated.{Stated}
 use Rattle.acdm_journal.specs.declared.stated.Asked.{Asked}
 use Rattle.acdm_journal.specs.declared.stated.Asked.TheVariants.{Plain, Load}
+use Rattle.acdm_journal.specs.declared.judge.PlannedEntry.{PlannedEntry}
 use Rattle.acdm_journal.specs.declared.judge.Clause.{Clause}
 use Rattle.acdm_journal.specs.declared.judge.Clause.TheVariants as clauses
 use Rattle.acdm_journal.specs.declared.judge.AuditError.{AuditError}
@@ -111,6 +114,14 @@ Judges sigs J line board (Ok x) = Continues sigs J line board
 Judges sigs J line board (Err Memory) = Unit {0}
 Judges sigs J line board (Err (Faulty clause)) = Breaks sigs J line clause
 
+-- What comes of judging a line after a legal history, by the board of that history: the entry that
+-- it tells of, and what that does to the board.
+abbrev pub PlansLine : List (ℕ × Promise) → History → List ℕ → Board → Result PlannedEntry AuditError
+    → Type 0
+PlansLine sigs J line board (Ok n) =
+    (k : Continues sigs J line (after_change board n.plan.change)) × (k.entry ≡ n.entry)
+PlansLine sigs J line board (Err e) = Judges {T = Unit {0}} sigs J line board (Err e)
+
 -- ---- parts
 
 -- what comes of reading the bytes of a program
@@ -157,3 +168,12 @@ JudgesCommand sigs J role moment c answers outcome board (Err (Faulty clauses.An
 JudgesCommand sigs J role moment c answers outcome board (Err (Faulty clauses.Outcome)) =
     UsesAnswers sigs J role moment c answers × (outcome ≢ outcome_code (verdict_of sigs J role c))
 JudgesCommand sigs J role moment c answers outcome board (Err (Faulty clause)) = ⊥
+
+-- what comes of judging the answers and the outcome of a command, and its plan
+abbrev pub PlansCommand : List (ℕ × Promise) → History → Role → ℕ → Command → List ℕ → ℕ → Board
+    → Result Prepared AuditError → Type 0
+PlansCommand sigs J role moment c answers outcome board (Ok p) =
+    Enters sigs J role moment c answers outcome (after_change board p.change)
+    × (verdict_in p.outcome ≡ verdict_of sigs J role c)
+PlansCommand sigs J role moment c answers outcome board (Err e) =
+    JudgesCommand {T = Unit {0}} sigs J role moment c answers outcome board (Err e)

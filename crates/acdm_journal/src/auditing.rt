@@ -13,8 +13,9 @@ use bpf_helpers::Sigs;
 use std::alloc::Global;
 use std::io::Read;
 
-// One byte more than the longest line has, so that a longer one is told by what is kept of it.
-const MOST_KEPT: usize = LONGEST_LINE + 1;
+/// How many bytes are kept of a line: one more than the longest line has, so that a longer one is
+/// told by what is kept of it.
+pub const MOST_KEPT: usize = LONGEST_LINE + 1;
 
 /// Why a journal was not found to be legal.
 #[derive(Clone, Copy, Debug, PartialEq, Eq)]

@@ -4,15 +4,16 @@ ghost use Rattle.bpf_helpers.specs.Promise.{Promise};
 ghost use Rattle.acdm_step.specs.Commands.{History};
 ghost use Rattle.acdm_step.specs.History.{IsLegal, replay, needs_memory};
 ghost use Rattle.acdm_step.specs.Prepared.{Fits, after_change};
-ghost use Rattle.acdm_journal.specs.Audit.{Commands, GivesProgram, lacks_answer, JudgesCommand};
-ghost use Rattle.acdm_journal.specs.Audit.{Judges, PlansWith, UsesAnswers, clause_code};
+ghost use Rattle.acdm_journal.specs.Audit.{Commands, GivesProgram, lacks_answer};
+ghost use Rattle.acdm_journal.specs.Audit.{Judges, PlansCommand, PlansLine, PlansWith, UsesAnswers};
+ghost use Rattle.acdm_journal.specs.Audit.{clause_code};
 ghost use Rattle.acdm_journal.specs.Memory.{JudgingNeedsMemory, is_load_line};
 
 use crate::entry_text::code_of;
 use crate::reading::read_line;
 use crate::stated::{Asked, LineError, LoadLine};
 use acdm_milestones::{Refusal, Role};
-use acdm_step::{Command, Core, Load, Prepared, Verdict};
+use acdm_step::{Command, Core, Entry, Load, Prepared, Verdict};
 use bpf_helpers::{Logged, Sigs};
 use bpf_verifier::{Checked, ProgramError, read_program};
 use std::alloc::{AllocError, Global};
@@ -132,22 +133,24 @@ pub fn plan_with(
     Ok(Some(plan))
 }
 
-// Does a command with the answers of a list, and judges what comes of it.
+// Plans a command with the answers of a list, and judges what would come of it.
 fn judge_command(
-    core: &mut Core,
+    core: &Core,
     role: Role,
     moment: u32,
     command: &Command,
     answers: &[u64],
     outcome: u64,
-) -> Result<(), AuditError>
+) -> Result<Prepared, AuditError>
     ensures judges { (sigs : List (ℕ × Promise)) (J : History) → IsLegal sigs J →
-        core.old ≡ replay sigs J →
-        JudgesCommand sigs J role moment command.now answers.now outcome core.new result }
+        core.now ≡ replay sigs J →
+        PlansCommand sigs J role moment command.now answers.now outcome core.now result }
     ensures memory { result ≡ Err AuditError.Memory → (sigs : List (ℕ × Promise)) (J : History)
-        → IsLegal sigs J → core.old ≡ replay sigs J
+        → IsLegal sigs J → core.now ≡ replay sigs J
         → IsTrue (needs_memory sigs J role command.now) }
-    ensures sigs { core.new.slots.sigs ≡ core.old.slots.sigs }
+    ensures fits { IfOk result (λ p. Fits core.now p.change) }
+    ensures sigs { IfOk result (λ p.
+        (after_change core.now p.change).slots.sigs ≡ core.now.slots.sigs) }
 {
     let Ok(plan) = plan_with(core, role, moment, command, answers) else {
         return Err(AuditError::Memory);
@@ -158,32 +161,41 @@ fn judge_command(
     if code_of(plan.outcome.verdict()) != outcome {
         return Err(AuditError::Faulty(Clause::Outcome));
     }
-    core.commit(plan);
-    Ok(())
+    Ok(plan)
 }
 
-/// Judges the next line of a journal, by the board of the entries before it, which then is the
-/// board with its entry too. The line stands without its line feed, and is number `number`, from 0;
-/// programs are checked against these signatures.
+/// The entry that a line of a journal tells of, and what it does to the board of the entries before
+/// it.
+#[derive(Drop)]
+pub struct PlannedEntry {
+    pub entry: Entry,
+    pub plan: Prepared,
+}
+
+/// Judges the next line of a journal, by the board of the entries before it, which stays as it is:
+/// the entry that the line tells of, and what `Core::commit` has to do on that board. The line
+/// stands without its line feed, and is number `number`, from 0; programs are checked against these
+/// signatures.
 ///
 /// `Faulty` with the first clause that the entry breaks, in the order of their numbers; the answers
 /// are judged by the outcome that the entries before it give, whatever the line says of it.
 /// `Memory` where there was no room, which is asked for to read the answers of a line or the
-/// program of a load, and for the list of alerts or the migrate of an entry with the right number. After an error
-/// the board is of no use.
-pub fn judge_line(
+/// program of a load, and for the list of alerts or the migrate of an entry with the right number.
+pub fn plan_line(
     alloc: Global,
-    core: &mut Core,
+    core: &Core,
     sigs: &Sigs,
     number: u64,
     line: &[u8],
-) -> Result<(), AuditError>
-    requires { core.old.slots.sigs ≡ sigs.now }
-    ensures judges { (J : History) → IsLegal sigs.now J → length J ≡ number →
-        core.old ≡ replay sigs.now J → Judges sigs.now J line.now core.new result }
+) -> Result<PlannedEntry, AuditError>
+    requires { core.now.slots.sigs ≡ sigs.now }
+    ensures plans { (J : History) → IsLegal sigs.now J → length J ≡ number →
+        core.now ≡ replay sigs.now J → PlansLine sigs.now J line.now core.now result }
     ensures memory { result ≡ Err AuditError.Memory → (J : History) → IsLegal sigs.now J
-        → length J ≡ number → core.old ≡ replay sigs.now J → JudgingNeedsMemory J line.now }
-    ensures sigs { core.new.slots.sigs ≡ core.old.slots.sigs }
+        → length J ≡ number → core.now ≡ replay sigs.now J → JudgingNeedsMemory J line.now }
+    ensures fits { IfOk result (λ n. Fits core.now n.plan.change) }
+    ensures sigs { IfOk result (λ n.
+        (after_change core.now n.plan.change).slots.sigs ≡ core.now.slots.sigs) }
 {
     let stated = match read_line(alloc, line) {
         Ok(stated) => stated,
@@ -197,12 +209,51 @@ pub fn judge_line(
         Ok(command) => command,
         Err(error) => return Err(error),
     };
-    judge_command(
+    let judged = judge_command(
         core,
         stated.role,
         stated.moment,
         &command,
         stated.answers.as_slice(),
         stated.outcome,
-    )
+    );
+    let plan = match judged {
+        Ok(plan) => plan,
+        Err(error) => return Err(error),
+    };
+    let entry = Entry {
+        number: stated.number,
+        session: stated.session,
+        role: stated.role,
+        moment: stated.moment,
+        command,
+        verdict: plan.outcome.verdict(),
+        answers: stated.answers,
+    };
+    Ok(PlannedEntry { entry, plan })
+}
+
+/// Judges the next line of a journal, as `plan_line` does, by the board of the entries before it,
+/// which then is the board with its entry too. After an error the board is as it was.
+pub fn judge_line(
+    alloc: Global,
+    core: &mut Core,
+    sigs: &Sigs,
+    number: u64,
+    line: &[u8],
+) -> Result<(), AuditError>
+    requires { core.old.slots.sigs ≡ sigs.now }
+    ensures judges { (J : History) → IsLegal sigs.now J → length J ≡ number →
+        core.old ≡ replay sigs.now J → Judges sigs.now J line.now core.new result }
+    ensures memory { result ≡ Err AuditError.Memory → (J : History) → IsLegal sigs.now J
+        → length J ≡ number → core.old ≡ replay sigs.now J → JudgingNeedsMemory J line.now }
+    ensures sigs { core.new.slots.sigs ≡ core.old.slots.sigs }
+    ensures kept { OnErr result (core.new ≡ core.old) }
+{
+    let next = match plan_line(alloc, core, sigs, number, line) {
+        Ok(next) => next,
+        Err(error) => return Err(error),
+    };
+    core.commit(next.plan);
+    Ok(())
 }

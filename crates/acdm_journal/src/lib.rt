@@ -11,9 +11,9 @@ mod stated;
 mod words;
 mod writing;
 
-pub use auditing::{Fault, audit};
+pub use auditing::{Fault, MOST_KEPT, audit};
 pub use entry_text::{WriteError, push_entry, write_entry};
-pub use judge::{AuditError, Clause, judge_line, plan_with};
+pub use judge::{AuditError, Clause, PlannedEntry, judge_line, plan_line, plan_with};
 pub use reading::read_line;
 pub use stated::{Asked, LineError, LoadLine, ProgramBytes, Stated};
 pub use writing::write_whole;

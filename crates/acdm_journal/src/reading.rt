@@ -346,7 +346,10 @@ fn answers_in(alloc: Global, words: &mut Words<'_>) -> Result<Answers, LineError
         }
         left -= 1;
     }
-    Ok(Answers::from(given))
+    match Answers::new(alloc, given) {
+        Ok(answers) => Ok(answers),
+        Err(_) => Err(LineError::Memory),
+    }
 }
 
 #[tactic(auto, unfolding(crate::specs::Reading::stated_at, crate::specs::Memory::stated_needs_memory))]

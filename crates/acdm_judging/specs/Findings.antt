@@ -34,6 +34,15 @@ finding_text (Legal n) = codes "legal " ++ decimal n ++ 10 ∷ []
 finding_text (Faulty entry clause) =
     codes "entry " ++ decimal entry ++ 32 ∷ [] ++ decimal (clause_code clause) ++ 10 ∷ []
 
+-- what comes of telling a finding: its line was written, of which no byte waits for a flush, and this is
+-- the status; or the writer failed once more after a first part of it
+abbrev pub Tells : {W : Type 0} → Finding → SinkView W → SinkView W → Result ℕ Failure → Type 0
+Tells finding written written_after (Ok status) =
+    Wrote written written_after (finding_text finding) × (written_after.waits ≡ false)
+    × (status ≡ status_of finding)
+Tells finding written written_after (Err failure) =
+    WroteInPart written written_after (finding_text finding) errors.Write × (failure ≡ Write)
+
 -- what was found in what a reader gave was written, and no byte of it waits for a flush
 pub record TellsFinding {R W : Type 0} (sigs : List (ℕ × Promise)) (read read_after : SourceView R)
     (written written_after : SinkView W) (status : ℕ) : Type 0 where

@@ -1,7 +1,7 @@
 //! The command `audit`, over the reader and the writers that it is handed.
 ghost use Rattle.std.specs.Prelude.{◌≡◌, ◌-◌, ◌^◌, ◌<◌};
 ghost use Rattle.acdm_failures.specs.Failures.{EndsBy};
-ghost use Rattle.acdm_judging.specs.Findings.{Audited, Finds, finding_text, status_of};
+ghost use Rattle.acdm_judging.specs.Findings.{Audited, Finds, Tells, finding_text, status_of};
 ghost use Rattle.acdm_judging.specs.Helpers.{helpers};
 
 use crate::helpers::known_sigs;
@@ -39,6 +39,18 @@ impl Finding {
         match self {
             Finding::Legal(entries) => legal(entries),
             Finding::Faulty { entry, clause } => faulty(entry, clause),
+        }
+    }
+
+    /// Writes it as one line, and answers the status that a command ends with. `Write` where the
+    /// writer failed, after some of the first bytes of the line.
+    pub fn tell<W: Write>(self, writer: &mut Sink<W>) -> Result<u8, Failure>
+        ensures { Tells self writer.old writer.new result }
+    {
+        let text = self.text();
+        match write_out(writer, text.as_slice()) {
+            Ok(()) => Ok(self.status()),
+            Err(_) => Err(Failure::Write),
         }
     }
 }
@@ -108,9 +120,8 @@ fn judge<R: Read, W: Write>(
     ensures { Audited helpers reader.old reader.new writer.old writer.new result }
 {
     let finding = finding_in(alloc, reader)?;
-    let text = finding.text();
-    match write_out(writer, text.as_slice()) {
-        Ok(()) => Ok(finding.status()),
+    match finding.tell(writer) {
+        Ok(status) => Ok(status),
         Err(_) => Err(Failure::Write),
     }
 }

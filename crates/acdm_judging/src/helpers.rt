@@ -1,13 +1,11 @@
 //! The helpers that programs may call (this project's profile).
 
-ghost use Rattle.std.specs.Prelude.{◌≡◌, ◌+◌, ◌<◌, ◌^◌, ◌++◌, [], ◌∷◌, length, IfOk, IsNone};
-ghost use Rattle.bpf_helpers.specs.Promise.{signature_of};
-ghost use Rattle.bpf_helpers.specs.Code.{IsCallable, KeepsPromise};
-ghost use Rattle.bpf_helpers.specs.Helpers.{entries_of};
+ghost use Rattle.std.specs.Prelude.{◌≡◌, IfOk, IsTrue};
+ghost use Rattle.bpf_helpers.specs.Promise.{is_call, is_promised};
 ghost use Rattle.acdm_judging.specs.Helpers.{helpers};
-ghost use Rattle.bpf_helpers.specs.Known.{sum, taxi, taxi_from, turn_round, turn_round_of};
+ghost use Rattle.bpf_helpers.specs.Known.{sum, taxi, turn_round};
 
-use bpf_helpers::{Bank, Code, Helper, Range, Signature, Sigs};
+use bpf_helpers::{Helpers, NoMemory, Range, Signature, Sigs};
 use std::alloc::{AllocError, Global};
 
 /// The bytes of a type as a little-endian number.
@@ -62,10 +60,11 @@ fn sum_signature(alloc: Global) -> Result<Signature, AllocError>
 }
 
 /// The least turn-round time of an aircraft type, in minutes.
-pub fn turn_round_minutes(kind: u64, _b: u64, _c: u64, _d: u64, _e: u64) -> u64
-    ensures { result ≡ turn_round_of kind }
+fn turn_round_minutes(arguments: [u64; 5]) -> u64
+    requires { IsTrue (is_call turn_round arguments) }
+    ensures { IsTrue (is_promised turn_round arguments result) }
 {
-    match kind {
+    match arguments[0] {
         A320 | B738 => 45,
         A388 => 120,
         _ => 60,
@@ -73,9 +72,11 @@ pub fn turn_round_minutes(kind: u64, _b: u64, _c: u64, _d: u64, _e: u64) -> u64
 }
 
 /// The taxi time from a stand, in minutes.
-pub fn taxi_minutes(stand: u64, _b: u64, _c: u64, _d: u64, _e: u64) -> u64
-    ensures { result ≡ taxi_from stand }
+fn taxi_minutes(arguments: [u64; 5]) -> u64
+    requires { IsTrue (is_call taxi arguments) }
+    ensures { IsTrue (is_promised taxi arguments result) }
 {
+    let stand = arguments[0];
     if stand < 100 {
         10
     } else if stand < 500 {
@@ -86,55 +87,53 @@ pub fn taxi_minutes(stand: u64, _b: u64, _c: u64, _d: u64, _e: u64) -> u64
 }
 
 /// A moment some minutes later.
-pub fn minutes_later(moment: u64, minutes: u64, _c: u64, _d: u64, _e: u64) -> u64
-    requires { moment + minutes < 2 ^ 64 }
-    ensures { result ≡ moment + minutes }
+fn minutes_later(arguments: [u64; 5]) -> u64
+    requires { IsTrue (is_call sum arguments) }
+    ensures { IsTrue (is_promised sum arguments result) }
 {
-    moment + minutes
+    arguments[0] + arguments[1]
 }
 
-/// Adds a helper whose number is not taken to a bank that has room.
-fn add(bank: &mut Bank, number: u32, signature: Signature, code: Code)
-    requires callable { IsCallable signature (Code.pre code) }
-    requires promised { KeepsPromise signature (Code.post code) }
-    requires free { IsNone (signature_of (entries_of bank.old) number) }
-    requires room { length (entries_of bank.old) < 32 }
-    ensures { entries_of bank.new ≡ entries_of bank.old ++ (number, signature) ∷ [] }
-{
-    match bank.add(Helper::new(number, signature, code)) {
-        Ok(()) => {}
-        Err(_) => unreachable!(),
+/// The helpers that programs may call: 1, the least turn-round time of a type, 2, the taxi time from
+/// a stand, and 3, a sum of minutes. They are called with no table and no box between.
+#[derive(Drop)]
+pub struct KnownHelpers {
+    alloc: Global,
+}
+
+impl KnownHelpers {
+    /// The known helpers, which ask for the memory of their signatures here.
+    pub fn new(alloc: Global) -> KnownHelpers {
+        KnownHelpers { alloc }
     }
 }
 
-/// A bank of the three helpers with this code.
-pub fn bank_of(alloc: Global, kinds: Code, stands: Code, minutes: Code) -> Result<Bank, AllocError>
-    requires kinds_callable { IsCallable turn_round (Code.pre kinds) }
-    requires kinds_promised { KeepsPromise turn_round (Code.post kinds) }
-    requires stands_callable { IsCallable taxi (Code.pre stands) }
-    requires stands_promised { KeepsPromise taxi (Code.post stands) }
-    requires minutes_callable { IsCallable sum (Code.pre minutes) }
-    requires minutes_promised { KeepsPromise sum (Code.post minutes) }
-    ensures { IfOk result (λ bank. entries_of bank ≡ helpers) }
-{
-    let mut bank = Bank::new(alloc)?;
-    let first = turn_round_signature(alloc)?;
-    let second = taxi_signature(alloc)?;
-    let third = sum_signature(alloc)?;
-    add(&mut bank, 1, first, kinds);
-    add(&mut bank, 2, second, stands);
-    add(&mut bank, 3, third, minutes);
-    Ok(bank)
+impl Helpers for KnownHelpers {
+    ghost use Rattle.acdm_judging.specs.Helpers.{helpers};
+
+    ghost entries = { λ known. helpers };
+
+    fn answer(&self, number: u32, arguments: [u64; 5]) -> u64 {
+        match number {
+            1 => turn_round_minutes(arguments),
+            2 => taxi_minutes(arguments),
+            _ => minutes_later(arguments),
+        }
+    }
+
+    fn sigs(&self) -> Result<Sigs, NoMemory> {
+        Ok(known_sigs(self.alloc)?)
+    }
 }
 
-/// The signatures of the helpers that programs may call: 1, the least turn-round time of a type, 2,
-/// the taxi time from a stand, and 3, a sum of minutes. `Err` only where there is no memory.
+/// The signatures of the helpers that programs may call, as `KnownHelpers` has them. `Err` only where
+/// there is no memory.
 pub fn known_sigs(alloc: Global) -> Result<Sigs, AllocError>
     ensures { IfOk result (λ sigs. sigs ≡ helpers) }
 {
-    let kinds: Code = Box::new(alloc, turn_round_minutes)?;
-    let stands: Code = Box::new(alloc, taxi_minutes)?;
-    let minutes: Code = Box::new(alloc, minutes_later)?;
-    let bank = bank_of(alloc, kinds, stands, minutes)?;
-    bank.sigs()
+    let mut sigs = Sigs::new(alloc);
+    sigs.push(1, turn_round_signature(alloc)?)?;
+    sigs.push(2, taxi_signature(alloc)?)?;
+    sigs.push(3, sum_signature(alloc)?)?;
+    Ok(sigs)
 }

@@ -10,5 +10,5 @@ mod verifying;
 
 pub use auditing::{Finding, audit_on};
 pub use explaining::{explain_on, unread};
-pub use helpers::{bank_of, known_sigs, minutes_later, taxi_minutes, turn_round_minutes};
+pub use helpers::{KnownHelpers, known_sigs};
 pub use verifying::{Verdict, verify_on};

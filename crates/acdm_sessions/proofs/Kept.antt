@@ -1,13 +1,13 @@
 -- What stays as it is while lines are answered, and what another sees of it.
 use Rattle.std.proofs.Common.{◌≡◌, ℕ, Bool, List, [], ◌∷◌, Result, Ok, Err, refl, sym, ap, ◌∙◌}
-use Rattle.std.proofs.Common.{subst}
+use Rattle.std.proofs.Common.{subst, inl, inr}
 use Rattle.std.specs.Prelude.{OnOk}
 use Rattle.acdm_lines.specs.Lines.{lines_of}
 use Rattle.acdm_lines.specs.declared.run_error.RunError.{RunError}
 use Rattle.acdm_lines.specs.declared.run_error.RunError.TheVariants.{Read, Write, Memory}
 use Rattle.acdm_sessions.specs.declared.answer.Answer.{Answer}
 use Rattle.acdm_sessions.specs.Stream.{Answering, AnswersAll, AnswersEach, AnswersPart}
-use Rattle.acdm_sessions.specs.Stream.{AnswersWhole, kept}
+use Rattle.acdm_sessions.specs.Stream.{AnswersWhole, StopsAtFlush, StopsInReply, kept}
 
 module _ {A X : Type 0} (f : A → X) (may : Answering A)
     (keeps : (a b : A) (l : List ℕ) (x : Answer) → may a b l x → f b ≡ f a) where
@@ -18,6 +18,14 @@ module _ {A X : Type 0} (f : A → X) (may : Answering A)
       each_keeps e.0 b ls xs e.2 ∙ keeps a e.0 (kept l) x e.1
   each_keeps a b [] (x ∷ xs) e = absurd e
   each_keeps a b (l ∷ ls) [] e = absurd e
+
+  part_keeps : (a b : A) (log later old new : List ℕ) → AnswersPart may log later a b old new
+      → f b ≡ f a
+  part_keeps a b log later old new (inl h) =
+      keeps h.middle b (kept h.line) h.answer h.is_right
+      ∙ each_keeps a h.middle (lines_of h.whole) h.served.answers h.served.are_right
+  part_keeps a b log later old new (inr h) =
+      each_keeps a b (lines_of h.text) h.served.answers h.served.are_right
 
   -- however it ended
   pub all_keep : {T : Type 0} (a b : A) (result : Result T RunError)
@@ -32,9 +40,7 @@ module _ {A X : Type 0} (f : A → X) (may : Answering A)
       let h = whole refl in
       each_keeps a b (lines_of h.whole) h.served.answers h.served.are_right
   all_keep a b (Err Write) log later old new ended faults more all whole part none =
-      let h = part refl in
-      keeps h.middle b (kept h.line) h.answer h.is_right
-      ∙ each_keeps a h.middle (lines_of h.whole) h.served.answers h.served.are_right
+      part_keeps a b log later old new (part refl)
   all_keep a b (Err Memory) log later old new ended faults more all whole part none = ap f (none refl)
 
 -- What is seen of those who answer, through f, while something stays so of them: lines that were
@@ -90,9 +96,9 @@ module _ {A B : Type 0} (f : A → B) (may : Answering A) (seen : Answering B) (
       };
     }
 
-    pub part_seen : AnswersPart may log later a b old new
-        → AnswersPart seen log later (f a) (f b) old new
-    part_seen h =
+    in_reply : StopsInReply may log later a b old new
+        → StopsInReply seen log later (f a) (f b) old new
+    in_reply h =
         let so_far = each_seen a h.middle (lines_of h.whole) h.served.answers start
         h.served.are_right in
         record {
@@ -114,3 +120,24 @@ module _ {A B : Type 0} (f : A → B) (may : Answering A) (seen : Answering B) (
           is_right = (goes h.middle b (kept h.line) h.answer so_far.1 h.is_right).0;
           in_hand = h.in_hand;
         }
+
+    at_flush : StopsAtFlush may log later a b old new
+        → StopsAtFlush seen log later (f a) (f b) old new
+    at_flush h = record {
+      text = h.text;
+      part = h.part;
+      is_part = h.is_part;
+      apart = h.apart;
+      gave = h.gave;
+      served = record {
+        answers = h.served.answers;
+        are_right = (each_seen a b (lines_of h.text) h.served.answers start
+            h.served.are_right).0;
+        wrote = h.served.wrote;
+      };
+    }
+
+    pub part_seen : AnswersPart may log later a b old new
+        → AnswersPart seen log later (f a) (f b) old new
+    part_seen (inl h) = inl (in_reply h)
+    part_seen (inr h) = inr (at_flush h)

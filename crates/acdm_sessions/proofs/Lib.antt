@@ -9,4 +9,5 @@ pub mod ProgramRows
 pub mod Running
 pub mod Seats
 pub mod NewPass
+pub mod NextLine
 pub mod Serving

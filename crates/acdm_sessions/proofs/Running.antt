@@ -1,19 +1,21 @@
 -- What was answered at any time of the text that is read.
-use Rattle.std.proofs.Common.{◌≡◌, ℕ, ◌+◌, ◌-◌, ◌^◌, ◌<◌, ◌≤◌, ◌⊎◌, true, List, [], ◌∷◌, ◌++◌}
+use Rattle.std.proofs.Common.{◌≡◌, ℕ, ◌+◌, ◌-◌, ◌^◌, ◌<◌, ◌≤◌, ◌⊎◌, Bool, true, List, [], ◌∷◌, ◌++◌}
 use Rattle.std.proofs.Common.{length}
 use Rattle.std.proofs.Common.{refl, sym, ap, subst, ◌∙◌, arith, append_assoc, append-nil}
-use Rattle.std.proofs.Common.{inl, inr}
+use Rattle.std.proofs.Common.{inl, inr, Result, Ok, Err}
 use Rattle.acdm_wire.specs.declared.request.TheConstants.{LONGEST_LINE}
 use Rattle.acdm_sessions.specs.declared.stream.TheConstants.{MOST_KEPT}
 use Rattle.acdm_sessions.specs.declared.answer.Answer.{Answer}
 use Rattle.acdm_lines.specs.declared.lines.Lines.{Lines}
 use Rattle.acdm_lines.specs.declared.run_error.RunError.{RunError}
+use Rattle.acdm_lines.specs.declared.run_error.RunError.TheVariants.{Memory}
 use Rattle.acdm_lines.specs.Counted.{SourceView, SinkView, faults_after}
 use Rattle.acdm_lines.specs.Lines.{IsLine, IsWhole, lines_of}
 use Rattle.acdm_lines.specs.NextLine.{TakesLine, TakesRest, TakesPart, FailsOrEndless}
 use Rattle.acdm_sessions.specs.Output.{reply_text}
 use Rattle.acdm_sessions.specs.Stream.{Answered, AnsweredInPart, AnswersEach, replies_text}
-use Rattle.acdm_sessions.specs.Stream.{AnswersText, AnswersAll, AnswersWhole, AnswersPart}
+use Rattle.acdm_sessions.specs.Stream.{AnswersText, AnswersAll, AnswersWhole, StopsInReply}
+use Rattle.acdm_sessions.specs.Stream.{StopsAtFlush}
 use Rattle.acdm_sessions.specs.Stream.{kept}
 use Rattle.acdm_lines.proofs.Feeds.{lines_of-line, lines_of-rest}
 use Rattle.acdm_wire.proofs.Writing.{log-both}
@@ -72,6 +74,14 @@ sofar-begins may log d w = record {
   split = refl;
   spoken = record { answers = []; are_right = refl; wrote = sym (append-nil w) };
 }
+
+-- a writer whose log is the same
+pub sofar-same : {A : Type 0} (may : A → A → List ℕ → Answer → Type 0)
+    (start log held : List ℕ) (reads : ℕ) (before after : A) (old new new' : List ℕ)
+    → new' ≡ new → Sofar may start log held reads before after old new
+    → Sofar may start log held reads before after old new'
+sofar-same may start log held reads before after old new new' same so_far =
+    subst (λ w. Sofar may start log held reads before after old w) (sym same) so_far
 
 lines_with : (whole line : List ℕ) → IsWhole whole → IsLine line
     → lines_of (whole ++ (line ++ 10 ∷ [])) ≡ lines_of whole ++ line ∷ []
@@ -164,7 +174,7 @@ module _ {A R W : Type 0} (may : A → A → List ℕ → Answer → Type 0)
     -- its reply could not be written
     pub part-line : (after : A) (error : RunError) → TakesLine MOST_KEPT r1 r2 l1 l2
         → AnsweredInPart may w1 w2 d after l2.line error
-        → AnswersPart may r0.log r2.log before after old
+        → StopsInReply may r0.log r2.log before after old
         w2.log
     part-line after error t a = record {
       whole = so_far.whole;
@@ -248,7 +258,7 @@ module _ {A R W : Type 0} (may : A → A → List ℕ → Answer → Type 0)
     -- its reply could not be written
     pub part-rest : (after : A) (error : RunError) → TakesRest MOST_KEPT r1 r2 l1 l2
         → 0 < length l2.line → AnsweredInPart may w1 w2 d after l2.line error
-        → AnswersPart may r0.log r2.log before after old
+        → StopsInReply may r0.log r2.log before after old
         w2.log
     part-rest after error t some a =
         let rest : List ℕ = l1.window ++ t.text in
@@ -272,3 +282,48 @@ module _ {A R W : Type 0} (may : A → A → List ℕ → Answer → Type 0)
           is_right = subst (λ bs. may d after bs a.answer) t.bytes_are a.is_right;
           in_hand = a.wrote;
         }
+
+-- ---- a flush that failed
+
+-- the replies to all lines that were read, with a reader that is as it was
+pub flush-same : {A R : Type 0} (may : A → A → List ℕ → Answer → Type 0)
+    (start : List ℕ) (r1 r2 : SourceView R) (held : List ℕ) (reads : ℕ) (before after : A)
+    (old new : List ℕ) → r2 ≡ r1 → IsLine held
+    → Sofar may start r1.log held reads before after old new
+    → StopsAtFlush may start r2.log before after old new
+flush-same may start r1 r2 held reads before after old new same line so_far = record {
+  text = so_far.whole;
+  part = held;
+  is_part = line;
+  apart = lines_of-whole so_far.whole held so_far.is_whole;
+  gave = ap (λ r. r.log) same ∙ so_far.logged ∙ ap (λ t. start ++ t) so_far.split;
+  served = record {
+    answers = so_far.spoken.answers;
+    are_right = so_far.spoken.are_right;
+    wrote = so_far.spoken.wrote;
+  };
+}
+
+-- the reply to the last line, which lacks its line feed
+pub flush-last : {A : Type 0} (may : A → A → List ℕ → Answer → Type 0)
+    (log later : List ℕ) (ended : Bool) (before after : A) (old new : List ℕ)
+    → AnswersAll may log later ended before after old new
+    → StopsAtFlush may log later before after old new
+flush-last may log later ended before after old new all = record {
+  text = all.text;
+  part = [];
+  is_part = tt;
+  apart = ap lines_of (append-nil all.text) ∙ sym (append-nil (lines_of all.text));
+  gave = all.gave ∙ ap (λ t. log ++ t) (sym (append-nil all.text));
+  served = all.served;
+}
+
+-- ---- the error of a call that gives something else
+
+abbrev told_as : {T U : Type 0} → Result T RunError → Result U RunError
+told_as (Ok x) = Err Memory
+told_as (Err e) = Err e
+
+pub err-as : {T U : Type 0} (e f : RunError)
+    → ◌≡◌ {A = Result T RunError} (Err e) (Err f) → ◌≡◌ {A = Result U RunError} (Err e) (Err f)
+err-as e f same = ap told_as same

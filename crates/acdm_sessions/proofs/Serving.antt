@@ -1,7 +1,7 @@
 -- What a desk that answers lines has served.
 use Rattle.std.proofs.Common.{◌≡◌, ℕ, ◌<◌, Bool, true, false, cond, nat_le, List, [], ◌∷◌, ◌++◌}
 use Rattle.std.proofs.Common.{length, Result, Ok, Err, refl, sym, ap, subst, ◌∙◌, arith}
-use Rattle.std.proofs.Common.{leb-true, leb-false}
+use Rattle.std.proofs.Common.{leb-true, leb-false, inl, inr}
 use Rattle.std.proofs.lemmas.Bool.{lt-leb}
 use Rattle.std.proofs.lemmas.List.{take_all, length-take-le}
 use Rattle.bpf_helpers.specs.Promise.{Promise}
@@ -22,9 +22,9 @@ use Rattle.acdm_sessions.specs.Output.{answer_meant, desk_command, desk_meant, a
 use Rattle.acdm_sessions.specs.Output.{desk_after}
 use Rattle.acdm_sessions.specs.Output.{reply_text, replies, desk_after_all, Answers, Serves}
 use Rattle.acdm_wire.specs.Writes.{AppendsPart}
-use Rattle.acdm_sessions.specs.Run.{ServesAll, ServesWhole, ServesPart}
+use Rattle.acdm_sessions.specs.Run.{ServesAll, ServesWhole, ServesPart, ServesInReply, ServesToFlush}
 use Rattle.acdm_sessions.specs.Stream.{AnswersEach, AnswersText, AnswersAll, AnswersWhole}
-use Rattle.acdm_sessions.specs.Stream.{AnswersPart, replies_text, kept}
+use Rattle.acdm_sessions.specs.Stream.{AnswersPart, StopsAtFlush, StopsInReply, replies_text, kept}
 use Rattle.acdm_wire.specs.declared.request.TheConstants.{LONGEST_LINE}
 use Rattle.acdm_sessions.specs.declared.stream.TheConstants.{MOST_KEPT}
 
@@ -166,9 +166,9 @@ module _ (log log_after : List ℕ) (before after : DeskView) (old new : List �
       served = serves a.whole before after old new a.served;
     }
 
-    pub serves_part : AnswersPart Answers log log_after before after old new
-        → ServesPart log log_after before after old new
-    serves_part a =
+    in_reply : StopsInReply Answers log log_after before after old new
+        → ServesInReply log log_after before after old new
+    in_reply a =
         let last : Answers a.middle after a.line a.answer =
         to_line a.middle after a.line a.answer a.is_right in
         record {
@@ -189,3 +189,19 @@ module _ (log log_after : List ℕ) (before after : DeskView) (old new : List �
             wrote = subst (λ x. AppendsPart a.between new (reply_text x)) last.answer_is a.in_hand;
           };
         }
+
+    to_flush : StopsAtFlush Answers log log_after before after old new
+        → ServesToFlush log log_after before after old new
+    to_flush a = record {
+      text = a.text;
+      part = a.part;
+      is_part = a.is_part;
+      apart = a.apart;
+      gave = a.gave;
+      served = serves a.text before after old new a.served;
+    }
+
+    pub serves_part : AnswersPart Answers log log_after before after old new
+        → ServesPart log log_after before after old new
+    serves_part (inl a) = inl (in_reply a)
+    serves_part (inr a) = inr (to_flush a)

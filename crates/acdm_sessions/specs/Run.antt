@@ -1,5 +1,5 @@
 -- How a run over a desk ends, and what stands then.
-use Rattle.std.specs.Prelude.{ℕ, ◌≡◌, Bool, true, List, ◌∷◌, ◌++◌}
+use Rattle.std.specs.Prelude.{ℕ, ◌≡◌, ◌⊎◌, Bool, true, List, ◌∷◌, ◌++◌}
 use Rattle.acdm_board.specs.Desk.{DeskView}
 use Rattle.acdm_lines.specs.Lines.{IsLine, IsWhole, lines_of}
 use Rattle.acdm_sessions.specs.Output.{ServesLinePart, Serves}
@@ -28,7 +28,7 @@ pub record ServesWhole (log log_after : List ℕ) (faults later_faults : ℕ)
 -- A reply could not be written: the reader gave whole lines, a line, and what follows it. The whole
 -- lines were answered. The entry of the line stands where it makes one, and a first part of its
 -- reply was written. Of the other lines nothing was entered.
-pub record ServesPart (log log_after : List ℕ) (before after : DeskView)
+pub record ServesInReply (log log_after : List ℕ) (before after : DeskView)
     (old new : List ℕ) : Type 0 where
   pub whole : List ℕ
   pub line : List ℕ
@@ -41,3 +41,21 @@ pub record ServesPart (log log_after : List ℕ) (before after : DeskView)
   pub between : List ℕ
   pub served : Serves whole before middle old between
   pub in_hand : ServesLinePart middle after line between new
+
+-- Replies could not be let go: the reader gave the text of some lines, and of one more at most a
+-- part. The lines were answered, and the writer took all of their replies, but where these waited
+-- for a flush it failed. Of the part nothing was entered.
+pub record ServesToFlush (log log_after : List ℕ) (before after : DeskView)
+    (old new : List ℕ) : Type 0 where
+  pub text : List ℕ
+  pub part : List ℕ
+  pub is_part : IsLine part
+  pub apart : lines_of (text ++ part) ≡ lines_of text ++ lines_of part
+  pub gave : log_after ≡ log ++ (text ++ part)
+  pub served : Serves text before after old new
+
+-- The writer failed: in the midst of a reply, or as the replies to all lines so far were let go.
+abbrev pub ServesPart : List ℕ → List ℕ → DeskView → DeskView → List ℕ → List ℕ → Type 0
+ServesPart log log_after before after old new =
+    ServesInReply log log_after before after old new
+    ⊎ ServesToFlush log log_after before after old new

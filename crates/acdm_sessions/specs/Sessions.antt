@@ -1,5 +1,5 @@
 -- What sessions are served, and what is told of them once they have ended.
-use Rattle.std.specs.Prelude.{ℕ, ◌+◌, ◌≡◌, ◌⊎◌, Bool, List, [], ◌∷◌, ◌++◌, length, reverse, take}
+use Rattle.std.specs.Prelude.{ℕ, ◌+◌, ◌≡◌, Bool, false, List, [], ◌∷◌, ◌++◌, length, reverse, take}
 use Rattle.std.specs.Prelude.{Option, None, Result, Ok, Err}
 use Rattle.acdm_milestones.specs.declared.role.Role.{Role}
 use Rattle.bpf_helpers.specs.Promise.{Promise}
@@ -157,13 +157,14 @@ new_session role gives =
     }
 
 -- what it leaves: how it ended, the same of its reader and writer, whether its reader has told the
--- end, and its pass
+-- end and whether bytes that its writer took wait for a flush, and its pass
 pub record SessionLeft : Type 0 where
   pub end : End
   pub read : List ℕ
   pub ended : Bool
   pub faults : ℕ
   pub written : List ℕ
+  pub waits : Bool
   pub write_faults : ℕ
   pub known : Option (List ℕ) × Option (List ℕ)
   pub pass : PassView
@@ -176,6 +177,7 @@ session_left end reader writer pass =
       ended = reader.ended;
       faults = reader.faults;
       written = writer.log;
+      waits = writer.waits;
       write_faults = writer.faults;
       known = (reader.first, writer.first);
       pass = pass;
@@ -201,15 +203,15 @@ end_for (Err errors.Write) = ends.Write
 end_for (Err errors.Memory) = ends.Memory
 
 -- Lines were answered, from a pass that had seen nothing to the one that the session leaves: all of
--- the input, or the whole lines before its reader failed or without end, or those before its
--- writer failed once more. One that had no memory for its buffers, or was not started, did nothing.
+-- the input, or the whole lines before its reader failed or without end, and then no byte of a
+-- reply waits for a flush; or those before its writer failed once more. One that had no memory for its buffers, or was not started, did nothing.
 abbrev pub ServesAs : RowView → ℕ → SessionStart → SessionLeft → End → Type 0
 ServesAs row number s t ends.End =
     AnswersAll (SessionAnswers s.gives row.sigs) s.read t.read t.ended (new_pass row number s.role)
-    t.pass s.written t.written
+    t.pass s.written t.written × (t.waits ≡ false)
 ServesAs row number s t ends.Read =
     AnswersWhole (SessionAnswers s.gives row.sigs) s.read t.read s.faults t.faults
-    (new_pass row number s.role) t.pass s.written t.written
+    (new_pass row number s.role) t.pass s.written t.written × (t.waits ≡ false)
 ServesAs row number s t ends.Write =
     AnswersPart (SessionAnswers s.gives row.sigs) s.read t.read (new_pass row number s.role) t.pass
     s.written t.written × (t.write_faults ≡ s.write_faults + 1)

@@ -1,6 +1,6 @@
 -- How the lines of a stream are answered, by whoever answers them.
-use Rattle.std.specs.Prelude.{ℕ, ◌≡◌, true, false, List, [], ◌∷◌, ◌++◌}
-use Rattle.std.specs.Prelude.{Bool, take, Result, Ok, Err}
+use Rattle.std.specs.Prelude.{ℕ, ◌≡◌, true, List, [], ◌∷◌, ◌++◌}
+use Rattle.std.specs.Prelude.{◌⊎◌, Bool, take, Result, Ok, Err}
 use Rattle.acdm_sessions.specs.declared.answer.Answer.{Answer}
 use Rattle.acdm_lines.specs.declared.run_error.RunError.{RunError}
 use Rattle.acdm_lines.specs.declared.run_error.RunError.TheVariants.{Write}
@@ -18,7 +18,7 @@ Answering A = A → A → List ℕ → Answer → Type 0
 
 -- ---- one line
 
--- a line was answered, and no byte of its reply waits for a flush
+-- a line was answered, and its reply was written
 pub record Answered {A W : Type 0} (may : Answering A)
     (old new : SinkView W) (before after : A) (line : List ℕ) : Type 0 where
   pub answer : Answer
@@ -26,7 +26,6 @@ pub record Answered {A W : Type 0} (may : Answering A)
   pub wrote : new.log ≡ old.log ++ reply_text answer
   pub same : new.first ≡ old.first
   pub well : new.faults ≡ old.faults
-  pub flushed : new.waits ≡ false
 
 -- the writer failed once more, after a first part of the reply to a line
 pub record AnsweredInPart {A W : Type 0} (may : Answering A)
@@ -98,7 +97,7 @@ pub record AnswersWhole {A : Type 0} (may : Answering A) (log log_after : List �
 -- A reply could not be written: the reader gave whole lines, a line, and what follows it. The whole
 -- lines were answered, and so was the line, of whose reply a first part was written. Of the other
 -- lines none was answered.
-pub record AnswersPart {A : Type 0} (may : Answering A) (log log_after : List ℕ)
+pub record StopsInReply {A : Type 0} (may : Answering A) (log log_after : List ℕ)
     (before after : A) (old new : List ℕ) : Type 0 where
   pub whole : List ℕ
   pub line : List ℕ
@@ -113,3 +112,22 @@ pub record AnswersPart {A : Type 0} (may : Answering A) (log log_after : List �
   pub answer : Answer
   pub is_right : may middle after (kept line) answer
   pub in_hand : AppendsPart between new (reply_text answer)
+
+-- Replies could not be let go: the reader gave the text of some lines, and of one more at most a
+-- part. The lines were answered, and the writer took all of their replies, but where these waited
+-- for a flush it failed. Nothing else was done.
+pub record StopsAtFlush {A : Type 0} (may : Answering A) (log log_after : List ℕ)
+    (before after : A) (old new : List ℕ) : Type 0 where
+  pub text : List ℕ
+  pub part : List ℕ
+  pub is_part : IsLine part
+  pub apart : lines_of (text ++ part) ≡ lines_of text ++ lines_of part
+  pub gave : log_after ≡ log ++ (text ++ part)
+  pub served : AnswersText may text before after old new
+
+-- The writer failed: in the midst of a reply, or as the replies to all lines so far were let go.
+abbrev pub AnswersPart : {A : Type 0} → Answering A → List ℕ → List ℕ → A → A → List ℕ → List ℕ
+    → Type 0
+AnswersPart may log log_after before after old new =
+    StopsInReply may log log_after before after old new
+    ⊎ StopsAtFlush may log log_after before after old new

@@ -130,6 +130,8 @@ fn answer_all<
     ensures same_reader { reader.new.first ≡ reader.old.first }
     ensures same_writer { writer.new.first ≡ writer.old.first }
     ensures write { result ≡ Err RunError.Write → writer.new.faults ≡ writer.old.faults + 1 }
+    ensures flushed { OnOk result (writer.new.waits ≡ false) }
+    ensures quiet { result ≡ Err RunError.Read → writer.new.waits ≡ false }
     ensures number { who.new.caller.number ≡ who.old.caller.number }
     ensures role { who.new.caller.role ≡ who.old.caller.role }
     ensures output { OnOk result (AnswersAll
@@ -196,6 +198,7 @@ pub(crate) fn serve<
         mut writer,
     } = seat;
     if !begins {
+        gate.ended(number);
         return Served {
             number,
             role,
@@ -215,6 +218,7 @@ pub(crate) fn serve<
     };
     let end = end_of(answer_all(alloc, &mut reader, &mut writer, &mut at_desk));
     let AtDesk { caller, .. } = at_desk;
+    gate.ended(number);
     Served {
         number,
         role,

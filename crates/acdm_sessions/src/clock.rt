@@ -13,11 +13,15 @@ pub trait Clock {
         ensures same { gives self.new ≡ gives self.old };
 }
 
-/// Is told of each call of the desk, and may hold a session up there, as tests do.
+/// Is told of each call of the desk, and may hold a session up there, as tests do; and of its end.
 pub trait Gate {
     /// Before the `call`-th call of a session, from 1, takes the lock.
     fn enter(&self, session: u8, call: u64);
 
     /// After the reply to that call was written.
     fn answered(&self, session: u8, call: u64);
+
+    /// After the session has ended, and all its replies were let go that could be; also where no
+    /// thread could be started for it.
+    fn ended(&self, _session: u8) {}
 }

@@ -7,6 +7,7 @@ mod at_desk;
 mod clock;
 mod loading;
 mod locked;
+mod next;
 mod order;
 mod reply;
 mod session;

@@ -4,7 +4,8 @@ ghost use Rattle.acdm_sessions.specs.Run.{ServesAll, ServesWhole, ServesPart};
 ghost use Rattle.acdm_sessions.specs.Stream.{AnswersLine, AnswersAll, AnswersWhole, AnswersPart};
 
 use crate::answerer::Answerer;
-use crate::reply::write_reply;
+use crate::next::next_line;
+use crate::reply::{let_go, write_reply};
 use acdm_board::Desk;
 use acdm_lines::{Ending, Lines, RunError, Sink, Source};
 use acdm_wire::LONGEST_LINE;
@@ -13,9 +14,9 @@ use std::alloc::Global;
 use std::io::{Read, Write};
 
 // One byte more than the longest line has, so that a longer one is told by what is kept of it.
-const MOST_KEPT: usize = LONGEST_LINE + 1;
+pub(crate) const MOST_KEPT: usize = LONGEST_LINE + 1;
 
-// Answers one line, and lets its reply go.
+// Answers one line. The writer is not flushed.
 fn serve_line<W: Write, A: Answerer>(
     alloc: Global,
     line: &[u8],
@@ -30,8 +31,8 @@ fn serve_line<W: Write, A: Answerer>(
     Ok(())
 }
 
-/// Answers each line that is read, at once, until the input ends. A reply is written and flushed
-/// before more is read. The errors are those of `run`.
+/// Answers each line that is read, at once, until the input ends. Each reply is written and flushed
+/// before more is read, and when all is answered. The errors are those of `run`.
 pub(crate) fn serve_lines<R: Read, W: Write, A: Answerer>(
     alloc: Global,
     reader: &mut Source<R>,
@@ -47,12 +48,13 @@ pub(crate) fn serve_lines<R: Read, W: Write, A: Answerer>(
     ensures same_writer { writer.new.first ≡ writer.old.first }
     ensures read_well { OnOk result (reader.new.faults ≡ reader.old.faults) }
     ensures wrote_well { OnOk result (writer.new.faults ≡ writer.old.faults) }
-    ensures flushed { OnOk result (writer.old.waits ≡ false → writer.new.waits ≡ false) }
+    ensures flushed { OnOk result (writer.new.waits ≡ false) }
     ensures read { result ≡ Err RunError.Read → AnswersWhole A.may
         reader.old.log reader.new.log
         reader.old.faults reader.new.faults who.old who.new
         writer.old.log writer.new.log }
     ensures read_alone { result ≡ Err RunError.Read → writer.new.faults ≡ writer.old.faults }
+    ensures quiet { result ≡ Err RunError.Read → writer.new.waits ≡ false }
     ensures write { result ≡ Err RunError.Write → writer.new.faults ≡ writer.old.faults + 1 }
     ensures write_alone { result ≡ Err RunError.Write → reader.new.faults ≡ reader.old.faults }
     ensures written_in_part { result ≡ Err RunError.Write → AnswersPart A.may
@@ -64,13 +66,14 @@ pub(crate) fn serve_lines<R: Read, W: Write, A: Answerer>(
     let Ok(mut lines) = Lines::<MOST_KEPT>::new(alloc) else {
         return Err(RunError::Memory);
     };
-    while let Ending::LineFeed = lines.next(reader)? {
+    while let Ending::LineFeed = next_line(&mut lines, reader, writer)? {
         serve_line(alloc, lines.line.as_slice(), writer, who)?;
     }
     if lines.line.as_slice().is_empty() {
         return Ok(());
     }
     serve_line(alloc, lines.line.as_slice(), writer, who)?;
+    let_go(writer)?;
     Ok(())
 }
 
@@ -80,8 +83,9 @@ pub(crate) fn serve_lines<R: Read, W: Write, A: Answerer>(
 /// from 1 to 4,294,967,295, a role's name, and JSON (RFC 8259). Its reply is `ok N` or `no N CODE`
 /// with the number of its entry, or `bad CODE` where it makes none (this project's profile), and
 /// `bad CODE SLOT` where it loads a program that is not accepted under the desk's signatures. Lines
-/// are cut at each line feed, and a last one may lack it. A reply is written and flushed before
-/// more is read. A line of more than 70,000 bytes takes no more memory than one of them.
+/// are cut at each line feed, and a last one may lack it. Each reply is written before the next line
+/// is answered, and no byte of one waits for a flush when more is read, nor when the input has
+/// ended. A line of more than 70,000 bytes takes no more memory than one of them.
 ///
 /// `Read` where the reader failed, or where 2^40 reads did not reach its end; `Write` where the
 /// writer failed; `Memory` where there was no room for the buffers that a run begins with, and
@@ -103,7 +107,7 @@ pub fn run<R: Read, W: Write, H: Helpers + Drop>(
     ensures same_writer { writer.new.first ≡ writer.old.first }
     ensures read_well { OnOk result (reader.new.faults ≡ reader.old.faults) }
     ensures wrote_well { OnOk result (writer.new.faults ≡ writer.old.faults) }
-    ensures flushed { OnOk result (writer.old.waits ≡ false → writer.new.waits ≡ false) }
+    ensures flushed { OnOk result (writer.new.waits ≡ false) }
 
     // When no more could be read, and what stands then.
     ensures read { result ≡ Err RunError.Read → ServesWhole
@@ -111,6 +115,7 @@ pub fn run<R: Read, W: Write, H: Helpers + Drop>(
         reader.old.faults reader.new.faults desk.old desk.new
         writer.old.log writer.new.log }
     ensures read_alone { result ≡ Err RunError.Read → writer.new.faults ≡ writer.old.faults }
+    ensures quiet { result ≡ Err RunError.Read → writer.new.waits ≡ false }
 
     // When a reply could not be written, and what stands then.
     ensures write { result ≡ Err RunError.Write → writer.new.faults ≡ writer.old.faults + 1 }

@@ -1,10 +1,10 @@
 //! The journal's entries.
-ghost use Rattle.std.specs.Prelude.{◌≡◌, []};
+ghost use Rattle.std.specs.Prelude.{◌≡◌, [], IfOk, IsOk};
 ghost use Rattle.acdm_step.specs.Commands.{is_accepted as was_accepted};
 
 use crate::command::Command;
 use acdm_milestones::{Refusal, Role};
-use std::alloc::Global;
+use std::alloc::{AllocError, Global};
 use std::marker::Model;
 
 /// Whether a command was accepted.
@@ -25,43 +25,49 @@ impl Verdict {
     }
 }
 
-/// The answers of helpers that the programs of one command used, the first one first.
+/// The answers of helpers that the programs of one command used, the first one first. It takes memory
+/// only where there are any.
 #[derive(Drop)]
 pub struct Answers {
-    items: Vec<u64>,
+    items: Option<Box<Vec<u64>>>,
 }
 
 impl Model for Answers {
-    ghost use Rattle.std.specs.Prelude.{ℕ, List};
+    ghost use Rattle.std.specs.Prelude.{ℕ, List, [], option_map, unwrap_or};
 
     ghost Value = { List ℕ };
 
-    ghost view = { λ a. a.items.items };
+    ghost view = { λ a. unwrap_or (option_map (λ b. b.value.items) a.items) [] };
 }
 
 impl Answers {
-    /// No answer. It takes no memory.
-    pub fn none(alloc: Global) -> Answers
+    /// No answer.
+    pub fn none() -> Answers
         ensures { result ≡ [] }
     {
-        Answers {
-            items: Vec::new(alloc),
+        Answers { items: None }
+    }
+
+    /// These answers. `Err` only where there are some, and no memory for them.
+    pub fn new(alloc: Global, items: Vec<u64>) -> Result<Answers, AllocError>
+        ensures value { IfOk result (λ answers. answers ≡ items.items) }
+        ensures none { items.items ≡ [] → IsOk result }
+    {
+        if items.is_empty() {
+            return Ok(Answers::none());
         }
+        let items = Box::new(alloc, items)?;
+        Ok(Answers { items: Some(items) })
     }
 
     /// The answers.
     pub fn as_slice(&self) -> &[u64]
         ensures { result.now ≡ self.now }
     {
-        self.items.as_slice()
-    }
-}
-
-impl From<Vec<u64>> for Answers {
-    ghost from_gives = { λ items answers. answers ≡ items.items };
-
-    fn from(items: Vec<u64>) -> Answers {
-        Answers { items }
+        match &self.items {
+            Some(items) => items.as_ref().as_slice(),
+            None => &[],
+        }
     }
 }
 
@@ -74,8 +80,8 @@ pub struct Entry {
     pub number: u64,
     pub session: u8,
     pub role: Role,
+    pub verdict: Verdict,
     pub moment: u32,
     pub command: Command,
-    pub verdict: Verdict,
     pub answers: Answers,
 }

@@ -3,5 +3,7 @@ pub mod Json
 pub mod MeantRows
 pub mod MemoryRows
 pub mod OnLiterals
+pub mod PlainMembers
+pub mod PlainText
 pub mod ReplyRows
 pub mod Writing

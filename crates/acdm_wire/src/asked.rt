@@ -4,8 +4,10 @@ ghost use Rattle.acdm_wire.specs.Meant.{Gives, asked_of, is_plain};
 ghost use Rattle.acdm_wire.specs.Memory.{asked_needs_memory};
 
 use crate::fault::Fault;
-use crate::field::{command_in, json_in};
+use crate::field::command_in;
+use crate::line_json::json_in;
 use crate::request::{Asked, LONGEST_LINE, LineError};
+use arrayvec::ArrayVec;
 use std::alloc::Global;
 
 /// What a line of a session asks for, or the first fault in it (this project's profile). It is JSON
@@ -21,6 +23,7 @@ pub fn asked_of(alloc: Global, line: &[u8]) -> Result<Asked, LineError>
     if line.len() > LONGEST_LINE {
         return Err(LineError::Fault(Fault::TooLong));
     }
-    let value = json_in(alloc, line)?;
+    let mut found = ArrayVec::new();
+    let value = json_in(alloc, line, &mut found)?;
     command_in(alloc, &value)
 }

@@ -1,20 +1,21 @@
 //! The fields of a command.
-ghost use Rattle.std.specs.Prelude.{◌≡◌, ◌≤◌, true, false, IfOk, OnOk, IsTrue, Err};
+ghost use Rattle.std.specs.Prelude.{◌≡◌, ◌≤◌, true, false, IfOk, IsTrue, Err};
 ghost use Rattle.acdm_step.specs.Facts.{has_its_plan, has_its_time};
 ghost use Rattle.acdm_step.specs.Commands.{is_load};
-ghost use Rattle.serde_json.specs.View.{view};
-ghost use Rattle.acdm_wire.specs.Meant.{Gives, GivesView, number_field, text_field, minute_of};
+ghost use Rattle.acdm_wire.specs.Meant.{Gives, number_field, text_field, minute_of};
 ghost use Rattle.acdm_wire.specs.Meant.{time_field, time_or_null, time_for, plan_field};
 ghost use Rattle.acdm_wire.specs.Meant.{plan_for, milestone_of, milestone_field};
 ghost use Rattle.acdm_wire.specs.Meant.{schedule_field, report_field, show_field};
 ghost use Rattle.acdm_wire.specs.Meant.{deicing_field, deice_field, kind_field, slot_field};
 ghost use Rattle.acdm_wire.specs.Meant.{program_field, length_of, length_field, load_field};
 ghost use Rattle.acdm_wire.specs.Meant.{unload_field, plain_named, command_of, is_plain};
-ghost use Rattle.acdm_wire.specs.Meant.{or_fault, json_of};
-ghost use Rattle.acdm_wire.specs.Memory.{json_needs_memory, program_needs_memory};
+ghost use Rattle.acdm_wire.specs.Meant.{or_fault};
+ghost use Rattle.acdm_wire.specs.Memory.{program_needs_memory};
+ghost use Rattle.acdm_wire.specs.Plain.{data_of};
 ghost use Rattle.acdm_wire.specs.Memory.{load_needs_memory, command_needs_memory};
 
 use crate::fault::Fault;
+use crate::line_json::LineJson;
 use crate::program::ProgramBytes;
 use crate::request::{Asked, LineError, LoadRequest};
 use acdm_milestones::{DeicingTime, Milestone};
@@ -26,15 +27,14 @@ use acdm_step::{
 use bpf_regstate::Length;
 use hex::FromHexError;
 use jiff::Timestamp;
-use serde_json::Value;
 use std::alloc::Global;
 
 #[tactic(auto, unfolding(crate::specs::Meant::number_field))]
-fn number_in(value: &Value, key: &str, low: u64, high: u64) -> Result<u64, Fault>
-    ensures reads { result ≡ number_field key.now low high (view value.now) }
+fn number_in(value: &LineJson<'_, '_>, key: &str, low: u64, high: u64) -> Result<u64, Fault>
+    ensures reads { result ≡ number_field key.now low high (data_of value.now) }
     ensures within { IfOk result (λ n. (low ≤ n) × (n ≤ high)) }
 {
-    let Some(number) = value.get(key).and_then(Value::as_u64) else {
+    let Some(number) = value.number(key) else {
         return Err(Fault::Kind);
     };
     if low <= number && number <= high {
@@ -46,11 +46,11 @@ fn number_in(value: &Value, key: &str, low: u64, high: u64) -> Result<u64, Fault
 
 // The minute of a text that is an instant.
 #[tactic(auto, unfolding(crate::specs::Meant::time_field))]
-fn time_in(value: &Value, key: &str) -> Result<u32, Fault>
-    ensures reads { result ≡ time_field key.now (view value.now) }
+fn time_in(value: &LineJson<'_, '_>, key: &str) -> Result<u32, Fault>
+    ensures reads { result ≡ time_field key.now (data_of value.now) }
     ensures given { IfOk result (λ t. 1 ≤ t) }
 {
-    let Some(text) = value.get(key).and_then(Value::as_str) else {
+    let Some(text) = value.text(key) else {
         return Err(Fault::Kind);
     };
     let Ok(instant) = text.parse::<Timestamp>() else {
@@ -72,10 +72,10 @@ fn minute_at(instant: Timestamp) -> Result<u32, Fault>
 }
 
 #[tactic(auto, unfolding(crate::specs::Meant::text_field))]
-fn text_in<const N: usize>(value: &Value, key: &str) -> Result<Text<N>, Fault>
-    ensures { result ≡ text_field key.now N (view value.now) }
+fn text_in<const N: usize>(value: &LineJson<'_, '_>, key: &str) -> Result<Text<N>, Fault>
+    ensures { result ≡ text_field key.now N (data_of value.now) }
 {
-    let Some(text) = value.get(key).and_then(Value::as_str) else {
+    let Some(text) = value.text(key) else {
         return Err(Fault::Kind);
     };
     let Some(kept) = Text::from_bytes(text.as_bytes()) else {
@@ -85,8 +85,8 @@ fn text_in<const N: usize>(value: &Value, key: &str) -> Result<Text<N>, Fault>
 }
 
 #[tactic(auto, unfolding(crate::specs::Meant::plan_field))]
-fn plan_in(value: &Value) -> Result<Plan, Fault>
-    ensures { result ≡ plan_field (view value.now) }
+fn plan_in(value: &LineJson<'_, '_>) -> Result<Plan, Fault>
+    ensures { result ≡ plan_field (data_of value.now) }
 {
     let callsign = text_in(value, "callsign")?;
     let aircraft = text_in(value, "type")?;
@@ -110,8 +110,8 @@ fn milestone_at(number: u64) -> Result<Milestone, Fault>
 }
 
 #[tactic(auto, unfolding(crate::specs::Meant::milestone_field))]
-fn milestone_in(value: &Value) -> Result<Milestone, Fault>
-    ensures { result ≡ milestone_field (view value.now) }
+fn milestone_in(value: &LineJson<'_, '_>) -> Result<Milestone, Fault>
+    ensures { result ≡ milestone_field (data_of value.now) }
 {
     let number = number_in(value, "milestone", 0, u64::MAX)?;
     milestone_at(number)
@@ -119,18 +119,18 @@ fn milestone_in(value: &Value) -> Result<Milestone, Fault>
 
 // A time, or 0 for null.
 #[tactic(auto, unfolding(crate::specs::Meant::time_or_null))]
-fn time_or_null_in(value: &Value, key: &str) -> Result<u32, Fault>
-    ensures { result ≡ time_or_null key.now (view value.now) }
+fn time_or_null_in(value: &LineJson<'_, '_>, key: &str) -> Result<u32, Fault>
+    ensures { result ≡ time_or_null key.now (data_of value.now) }
 {
-    if value.get(key).and_then(Value::as_null).is_some() {
+    if value.has_null(key) {
         return Ok(0);
     }
     time_in(value, key)
 }
 
 // The time of a report.
-fn time_of(value: &Value, milestone: Milestone) -> Result<u32, Fault>
-    ensures reads { result ≡ time_for milestone (view value.now) }
+fn time_of(value: &LineJson<'_, '_>, milestone: Milestone) -> Result<u32, Fault>
+    ensures reads { result ≡ time_for milestone (data_of value.now) }
     ensures timed { IfOk result (λ t. IsTrue (has_its_time milestone t)) }
 {
     match milestone {
@@ -140,8 +140,8 @@ fn time_of(value: &Value, milestone: Milestone) -> Result<u32, Fault>
 }
 
 #[tactic(auto, unfolding(crate::specs::Meant::schedule_field, crate::specs::Meant::number_field))]
-fn schedule_in(value: &Value) -> Result<Command, Fault>
-    ensures reads { result ≡ schedule_field (view value.now) }
+fn schedule_in(value: &LineJson<'_, '_>) -> Result<Command, Fault>
+    ensures reads { result ≡ schedule_field (data_of value.now) }
     ensures plain { IfOk result (λ command. is_load command ≡ false) }
 {
     let flight = number_in(value, "flight", 1, u64::MAX)?;
@@ -162,8 +162,8 @@ fn schedule_in(value: &Value) -> Result<Command, Fault>
     ))))
 }
 
-fn plan_of(value: &Value, milestone: Milestone) -> Result<Option<Plan>, Fault>
-    ensures reads { result ≡ plan_for milestone (view value.now) }
+fn plan_of(value: &LineJson<'_, '_>, milestone: Milestone) -> Result<Option<Plan>, Fault>
+    ensures reads { result ≡ plan_for milestone (data_of value.now) }
     ensures with_first { IfOk result (λ p. IsTrue (has_its_plan milestone p)) }
 {
     match milestone {
@@ -173,8 +173,8 @@ fn plan_of(value: &Value, milestone: Milestone) -> Result<Option<Plan>, Fault>
 }
 
 #[tactic(auto, unfolding(crate::specs::Meant::report_field))]
-fn report_in(value: &Value) -> Result<Command, Fault>
-    ensures reads { result ≡ report_field (view value.now) }
+fn report_in(value: &LineJson<'_, '_>) -> Result<Command, Fault>
+    ensures reads { result ≡ report_field (data_of value.now) }
     ensures plain { IfOk result (λ command. is_load command ≡ false) }
 {
     let flight = number_in(value, "flight", 1, u64::MAX)?;
@@ -185,10 +185,10 @@ fn report_in(value: &Value) -> Result<Command, Fault>
 }
 
 #[tactic(auto, unfolding(crate::specs::Meant::deicing_field))]
-fn deicing_time_in(value: &Value) -> Result<DeicingTime, Fault>
-    ensures { result ≡ deicing_field (view value.now) }
+fn deicing_time_in(value: &LineJson<'_, '_>) -> Result<DeicingTime, Fault>
+    ensures { result ≡ deicing_field (data_of value.now) }
 {
-    let Some(name) = value.get("field").and_then(Value::as_str) else {
+    let Some(name) = value.text("field") else {
         return Err(Fault::Kind);
     };
     let Some(which) = DeicingTime::from_name(name.as_bytes()) else {
@@ -198,8 +198,8 @@ fn deicing_time_in(value: &Value) -> Result<DeicingTime, Fault>
 }
 
 #[tactic(auto, unfolding(crate::specs::Meant::deice_field))]
-fn deice_in(value: &Value) -> Result<Command, Fault>
-    ensures reads { result ≡ deice_field (view value.now) }
+fn deice_in(value: &LineJson<'_, '_>) -> Result<Command, Fault>
+    ensures reads { result ≡ deice_field (data_of value.now) }
     ensures plain { IfOk result (λ command. is_load command ≡ false) }
 {
     let flight = number_in(value, "flight", 1, u64::MAX)?;
@@ -214,8 +214,8 @@ fn deice_in(value: &Value) -> Result<Command, Fault>
 }
 
 #[tactic(auto, unfolding(crate::specs::Meant::show_field))]
-fn show_in(value: &Value) -> Result<Command, Fault>
-    ensures reads { result ≡ show_field (view value.now) }
+fn show_in(value: &LineJson<'_, '_>) -> Result<Command, Fault>
+    ensures reads { result ≡ show_field (data_of value.now) }
     ensures plain { IfOk result (λ command. is_load command ≡ false) }
 {
     let flight = number_in(value, "flight", 1, u64::MAX)?;
@@ -223,10 +223,10 @@ fn show_in(value: &Value) -> Result<Command, Fault>
 }
 
 #[tactic(auto, unfolding(crate::specs::Meant::kind_field))]
-fn kind_in(value: &Value) -> Result<Kind, Fault>
-    ensures { result ≡ kind_field (view value.now) }
+fn kind_in(value: &LineJson<'_, '_>) -> Result<Kind, Fault>
+    ensures { result ≡ kind_field (data_of value.now) }
 {
-    let Some(name) = value.get("kind").and_then(Value::as_str) else {
+    let Some(name) = value.text("kind") else {
         return Err(Fault::Kind);
     };
     let Some(kind) = Kind::from_name(name.as_bytes()) else {
@@ -236,8 +236,8 @@ fn kind_in(value: &Value) -> Result<Kind, Fault>
 }
 
 // The slot of a program: its milestone and its kind.
-fn slot_in(value: &Value) -> Result<(Milestone, Kind), Fault>
-    ensures { result ≡ slot_field (view value.now) }
+fn slot_in(value: &LineJson<'_, '_>) -> Result<(Milestone, Kind), Fault>
+    ensures { result ≡ slot_field (data_of value.now) }
 {
     let milestone = milestone_in(value)?;
     let kind = kind_in(value)?;
@@ -246,12 +246,12 @@ fn slot_in(value: &Value) -> Result<(Milestone, Kind), Fault>
 
 // The bytes of hexadecimal text.
 #[tactic(auto, unfolding(crate::specs::Meant::program_field, crate::specs::Memory::program_needs_memory))]
-fn program_in(alloc: Global, value: &Value) -> Result<ProgramBytes, LineError>
-    ensures reads { Gives result (program_field (view value.now)) }
+fn program_in(alloc: Global, value: &LineJson<'_, '_>) -> Result<ProgramBytes, LineError>
+    ensures reads { Gives result (program_field (data_of value.now)) }
     ensures memory { result ≡ Err LineError.Memory
-        → IsTrue (program_needs_memory (view value.now)) }
+        → IsTrue (program_needs_memory (data_of value.now)) }
 {
-    let Some(digits) = value.get("program").and_then(Value::as_str) else {
+    let Some(digits) = value.text("program") else {
         return Err(LineError::Fault(Fault::Kind));
     };
     match hex::decode(alloc, digits) {
@@ -273,22 +273,22 @@ fn length_at(number: u64) -> Result<Length, Fault>
 
 // The length of the records beside which a program is to run.
 #[tactic(auto, unfolding(crate::specs::Meant::length_field))]
-fn length_in(value: &Value) -> Result<Length, Fault>
-    ensures { result ≡ length_field (view value.now) }
+fn length_in(value: &LineJson<'_, '_>) -> Result<Length, Fault>
+    ensures { result ≡ length_field (data_of value.now) }
 {
-    let Some(field) = value.get("length") else {
+    if !value.has("length") {
         return Ok(Length::L128);
-    };
-    let Some(number) = field.as_u64() else {
+    }
+    let Some(number) = value.number("length") else {
         return Err(Fault::Kind);
     };
     length_at(number)
 }
 
 #[tactic(auto, unfolding(crate::specs::Meant::load_field, crate::specs::Memory::load_needs_memory))]
-fn load_in(alloc: Global, value: &Value) -> Result<Asked, LineError>
-    ensures reads { Gives result (load_field (view value.now)) }
-    ensures memory { result ≡ Err LineError.Memory → IsTrue (load_needs_memory (view value.now)) }
+fn load_in(alloc: Global, value: &LineJson<'_, '_>) -> Result<Asked, LineError>
+    ensures reads { Gives result (load_field (data_of value.now)) }
+    ensures memory { result ≡ Err LineError.Memory → IsTrue (load_needs_memory (data_of value.now)) }
     ensures plain { IfOk result (λ asked. is_plain asked ≡ true) }
 {
     let (milestone, kind) = match slot_in(value) {
@@ -309,8 +309,8 @@ fn load_in(alloc: Global, value: &Value) -> Result<Asked, LineError>
 }
 
 #[tactic(auto, unfolding(crate::specs::Meant::unload_field))]
-fn unload_in(value: &Value) -> Result<Command, Fault>
-    ensures reads { result ≡ unload_field (view value.now) }
+fn unload_in(value: &LineJson<'_, '_>) -> Result<Command, Fault>
+    ensures reads { result ≡ unload_field (data_of value.now) }
     ensures plain { IfOk result (λ command. is_load command ≡ false) }
 {
     let (milestone, kind) = slot_in(value)?;
@@ -319,8 +319,8 @@ fn unload_in(value: &Value) -> Result<Command, Fault>
 
 // The command of this name, where it is not a load.
 #[tactic(auto, unfolding(crate::specs::Meant::plain_named))]
-fn plain_in(value: &Value, name: &str) -> Result<Command, Fault>
-    ensures reads { result ≡ plain_named name.now (view value.now) }
+fn plain_in(value: &LineJson<'_, '_>, name: &str) -> Result<Command, Fault>
+    ensures reads { result ≡ plain_named name.now (data_of value.now) }
     ensures plain { IfOk result (λ command. is_load command ≡ false) }
 {
     if name == "schedule" {
@@ -345,13 +345,13 @@ fn plain_in(value: &Value, name: &str) -> Result<Command, Fault>
 }
 
 #[tactic(auto, unfolding(crate::specs::Meant::command_of, crate::specs::Meant::command_named, crate::specs::Memory::command_needs_memory))]
-pub(crate) fn command_in(alloc: Global, value: &Value) -> Result<Asked, LineError>
-    ensures reads { Gives result (command_of (view value.now)) }
+pub(crate) fn command_in(alloc: Global, value: &LineJson<'_, '_>) -> Result<Asked, LineError>
+    ensures reads { Gives result (command_of (data_of value.now)) }
     ensures memory { result ≡ Err LineError.Memory
-        → IsTrue (command_needs_memory (view value.now)) }
+        → IsTrue (command_needs_memory (data_of value.now)) }
     ensures plain { IfOk result (λ asked. is_plain asked ≡ true) }
 {
-    let Some(name) = value.get("cmd").and_then(Value::as_str) else {
+    let Some(name) = value.text("cmd") else {
         return Err(LineError::Fault(Fault::UnknownCommand));
     };
     if name == "load" {
@@ -360,25 +360,5 @@ pub(crate) fn command_in(alloc: Global, value: &Value) -> Result<Asked, LineErro
     match plain_in(value, name) {
         Ok(command) => Ok(Asked::Plain(command)),
         Err(fault) => Err(LineError::Fault(fault)),
-    }
-}
-
-pub(crate) fn json_in(alloc: Global, bytes: &[u8]) -> Result<Value, LineError>
-    ensures reads { GivesView view result (json_of bytes.now) }
-    ensures memory { result ≡ Err LineError.Memory → IsTrue (json_needs_memory bytes.now) }
-    ensures needs { OnOk result (IsTrue (json_needs_memory bytes.now)) }
-{
-    let Ok(text) = str::from_utf8(bytes) else {
-        return Err(LineError::Fault(Fault::NoJson));
-    };
-    match Value::from_str(alloc, text) {
-        Ok(value) => Ok(value),
-        Err(error) => {
-            if error.is_memory() {
-                Err(LineError::Memory)
-            } else {
-                Err(LineError::Fault(Fault::NoJson))
-            }
-        }
     }
 }

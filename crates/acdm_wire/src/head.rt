@@ -5,9 +5,11 @@ ghost use Rattle.acdm_wire.specs.Meant.{number_word, head_of, meant, is_plain};
 ghost use Rattle.acdm_wire.specs.Memory.{request_needs_memory};
 
 use crate::fault::Fault;
-use crate::field::{command_in, json_in};
+use crate::field::command_in;
+use crate::line_json::json_in;
 use crate::request::{LONGEST_LINE, LineError, Request};
 use acdm_milestones::Role;
+use arrayvec::ArrayVec;
 use std::alloc::Global;
 
 // The place of the first space.
@@ -111,7 +113,8 @@ pub fn request_of(alloc: Global, line: &[u8]) -> Result<Request, LineError>
         Ok(head) => head,
         Err(fault) => return Err(LineError::Fault(fault)),
     };
-    let value = json_in(alloc, head.rest)?;
+    let mut found = ArrayVec::new();
+    let value = json_in(alloc, head.rest, &mut found)?;
     let asked = command_in(alloc, &value)?;
     Ok(Request {
         session: head.session,

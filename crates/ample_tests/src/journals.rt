@@ -1,11 +1,10 @@
 //! Journals with many entries, and with many answers in one.
-use crate::known::{minutes_later, taxi_minutes, turn_round_minutes};
 use crate::texts::{EXIT, push, push_number, push_times, replies_of};
 use acdm_board::Desk;
 use acdm_journal::{audit, write_entry};
-use acdm_judging::{bank_of, known_sigs};
+use acdm_judging::{KnownHelpers, known_sigs};
 use acdm_sessions::{Sink, Source};
-use bpf_helpers::{Bank, Code, Helpers, Sigs};
+use bpf_helpers::{Helpers, Sigs};
 use std::alloc::Global;
 use std::process::Abort;
 use std::sync::Arc;
@@ -118,15 +117,8 @@ fn asks_with<H: Helpers + Drop>(rt: &impl Abort, alloc: Global, helpers: H) {
     drop(desk);
 }
 
-fn known_bank(rt: &impl Abort, alloc: Global) -> Bank {
-    let kinds: Code = Box::new(alloc, turn_round_minutes).expect(rt, "helper 1");
-    let stands: Code = Box::new(alloc, taxi_minutes).expect(rt, "helper 2");
-    let minutes: Code = Box::new(alloc, minutes_later).expect(rt, "helper 3");
-    bank_of(alloc, kinds, stands, minutes).expect(rt, "a bank")
-}
-
 #[test]
 fn four_thousand_answers_are_saved_and_audited(rt: HostRuntime) {
-    let bank = known_bank(&rt, rt.alloc());
-    asks_with(&rt, rt.alloc(), bank);
+    let helpers = KnownHelpers::new(rt.alloc());
+    asks_with(&rt, rt.alloc(), helpers);
 }

@@ -6,7 +6,6 @@ mod boards;
 #[cfg(test)]
 mod journals;
 #[cfg(test)]
-mod known;
 #[cfg(test)]
 mod readers;
 #[cfg(test)]

@@ -4,11 +4,12 @@ use acdm_milestones::{Milestone, Role};
 use acdm_record::{Field, Record, Text};
 use acdm_slots::Kind;
 use acdm_step::{
-    AlertList, Alerted, Answers, Command, Core, FlightCommand, FlightNumber, Load, Outcome, Plan,
-    Report, Schedule, Unload, Verdict,
+    AlertList, Alerted, Answers, Command, Core, Entry, FlightCommand, FlightNumber, Load, Outcome,
+    Plan, Report, Schedule, Unload, Verdict,
 };
 use bpf_helpers::{Logged, Sigs};
 use std::alloc::Global;
+use std::mem::size_of;
 use std::process::Abort;
 
 // 2025-02-20T07:00Z, 09:00Z and 10:00Z.
@@ -579,7 +580,17 @@ fn are_in_order(rt: &impl Abort, answers: &[u64]) {
 
 #[test]
 fn answers_are_kept_in_order(rt: HostRuntime) {
-    let answers = Answers::from(vec![in rt.alloc(); 10u64, 45].expect(&rt, "a list"));
+    let items = vec![in rt.alloc(); 10u64, 45].expect(&rt, "a list");
+    let answers = Answers::new(rt.alloc(), items).expect(&rt, "answers");
     are_in_order(&rt, answers.as_slice());
-    assert!(rt; Answers::none(rt.alloc()).as_slice().is_empty());
+    assert!(rt; Answers::none().as_slice().is_empty());
+}
+
+// With its cell, the length of those before it and what malloc adds, it takes 120 bytes of a journal.
+#[test]
+fn an_entry_takes_96_bytes(rt: HostRuntime) {
+    let command = size_of::<Command>();
+    assert!(rt; command == 64, "a command takes {command}");
+    let entry = size_of::<Entry>();
+    assert!(rt; entry == 96, "an entry takes {entry}");
 }

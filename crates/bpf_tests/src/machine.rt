@@ -1,6 +1,7 @@
 //! Worked runs.
 
 mod cross_check;
+mod embedding;
 mod form_vectors;
 mod forms;
 mod vectors;

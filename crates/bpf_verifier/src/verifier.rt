@@ -73,5 +73,5 @@ pub fn verify(
         return Err(VerifyError::Refused { fault, slot });
     }
     let sigs = sigs.copy()?;
-    Ok(Checked::new(program, sigs, record_length))
+    Ok(Checked::new(alloc, program, sigs, record_length)?)
 }

@@ -31,6 +31,7 @@ fn a_journal_is_read_or_the_usual_one(rt: HostRuntime) {
         let wanted = Line::Run {
             journal: *journal,
             save: None,
+            keep: None,
         };
         assert!(rt; asks_for(rt.alloc(), *words, &wanted), "{journal}");
     }
@@ -71,6 +72,8 @@ fn a_file_to_judge_is_taken_as_it_stands(rt: HostRuntime) {
     assert!(rt; is_refused(alloc, &["acdm", "verify"]));
     let file = "days/monday.txt";
     assert!(rt; asks_for(alloc, &["acdm", "audit", file], &Line::Audit { file }));
+    assert!(rt; asks_for(alloc, &["acdm", "tell", file], &Line::Tell { file }));
+    assert!(rt; is_refused(alloc, &["acdm", "tell"]));
 }
 
 #[test]
@@ -126,9 +129,40 @@ fn a_journal_is_saved_where_it_is_said(rt: HostRuntime) {
     let words = ["acdm", "run", "--save", "day.txt"];
     let save = Some("day.txt");
     let journal = 100_000;
-    assert!(rt; asks_for(alloc, &words, &Line::Run { journal, save }));
+    let keep = None;
+    assert!(rt;
+        asks_for(
+            alloc,
+            &words,
+            &Line::Run {
+                journal,
+                save,
+                keep
+            }
+        )
+    );
     let words = ["acdm", "serve", "--save", "day.txt", "NM=127.0.0.1:0"];
     assert!(rt; asks_to_keep(alloc, &words, save, None));
+}
+
+#[test]
+fn a_journal_is_kept_where_it_is_said(rt: HostRuntime) {
+    let alloc = rt.alloc();
+    let words = ["acdm", "run", "--keep", "day.txt", "--journal", "7"];
+    let save = None;
+    let keep = Some("day.txt");
+    let journal = 7;
+    assert!(rt;
+        asks_for(
+            alloc,
+            &words,
+            &Line::Run {
+                journal,
+                save,
+                keep
+            }
+        )
+    );
 }
 
 // Whether these words ask to serve these partners with such a journal.
@@ -139,12 +173,17 @@ fn asks_to_serve(alloc: Global, words: &[&str], wanted: usize, words_wanted: &[&
                 journal,
                 save,
                 watch,
+                changes,
+                again: false,
+                control: None,
+                pace: None,
                 partners,
             },
         ) => {
             journal == wanted
                 && save.is_none()
                 && watch.is_none()
+                && changes.is_none()
                 && partners.as_slice() == words_wanted
         }
         _ => false,

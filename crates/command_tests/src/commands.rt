@@ -4,6 +4,7 @@ mod displays;
 mod explain;
 mod files;
 mod serve;
+mod tell;
 mod unreliable;
 
 use acdm_board::Desk;
@@ -13,8 +14,8 @@ use acdm_sessions::{Sink, Source, run};
 use bpf_helpers::{Bank, Helpers};
 use bpf_regstate::Length;
 use std::alloc::Global;
-use std::fs::Files;
-use std::io::{self, Read, Write};
+use std::fs::{File, Files};
+use std::io::{self, Eprint, Read, Write};
 use std::net::{Net, TcpListener, TcpStream};
 use std::process::Abort;
 use std::sync::Wait;
@@ -87,7 +88,7 @@ fn a_run_ends_with_its_status(rt: HostRuntime) {
 }
 
 // Each failure, and the line that tells it.
-static FAILURES: [(Failure, &str); 8] = [
+static FAILURES: [(Failure, &str); 11] = [
     (Failure::Read, "acdm: read failed\n"),
     (Failure::Write, "acdm: write failed\n"),
     (Failure::Save, "acdm: save failed\n"),
@@ -96,6 +97,12 @@ static FAILURES: [(Failure, &str); 8] = [
     (Failure::Address(64), "acdm: address 64\n"),
     (Failure::Accept(12), "acdm: accept 12\n"),
     (Failure::Watch, "acdm: watch address\n"),
+    (Failure::Keep, "acdm: keep failed\n"),
+    (Failure::InUse, "acdm: the kept journal is in use\n"),
+    (
+        Failure::Room,
+        "acdm: the kept journal needs a larger --journal\n",
+    ),
 ];
 
 fn complains(rt: &impl Abort, alloc: Global, failure: Failure, line: &str) {
@@ -118,9 +125,10 @@ fn no_file() -> Option<Sink<Broken>> {
 
 // The status of a command line over this reader and these writers.
 fn status_of<
-    Rt: Files
+    Rt: Files<File = File>
         + Net<Listener = TcpListener, Stream = TcpStream>
         + Clock
+        + Eprint
         + Threads
         + Wait
         + Clone
@@ -142,9 +150,10 @@ const TICK: &str = "1 29000580 APT {\"cmd\":\"tick\"}\n";
 
 // What the program writes and answers for these words and this input.
 pub(crate) fn completes<
-    Rt: Files
+    Rt: Files<File = File>
         + Net<Listener = TcpListener, Stream = TcpStream>
         + Clock
+        + Eprint
         + Threads
         + Wait
         + Abort

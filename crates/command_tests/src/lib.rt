@@ -6,3 +6,5 @@
 mod command_line;
 #[cfg(test)]
 mod commands;
+#[cfg(test)]
+mod partners;

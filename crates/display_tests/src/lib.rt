@@ -5,4 +5,6 @@
 #[cfg(test)]
 mod connecting;
 #[cfg(test)]
+mod feeding;
+#[cfg(test)]
 mod following;

@@ -71,7 +71,7 @@ fn a_journal_of_three_entries_is_written(rt: HostRuntime) {
         (0, 1, Role::AirportOperator),
         scheduled(&rt),
         Verdict::Accepted,
-        Answers::none(alloc),
+        Answers::none(),
         "0 1 29000580 APT 0 0 schedule 7 DLH7 A320 DAIBC EDDM 29000760 40 5 10 12\n",
     );
     writes(
@@ -80,7 +80,7 @@ fn a_journal_of_three_entries_is_written(rt: HostRuntime) {
         (1, 2, Role::NetworkManager),
         planned(&rt),
         Verdict::Accepted,
-        Answers::none(alloc),
+        Answers::none(),
         "1 2 29000580 NM 0 0 report 7 1 29000760 DLH7 A320 DAIBC EDDM\n",
     );
     writes(
@@ -89,7 +89,7 @@ fn a_journal_of_three_entries_is_written(rt: HostRuntime) {
         (2, 3, Role::AirTrafficControl),
         reported(&rt, Milestone::TsatIssue, TEN),
         Verdict::Refused(Refusal::NotSet),
-        Answers::none(alloc),
+        Answers::none(),
         "2 3 29000580 ATC 205 0 report 7 10 29000760\n",
     );
 }
@@ -104,7 +104,7 @@ fn answers_are_counted_and_written(rt: HostRuntime) {
         (3, 5, Role::GroundHandler),
         reported(&rt, Milestone::TobtUpdate, TEN),
         Verdict::Accepted,
-        Answers::from(answers),
+        Answers::new(alloc, answers).expect(&rt, "answers"),
         "3 5 29000580 GH 0 1 10 report 7 9 29000760\n",
     );
 }
@@ -118,7 +118,7 @@ fn changes_of_slots_are_written(rt: HostRuntime) {
         (0, 1, Role::AirportOperator),
         loaded(&rt, alloc, Length::L128),
         Verdict::Accepted,
-        Answers::none(alloc),
+        Answers::none(),
         "0 1 29000580 APT 0 0 load 9 alert b7000000000000009500000000000000\n",
     );
     writes(
@@ -127,7 +127,7 @@ fn changes_of_slots_are_written(rt: HostRuntime) {
         (1, 1, Role::AirportOperator),
         unloaded(),
         Verdict::Refused(Refusal::EmptySlot),
-        Answers::none(alloc),
+        Answers::none(),
         "1 1 29000580 APT 321 0 unload 7 tobt\n",
     );
 }
@@ -141,7 +141,7 @@ fn a_winter_is_written(rt: HostRuntime) {
         (2, 1, Role::AirportOperator),
         Command::Migrate,
         Verdict::Accepted,
-        Answers::none(alloc),
+        Answers::none(),
         "2 1 29000580 APT 0 0 migrate\n",
     );
     writes(
@@ -150,7 +150,7 @@ fn a_winter_is_written(rt: HostRuntime) {
         (3, 6, Role::DeicingCompany),
         deiced(DeicingTime::ActualEnd, TEN),
         Verdict::Refused(Refusal::TimeOrder),
-        Answers::none(alloc),
+        Answers::none(),
         "3 6 29000580 DIC 206 0 deice 7 aezt 29000760\n",
     );
     writes(
@@ -159,7 +159,7 @@ fn a_winter_is_written(rt: HostRuntime) {
         (4, 1, Role::AirportOperator),
         loaded(&rt, alloc, Length::L160),
         Verdict::Accepted,
-        Answers::none(alloc),
+        Answers::none(),
         "4 1 29000580 APT 0 0 load 9 alert b7000000000000009500000000000000 160\n",
     );
 }
@@ -173,7 +173,7 @@ fn ticks_and_questions_are_written(rt: HostRuntime) {
         (2, 64, Role::AirportOperator),
         Command::Tick,
         Verdict::Accepted,
-        Answers::none(alloc),
+        Answers::none(),
         "2 64 29000580 APT 0 0 tick\n",
     );
     writes(
@@ -182,7 +182,7 @@ fn ticks_and_questions_are_written(rt: HostRuntime) {
         (3, 1, Role::AircraftOperator),
         Command::Show(FlightNumber::new(8)),
         Verdict::Refused(Refusal::UnknownFlight),
-        Answers::none(alloc),
+        Answers::none(),
         "3 1 29000580 AO 202 0 show 8\n",
     );
     writes(
@@ -191,7 +191,7 @@ fn ticks_and_questions_are_written(rt: HostRuntime) {
         (4, 1, Role::GroundHandler),
         Command::Alerts,
         Verdict::Accepted,
-        Answers::none(alloc),
+        Answers::none(),
         "4 1 29000580 GH 0 0 alerts\n",
     );
 }
@@ -205,7 +205,7 @@ fn a_writer_that_is_full_fails(rt: HostRuntime) {
         moment: SEVEN,
         command: Command::Tick,
         verdict: Verdict::Accepted,
-        answers: Answers::none(rt.alloc()),
+        answers: Answers::none(),
     };
     let mut room = [0; 9];
     let mut out = Sink::new(room.as_mut_slice());

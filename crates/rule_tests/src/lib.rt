@@ -2,6 +2,5 @@
 #![tactic(auto)]
 
 #[cfg(test)]
-mod known;
 #[cfg(test)]
 mod rows;

@@ -16,12 +16,11 @@ mod targets;
 mod touches;
 mod winter;
 
-use crate::known::{minutes_later, taxi_minutes, turn_round_minutes};
 use crate::rows::marks::MARKS;
 use acdm_board::Desk;
-use acdm_judging::bank_of;
+use acdm_judging::KnownHelpers;
 use acdm_sessions::{Sink, Source, run};
-use bpf_helpers::{Bank, Code, Helpers};
+use bpf_helpers::Helpers;
 use std::alloc::Global;
 use std::process::Abort;
 
@@ -63,13 +62,6 @@ pub(crate) struct Crowd {
     pub(crate) alert: &'static str,
     pub(crate) more: &'static str,
     pub(crate) replies: &'static str,
-}
-
-fn known_bank(rt: &impl Abort, alloc: Global) -> Bank {
-    let kinds: Code = Box::new(alloc, turn_round_minutes).expect(rt, "helper 1");
-    let stands: Code = Box::new(alloc, taxi_minutes).expect(rt, "helper 2");
-    let minutes: Code = Box::new(alloc, minutes_later).expect(rt, "helper 3");
-    bank_of(alloc, kinds, stands, minutes).expect(rt, "a bank")
 }
 
 fn push(rt: &impl Abort, text: &mut Vec<u8>, part: &str) {
@@ -214,22 +206,22 @@ fn replies_in(rt: &impl Abort, alloc: Global, marked: &str) -> String {
 pub(crate) fn is_answered(rt: &impl Abort, alloc: Global, row: &Row) {
     let text = text_of(rt, alloc, row);
     let replies = replies_in(rt, alloc, row.replies);
-    let bank = known_bank(rt, alloc);
-    let found = replies_with(rt, alloc, bank, row.capacity, text.as_slice());
+    let helpers = KnownHelpers::new(alloc);
+    let found = replies_with(rt, alloc, helpers, row.capacity, text.as_slice());
     assert_eq!(rt; found.as_str(), replies.as_str(), "for {}", row.shows);
 }
 
 pub(crate) fn is_long_answered(rt: &impl Abort, alloc: Global, row: &Long) {
     let text = long_text(rt, alloc, row);
-    let bank = known_bank(rt, alloc);
-    let found = replies_with(rt, alloc, bank, 10, text.as_slice());
+    let helpers = KnownHelpers::new(alloc);
+    let found = replies_with(rt, alloc, helpers, 10, text.as_slice());
     assert_eq!(rt; found.as_str(), row.replies, "for {}", row.shows);
 }
 
 pub(crate) fn is_crowd_answered(rt: &impl Abort, alloc: Global, row: &Crowd) {
     let text = crowd_text(rt, alloc, row);
     let wanted = crowd_replies(rt, alloc, row);
-    let bank = known_bank(rt, alloc);
-    let found = replies_with(rt, alloc, bank, row.capacity, text.as_slice());
+    let helpers = KnownHelpers::new(alloc);
+    let found = replies_with(rt, alloc, helpers, row.capacity, text.as_slice());
     assert!(rt; found.as_bytes() == wanted.as_slice(), "for {}", row.shows);
 }

@@ -31,7 +31,7 @@ fn turn_round_helper(rt: &impl Abort, alloc: Global) -> Helper {
 }
 
 /// Helper 3.
-fn sum_helper(rt: &impl Abort, alloc: Global) -> Helper {
+pub(crate) fn sum_helper(rt: &impl Abort, alloc: Global) -> Helper {
     let code: Code = Box::new(alloc, minutes_later).expect(rt, "code");
     Helper::new(3, sum_signature(rt, alloc), code)
 }

@@ -2,8 +2,8 @@
 use super::completes;
 use crate::commands::serve::talk;
 use std::alloc::Global;
-use std::fs::{self, Files};
-use std::io::{Read, Write};
+use std::fs::{self, File, Files};
+use std::io::{Eprint, Read, Write};
 use std::net::{Net, SocketAddr, TcpListener, TcpStream};
 use std::process::Abort;
 use std::sync::Wait;
@@ -18,6 +18,8 @@ const SAVED_BY_RUN: &str = "saved-by-run.txt";
 const SAVED_BY_SERVE: &str = "saved-by-serve.txt";
 
 const BROKEN_JOURNAL: &str = "broken-journal.txt";
+
+const KEPT: &str = "kept-by-run.txt";
 
 const PROGRAM: &str = "program.bin";
 
@@ -64,6 +66,28 @@ fn a_run_saves_150_entries(rt: HostRuntime) {
     let words = ["acdm", "audit", SAVED_BY_RUN];
     completes(&rt, alloc, &words, "", (0, "legal 150\n", ""));
     assert!(rt; fs::remove_file(&rt, SAVED_BY_RUN).is_ok());
+}
+
+#[test]
+fn a_run_goes_on_from_what_was_kept(rt: HostRuntime) {
+    let alloc = rt.alloc();
+    let words = ["acdm", "run", "--keep", KEPT];
+    completes(&rt, alloc, &words, TICK, (0, "ok 0\n", ""));
+    completes(&rt, alloc, &words, TICK, (0, "ok 1\n", ""));
+    let journal = numbered(&rt, alloc, "", 2, " 1 29000580 APT 0 0 tick\n");
+    has_text(&rt, KEPT, journal.as_str());
+    assert!(rt; fs::remove_file(&rt, KEPT).is_ok());
+}
+
+#[test]
+fn a_kept_journal_that_is_none_is_told(rt: HostRuntime) {
+    let alloc = rt.alloc();
+    let kept = "none-by-run.txt";
+    assert!(rt; fs::write(&rt, kept, "1 1 29000580 APT 0 0 tick\n").is_ok());
+    let words = ["acdm", "run", "--keep", kept];
+    completes(&rt, alloc, &words, TICK, (1, "entry 0 402\n", ""));
+    has_text(&rt, kept, "1 1 29000580 APT 0 0 tick\n");
+    assert!(rt; fs::remove_file(&rt, kept).is_ok());
 }
 
 #[test]
@@ -147,10 +171,11 @@ fn told(rt: &impl Abort, alloc: Global, first: SocketAddr, second: SocketAddr) -
 
 // The saved journal has the entries of both, with their roles, and is legal.
 fn is_saved<
-    Rt: Files
+    Rt: Files<File = File>
         + Alloc
         + Net<Listener = TcpListener, Stream = TcpStream>
         + Clock
+        + Eprint
         + Threads
         + Wait
         + Abort

@@ -8,8 +8,8 @@ use acdm_milestones::Role;
 use acdm_sessions::{Clock, Sink};
 use bpf_helpers::{Bank, Helpers};
 use std::alloc::Global;
-use std::fs::Files;
-use std::io::{Read, Write};
+use std::fs::{File, Files};
+use std::io::{Eprint, Read, Write};
 use std::net::{Net, TcpListener, TcpStream};
 use std::process::Abort;
 use std::sync::Wait;
@@ -165,9 +165,10 @@ fn a_silent_partner_holds_nobody_up(rt: HostRuntime) {
 
 // Whether these words end with the status 2, and this complaint.
 fn complains<
-    Rt: Files
+    Rt: Files<File = File>
         + Net<Listener = TcpListener, Stream = TcpStream>
         + SystemClock
+        + Eprint
         + Threads
         + Wait
         + Clone

@@ -156,8 +156,8 @@ static WRITES: [WritesRow; 16] = [
     (3, 2, Fault::TakesNone, WRITE, "ok 0\n", 2),
     (5, 2, Fault::TakesNone, WRITE, "ok 0\nok 1", 2),
     (10, 1, Fault::Fails, Ok(()), "ok 0\nok 1\n", 2),
-    // A flush after each reply.
-    (1, 9, Fault::CannotFlush, WRITE, "ok 0\n", 1),
+    // A flush of both replies, before the end is read.
+    (1, 9, Fault::CannotFlush, WRITE, "ok 0\nok 1\n", 2),
     (2, 9, Fault::CannotFlush, WRITE, "ok 0\nok 1\n", 2),
     (3, 9, Fault::CannotFlush, Ok(()), "ok 0\nok 1\n", 2),
 ];

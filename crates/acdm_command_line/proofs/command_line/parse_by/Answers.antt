@@ -2,7 +2,7 @@ use Rattle.std.proofs.Common.{◌≡◌, true, map, sym, subst}
 use Rattle.std.proofs.lemmas.Result.{err_from_is_err_and}
 use Rattle.clap.specs.Words.{App, HasMatchesOf}
 use Rattle.clap.specs.Takes.{takes}
-use Rattle.acdm_command_line.proofs.Words.{none_right, program_is_simple}
+use Rattle.acdm_command_line.proofs.Words.{none_right, program_is_simple, some_right}
 use Rattle.acdm_command_line.proofs.command_line.parse_by.Goals as goal
 
 pub returns-in_err-matches-clause-refuses : goal.returns-in_err-matches-clause-refuses
@@ -13,6 +13,14 @@ returns-in_err-matches-clause-refuses c =
     c.in_err-matches.ensures.passes
     (subst (λ (a : App). takes a (map (λ w. w.now) c.args.words.now) ≡ true)
     (sym c.requires.shape) right.taken))
+
+pub returns-in-Some-clause-asks : goal.returns-in-Some-clause-asks
+returns-in-Some-clause-asks c =
+    let words = map (λ w. w.now) c.args.words.now in
+    let has = subst (λ (a : App). HasMatchesOf a words c.in_ok-matches.matches)
+    c.requires.shape c.in_ok-matches.ensures.ok.2 in
+    some_right words _ c.in_ok-line.field-0 c.in-Some.line (has program_is_simple).1 c.in_ok-line.ensures
+    c.in-Some.is
 
 pub returns-clause-refuses : goal.returns-clause-refuses
 returns-clause-refuses c = λ right.

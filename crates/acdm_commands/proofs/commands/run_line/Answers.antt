@@ -1,24 +1,12 @@
-use Rattle.std.proofs.Common.{Err, inl, inr, option_map, refl}
-use Rattle.acdm_judging.specs.Helpers.{helpers}
-use Rattle.acdm_commands.specs.Completed.{written_to}
-use Rattle.acdm_commands.proofs.Files.{runs_any, unwritten_any}
+use Rattle.std.proofs.Common.{Err, inr, option_map, refl}
+use Rattle.acdm_commands.proofs.Files.{ran_line}
 use Rattle.acdm_commands.proofs.commands.run_line.Goals as goal
 
 pub returns-in-Ok : goal.returns-in-Ok
 returns-in-Ok g c =
-    let e = c.run_on.ensures in
-    let file = c.in-Ok.file in
-    let later = c.run_on.new.saved in
-    record {
-      work = e.work;
-      comes = inl (
-        option_map written_to file,
-        option_map written_to later,
-        unwritten_any _ file c.in-Ok.ensures.made,
-        runs_any helpers c.args.journal _ _ _ _ file later e.work e.comes,
-      );
-      ends = e.ends;
-    }
+    let path = option_map (λ s. s.now) c.args.save in
+    ran_line c.args.journal path c.in-Ok.saving.file c.run_on-status.new.saved _ _ _ _ _ _ _ _ _ c.in-Ok.ensures.made
+    c.run_on-status.ensures c.settle.ensures
 
 pub returns-in-Err : goal.returns-in-Err
 returns-in-Err g c = record {

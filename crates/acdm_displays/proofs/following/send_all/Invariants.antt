@@ -5,5 +5,6 @@ use Rattle.acdm_displays.proofs.following.send_all.Given as goal
 abbrev pub invariant-loop : goal.invariant-loop
 invariant-loop g l = record {
   row : l.watch.row ≡ l.fn.watch.row;
-  sent : Follows l.fn.watch.seen l.watch.seen l.fn.writer.log (l.writer.log ++ l.text.items);
+  sent : Follows g.T.Telling.tells l.fn.teller l.teller l.fn.watch.seen l.watch.seen
+      l.fn.writer.log (l.writer.log ++ l.text.items);
 }

@@ -10,9 +10,11 @@ loop-left-preserved c =
     let rest = c.number_in-in-loop-left.new.words in
     let read = c.in_ok-answer.ensures.reads in
     let pushed : c.push.new.self.items ≡ at.given.items ++ c.in_ok-answer.answer ∷ [] =
-    search rules in (
+    search rules in
+    let needs = at.invariant.1 (some_need at.left at.words _ rest (omega arith) read) in (
       ap (λ items. answers_from items (at.left - 1) rest) pushed
           ∙ answers_more at.given.items at.left at.words _ rest (omega arith) read
           ∙ at.invariant.0,
-      λ more. at.invariant.1 (some_need at.left at.words _ rest (omega arith) read),
+      λ more. needs,
+      λ some. needs,
     )

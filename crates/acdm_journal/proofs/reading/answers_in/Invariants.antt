@@ -1,4 +1,4 @@
-use Rattle.std.proofs.Common.{◌≡◌, true}
+use Rattle.std.proofs.Common.{◌≡◌, true, []}
 use Rattle.acdm_journal.specs.Memory.{some_need_memory}
 use Rattle.acdm_journal.specs.Reading.{answers_from}
 use Rattle.acdm_journal.proofs.reading.answers_in.Given as goal
@@ -9,6 +9,7 @@ invariant-loop-left l =
     ≡ answers_from l.initial.given.items l.initial.left l.initial.words)
     × (some_need_memory l.left l.words ≡ true
     → some_need_memory l.initial.left l.initial.words ≡ true)
+    × ((l.given.items ≡ [] → ⊥) → some_need_memory l.initial.left l.initial.words ≡ true)
 
 abbrev pub decreases-loop-left : goal.decreases-loop-left
 decreases-loop-left l = l.left

@@ -1,4 +1,4 @@
-use Rattle.std.proofs.Common.{◌≡◌, false}
+use Rattle.std.proofs.Common.{◌≡◌}
 use Rattle.acdm_lines.specs.Lines.{weight}
 use Rattle.acdm_sessions.proofs.Running.{Sofar}
 use Rattle.acdm_sessions.proofs.stream.serve_lines.Given as goal
@@ -13,7 +13,6 @@ invariant-loop-lines g l = record {
   same_writer : l.writer.first ≡ l.initial.writer.first;
   read_well : l.reader.faults ≡ l.initial.reader.faults;
   wrote_well : l.writer.faults ≡ l.initial.writer.faults;
-  flushed : l.initial.writer.waits ≡ false → l.writer.waits ≡ false;
 }
 
 abbrev pub decreases-loop-lines : goal.decreases-loop-lines

@@ -22,14 +22,14 @@ enter-requires-clause-legal g c =
       moment = c.args.moment;
       command = c.args.command;
       verdict = c.verdict.result;
-      answers = c.answers_of-answers.result;
+      answers = c.in_ok-answers.answers;
     } in
     let ys : List Entry = c.self.inside.journal.entries ++ e ∷ [] in
     let kept = keeps-pushed
     c.self.inside.core (after_change c.self.inside.core c.in_ok-plan.plan.change)
     c.self.inside.journal.entries ys
     (length c.self.inside.journal.row.cells) c.len.result c.session-session.result c.args.moment c.role-role.result
-    c.args.command c.in_ok-plan.plan.outcome c.verdict.result c.answers_of-answers.result
+    c.args.command c.in_ok-plan.plan.outcome c.verdict.result c.in_ok-answers.answers
     (view_of_live c.args.live) (view_of_live c.plan.new.oracle) c.self.invariant.keeps
     (subst (λ (d : DeskView). IsChecked d.sigs c.args.command) (sym c.self.view_is)
     c.requires.checked)
@@ -42,8 +42,8 @@ enter-requires-clause-legal g c =
     (ap (λ n. λ log helper arguments. is_full n log)
     (subst (λ (d : DeskView). c.args.live.room ≡ answers_room d.history c.args.command)
     (sym c.self.view_is) c.requires.room))
-    c.len.ensures.value c.verdict.ensures c.answers_of-answers.ensures.accepted
-    c.answers_of-answers.ensures.refused
+    c.len.ensures.value c.verdict.ensures c.in_ok-answers.ensures.accepted
+    c.in_ok-answers.ensures.refused
     refl
     (c.in_ok-plan.ensures.outcome c.self.inside.core.slots.sigs
     (reverse c.self.inside.journal.entries) c.self.invariant.keeps.legal
@@ -61,7 +61,7 @@ invariant_of-self-2 g c =
     let kept = keeps-pushed
     c.self.inside.core c.commit.new.self c.self.inside.journal.entries c.enter.new.self.entries
     (length c.self.inside.journal.row.cells) c.len.result c.session-session.result c.args.moment c.role-role.result
-    c.args.command c.in_ok-plan.plan.outcome c.verdict.result c.answers_of-answers.result
+    c.args.command c.in_ok-plan.plan.outcome c.verdict.result c.in_ok-answers.answers
     (view_of_live c.args.live) (view_of_live c.plan.new.oracle) c.self.invariant.keeps
     (subst (λ (d : DeskView). IsChecked d.sigs c.args.command) (sym c.self.view_is)
     c.requires.checked)
@@ -74,8 +74,8 @@ invariant_of-self-2 g c =
     (ap (λ n. λ log helper arguments. is_full n log)
     (subst (λ (d : DeskView). c.args.live.room ≡ answers_room d.history c.args.command)
     (sym c.self.view_is) c.requires.room))
-    c.len.ensures.value c.verdict.ensures c.answers_of-answers.ensures.accepted
-    c.answers_of-answers.ensures.refused
+    c.len.ensures.value c.verdict.ensures c.in_ok-answers.ensures.accepted
+    c.in_ok-answers.ensures.refused
     c.in_ok-enter.ensures.entry
     (c.in_ok-plan.ensures.outcome c.self.inside.core.slots.sigs
     (reverse c.self.inside.journal.entries) c.self.invariant.keeps.legal
@@ -99,7 +99,7 @@ returns-clause-enters g c =
     let here = enters
     c.self.inside.core c.commit.new.self c.self.inside.journal.entries c.enter.new.self.entries
     (length c.self.inside.journal.row.cells) c.len.result c.session-session.result c.args.moment c.role-role.result
-    c.args.command c.in_ok-plan.plan.outcome c.verdict.result c.answers_of-answers.result
+    c.args.command c.in_ok-plan.plan.outcome c.verdict.result c.in_ok-answers.answers
     (view_of_live c.args.live) (view_of_live c.plan.new.oracle) c.self.invariant.keeps
     (subst (λ (d : DeskView). IsChecked d.sigs c.args.command) (sym c.self.view_is)
     c.requires.checked)
@@ -112,8 +112,8 @@ returns-clause-enters g c =
     (ap (λ n. λ log helper arguments. is_full n log)
     (subst (λ (d : DeskView). c.args.live.room ≡ answers_room d.history c.args.command)
     (sym c.self.view_is) c.requires.room))
-    c.len.ensures.value c.verdict.ensures c.answers_of-answers.ensures.accepted
-    c.answers_of-answers.ensures.refused
+    c.len.ensures.value c.verdict.ensures c.in_ok-answers.ensures.accepted
+    c.in_ok-answers.ensures.refused
     c.in_ok-enter.ensures.entry
     (c.in_ok-plan.ensures.outcome c.self.inside.core.slots.sigs
     (reverse c.self.inside.journal.entries) c.self.invariant.keeps.legal

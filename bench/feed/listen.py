@@ -1,0 +1,223 @@
+#!/usr/bin/env python3
+"""Tries clients of `acdm serve --changes`: what each is sent, by what it asked for first.
+
+    python3 bench/feed/listen.py [--program PATH] [--lines N]
+
+Five partners play examples/day.txt and then send N lines more (400). Meanwhile clients listen: one that says nothing, one that says `from 0`,
+one from an entry in the middle, one from an entry that is not there yet, one that begins with the board, one that is cut off at 40
+moments by chance and goes on `from N` each time, and one that never reads. What they were sent is held against `acdm tell` of the saved
+journal; a board against what its lines made of the records before it. A first line that asks for nothing is let go. The clients of
+clients/ are run against the same server. The last line is `N cases, M failed`; the status is 1 where one failed.
+"""
+
+import argparse
+import importlib.util
+import json
+import pathlib
+import random
+import shutil
+import socket
+import subprocess
+import sys
+import tempfile
+import threading
+import time
+
+from run import Cases
+
+TOP = pathlib.Path(__file__).resolve().parent.parent.parent
+# (there is a feed.py here too)
+SPEC = importlib.util.spec_from_file_location("clients_feed", TOP / "clients" / "feed.py")
+clients = importlib.util.module_from_spec(SPEC)
+SPEC.loader.exec_module(clients)
+
+ROLES = ["APT", "NM", "ATC", "AO", "GH", "AO", "AO"]
+QUESTION = '{"cmd":"alerts"}'
+
+
+def free_port():
+    with socket.create_server(("127.0.0.1", 0)) as it:
+        return it.getsockname()[1]
+
+
+def connect(port, first=None):
+    for _ in range(400):
+        try:
+            stream = socket.create_connection(("127.0.0.1", port))
+            break
+        except ConnectionRefusedError:
+            time.sleep(0.05)
+    if first is not None:
+        stream.sendall(first)
+    return stream
+
+
+def all_of(stream):
+    data = b""
+    while came := stream.recv(1 << 18):
+        data += came
+    return data
+
+
+class Listener(threading.Thread):
+    """A client that is sent all to the end."""
+
+    def __init__(self, port, first):
+        super().__init__(daemon=True)
+        self.stream, self.data = connect(port, first), b""
+
+    def run(self):
+        self.data = all_of(self.stream)
+
+
+class Cut(threading.Thread):
+    """A client that is cut off by chance, and goes on where it was."""
+
+    def __init__(self, port, chance, cuts):
+        super().__init__(daemon=True)
+        self.port, self.chance, self.cuts, self.lines = port, chance, cuts, []
+
+    def run(self):
+        while True:
+            stream = connect(self.port, f"from {len(self.lines)}\n".encode())
+            stream.settimeout(5)
+            rest, left = b"", self.chance.randrange(200, 60_000) if self.cuts else 1 << 60
+            self.cuts -= 1
+            while left > 0:
+                try:
+                    came = stream.recv(min(left, 1 << 16))
+                except TimeoutError:
+                    return
+                if not came:
+                    return
+                left -= len(came)
+                *whole, rest = (rest + came).split(b"\n")
+                self.lines += whole
+            stream.close()
+
+
+def boards(data):
+    """What a client that began with the board has: the entry that came next then, and the records it knows at the end."""
+    first, *rest = data.splitlines()
+    board = clients.Board()
+    board.take(json.loads(first))
+    begun = board.next
+    for line in rest:
+        board.take(json.loads(line))
+    return begun, board.flights, len(rest)
+
+
+def known(lines, upto=None):
+    board = clients.Board()
+    for line in lines[:upto]:
+        board.take(json.loads(line))
+    return board.flights
+
+
+def play(partners, count):
+    """Plays the morning, and then sends so many lines more, each partner for itself."""
+    for line in (TOP / "examples" / "day.txt").read_text(encoding="utf-8").splitlines():
+        role, command = line.split(" ", 3)[2:]
+        partner = partners[role]
+        partner.write(command + "\n")
+        partner.flush()
+        partner.readline()
+    for number in range(count):
+        partner = partners[ROLES[number % 5]]
+        partner.write(QUESTION + "\n")
+        partner.flush()
+        partner.readline()
+
+
+def refused(cases, port):
+    """First lines that ask for nothing."""
+    for first in (b"hello\n", b"from\n", b"from x\n", b"from -1\n", b"from 18446744073709551616\n", b"boards\n", b"from 1\r\n", b"GET / HTTP/1.1\r\n\r\n", b"from 1"):
+        stream = connect(port, first)
+        stream.settimeout(3)
+        try:
+            cases.case(f"{first!r} is let go", all_of(stream)[:60])
+        except ConnectionResetError:
+            cases.case(f"{first!r} is let go", "")
+        except OSError:
+            cases.case(f"{first!r} is let go", "it was not")
+        stream.close()
+
+
+def other_clients(cases, port, ports, room):
+    """The clients that are shipped."""
+    time.sleep(1)
+    given = '{"cmd":"tick"}\n{"cmd":"alerts"}\n{"cmd":"show","flight":1}\n'
+    commands = [("partner.py", [sys.executable, str(TOP / "clients" / "partner.py"), f"127.0.0.1:{ports[0]}"])]
+    if shutil.which("node"):
+        commands.append(("partner.mjs", ["node", str(TOP / "clients" / "partner.mjs"), "127.0.0.1", str(ports[1])]))
+    # (both at once: nobody is served before all are there)
+    file = pathlib.Path(room) / "given"
+    file.write_text(given, encoding="ascii")
+    both = [subprocess.Popen(command, stdin=file.open(), stdout=subprocess.PIPE, text=True) for _, command in commands]
+    if len(both) == 1:
+        connect(ports[1]).close()
+    for (name, _), ran in zip(commands, both):
+        said = ran.communicate(timeout=60)[0]
+        cases.same(f"{name}: replies", str([it.split()[0] for it in said.splitlines()]), "['no', 'alerts', 'no']")
+        cases.same(f"{name}: status", str(ran.returncode), "1")
+    shown = subprocess.run(
+        [sys.executable, str(TOP / "clients" / "board.py"), f"127.0.0.1:{port}", "--once"], capture_output=True, text=True, timeout=60, check=False
+    )
+    cases.same("board.py: status", str(shown.returncode), "0")
+    cases.case("board.py: flights", "" if "DLH4PK" in shown.stdout or "EWG6CA" in shown.stdout else shown.stdout + shown.stderr)
+
+
+def main():
+    parser = argparse.ArgumentParser(description=__doc__, formatter_class=argparse.RawDescriptionHelpFormatter)
+    parser.add_argument("--program", type=pathlib.Path, default=TOP / "crates" / "acdm" / "out" / "acdm")
+    parser.add_argument("--lines", type=int, default=400)
+    words = parser.parse_args()
+    cases, chance = Cases(), random.Random(38)
+    with tempfile.TemporaryDirectory(prefix="acdm-listen-") as room:
+        saved, port = pathlib.Path(room) / "journal", free_port()
+        ports = [free_port() for _ in ROLES]
+        command = [str(words.program), "serve", "--save", str(saved), "--changes", f"127.0.0.1:{port}"]
+        server = subprocess.Popen(command + [f"{role}=127.0.0.1:{it}" for role, it in zip(ROLES, ports)], stdout=subprocess.DEVNULL)
+        partners = {role: connect(it).makefile("rw", encoding="utf-8", newline="\n") for role, it in zip(ROLES[:5], ports)}
+        # (the clients of clients/ are the last two partners)
+        late = threading.Thread(target=other_clients, args=(cases, port, ports[5:], room))
+        first = [Listener(port, None), Listener(port, b"from 0\n"), Listener(port, b"from 30\n"), Listener(port, b"from 300\n")]
+        never = connect(port, b"from 0\n")
+        cut = Cut(port, chance, 40)
+        for it in (*first, cut):
+            it.start()
+        playing = threading.Thread(target=play, args=(partners, words.lines))
+        playing.start()
+        late.start()
+        time.sleep(0.5)
+        board = Listener(port, b"board\n")
+        board.start()
+        late.join()
+        refused(cases, port)
+        playing.join()
+        last = Listener(port, b"board\n")
+        last.start()
+        time.sleep(0.3)
+        for partner in partners.values():
+            partner.close()
+        for it in (*first, board, last, cut):
+            it.join(30)
+        cases.same("status", str(server.wait(60)), "0")
+        never.close()
+        told = subprocess.run([str(words.program), "tell", str(saved)], capture_output=True, check=True).stdout
+    lines = told.splitlines()
+    cases.case("entries", "" if len(lines) >= words.lines else f"{len(lines)}")
+    for name, it, at in (("nothing", first[0], 0), ("from 0", first[1], 0), ("from 30", first[2], 30), ("from 300", first[3], 300)):
+        cases.same(f"asked {name}", it.data.decode("ascii"), b"".join(line + b"\n" for line in lines[at:]).decode("ascii"))
+    cases.same("cut off", str(cut.lines == lines), "True")
+    for name, it in (("board in the middle", board), ("board at the end", last)):
+        begun, flights, rest = boards(it.data)
+        cases.same(f"{name}: as many lines as entries since", str(rest), str(len(lines) - begun))
+        cases.case(f"{name}: records then", json.loads(it.data.splitlines()[0])["flights"] != [*known(lines, begun).values()])
+        cases.case(f"{name}: records at the end", flights != known(lines))
+    print(f"{cases.count} cases, {cases.failed} failed")
+    return 1 if cases.failed else 0
+
+
+if __name__ == "__main__":
+    sys.exit(main())

@@ -1,0 +1,369 @@
+#!/usr/bin/env python3
+"""Tries `acdm serve --again`, `--control` and `--pace` of the built program on a bad day.
+
+    python3 bench/hostile/again.py [--program PATH]
+
+A partner that comes back 100 times in the middle of lines while 63 others work; two connections at one address; probes
+before the day and during it; an absent partner; partners that never read, which are let go after 30 seconds or when the
+board closes; `status` and `close`; a bounded pace; SIGTERM and Ctrl-C through the script `acdm`; and, with none of these
+words, sessions whose connections are closed as they end. The last line is `N cases, M failed`; status 1 where one failed.
+"""
+
+import pathlib
+import re
+import signal
+import socket
+import struct
+import subprocess
+import sys
+import tempfile
+import threading
+import time
+
+from cases import ALERTS, PLAN, SCHEDULE, TOP, Cases, ran, words
+
+SHOW = '{"cmd":"show","flight":7}'
+ROLES = ["NM", "ATC", "APT", "AO", "GH", "DIC"]
+# What runs the program by the script at the top, whether it was proved by that or by the gate.
+BY_SCRIPT = """
+import importlib.machinery, importlib.util, pathlib, sys
+loader = importlib.machinery.SourceFileLoader("script", sys.argv[1])
+script = importlib.util.module_from_spec(importlib.util.spec_from_loader("script", loader))
+loader.exec_module(script)
+script.PROGRAM = pathlib.Path(sys.argv[2])
+sys.exit(script.run_proved(sys.argv[3:]))
+"""
+
+
+def free_port():
+    with socket.create_server(("127.0.0.1", 0)) as it:
+        return it.getsockname()[1]
+
+
+class Board:
+    """A program that serves; what it says on its errors is gathered as it comes."""
+
+    def __init__(self, command, arguments, roles):
+        self.port = free_port()
+        arguments = [str(self.port) if it == "PORT" else it for it in arguments]
+        command = [*command, "serve", *arguments, *[f"{it}=127.0.0.1:0" for it in roles]]
+        self.ran = subprocess.Popen(command, stdout=subprocess.PIPE, stderr=subprocess.PIPE, text=True)
+        self.ports = [int(self.ran.stdout.readline().split()[3].rsplit(":", 1)[1]) for _ in roles]
+        self.said = []
+        self.listening = threading.Thread(target=self.listen, daemon=True)
+        self.listening.start()
+
+    def listen(self):
+        for line in self.ran.stderr:
+            self.said.append(line.rstrip("\n"))
+
+    def connect(self, session, small=False):
+        return Partner(self.ports[session - 1], small)
+
+    def ask(self, line):
+        """What is answered at the control address."""
+        with socket.create_connection(("127.0.0.1", self.port), timeout=20) as it:
+            it.sendall(f"{line}\n".encode())
+            return it.recv(65536).decode()
+
+    def waits_for(self, holds, seconds=20):
+        end = time.monotonic() + seconds
+        while time.monotonic() < end:
+            if holds():
+                return True
+            time.sleep(0.02)
+        return holds()
+
+    def told(self, number, what):
+        """How often it said that a session's partner is here, or gone."""
+        return sum(it.startswith(f"{what} {number} ") for it in self.said)
+
+    def ended(self, seconds=30):
+        """The status, and the lines of sessions and entries."""
+        timer = threading.Timer(seconds, self.ran.kill)
+        timer.start()
+        lines = self.ran.stdout.read().splitlines()
+        status = self.ran.wait()
+        timer.cancel()
+        self.listening.join(5)
+        return status, lines
+
+    def close(self, seconds=30):
+        answer = self.ask("close")
+        status, lines = self.ended(seconds)
+        return answer, status, lines
+
+
+class Partner:
+    def __init__(self, port, small=False):
+        self.socket = socket.socket()
+        if small:
+            self.socket.setsockopt(socket.SOL_SOCKET, socket.SO_RCVBUF, 4096)
+        self.socket.settimeout(20)
+        self.socket.connect(("127.0.0.1", port))
+        self.replies = self.socket.makefile("r", encoding="utf-8", newline="\n")
+
+    def send(self, text):
+        self.socket.sendall(text.encode())
+
+    def asks(self, line):
+        """The reply to a line; nothing where the connection has ended."""
+        try:
+            self.send(f"{line}\n")
+            return self.replies.readline().rstrip("\n")
+        except OSError:
+            return ""
+
+    def reads_end(self):
+        """Whether the connection ends, and what was sent before."""
+        try:
+            return self.replies.read() == ""
+        except ConnectionError:
+            return True
+        except OSError:
+            return False
+
+    def close(self, reset=False):
+        if reset:
+            self.socket.setsockopt(socket.SOL_SOCKET, socket.SO_LINGER, struct.pack("ii", 1, 0))
+        self.replies.close()
+        self.socket.close()
+
+
+def number_of(reply):
+    return int(reply.split()[1]) if re.match(r"(ok|no|alerts|record|show) \d", reply) else None
+
+
+def work(board, session, turns, wrong):
+    """A partner that asks, and reads each reply before the next line."""
+    partner = board.connect(session)
+    last = -1
+    for _ in range(turns):
+        number = number_of(partner.asks(ALERTS))
+        if number is None or number <= last:
+            wrong.append((session, number, last))
+            return
+        last = number
+    partner.close()
+
+
+def comes_back(cases, program, room):
+    """One comes back 100 times in the middle of lines, while 63 others work."""
+    saved = room / "saved"
+    roles = [ROLES[it % 6] for it in range(64)]
+    board = Board([program], ["--again", "--control", "PORT", "--save", str(saved)], roles)
+    wrong, whole = [], 0
+    others = [threading.Thread(target=work, args=(board, it, 200, wrong)) for it in range(2, 65)]
+    for it in others:
+        it.start()
+    last = -1
+    for turn in range(100):
+        partner = board.connect(1)
+        number = number_of(partner.asks(ALERTS))
+        if number is None or number <= last:
+            wrong.append((1, turn, number, last))
+        last = number or last
+        whole += 1
+        partner.send(ALERTS[: 1 + turn % len(ALERTS)])
+        partner.close(reset=turn % 2 == 0)
+        board.waits_for(lambda: board.told(1, "gone") > turn)
+    for it in others:
+        it.join()
+    cases.expect("replies while one comes back", not wrong, wrong[:3])
+    cases.expect("told of each that came", board.told(1, "here") == 100 and board.told(1, "gone") == 100, board.said[-3:])
+    total = 63 * 200 + whole
+    cases.expect("status", f"entries {total} of 100000\n" in board.ask("status"), board.ask("status")[-80:])
+    answer, status, lines = board.close()
+    cases.expect("close is answered", answer == "closing\n", answer)
+    sessions = [f"session {it} {whole if it == 1 else 200} end" for it in range(1, 65)]
+    cases.expect("ends in good order", (status, lines) == (0, [*sessions, f"closed {total}"]), (status, lines[:2], lines[-1:]))
+    done = ran(program, ["audit", str(saved)])
+    cases.expect("its journal is legal", done.stdout.decode() == f"legal {total}\n", done.stdout.decode())
+
+
+def two_at_one(cases, program):
+    """A newer connection takes the place of an older one, and gets no reply of it."""
+    board = Board([program], ["--again", "--control", "PORT"], ["APT", "NM"])
+    first = board.connect(1)
+    cases.expect("the first is served", first.asks(SCHEDULE) == "ok 0")
+    first.send(f"{ALERTS}\n" * 5 + '{"cmd":"al')
+    board.waits_for(lambda: "entries 6 of" in board.ask("status"))
+    second = board.connect(1)
+    reply = second.asks(ALERTS)
+    cases.expect("the second gets its own reply", reply.startswith("alerts 6 "), reply)
+    cases.expect("the first is closed", first.replies.read().count("\n") == 5)
+    here = [it for it in board.said if it.split()[1] == "1"]
+    shape = [re.sub(r"127\.0\.0\.1:\d+", "ADDR", re.sub(r"\d{4}-\d\d-\d\dT\d\d:\d\d:\d\dZ", "MOMENT", it)) for it in here]
+    cases.expect("it tells who came", shape == ["here 1 ADDR MOMENT", "gone 1 MOMENT", "here 1 ADDR MOMENT"], here)
+    both = [board.connect(2) for _ in range(8)]
+    cases.expect("the last of eight is served", both[-1].asks(ALERTS).startswith("alerts 7 "))
+    cases.expect("the others are closed", all(it.reads_end() for it in both[:-1]))
+    second.send("x" * 80000 + f"\n{ALERTS}\n")
+    cases.expect("a long line is told", second.replies.readline() == "bad 105\n")
+    cases.expect("and the next is answered", second.replies.readline().startswith("alerts 8 "))
+    third = board.connect(1)
+    third.send(ALERTS)
+    third.close()
+    cases.expect("the rest of a line is not answered", board.connect(1).asks(ALERTS).startswith("alerts 9 "))
+    cases.expect("ends", board.close()[1:] == (0, ["session 1 9 end", "session 2 1 end", "closed 10"]))
+
+
+def probes(cases, program):
+    """Probes before the day and during it, an absent partner, and the state of the board."""
+    board = Board([program], ["--again", "--control", "PORT"], ["APT", "NM", "GH"])
+    for _ in range(5):
+        for session in (1, 2):
+            board.connect(session).close()
+    cases.expect("status of an empty board", board.ask("status").endswith("entries 0 of 100000\nlast none\n"))
+    board.waits_for(lambda: board.told(1, "gone") == board.told(1, "here") > 0)
+    airport = board.connect(1)
+    cases.expect("served after probes", airport.asks(SCHEDULE) == "ok 0")
+    for _ in range(5):
+        board.connect(2).close()
+        board.connect(2).close(reset=True)
+    cases.expect("and beside them", airport.asks(ALERTS) == "alerts 1 7:CDM13")
+    told = board.ask("status").splitlines()
+    cases.expect("status tells who is here", re.fullmatch(r"session 1 APT here 127\.0\.0\.1:\d+", told[0]), told)
+    cases.expect("and who never was", told[2:4] == ["session 3 GH gone", "entries 2 of 100000"], told)
+    cases.expect("and the last moment", re.fullmatch(r"last \d{4}-\d\d-\d\dT\d\d:\d\d:00Z", told[4]), told)
+    with socket.create_connection(("127.0.0.1", board.port), timeout=20) as it:
+        it.sendall(b"nothing\nstatus\r\nx")
+        cases.expect("control answers each line", it.recv(65536).startswith(b"unknown\n"))
+    with socket.create_connection(("127.0.0.1", board.port), timeout=20) as it:
+        it.sendall(b"x" * 1000)
+        try:
+            left = it.recv(1) == b""
+        except ConnectionError:
+            left = True
+        cases.expect("control lets long lines go", left)
+    cases.expect("ends", board.close()[1:] == (0, ["session 1 2 end", "session 2 0 end", "session 3 0 end", "closed 2"]))
+
+
+def never_reads(cases, program, again):
+    """A partner that never reads is cut off when the board closes."""
+    board = Board([program], [*again, "--control", "PORT"], ["APT", "NM"])
+    airport, deaf = board.connect(1), board.connect(2, small=True)
+    replies = [airport.asks(SCHEDULE), airport.asks('{"cmd":"al')] if again else [airport.asks(SCHEDULE)]
+    cases.expect("served beside", replies[0] == "ok 0", replies)
+    threading.Thread(target=fill, args=(deaf,), daemon=True).start()
+    time.sleep(2)
+    begun = time.monotonic()
+    answer, status, lines = board.close()
+    took = time.monotonic() - begun
+    ends = [it.split()[3] for it in lines[:-1]]
+    cases.expect("who never reads holds nothing up", (answer, status, ends) == ("closing\n", 0, ["end", "end"]), (status, lines))
+    cases.expect("for long", took < 12, took)
+
+
+def fill(partner):
+    try:
+        partner.send(f"{SHOW}\n" * 60000)
+    except OSError:
+        pass
+
+
+def let_go(cases, program, again):
+    """A partner that takes nothing is let go after 30 seconds."""
+    board = Board([program], [*again, "--control", "PORT"] if again else [], ["APT", "NM"])
+    airport, deaf = board.connect(1), board.connect(2, small=True)
+    cases.expect("served beside", airport.asks(SCHEDULE) == "ok 0")
+    threading.Thread(target=fill, args=(deaf,), daemon=True).start()
+    begun = time.monotonic()
+    if again:
+        gone = board.waits_for(lambda: board.told(2, "gone") == 1, 50)
+        took = time.monotonic() - begun
+        cases.expect("who takes nothing is let go", gone and 25 < took < 45, (gone, took, board.said))
+        cases.expect("and may come back", number_of(board.connect(2).asks(ALERTS)) is not None)
+        cases.expect("ends", board.close()[1] == 0)
+    else:
+        airport.close()
+        status, lines = board.ended(50)
+        took = time.monotonic() - begun
+        cases.expect("its session ends", status == 0 and lines[1].endswith(" write") and 25 < took < 45, (status, lines, took))
+
+
+def paced(cases, program):
+    """So many lines of a session are taken in a minute; the others wait for nothing."""
+    board = Board([program], ["--again", "--control", "PORT", "--pace", "120"], ["APT", "NM"])
+    many, other = board.connect(1), board.connect(2)
+    begun = time.monotonic()
+    many.send(f"{ALERTS}\n" * 124)
+    replies, at = [], 0
+    for turn in range(124):
+        replies.append(many.replies.readline())
+        if turn == 119:
+            at = time.monotonic() - begun
+            cases.expect("the other is not held up", other.asks(ALERTS) != "" and time.monotonic() - begun < at + 1)
+    took = time.monotonic() - begun
+    cases.expect("all are answered", all(it.startswith("alerts ") for it in replies))
+    cases.expect("the first at once, the others by the pace", at < 1.5 <= took < 10, (at, took))
+    many.send(f"{ALERTS}\n" * 100)
+    begun = time.monotonic()
+    answer, status, lines = board.close()
+    cases.expect("no further line is taken at the end", status == 0 and time.monotonic() - begun < 5, (status, lines))
+    for bad in ("0", "x", "-1", "4294967296"):
+        done = ran(program, ["serve", "--pace", bad, "APT=127.0.0.1:0"])
+        cases.expect(f"a pace of {bad} is refused", done.returncode == 2 and not done.stdout, done)
+
+
+def once(cases, program):
+    """Without --again: who is absent holds nothing up where there is a control address; closed as they end."""
+    board = Board([program], ["--control", "PORT"], ["APT", "NM"])
+    airport = board.connect(1)
+    cases.expect("close without a partner", board.close()[1:] == (0, ["session 1 0 end", "session 2 0 end", "closed 0"]))
+    cases.expect("who was there sees the end", airport.reads_end())
+    board = Board([program], ["--control", "PORT"], ["APT", "NM"])
+    airport, manager = board.connect(1), board.connect(2)
+    airport.send(f"{SCHEDULE}\n{ALERTS}")
+    airport.socket.shutdown(socket.SHUT_WR)
+    cases.expect("a last line needs no line feed", airport.replies.read() == "ok 0\nalerts 1 7:CDM13\n")
+    cases.expect("others go on", manager.asks(ALERTS) == "alerts 2 7:CDM13")
+    manager.send('{"cmd":"al')
+    cases.expect("ends", board.close()[1:] == (0, ["session 1 2 end", "session 2 1 end", "closed 3"]))
+    board = Board([program], [], ["APT", "NM"])
+    airport, manager = board.connect(1), board.connect(2)
+    airport.send(f"{SCHEDULE}\n{ALERTS}")
+    airport.socket.shutdown(socket.SHUT_WR)
+    cases.expect("an ended session is closed at once", airport.replies.read() == "ok 0\nalerts 1 7:CDM13\n")
+    cases.expect("while others go on", manager.asks(ALERTS) == "alerts 2 7:CDM13")
+    manager.close()
+    status, lines = board.ended()
+    cases.expect("ends", (status, lines, board.said) == (0, ["session 1 2 end", "session 2 1 end", "closed 3"], []), lines)
+    done = ran(program, ["serve", "--control", "nowhere", "APT=127.0.0.1:0"])
+    cases.expect("a bad control address", (done.returncode, done.stderr) == (2, b"acdm: control address\n"), done)
+
+
+def by_script(cases, program, number):
+    """A signal to the script closes the board."""
+    command = [sys.executable, "-c", BY_SCRIPT, str(TOP / "acdm"), str(program)]
+    board = Board(command, ["--again", "--control", "PORT"], ["APT"])
+    airport = board.connect(1)
+    cases.expect("served through the script", airport.asks(SCHEDULE) == "ok 0")
+    board.ran.send_signal(number)
+    cases.expect(f"{number.name} closes", board.ended() == (0, ["session 1 1 end", "closed 1"]))
+    cases.expect("and the partner sees the end", airport.reads_end())
+
+
+def main():
+    asked = words(__doc__).parse_args()
+    program, cases = str(asked.program.resolve()), Cases()
+    with tempfile.TemporaryDirectory() as room:
+        slow = [threading.Thread(target=let_go, args=(cases, program, it)) for it in ([], ["--again"])]
+        for it in slow:
+            it.start()
+        comes_back(cases, program, pathlib.Path(room))
+        two_at_one(cases, program)
+        probes(cases, program)
+        paced(cases, program)
+        once(cases, program)
+        for number in (signal.SIGTERM, signal.SIGINT):
+            by_script(cases, program, number)
+        for again in ([], ["--again"]):
+            never_reads(cases, program, again)
+        for it in slow:
+            it.join()
+    return cases.end()
+
+
+if __name__ == "__main__":
+    sys.exit(main())

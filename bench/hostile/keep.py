@@ -1,0 +1,207 @@
+#!/usr/bin/env python3
+"""Kills the built `acdm` while it keeps its journal, and says what it then goes on from.
+
+    python3 bench/hostile/keep.py [--program PATH] [--kills N] [--seed S]
+
+`run --keep FILE` over a stream, killed at N moments by chance and begun again each time: every reply that was read has its entry in
+FILE, FILE is a legal journal with the rest of a line at most behind it, and the numbers go on. Then a file system that takes no
+more after so many bytes, at many places; journals with each kind of fault, cut lines, another that has the file, too little room;
+and `--save`, which leaves what was there until all of it is on the disk. The last line is `N cases, M failed`; status 1 where one
+failed.
+"""
+
+import pathlib
+import random
+import resource
+import signal
+import subprocess
+import sys
+import tempfile
+import threading
+
+from cases import ALERTS, DAY, DAY_JOURNAL, DAY_REPLIES, PLAN, SCHEDULE, Cases, ran, text, words
+
+REPORT = '{"cmd":"report","flight":7,"milestone":9,"time":"2025-02-20T10:00:00Z"}'
+MANY = [f"1 29000580 APT {SCHEDULE}", f"2 29000580 NM {PLAN}"] + [f"5 29000580 GH {REPORT}"] * 4000
+
+
+def came(done):
+    return done.returncode, done.stdout.decode(), done.stderr.decode()
+
+
+def numbers_of(replies):
+    """The numbers of the entries that whole replies tell of."""
+    return [int(it.split()[1]) for it in replies.split("\n")[:-1] if not it.startswith("bad")]
+
+
+def whole_of(file):
+    """The whole lines of a kept journal."""
+    return file.read_bytes().rpartition(b"\n")[0].split(b"\n") if b"\n" in file.read_bytes() else []
+
+
+def legal(program, file, room):
+    """Whether the whole lines of a kept journal are legal, by an audit."""
+    data = file.read_bytes()
+    copy = room / "whole"
+    copy.write_bytes(data[: data.rfind(b"\n") + 1])
+    return came(ran(program, ["audit", copy])) == (0, f"legal {len(whole_of(file))}\n", "")
+
+
+def killed_once(program, file, chance):
+    """Sends lines until the program is killed at a moment by chance; answers what it replied until then."""
+    it = subprocess.Popen([str(program), "run", "--keep", str(file)], stdin=subprocess.PIPE, stdout=subprocess.PIPE)
+    timer = threading.Timer(chance.uniform(0.0, 0.05), it.kill)
+    timer.start()
+    lines = MANY if not whole_of(file) else [f"5 29000580 GH {REPORT}"] * 4000
+    try:
+        for line in lines:
+            it.stdin.write(f"{line}\n".encode())
+            if chance.random() < 0.3:
+                it.stdin.flush()
+        it.stdin.flush()
+    except OSError:
+        pass
+    try:
+        it.stdin.close()
+    except OSError:
+        pass
+    replies = it.stdout.read().decode()
+    it.wait()
+    timer.cancel()
+    return replies
+
+
+def kills(cases, program, room, count, seed):
+    file, chance = room / "kept", random.Random(seed)
+    last = 0
+    for turn in range(count):
+        before = len(whole_of(file)) if file.exists() else 0
+        replies = killed_once(program, file, chance)
+        told = numbers_of(replies)
+        after = len(whole_of(file))
+        name = f"killed {turn}, seed {seed}"
+        cases.expect(name, all(it < after for it in told), (after, told[-1:]))
+        cases.expect(name, told == [*range(before, before + len(told))], (before, told[:1]))
+        cases.expect(name, after >= before, (before, after))
+        cases.expect(name, legal(program, file, room), after)
+        last = after
+    done = came(ran(program, ["run", "--keep", file], f"1 29000580 APT {ALERTS}\n".encode()))
+    cases.expect("gone on", done[0] == 0 and done[1].startswith(f"alerts {last} "), done)
+
+
+def limited(size):
+    def limit():
+        signal.signal(signal.SIGXFSZ, signal.SIG_IGN)
+        resource.setrlimit(resource.RLIMIT_FSIZE, (size, size))
+
+    return limit
+
+
+def full_disk(cases, program, room):
+    whole = len(text(DAY_JOURNAL))
+    for size in [*range(0, whole, 17), whole - 1]:
+        file = room / f"full-{size}"
+        done = came(ran(program, ["run", "--keep", file], text(DAY).encode(), preexec_fn=limited(size)))
+        name = f"no more than {size} bytes"
+        cases.expect(name, done[0] == 2 and done[2] == "acdm: keep failed\n", done)
+        cases.expect(name, len(numbers_of(done[1])) <= len(whole_of(file)), done)
+        cases.expect(name, legal(program, file, room), file.read_bytes())
+
+
+def gone_on(cases, program, room):
+    file = room / "day"
+    for at in range(len(DAY) + 1):
+        file.write_text(text(DAY_JOURNAL[:at]) + "5 1 2900"[: at * 2])
+        done = came(ran(program, ["run", "--keep", file], text(DAY[at:]).encode()))
+        cases.expect(f"gone on at {at}", done == (0, text(DAY_REPLIES[at:]), ""), done)
+        cases.expect(f"kept at {at}", file.read_text() == text(DAY_JOURNAL), file.read_text())
+    file.unlink()
+    done = came(ran(program, ["run", "--keep", file, "--save", room / "saved"], text(DAY).encode()))
+    cases.expect("kept and saved", done == (0, text(DAY_REPLIES), ""), done)
+    cases.expect("the same", file.read_bytes() == (room / "saved").read_bytes())
+    cases.expect("no file beside", not (room / "saved.part").exists())
+
+
+def faulty(cases, program, room):
+    file = room / "faulty"
+    wrong = [
+        (DAY_JOURNAL[1:], "entry 0 402\n"),
+        (DAY_JOURNAL[:3] + ["3 5 29000580 GH 0 1 11 report 7 9 29000760"], "entry 3 404\n"),
+        (DAY_JOURNAL[:2] + ["2 2 29000580 NM 201 0 report 7 1 29000760 DLH7 A320 DAIBC EDDM"], "entry 2 405\n"),
+        (DAY_JOURNAL[:1] + ["what is this"], "entry 1 401\n"),
+        (["0 1 29000580 APT 0 0 load 9 alert 9500000000000000"], "entry 0 403\n"),
+    ]
+    for lines, told in wrong:
+        file.write_text(text(lines) + "a rest")
+        done = came(ran(program, ["run", "--keep", file], text(DAY).encode()))
+        cases.expect(told, done == (1, told, ""), done)
+        cases.expect(f"untouched, {told}", file.read_text() == text(lines) + "a rest")
+    file.write_text(text(DAY_JOURNAL))
+    done = came(ran(program, ["run", "--journal", "4", "--keep", file], text(DAY).encode()))
+    cases.expect("too little room", done == (2, "", "acdm: the kept journal needs a larger --journal\n"), done)
+    cases.expect("untouched, room", file.read_text() == text(DAY_JOURNAL))
+    done = came(ran(program, ["run", "--keep", room / "no-folder" / "file"], text(DAY).encode()))
+    cases.expect("no folder", done == (2, "", "acdm: keep failed\n"), done)
+
+
+def in_use(cases, program, room):
+    file = room / "used"
+    first = subprocess.Popen([str(program), "run", "--keep", str(file)], stdin=subprocess.PIPE, stdout=subprocess.PIPE)
+    first.stdin.write(f"{DAY[0]}\n".encode())
+    first.stdin.flush()
+    cases.expect("the first one", first.stdout.readline() == b"ok 0\n")
+    done = came(ran(program, ["run", "--keep", file], text(DAY).encode()))
+    cases.expect("a second one", done == (2, "", "acdm: the kept journal is in use\n"), done)
+    first.stdin.close()
+    cases.expect("the first one ends", first.wait() == 0)
+    cases.expect("one entry", file.read_text() == text(DAY_JOURNAL[:1]), file.read_text())
+
+
+def saved(cases, program, room):
+    """What `--save` names stays until the journal that takes its place is whole."""
+    file = room / "old"
+    old = "0 1 29000580 APT 0 0 tick\n"
+    link = room / "link"
+    link.symlink_to(file)
+    for name in (file, link):
+        file.write_text(old)
+        it = subprocess.Popen([str(program), "run", "--save", str(name)], stdin=subprocess.PIPE, stdout=subprocess.PIPE)
+        it.stdin.write(f"{DAY[0]}\n".encode())
+        it.stdin.flush()
+        it.stdout.readline()
+        it.kill()
+        it.wait()
+        cases.expect("killed before the end", file.read_text() == old, file.read_text())
+        done = came(ran(program, ["run", "--save", name], text(DAY).encode()))
+        cases.expect("saved", done[0] == 0 and file.read_text() == text(DAY_JOURNAL), done)
+        cases.expect("nothing beside", not pathlib.Path(f"{file}.part").exists())
+    cases.expect("a link stays one", link.is_symlink())
+    file.write_text(old)
+    with open("/dev/full", "wb") as full:
+        it = subprocess.run([str(program), "run", "--save", str(file)], input=text(DAY).encode(), stdout=full,
+                            stderr=subprocess.PIPE, timeout=60)
+    cases.expect("a write fault", it.returncode == 2 and file.read_text() == old, it)
+    done = came(ran(program, ["serve", "--save", file, "XX=127.0.0.1:0"]))
+    cases.expect("a wrong role", done[0] == 2 and file.read_text() == old, done)
+    done = came(ran(program, ["run", "--save", "/dev/null"], text(DAY).encode()))
+    cases.expect("a device", done == (0, text(DAY_REPLIES), ""), done)
+    done = came(ran(program, ["run", "--save", file], text(DAY).encode(), preexec_fn=limited(20)))
+    cases.expect("a full disk", done[0] == 2 and done[2] == "acdm: save failed\n" and file.read_text() == old, done)
+
+
+def main():
+    parser = words(__doc__)
+    parser.add_argument("--kills", type=int, default=200, help="how often it is killed")
+    parser.add_argument("--seed", type=int, default=1)
+    given = parser.parse_args()
+    cases = Cases()
+    with tempfile.TemporaryDirectory(prefix="acdm-keep-") as folder:
+        room = pathlib.Path(folder)
+        for part in (gone_on, faulty, in_use, saved, full_disk):
+            part(cases, given.program, room)
+        kills(cases, given.program, room, given.kills, given.seed)
+    return cases.end()
+
+
+if __name__ == "__main__":
+    sys.exit(main())

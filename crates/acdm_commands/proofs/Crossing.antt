@@ -1,0 +1,31 @@
+-- What is told of the journal, and the readers of partners that come and go, may be sent to another thread.
+use Rattle.std.proofs.Common.{ℕ}
+use denote.RattleType.{RattleType}
+use denote.Ref.{NamedLft}
+use denote.Param.{number}
+use denote.Param.Send.{IsSend, IsSync, sendable}
+use denote.Param.SendFields.{declared_send}
+use Rattle.std.proofs.Crossing.{crosses}
+use Rattle.acdm_row.proofs.Crossing.{row_send, row_sync}
+use Rattle.std.specs.declared.io.traits.Read as read
+use Rattle.acdm_partners.proofs.arriving.Arriving.TheSendSync as arriving
+use Rattle.acdm_partners.proofs.connection.Connection.TheSendSync as connection
+use Rattle.acdm_partners.specs.contracts.arriving.Arriving as of_arriving
+use Rattle.acdm_partners.specs.contracts.connection.Connection as of_connection
+use Rattle.acdm_partners.specs.contracts.reader.WholeLines as reader
+use Rattle.acdm_partners.proofs.Crossing.{reader_send}
+use Rattle.acdm_commands.specs.contracts.lasting.Tally as tally
+
+pub tally_send : IsSend tally.the_row
+tally_send = declared_send tally.the_type
+    (search (row_send, row_sync, sendable, crosses) depth 20, tt)
+
+pub connection_send : IsSend of_connection.the_row
+connection_send = search (connection.the_send, sendable, crosses) depth 20
+
+pub arriving_send : (κ : NamedLft) (Q : RattleType) → IsSync Q → IsSend (of_arriving.the_row κ Q)
+arriving_send κ Q q = search (arriving.the_send, q, sendable, crosses) depth 20
+
+pub reading_send : (κ : NamedLft) (Q : RattleType) (n : ℕ) (d : read.Ghosts (of_connection.the_row).Denot)
+    → IsSync Q → IsSend (reader.the_row (of_arriving.the_row κ Q) of_connection.the_row (number n) d)
+reading_send κ Q n d q = reader_send _ _ n d (arriving_send κ Q q) connection_send

@@ -1,0 +1,30 @@
+use Rattle.std.proofs.Common.{Err, inl, inr, refl, ap}
+use Rattle.acdm_failures.specs.declared.failure.Failure.TheVariants.{Read}
+use Rattle.acdm_judging.specs.Helpers.{helpers}
+use Rattle.acdm_commands.specs.Completed.{read_from}
+use Rattle.acdm_commands.proofs.Files.{told_any}
+use Rattle.acdm_commands.proofs.commands.tell_line.Goals as goal
+
+pub returns-in-Ok : goal.returns-in-Ok
+returns-in-Ok g c =
+    let e = c.tell_on.ensures in
+    let file = c.new.result in
+    let later = c.tell_on.new.reader in
+    record {
+      work = e.work;
+      comes = inl (
+        read_from file,
+        read_from later,
+        (
+          ap (λ s. s.log) c.new.ensures,
+          ap (λ s. s.faults) c.new.ensures,
+          ap (λ s. s.ended) c.new.ensures,
+        ),
+        told_any helpers file later _ _ e.work e.comes,
+      );
+      ends = e.ends;
+    }
+
+pub returns-in-Err : goal.returns-in-Err
+returns-in-Err g c =
+    record { work = Err Read; comes = inr (refl, refl); ends = c.ended.ensures }

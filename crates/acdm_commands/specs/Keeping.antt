@@ -1,0 +1,42 @@
+-- What `run` does with a journal that is kept in a file.
+use Rattle.std.specs.Prelude.{ℕ, ◌≡◌, ◌⊎◌, [], List, Option, Some, None, Result, Ok, Err}
+use Rattle.bpf_helpers.specs.Promise.{Promise}
+use Rattle.acdm_board.specs.Desk.{DeskView}
+use Rattle.acdm_failures.specs.declared.failure.Failure.{Failure}
+use Rattle.acdm_judging.specs.Findings.{status_of}
+use Rattle.acdm_judging.specs.declared.auditing.Finding.{Finding}
+use Rattle.acdm_lines.specs.Counted.{SinkView, SourceView}
+use Rattle.acdm_sessions.specs.Run.{ServesAll}
+use Rattle.acdm_commands.specs.Served.{IsSaved}
+
+-- A desk that had no entry has those of a kept journal, and the rest of it is as it was; or something is
+-- to be told of the journal, with the status 1.
+abbrev pub GoesOn : DeskView → DeskView → Option Finding → Type 0
+GoesOn before after None = after ≡ record before { history = after.history }
+GoesOn before after (Some finding) = status_of finding ≡ 1
+
+-- all lines that a reader gave, to its end, were answered by a desk
+pub record ServesKept {R : Type 0} (before after : DeskView) (read read_after : SourceView R)
+    : Type 0 where
+  pub replies : List ℕ
+  pub serves : ServesAll read.log read_after.log read_after.ended before after [] replies
+
+-- All lines that a reader gave, to its end, were answered by a desk with room for so many entries that
+-- went on from a kept journal, and what the desk had then was saved, where that was asked for.
+pub record KeepsAll {R F : Type 0} (sigs : List (ℕ × Promise)) (capacity : ℕ)
+    (read read_after : SourceView R) (saved saved_after : Option (SinkView F)) : Type 0 where
+  pub opening : DeskView
+  pub desk : DeskView
+  pub room : opening.capacity ≡ capacity
+  pub helpers : opening.sigs ≡ sigs
+  pub serves : ServesKept opening desk read read_after
+  pub saves : IsSaved desk.history saved saved_after
+
+-- What comes of it: all was done, with the status 0; or the kept journal is not legal, with the status 1,
+-- and no line was read; or something failed.
+abbrev pub KeepsTo : {R F : Type 0} → List (ℕ × Promise) → ℕ → SourceView R → SourceView R
+    → Option (SinkView F) → Option (SinkView F) → Result ℕ Failure → Type 0
+KeepsTo sigs capacity read read_after saved saved_after (Ok status) =
+    (KeepsAll sigs capacity read read_after saved saved_after × (status ≡ 0))
+    ⊎ ((status ≡ 1) × (read_after ≡ read))
+KeepsTo sigs capacity read read_after saved saved_after (Err failure) = Unit {0}

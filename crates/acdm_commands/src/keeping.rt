@@ -1,0 +1,172 @@
+//! The command `run` with a journal that is kept in a file.
+ghost use Rattle.std.specs.Prelude.{◌-◌, ◌^◌, ◌<◌, ◌≡◌, [], IfErr, IfOk, OnOk, option_map};
+ghost use Rattle.acdm_commands.specs.Completed.{KeepsLine};
+ghost use Rattle.acdm_commands.specs.Keeping.{GoesOn, KeepsTo, ServesKept};
+ghost use Rattle.acdm_failures.specs.Failures.{EndsBy};
+ghost use Rattle.acdm_judging.specs.Helpers.{helpers as known};
+
+use crate::saving::{save, saving_in, settle};
+use acdm_board::Desk;
+use acdm_failures::{Failure, ended};
+use acdm_judging::{Finding, KnownHelpers};
+use acdm_keeping::{Keeper, Kept, open};
+use acdm_restoring::{RestoreError, restore};
+use acdm_sessions::{Sink, Source, run};
+use bpf_helpers::Helpers;
+use std::alloc::Global;
+use std::fs::{File, Files};
+use std::io::{BufWriter, Read, Write};
+
+/// How many bytes of replies are held until the entries before them are kept, at most.
+const BUFFER: usize = 65_536;
+
+/// Answers the lines of a reader on a writer, as `run`, by a desk that goes on from the journal in a
+/// file, in which it is kept: a reply is handed to the writer once its entry stands in the file.
+/// Where the input was read to its end, the journal is saved too, if that was asked for.
+///
+/// The status is 0 where the input was read to its end and the journal was kept and saved; 1 where
+/// what the file has is no legal journal, which is told as an audit tells it; else 2, with a line on
+/// the errors' writer.
+pub(crate) fn keep_line<Rt: Files<File = File>, R: Read, W: Write, E: Write>(
+    rt: &Rt,
+    alloc: Global,
+    journal: usize,
+    saved: Option<&str>,
+    path: &str,
+    input: &mut Source<R>,
+    output: &mut Sink<W>,
+    errors: &mut Sink<E>,
+) -> u8
+    requires reads { input.old.faults < 2 ^ 64 - 1 }
+    ensures { EndsBy (KeepsLine journal (option_map (λ s. s.now) saved.entry) input.old input.new)
+        result errors.old errors.new }
+{
+    match saving_in(rt, alloc, saved) {
+        Ok(mut saving) => {
+            let kept = keep(rt, alloc, journal, path, input, output, &mut saving.file);
+            let status = ended(kept, errors);
+            settle(rt, saved, saving, status, errors)
+        }
+        Err(failure) => ended(Err(failure), errors),
+    }
+}
+
+// Opens the file.
+fn keep<Rt: Files<File = File>, R: Read, W: Write, F: Write + Drop>(
+    rt: &Rt,
+    alloc: Global,
+    journal: usize,
+    path: &str,
+    input: &mut Source<R>,
+    output: &mut Sink<W>,
+    saved: &mut Option<Sink<F>>,
+) -> Result<u8, Failure>
+    requires reads { input.old.faults < 2 ^ 64 - 1 }
+    ensures { KeepsTo known journal input.old input.new saved.old saved.new result }
+{
+    let file = open(rt, path)?;
+    let helpers = KnownHelpers::new(alloc);
+    keep_with(alloc, helpers, journal, file, input, output, saved)
+}
+
+// Goes on from the file, serves, and saves the journal.
+fn keep_with<H: Helpers + Drop, R: Read, W: Write, F: Write + Drop>(
+    alloc: Global,
+    helpers: H,
+    journal: usize,
+    file: File,
+    input: &mut Source<R>,
+    output: &mut Sink<W>,
+    saved: &mut Option<Sink<F>>,
+) -> Result<u8, Failure>
+    requires reads { input.old.faults < 2 ^ 64 - 1 }
+    ensures { KeepsTo (H.entries helpers) journal input.old input.new saved.old saved.new result }
+{
+    let mut desk = Desk::new(alloc, helpers, journal)?;
+    if let Some(finding) = go_on(alloc, &file, &mut desk)? {
+        return match finding.tell(output) {
+            Ok(status) => Ok(status),
+            Err(failure) => Err(failure),
+        };
+    }
+    serve_kept(alloc, &mut desk, file, input, output)?;
+    save(alloc, &mut desk, saved)?;
+    Ok(0)
+}
+
+// Puts the journal of a file into a desk, and takes a rest without a line feed off the file. Answers
+// what is to be told of a journal that is not legal.
+fn go_on<H: Helpers + Drop>(
+    alloc: Global,
+    file: &File,
+    desk: &mut Desk<H>,
+) -> Result<Option<Finding>, Failure>
+    requires empty { desk.old.history ≡ [] }
+    ensures goes { IfOk result (GoesOn desk.old desk.new) }
+{
+    let Ok(reader) = file.try_clone() else {
+        return Err(Failure::Keep);
+    };
+    match restore(alloc, &mut Source::new(reader), desk) {
+        Ok(bytes) => {
+            cut(file, bytes)?;
+            Ok(None)
+        }
+        Err(RestoreError::Faulty { entry, clause }) => Ok(Some(Finding::Faulty { entry, clause })),
+        Err(RestoreError::Full) => Err(Failure::Room),
+        Err(RestoreError::Read) => Err(Failure::Read),
+        Err(RestoreError::Memory) => Err(Failure::Memory),
+    }
+}
+
+// Takes off a file what is behind so many bytes.
+fn cut(file: &File, bytes: u64) -> Result<(), Failure> {
+    match file.metadata() {
+        Ok(found) if found.len() == bytes => Ok(()),
+        Ok(_) => match file.set_len(bytes) {
+            Ok(()) => Ok(()),
+            Err(_) => Err(Failure::Keep),
+        },
+        Err(_) => Err(Failure::Keep),
+    }
+}
+
+// Answers the lines of a reader on a writer, behind the keeping of their entries in a file.
+fn serve_kept<H: Helpers + Drop, R: Read, W: Write>(
+    alloc: Global,
+    desk: &mut Desk<H>,
+    file: File,
+    input: &mut Source<R>,
+    output: &mut Sink<W>,
+) -> Result<(), Failure>
+    requires reads { input.old.faults < 2 ^ 64 - 1 }
+    ensures serves { OnOk result (ServesKept desk.old desk.new input.old input.new) }
+{
+    let mut keeper = Keeper::new(alloc, desk.row(), Sink::new(file))?;
+    keeper.pass_over(desk.len())?;
+    let served = serve_behind(alloc, desk, &mut keeper, input, output);
+    if keeper.keep().is_err() {
+        return Err(Failure::Keep);
+    }
+    served
+}
+
+// Answers the lines of a reader on a writer, behind a keeper.
+fn serve_behind<H: Helpers + Drop, R: Read, W: Write, F: Write + Drop>(
+    alloc: Global,
+    desk: &mut Desk<H>,
+    keeper: &mut Keeper<F>,
+    input: &mut Source<R>,
+    output: &mut Sink<W>,
+) -> Result<(), Failure>
+    requires reads { input.old.faults < 2 ^ 64 - 1 }
+    ensures serves { OnOk result (ServesKept desk.old desk.new input.old input.new) }
+{
+    let kept = Kept::new(keeper, output);
+    let Ok(buffered) = BufWriter::with_capacity(alloc, BUFFER, kept) else {
+        return Err(Failure::Memory);
+    };
+    let mut writer = Sink::new(buffered);
+    run(alloc, input, &mut writer, desk)?;
+    Ok(())
+}

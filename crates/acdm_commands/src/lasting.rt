@@ -1,0 +1,420 @@
+//! The command `serve` over partners that come and go, and a control address.
+ghost use Rattle.std.specs.Prelude.{◌≡◌, ◌+◌, ◌≤◌, false, IfOk, IfErr, OnOk, length, map, sum_by};
+ghost use Rattle.std.specs.Prelude.{vec_len};
+ghost use Rattle.std.specs.List.{All, flat_map};
+ghost use Rattle.acdm_board.specs.Desk.{row_of};
+ghost use Rattle.acdm_commands.specs.Partners.{Announces, FailsToTell, IsOfAccepting, TellsPartners};
+ghost use Rattle.acdm_commands.specs.Partners.{session_text};
+ghost use Rattle.acdm_sessions.specs.Passes.{BeginsWith, IsShown, made_since};
+ghost use Rattle.acdm_sessions.specs.Sessions.{HaveEnded, HaveServed, new_session, session_end};
+ghost use Rattle.acdm_sessions.specs.Sessions.{session_left, session_start};
+
+use crate::partners::{REPLIES_HELD, announce, served_by, tell};
+use acdm_board::Desk;
+use acdm_failures::{Failure, ServeError};
+use acdm_milestones::Role;
+use acdm_partners::{
+    Acceptor, Arriving, Connection, Control, Door, Place, Reception, Replies, Standing, Terms,
+    WholeLines, wait_for_all,
+};
+use acdm_row::Row;
+use acdm_sessions::{Clock, Closed, Gate, Session, Sink, Source};
+use acdm_wire::LONGEST_LINE;
+use bpf_helpers::Helpers;
+use std::alloc::{AllocError, Global};
+use std::io::{BufWriter, Eprint, Write};
+use std::net::{Net, TcpListener, TcpStream};
+use std::sync::atomic::AtomicBool;
+use std::sync::{Arc, Wait};
+use std::thread::Threads;
+use std::time::Clock as SystemClock;
+
+// One byte more than the longest line has, so that a longer one is told by what is kept of it.
+const MOST_KEPT: usize = LONGEST_LINE + 1;
+
+/// What the lines of a session come from: all its connections.
+pub(crate) type Reading<'r, Rt> = WholeLines<Arriving<'r, Rt>, Connection, MOST_KEPT>;
+
+/// What its replies go to: the connection whose lines they answer.
+pub(crate) type Writing<'r, Rt> = BufWriter<Replies<'r, Rt>>;
+
+/// How `serve` is to serve its partners, beside the rest.
+#[derive(Clone, Copy, Debug, PartialEq, Eq)]
+pub(crate) struct Service<'a> {
+    /// Whether each session goes on with the next connection.
+    pub again: bool,
+    /// The control address, if there is one.
+    pub control: Option<&'a str>,
+    /// How many lines of a session are taken in a minute at most, if that is bounded.
+    pub pace: Option<u32>,
+}
+
+impl Service<'_> {
+    /// Whether nothing of it was asked for.
+    pub(crate) fn is_plain(&self) -> bool {
+        !self.again && self.control.is_none() && self.pace.is_none()
+    }
+
+    /// By which terms partners are served.
+    pub(crate) fn terms(&self) -> Terms {
+        Terms {
+            again: self.again,
+            pace: self.pace,
+        }
+    }
+
+    /// Listens at the control address, if there is one. `Control` where it is none, or can't be listened
+    /// at.
+    pub(crate) fn control<Rt: Net<Listener = TcpListener, Stream = TcpStream>>(
+        &self,
+        rt: &Rt,
+        alloc: Global,
+    ) -> Result<Option<Control>, Failure>
+        ensures { IfErr result (λ failure. failure ≡ Failure.Control) }
+    {
+        match self.control {
+            Some(address) => match Control::open(rt, alloc, address) {
+                Some(control) => Ok(Some(control)),
+                None => Err(Failure::Control),
+            },
+            None => Ok(None),
+        }
+    }
+}
+
+// Where partners connect, in the order of their sessions.
+#[derive(Drop)]
+struct Addresses {
+    doors: Vec<Door>,
+    places: Vec<Arc<Place>>,
+}
+
+impl Addresses {
+    fn new(alloc: Global) -> Addresses {
+        Addresses {
+            doors: Vec::new(alloc),
+            places: Vec::new(alloc),
+        }
+    }
+
+    // Opens the address of a session, and says where its partner connects.
+    fn add(
+        &mut self,
+        alloc: Global,
+        number: usize,
+        role: Role,
+        listener: TcpListener,
+        terms: Terms,
+        closing: &Arc<AtomicBool>,
+    ) -> Result<Arc<Place>, ServeError>
+        ensures fails { IfErr result IsOfAccepting }
+    {
+        let Ok(place) = Place::new(alloc, terms, closing) else {
+            return Err(ServeError::Memory);
+        };
+        let (Ok(kept), Ok(given)) = (Arc::try_clone(&place), Arc::try_clone(&place)) else {
+            return Err(ServeError::Memory);
+        };
+        let Some(door) = Door::new(number, role.name(), place, listener) else {
+            return Err(ServeError::Accept(number));
+        };
+        if self.doors.push(door).is_err() || self.places.push(kept).is_err() {
+            return Err(ServeError::Memory);
+        }
+        Ok(given)
+    }
+}
+
+// Has nobody served where a session has ended. It holds nobody up.
+#[derive(Drop)]
+struct Places<'r, Rt> {
+    rt: &'r Rt,
+    places: Vec<Arc<Place>>,
+}
+
+impl<Rt: Wait> Gate for Places<'_, Rt> {
+    fn enter(&self, _session: u8, _call: u64) {}
+
+    fn answered(&self, _session: u8, _call: u64) {}
+
+    fn ended(&self, session: u8) {
+        if let Some(place) = self.places.get(usize::from(session).saturating_sub(1)) {
+            place.finish(self.rt);
+        }
+    }
+}
+
+// What is told of the journal in a row.
+#[derive(Drop)]
+struct Tally {
+    row: Arc<Row>,
+}
+
+impl Tally {
+    // The minute of an entry, if it is there.
+    fn moment(&self, at: usize) -> Option<u32> {
+        if at >= self.row.len() {
+            return None;
+        }
+        let mut note = self.row.note(at);
+        let published = self.row.look(at, &mut note)?;
+        Some(published.entry.moment)
+    }
+}
+
+impl Standing for Tally {
+    fn used(&self) -> usize {
+        let room = self.row.len();
+        for at in 0..room {
+            if self.moment(at).is_none() {
+                return at;
+            }
+        }
+        room
+    }
+
+    fn room(&self) -> usize {
+        self.row.len()
+    }
+
+    fn last(&self) -> Option<u32> {
+        self.moment(self.used().checked_sub(1)?)
+    }
+}
+
+// A session over all connections at a place.
+fn session_at<'r, Rt: Wait + SystemClock, C: Clock + Drop>(
+    rt: &'r Rt,
+    alloc: Global,
+    role: Role,
+    place: Arc<Place>,
+    clock: C,
+) -> Result<Session<Reading<'r, Rt>, Writing<'r, Rt>, C>, ServeError>
+    ensures role { IfOk result (λ session. session.role ≡ role) }
+    ensures start { IfOk result (λ s. session_start s.role s.reader s.writer (C.gives s.clock)
+        ≡ new_session role (C.gives clock)) }
+    ensures fails { IfErr result IsOfAccepting }
+{
+    let Ok(same) = Arc::try_clone(&place) else {
+        return Err(ServeError::Memory);
+    };
+    let Ok(reader) = WholeLines::new(alloc, Arriving::new(rt, same)) else {
+        return Err(ServeError::Memory);
+    };
+    let Ok(writer) = BufWriter::with_capacity(alloc, REPLIES_HELD, Replies::new(rt, place)) else {
+        return Err(ServeError::Memory);
+    };
+    Ok(Session {
+        role,
+        reader: Source::new(reader),
+        writer: Sink::new(writer),
+        clock,
+    })
+}
+
+// Opens the address of a partner, and its session.
+fn open<'r, Rt: Wait + SystemClock, C: Clock + Drop>(
+    rt: &'r Rt,
+    alloc: Global,
+    number: usize,
+    partner: (Role, TcpListener, C),
+    terms: Terms,
+    closing: &Arc<AtomicBool>,
+    addresses: &mut Addresses,
+) -> Result<Session<Reading<'r, Rt>, Writing<'r, Rt>, C>, ServeError>
+    ensures role { IfOk result (λ session. session.role ≡ partner.0) }
+    ensures start { IfOk result (λ s. session_start s.role s.reader s.writer (C.gives s.clock)
+        ≡ new_session partner.0 (C.gives partner.2)) }
+    ensures fails { IfErr result IsOfAccepting }
+{
+    let (role, listener, clock) = partner;
+    let place = addresses.add(alloc, number, role, listener, terms, closing)?;
+    session_at(rt, alloc, role, place, clock)
+}
+
+// Opens the address of each partner, in order, and its session.
+fn open_all<'r, Rt: Wait + SystemClock, C: Clock + Drop>(
+    rt: &'r Rt,
+    alloc: Global,
+    partners: Vec<(Role, TcpListener, C)>,
+    terms: Terms,
+    closing: &Arc<AtomicBool>,
+    addresses: &mut Addresses,
+) -> Result<Vec<Session<Reading<'r, Rt>, Writing<'r, Rt>, C>>, ServeError>
+    ensures len { IfOk result (λ sessions. vec_len sessions ≡ vec_len partners) }
+    ensures roles { IfOk result (λ sessions. map (λ s. s.role) sessions.items
+        ≡ map (λ p. p.0) partners.items) }
+    ensures starts { IfOk result (λ sessions. map (λ s. session_start s.role s.reader s.writer
+        (C.gives s.clock)) sessions.items
+        ≡ map (λ p. new_session p.0 (C.gives p.2)) partners.items) }
+    ensures fails { IfErr result IsOfAccepting }
+{
+    let Ok(mut sessions) = Vec::with_capacity(alloc, partners.len()) else {
+        return Err(ServeError::Memory);
+    };
+    for partner in partners {
+        let number = sessions.len() + 1;
+        let session = open(rt, alloc, number, partner, terms, closing, addresses)?;
+        sessions.push_reserved(session);
+    }
+    Ok(sessions)
+}
+
+// Who accepts partners and answers at the control address.
+fn acceptor_of<Rt: Wait + SystemClock + Eprint + Clone + Drop>(
+    rt: &Rt,
+    alloc: Global,
+    doors: Vec<Door>,
+    control: Option<Control>,
+    row: &Arc<Row>,
+    closing: Arc<AtomicBool>,
+) -> Result<Acceptor<Rt, Tally>, AllocError> {
+    let own = rt.clone()?;
+    let row = Arc::try_clone(row)?;
+    Acceptor::new(own, alloc, doors, control, Tally { row }, closing)
+}
+
+// Starts the thread that accepts partners and answers at the control address.
+fn receive<Rt: Threads + Wait + SystemClock + Eprint + Clone + Drop + Send + 'static>(
+    rt: &Rt,
+    alloc: Global,
+    doors: Vec<Door>,
+    control: Option<Control>,
+    row: &Arc<Row>,
+    closing: Arc<AtomicBool>,
+) -> Result<Reception, ServeError>
+    ensures fails { IfErr result IsOfAccepting }
+{
+    let Ok(acceptor) = acceptor_of(rt, alloc, doors, control, row, closing) else {
+        return Err(ServeError::Memory);
+    };
+    match Reception::begin(rt, acceptor) {
+        Ok(reception) => Ok(reception),
+        Err(_) => Err(ServeError::Memory),
+    }
+}
+
+// Tells of the listeners, and opens the sessions of their partners.
+fn opened<'r, Rt: Wait + SystemClock, C: Clock + Drop, W: Write>(
+    rt: &'r Rt,
+    alloc: Global,
+    partners: Vec<(Role, TcpListener, C)>,
+    terms: Terms,
+    closing: &Arc<AtomicBool>,
+    addresses: &mut Addresses,
+    writer: &mut Sink<W>,
+) -> Result<Vec<Session<Reading<'r, Rt>, Writing<'r, Rt>, C>>, ServeError>
+    requires few { vec_len partners ≤ 64 }
+    ensures len { IfOk result (λ sessions. vec_len sessions ≡ vec_len partners) }
+    ensures roles { IfOk result (λ sessions. map (λ s. s.role) sessions.items
+        ≡ map (λ p. p.0) partners.items) }
+    ensures starts { IfOk result (λ sessions. map (λ s. session_start s.role s.reader s.writer
+        (C.gives s.clock)) sessions.items
+        ≡ map (λ p. new_session p.0 (C.gives p.2)) partners.items) }
+    ensures tells { OnOk result (Announces (map (λ p. p.0) partners.items) writer.old writer.new) }
+    ensures fails { IfErr result (FailsToTell writer.old writer.new) }
+{
+    announce(alloc, partners.as_slice(), writer)?;
+    open_all(rt, alloc, partners, terms, closing, addresses)
+}
+
+// Serves the sessions while partners are accepted.
+fn served_while<
+    'r,
+    Rt: Threads + Wait + SystemClock + Eprint + Clone + Drop + Send + Sync + 'static,
+    H: Helpers + Drop + Send,
+    C: Clock + Drop + Send,
+>(
+    rt: &'r Rt,
+    alloc: Global,
+    desk: Desk<H>,
+    sessions: Vec<Session<Reading<'r, Rt>, Writing<'r, Rt>, C>>,
+    addresses: Addresses,
+    control: Option<Control>,
+    closing: Arc<AtomicBool>,
+    again: bool,
+) -> Result<Closed<H, Reading<'r, Rt>, Writing<'r, Rt>, C>, ServeError>
+    requires few { vec_len sessions ≤ 64 }
+    ensures sum { IfOk result (λ c. length c.desk.history
+        ≡ length desk.history + sum_by (λ e. e.calls) c.sessions.items) }
+    ensures sessions { IfOk result (λ c. HaveEnded 1 (map (λ s. s.role) sessions.entry.items)
+        (map (λ e. session_end e.number e.role e.calls e.end) c.sessions.items)) }
+    ensures served { IfOk result (λ c. HaveServed (row_of desk)
+        (map (λ s. session_start s.role s.reader s.writer (C.gives s.clock)) sessions.entry.items)
+        (map (λ e. session_left e.end e.reader e.writer e.pass) c.sessions.items)) }
+    ensures begins { IfOk result (λ c. BeginsWith desk.history c.desk.history) }
+    ensures shown { IfOk result (λ c. All (λ e. IsShown (length desk.history) c.desk e.number
+        e.role e.calls e.torn e.pass) c.sessions.items) }
+    ensures own { IfOk result (λ c. All (λ e. e.torn ≡ false) c.sessions.items → All (λ e. e.pass.own
+        ≡ made_since (length desk.history) c.desk.history e.number) c.sessions.items) }
+    ensures fails { IfErr result IsOfAccepting }
+{
+    let Addresses { doors, places } = addresses;
+    let reception = receive(rt, alloc, doors, control, desk.row(), closing)?;
+    if !again {
+        wait_for_all(rt, places.as_slice());
+    }
+    let closed = served_by(rt, alloc, desk, sessions, &Places { rt, places });
+    reception.end(rt);
+    closed
+}
+
+/// Serves a partner on each listener, all at once against one desk, as `serve_on`, by these terms: who
+/// connects is served at once, and where they say so, each session goes on with the next who connects.
+/// At the control address the board can be closed: all sessions end then.
+///
+/// `Accept` where a listener has no address or can't be asked; `Write` where the writer failed, which may
+/// be after the sessions; `Memory` where it was refused before they began, or no thread could be made.
+pub(crate) fn serve_again<
+    'r,
+    Rt: Threads + Wait + SystemClock + Eprint + Clone + Drop + Send + Sync + 'static,
+    H: Helpers + Drop + Send,
+    C: Clock + Drop + Send,
+    W: Write,
+>(
+    rt: &'r Rt,
+    alloc: Global,
+    partners: Vec<(Role, TcpListener, C)>,
+    terms: Terms,
+    control: Option<Control>,
+    desk: Desk<H>,
+    writer: &mut Sink<W>,
+) -> Result<Closed<H, Reading<'r, Rt>, Writing<'r, Rt>, C>, ServeError>
+    requires few { vec_len partners ≤ 64 }
+    ensures sum { IfOk result (λ c. length c.desk.history
+        ≡ length desk.history + sum_by (λ e. e.calls) c.sessions.items) }
+    ensures sessions { IfOk result (λ c. HaveEnded 1 (map (λ p. p.0) partners.items)
+        (map (λ e. session_end e.number e.role e.calls e.end) c.sessions.items)) }
+    ensures served { IfOk result (λ c. HaveServed (row_of desk)
+        (map (λ p. new_session p.0 (C.gives p.2)) partners.items)
+        (map (λ e. session_left e.end e.reader e.writer e.pass) c.sessions.items)) }
+    ensures begins { IfOk result (λ c. BeginsWith desk.history c.desk.history) }
+    ensures shown { IfOk result (λ c. All (λ e. IsShown (length desk.history) c.desk e.number
+        e.role e.calls e.torn e.pass) c.sessions.items) }
+    ensures own { IfOk result (λ c. All (λ e. e.torn ≡ false) c.sessions.items → All (λ e. e.pass.own
+        ≡ made_since (length desk.history) c.desk.history e.number) c.sessions.items) }
+    ensures tells { IfOk result (λ c. TellsPartners (map (λ p. p.0) partners.items)
+        (flat_map (λ e. session_text e.number e.calls e.end e.torn) c.sessions.items)
+        (length c.desk.history) writer.old writer.new) }
+    ensures fails { IfErr result (FailsToTell writer.old writer.new) }
+{
+    let Ok(closing) = Arc::new(alloc, AtomicBool::new(false)) else {
+        return Err(ServeError::Memory);
+    };
+    let mut addresses = Addresses::new(alloc);
+    let sessions = opened(rt, alloc, partners, terms, &closing, &mut addresses, writer)?;
+    let closed = served_while(
+        rt,
+        alloc,
+        desk,
+        sessions,
+        addresses,
+        control,
+        closing,
+        terms.again,
+    )?;
+    match tell(&closed, writer) {
+        Ok(()) => Ok(closed),
+        Err(_) => Err(ServeError::Write),
+    }
+}

@@ -1,0 +1,9 @@
+use Rattle.std.proofs.Common.{rules}
+use Rattle.acdm_displays.proofs.Written.{adds_one}
+use Rattle.acdm_displays.proofs.telling.JournalTelling.add_next.Goals as goal
+
+pub returns-clause-added : goal.returns-clause-added
+returns-clause-added c before start =
+    adds_one c.args.watch.now.seen c.take_next.new.self.seen c.in-Some.entry.now
+    c.args.text.now.items c.push_entry.new.text.items (search rules)
+    c.in_ok-push_entry.ensures.text c.in_ok-push_entry.ensures.types before start.before

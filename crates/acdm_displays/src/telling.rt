@@ -1,0 +1,71 @@
+//! What a display is told of each entry.
+ghost use Rattle.std.specs.Prelude.{◌≡◌, ℕ, List, ◌++◌, reverse, IfErr, OnOk};
+ghost use Rattle.acdm_step.specs.declared.entry.Entry.{Entry as AnEntry};
+ghost use Rattle.acdm_journal.specs.Whole.{Saves};
+ghost use Rattle.acdm_displays.specs.Displayed.{Adds, Begun, CutsShort, TellsFrom};
+
+use acdm_failures::Failure;
+use acdm_feed::{Known, tell_next};
+use acdm_journal::push_entry;
+use acdm_row::Row;
+use acdm_watch::Watch;
+
+/// Tells entries as a text.
+pub(crate) trait Telling {
+    /// What it has told, since it has begun, of what was seen, up to these bytes.
+    ghost tells: { Self → List AnEntry → Begun → List ℕ → Type 0 };
+
+    /// Adds the text of the next entry, where it is in sight, and says whether it was.
+    fn add_next(
+        &mut self,
+        watch: &mut Watch,
+        row: &Row,
+        text: &mut Vec<u8>,
+    ) -> Result<bool, Failure>
+        requires { row.now ≡ watch.old.row }
+        ensures row { watch.new.row ≡ watch.old.row }
+        ensures added { OnOk result (Adds tells self.old self.new watch.old.seen watch.new.seen
+            text.old.items text.new.items) }
+        ensures failed { IfErr result CutsShort };
+}
+
+/// Tells the journal.
+#[derive(Drop)]
+pub(crate) struct Journal;
+
+impl Telling for Journal {
+    ghost tells = { λ teller seen start log. Saves (reverse seen) start.before log };
+
+    fn add_next(
+        &mut self,
+        watch: &mut Watch,
+        row: &Row,
+        text: &mut Vec<u8>,
+    ) -> Result<bool, Failure> {
+        let Some(entry) = watch.take_next(row)? else {
+            return Ok(false);
+        };
+        push_entry(text, entry)?;
+        Ok(true)
+    }
+}
+
+/// Tells the feed from the entry of this number on.
+#[derive(Drop)]
+pub(crate) struct Changes {
+    pub(crate) known: Known,
+    pub(crate) from: u64,
+}
+
+impl Telling for Changes {
+    ghost tells = { λ teller seen start log. TellsFrom teller.known teller.from seen start log };
+
+    fn add_next(
+        &mut self,
+        watch: &mut Watch,
+        row: &Row,
+        text: &mut Vec<u8>,
+    ) -> Result<bool, Failure> {
+        Ok(tell_next(watch, &mut self.known, row, self.from, text)?)
+    }
+}

@@ -1,0 +1,55 @@
+-- Pieces of a line that are added one after the other.
+use Rattle.std.proofs.Common.{◌≡◌, ℕ, List, [], ◌∷◌, ◌++◌, ap, ◌∙◌, append_assoc}
+use Rattle.json.specs.Token.{Token}
+use Rattle.json.specs.Print.{print}
+use Rattle.acdm_step.specs.declared.entry.Entry.{Entry}
+use Rattle.acdm_step.specs.Commands.{History}
+use Rattle.acdm_feed.specs.Resumed.{board_text, board_tokens}
+use Rattle.acdm_feed.specs.Told.{told, told_tokens}
+
+pub list_pieces : (old one two three four items : List Token) (k b e : Token) → one ≡ old ++ k ∷ []
+    → two ≡ one ++ b ∷ [] → three ≡ two ++ items → four ≡ three ++ e ∷ []
+    → four ≡ old ++ (k ∷ b ∷ (items ++ e ∷ []))
+list_pieces old one two three four items k b e h1 h2 h3 h4 =
+    h4 ∙ ap (λ l. l ++ e ∷ []) (h3 ∙ ap (λ l. l ++ items) (h2 ∙ ap (λ l. l ++ b ∷ []) h1))
+    ∙ append_assoc ((old ++ k ∷ []) ++ b ∷ []) items (e ∷ [])
+    ∙ append_assoc (old ++ k ∷ []) (b ∷ []) (items ++ e ∷ [])
+    ∙ append_assoc old (k ∷ []) (b ∷ (items ++ e ∷ []))
+
+pub object_pieces : (old one two three four five head said changed : List Token) (b e : Token)
+    → one ≡ old ++ b ∷ [] → two ≡ one ++ head → three ≡ two ++ said → four ≡ three ++ changed
+    → five ≡ four ++ e ∷ []
+    → five ≡ old ++ (b ∷ ((head ++ (said ++ changed)) ++ e ∷ []))
+object_pieces old one two three four five head said changed b e h1 h2 h3 h4 h5 =
+    h5 ∙ ap (λ l. l ++ e ∷ []) (h4 ∙ ap (λ l. l ++ changed) (h3 ∙ ap (λ l. l ++ said) h2)
+    ∙ append_assoc (one ++ head) said changed ∙ append_assoc one head (said ++ changed)
+    ∙ ap (λ l. l ++ (head ++ (said ++ changed))) h1)
+    ∙ append_assoc (old ++ b ∷ []) (head ++ (said ++ changed)) (e ∷ [])
+    ∙ append_assoc old (b ∷ []) ((head ++ (said ++ changed)) ++ e ∷ [])
+
+pub line_pieces : (J : History) (e : Entry) (before : List ℕ) (tokens : List Token)
+    (line fed old new : List ℕ) → before ≡ [] → tokens ≡ told_tokens J e
+    → line ≡ before ++ print tokens → fed ≡ line ++ 10 ∷ [] → new ≡ old ++ fed
+    → new ≡ old ++ told J e
+unfolding told
+line_pieces J e before tokens line fed old new none is h1 h2 h3 =
+    h3 ∙ ap (λ l. old ++ l) (h2 ∙ ap (λ l. l ++ 10 ∷ [])
+    (h1 ∙ ap (λ b. b ++ print tokens) none ∙ ap print is))
+
+pub board_pieces : (old one two three four number list : List Token) (b e : Token) → one ≡ old ++ b ∷ []
+    → two ≡ one ++ number → three ≡ two ++ list → four ≡ three ++ e ∷ []
+    → four ≡ old ++ (b ∷ ((number ++ list) ++ e ∷ []))
+board_pieces old one two three four number list b e h1 h2 h3 h4 =
+    h4 ∙ ap (λ l. l ++ e ∷ []) (h3 ∙ ap (λ l. l ++ list) h2 ∙ append_assoc one number list
+    ∙ ap (λ l. l ++ (number ++ list)) h1)
+    ∙ append_assoc (old ++ b ∷ []) (number ++ list) (e ∷ [])
+    ∙ append_assoc old (b ∷ []) ((number ++ list) ++ e ∷ [])
+
+pub standing_pieces : (J : History) (before : List ℕ) (tokens : List Token)
+    (line fed old new : List ℕ) → before ≡ [] → tokens ≡ board_tokens J
+    → line ≡ before ++ print tokens → fed ≡ line ++ 10 ∷ [] → new ≡ old ++ fed
+    → new ≡ old ++ board_text J
+unfolding board_text
+standing_pieces J before tokens line fed old new none is h1 h2 h3 =
+    h3 ∙ ap (λ l. old ++ l) (h2 ∙ ap (λ l. l ++ 10 ∷ [])
+    (h1 ∙ ap (λ b. b ++ print tokens) none ∙ ap print is))

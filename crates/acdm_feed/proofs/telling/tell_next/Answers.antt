@@ -1,0 +1,18 @@
+use Rattle.std.proofs.Common.{◌≡◌, ◌++◌, ◌∷◌, [], rules, ap, ◌∙◌}
+use Rattle.std.specs.Prelude.{reverse}
+use Rattle.acdm_step.specs.History.{replay}
+use Rattle.acdm_feed.proofs.Later.{one_later, tells_one}
+use Rattle.acdm_feed.proofs.telling.tell_next.Goals as goal
+
+pub returns-clause-tells : goal.returns-clause-tells
+returns-clause-tells c =
+    let sigs = c.take_next.new.self.row.sigs in
+    let seen = c.args.watch.now.seen in
+    let e = c.in-Some.entry.now in
+    let took : c.take_next.new.self.seen ≡ seen ++ e ∷ [] = search rules in
+    let later = ap (replay sigs) (one_later seen c.take_next.new.self.seen e took) in
+    tells_one c.args.from c.len-number.result c.args.watch.now c.take_next.new.self e c.args.known.now
+    c.follow.new.self c.args.text.now.items c.push_from.new.text.items took c.len-number.ensures
+    (λ k. c.in_ok-push_from.ensures sigs (reverse seen)
+    (c.board.ensures.replays ∙ later) k)
+    (λ k. c.in_ok-follow.ensures sigs (reverse seen) (c.board-2.ensures.replays ∙ later) k)

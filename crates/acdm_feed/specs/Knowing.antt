@@ -1,0 +1,24 @@
+-- What is known of the flights of a board beside it.
+use Rattle.std.specs.Prelude.{ℕ, ◌≡◌, ◌==◌, if◌then◌else◌, nat_eq, [], ◌∷◌, ◌++◌, Option, Some, None, is_some}
+use Rattle.indexmap.specs.IndexMap.{get}
+use Rattle.acdm_step.specs.Commands.{History}
+use Rattle.acdm_step.specs.Summaries.{flights, exists}
+use Rattle.acdm_feed.specs.Told.{alerts_of}
+use Rattle.acdm_feed.specs.declared.known.Known.{Known}
+
+-- the alerts of a flight that is on the board
+abbrev pub word_of : History → ℕ → Option ℕ
+word_of J f = if exists J f then Some (alerts_of J f) else None
+
+-- the flights in order of creation, and the alerts of each
+pub record Knows (J : History) (known : Known) : Type 0 where
+  pub flights_are : known.flights.items ≡ flights J
+  pub words : (f : ℕ) → get nat_eq known.words f ≡ word_of J f
+
+-- the alerts of a flight were put, where it has any to tell
+abbrev pub Puts : Option ℕ → ℕ → Known → Known → Type 0
+Puts None flight old new = new ≡ old
+Puts (Some word) flight old new =
+    ((f : ℕ) → get nat_eq new.words f ≡ (if flight == f then Some word else get nat_eq old.words f))
+    × (new.flights.items ≡ (if is_some (get nat_eq old.words flight) then old.flights.items
+    else old.flights.items ++ flight ∷ []))

@@ -1,0 +1,9 @@
+pub mod Minutes
+pub mod Names
+pub mod Commands
+pub mod Records
+pub mod Told
+pub mod Resumed
+pub mod Knowing
+pub mod Found
+pub mod Telling

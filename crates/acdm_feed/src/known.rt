@@ -1,0 +1,173 @@
+//! What is known of the flights of a board beside it: which there are, and their alerts.
+ghost use Rattle.std.specs.Prelude.{◌≡◌, ◌==◌, ◌||◌, ◌++◌, ◌∷◌, ℕ, List, [], OnOk, IfOk, Some, is_some};
+ghost use Rattle.std.specs.Prelude.{None, if◌then◌else◌, nat_eq};
+ghost use Rattle.indexmap.specs.IndexMap.{get};
+ghost use Rattle.bpf_helpers.specs.Promise.{Promise};
+ghost use Rattle.acdm_step.specs.Commands.{History, changes_flight, flight_of, is_migrate, is_tick};
+ghost use Rattle.acdm_step.specs.Summaries.{flights};
+ghost use Rattle.acdm_step.specs.History.{replay};
+ghost use Rattle.std.specs.List.{list_any};
+ghost use Rattle.acdm_feed.specs.Knowing.{Knows, Puts, word_of};
+
+use acdm_record::Field;
+use acdm_step::{Command, Core, Entry, FlightCommand};
+use indexmap::IndexMap;
+use std::alloc::{AllocError, Global};
+
+/// The flights of a board in order of creation, and the alerts of each as they were told last.
+#[derive(Drop)]
+pub struct Known {
+    pub(crate) flights: Vec<u64>,
+    pub(crate) words: IndexMap<u64, u64>,
+}
+
+/// The alert word of a flight that is on the board.
+pub(crate) fn word_on(board: &Core, flight: u64) -> Option<u64>
+    ensures { (sigs : List (ℕ × Promise)) (J : History) → board.now ≡ replay sigs J
+        → result ≡ word_of J flight }
+{
+    match board.record_of(flight) {
+        Some(record) => Some(record.get(Field::Alerts)),
+        None => None,
+    }
+}
+
+/// The flight of a command.
+pub(crate) fn flight_in(command: &FlightCommand) -> u64
+    ensures { result ≡ flight_of (Command.Flight command.now) }
+{
+    match command {
+        FlightCommand::Schedule(schedule) => schedule.flight(),
+        FlightCommand::Report(report) => report.flight(),
+        FlightCommand::Deice(deice) => deice.flight.get(),
+    }
+}
+
+/// The flight whose record a command changes, if it is that of one.
+pub(crate) fn flight_changed(command: &Command) -> Option<u64>
+    ensures { result ≡ (if changes_flight command.now then Some (flight_of command.now) else None) }
+{
+    match command {
+        Command::Flight(command) => Some(flight_in(command)),
+        _ => None,
+    }
+}
+
+// Whether a command is one that may change the alerts of all flights.
+fn touches_all(command: &Command) -> bool
+    ensures { result ≡ (is_tick command.now || is_migrate command.now) }
+{
+    matches!(command, Command::Tick | Command::Migrate)
+}
+
+impl Known {
+    /// Of the empty board.
+    pub fn new(alloc: Global) -> Known
+        ensures { Knows [] result }
+    {
+        Known {
+            flights: Vec::new(alloc),
+            words: IndexMap::new(alloc),
+        }
+    }
+
+    /// The alert word of a flight.
+    pub(crate) fn word(&self, flight: u64) -> Option<u64>
+        ensures { result ≡ get nat_eq self.now.words flight }
+    {
+        self.words.get(&flight).copied()
+    }
+
+    // Puts the alert word of a flight, which is the last where it was not there.
+    fn put(&mut self, flight: u64, word: u64) -> Result<(), AllocError>
+        ensures words { OnOk result ((f : ℕ) → get nat_eq self.new.words f
+            ≡ (if flight == f then Some word else get nat_eq self.old.words f)) }
+        ensures flights { OnOk result (self.new.flights.items
+            ≡ (if is_some (get nat_eq self.old.words flight) then self.old.flights.items
+            else self.old.flights.items ++ flight ∷ [])) }
+    {
+        let Ok(before) = self.words.insert(flight, word) else {
+            return Err(AllocError);
+        };
+        if before.is_none() {
+            self.flights.push(flight)?;
+        }
+        Ok(())
+    }
+
+    // Puts the alert word of a flight, where that is on the board.
+    fn follow_flight(&mut self, board: &Core, flight: u64) -> Result<(), AllocError>
+        ensures { OnOk result ((sigs : List (ℕ × Promise)) (K : History)
+            → board.now ≡ replay sigs K → Puts (word_of K flight) flight self.old self.new) }
+    {
+        match word_on(board, flight) {
+            Some(word) => {
+                self.put(flight, word)?;
+                Ok(())
+            }
+            None => Ok(()),
+        }
+    }
+
+    // Reads all alert words from a board with the same flights.
+    fn read_all(&mut self, board: &Core) -> Result<(), AllocError>
+        ensures { OnOk result ((sigs : List (ℕ × Promise)) (K : History)
+            → board.now ≡ replay sigs K → self.old.flights.items ≡ flights K
+            → Knows K self.new) }
+    {
+        let alloc = *self.flights.allocator();
+        let words = words_on(alloc, self.flights.as_slice(), board)?;
+        self.words = words;
+        Ok(())
+    }
+
+    /// Follows an entry, after which the board is this.
+    pub fn follow(&mut self, board: &Core, entry: &Entry) -> Result<(), AllocError>
+        ensures { OnOk result ((sigs : List (ℕ × Promise)) (J : History)
+            → board.now ≡ replay sigs (entry.now ∷ J) → Knows J self.old
+            → Knows (entry.now ∷ J) self.new) }
+    {
+        if !entry.verdict.is_accepted() {
+            return Ok(());
+        }
+        if touches_all(&entry.command) {
+            self.read_all(board)?;
+            return Ok(());
+        }
+        match flight_changed(&entry.command) {
+            Some(flight) => {
+                self.follow_flight(board, flight)?;
+                Ok(())
+            }
+            None => Ok(()),
+        }
+    }
+}
+
+// Puts the alert word of a flight.
+fn put_word(words: &mut IndexMap<u64, u64>, flight: u64, word: u64) -> Result<(), AllocError>
+    ensures { OnOk result ((f : ℕ) → get nat_eq words.new f
+        ≡ (if flight == f then Some word else get nat_eq words.old f)) }
+{
+    match words.insert(flight, word) {
+        Ok(_) => Ok(()),
+        Err(_) => Err(AllocError),
+    }
+}
+
+// The alert words of these flights.
+fn words_on(alloc: Global, flights: &[u64], board: &Core) -> Result<IndexMap<u64, u64>, AllocError>
+    ensures { IfOk result (λ words. (sigs : List (ℕ × Promise)) (K : History)
+        → board.now ≡ replay sigs K → (f : ℕ) → get nat_eq words f
+        ≡ (if list_any (λ g. g == f) flights.now then word_of K f else None)) }
+{
+    let mut words = IndexMap::new(alloc);
+    let mut rest = flights;
+    while let Some((flight, more)) = rest.split_first() {
+        if let Some(word) = word_on(board, *flight) {
+            put_word(&mut words, *flight, word)?;
+        }
+        rest = more;
+    }
+    Ok(words)
+}

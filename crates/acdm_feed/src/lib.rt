@@ -1,0 +1,16 @@
+//! The feed: what each entry of a journal says and changes, as a line of JSON.
+#![tactic(auto)]
+
+mod command;
+mod known;
+mod minute;
+mod record;
+mod standing;
+mod telling;
+mod tokens;
+mod told;
+
+pub use known::Known;
+pub use standing::push_board;
+pub use telling::{pass_next, tell_next};
+pub use told::push_line;

@@ -1,0 +1,88 @@
+//! The line of a board.
+ghost use Rattle.std.specs.Prelude.{◌≡◌, ◌++◌, ℕ, List, OnOk, codes, length};
+ghost use Rattle.std.specs.List.{flat_map};
+ghost use Rattle.bpf_helpers.specs.Promise.{Promise};
+ghost use Rattle.acdm_step.specs.Commands.{History};
+ghost use Rattle.acdm_step.specs.Summaries.{flights};
+ghost use Rattle.acdm_step.specs.History.{replay};
+ghost use Rattle.acdm_feed.specs.Knowing.{Knows};
+ghost use Rattle.acdm_feed.specs.Names.{list_member};
+ghost use Rattle.acdm_feed.specs.Resumed.{board_text, board_tokens};
+ghost use Rattle.acdm_feed.specs.Told.{flight_tokens};
+
+use crate::known::Known;
+use crate::tokens::push_number;
+use crate::told::push_flight;
+use acdm_step::Core;
+use json::Writer;
+use std::alloc::AllocError;
+
+// Adds the records of all flights.
+fn push_flights(line: &mut Writer, known: &Known, board: &Core) -> Result<(), AllocError>
+    ensures before { line.new.before ≡ line.old.before }
+    ensures adds { OnOk result ((sigs : List (ℕ × Promise)) (J : History)
+        → board.now ≡ replay sigs J → Knows J known.now
+        → line.new.tokens ≡ line.old.tokens ++ flat_map (flight_tokens J) (flights J)) }
+{
+    let mut rest = known.flights.as_slice();
+    while let Some((flight, more)) = rest.split_first() {
+        push_flight(line, board, *flight)?;
+        rest = more;
+    }
+    Ok(())
+}
+
+// Adds the list of the records of all flights.
+fn push_list(line: &mut Writer, known: &Known, board: &Core) -> Result<(), AllocError>
+    ensures before { line.new.before ≡ line.old.before }
+    ensures adds { OnOk result ((sigs : List (ℕ × Promise)) (J : History)
+        → board.now ≡ replay sigs J → Knows J known.now
+        → line.new.tokens ≡ line.old.tokens
+        ++ list_member (codes "flights") (flat_map (flight_tokens J) (flights J))) }
+{
+    line.key("flights")?;
+    line.begin_array()?;
+    push_flights(line, known, board)?;
+    line.end_array()?;
+    Ok(())
+}
+
+// Adds all of it as one object.
+fn push_object(
+    line: &mut Writer,
+    known: &Known,
+    board: &Core,
+    entries: u64,
+) -> Result<(), AllocError>
+    ensures before { line.new.before ≡ line.old.before }
+    ensures adds { OnOk result ((sigs : List (ℕ × Promise)) (J : History)
+        → board.now ≡ replay sigs J → Knows J known.now → entries ≡ length J
+        → line.new.tokens ≡ line.old.tokens ++ board_tokens J) }
+{
+    line.begin_object()?;
+    push_number(line, "next", entries)?;
+    push_list(line, known, board)?;
+    line.end_object()?;
+    Ok(())
+}
+
+/// Adds the line of a board after so many entries: one object of JSON, without space, and a line feed,
+/// with the number of the entry that comes next and the records of all flights in order of creation.
+/// What is known is that of this board. `Err` only where memory was refused; nothing was added then.
+pub fn push_board(
+    text: &mut Vec<u8>,
+    known: &Known,
+    board: &Core,
+    entries: u64,
+) -> Result<(), AllocError>
+    ensures stands { OnOk result ((sigs : List (ℕ × Promise)) (J : History)
+        → board.now ≡ replay sigs J → Knows J known.now → entries ≡ length J
+        → text.new.items ≡ text.old.items ++ board_text J) }
+{
+    let mut line = Writer::new(Vec::new(*text.allocator()));
+    push_object(&mut line, known, board, entries)?;
+    let mut bytes = line.into_inner();
+    bytes.push(b'\n')?;
+    text.extend_from_slice(bytes.as_slice())?;
+    Ok(())
+}

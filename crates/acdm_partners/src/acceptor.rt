@@ -1,0 +1,144 @@
+//! The thread that accepts partners, and answers at the control address.
+use crate::control::{Control, Standing};
+use crate::doors::Door;
+use crate::times::{LAST_PAUSES, PAUSE};
+use std::alloc::{AllocError, Global};
+use std::io::Eprint;
+use std::net::Shutdown;
+use std::sync::atomic::{AtomicBool, Ordering};
+use std::sync::{Arc, Wait};
+use std::thread::{self, JoinHandle, Threads};
+use std::time::{Clock, Duration};
+
+/// Who accepts partners at all addresses, tells who comes and leaves, and answers at the control
+/// address.
+#[derive(Drop)]
+pub struct Acceptor<K: Drop, S: Drop> {
+    rt: K,
+    alloc: Global,
+    doors: Vec<Door>,
+    control: Option<Control>,
+    standing: S,
+    closing: Arc<AtomicBool>,
+    done: Arc<AtomicBool>,
+}
+
+impl<K: Wait + Clock + Eprint + Drop, S: Standing + Drop> Acceptor<K, S> {
+    /// One for these addresses. The word tells that the board closes.
+    pub fn new(
+        rt: K,
+        alloc: Global,
+        doors: Vec<Door>,
+        control: Option<Control>,
+        standing: S,
+        closing: Arc<AtomicBool>,
+    ) -> Result<Acceptor<K, S>, AllocError> {
+        let done = Arc::new(alloc, AtomicBool::new(false))?;
+        Ok(Acceptor {
+            rt,
+            alloc,
+            doors,
+            control,
+            standing,
+            closing,
+            done,
+        })
+    }
+
+    fn is_done(&self) -> bool {
+        self.done.load(Ordering::SeqCst)
+    }
+
+    fn is_closing(&self) -> bool {
+        self.closing.load(Ordering::SeqCst)
+    }
+
+    fn pause(&self) {
+        thread::sleep(&self.rt, Duration::from_millis(PAUSE));
+    }
+
+    fn run(mut self) {
+        self.serve();
+        self.close();
+    }
+
+    // Accepts and answers until the board closes or all sessions have ended.
+    fn serve(&mut self) {
+        for _ in 0..u64::MAX {
+            if self.is_done() || self.is_closing() {
+                return;
+            }
+            self.look();
+            self.pause();
+        }
+    }
+
+    fn look(&mut self) {
+        for door in self.doors.as_mut_slice() {
+            door.look(&self.rt, self.alloc);
+        }
+        if let Some(control) = &mut self.control {
+            if control.look(self.alloc, self.doors.as_slice(), &self.standing) {
+                self.closing.store(true, Ordering::SeqCst);
+            }
+        }
+    }
+
+    // Has all sessions end: nobody is accepted and nothing is read any more, and who has not taken his
+    // replies after 5 seconds is cut off.
+    fn close(&mut self) {
+        for door in self.doors.as_mut_slice() {
+            door.shut();
+            door.place().stop(&self.rt, Shutdown::Read);
+        }
+        for pause in 0..u64::MAX {
+            // What tells the end is read before the last look.
+            let is_last = self.is_done();
+            for door in self.doors.as_mut_slice() {
+                door.look_after(&self.rt, self.alloc);
+            }
+            if is_last {
+                return;
+            }
+            if pause >= LAST_PAUSES {
+                self.cut_off();
+            }
+            self.pause();
+        }
+    }
+
+    fn cut_off(&self) {
+        for door in self.doors.as_slice() {
+            door.place().stop(&self.rt, Shutdown::Both);
+        }
+    }
+}
+
+/// The thread of an acceptor.
+#[derive(Drop)]
+pub struct Reception {
+    done: Arc<AtomicBool>,
+    thread: JoinHandle<()>,
+}
+
+impl Reception {
+    /// Starts the thread of an acceptor. `Err` where memory was refused, or no thread could be made.
+    pub fn begin<
+        Rt: Threads,
+        K: Wait + Clock + Eprint + Drop + Send + 'static,
+        S: Standing + Drop + Send + 'static,
+    >(rt: &Rt, acceptor: Acceptor<K, S>) -> Result<Reception, AllocError> {
+        let done = Arc::try_clone(&acceptor.done)?;
+        match thread::spawn(rt, move || acceptor.run()) {
+            Ok(thread) => Ok(Reception { done, thread }),
+            Err(_) => Err(AllocError),
+        }
+    }
+
+    /// Ends it, once all sessions have ended.
+    pub fn end<Rt: Threads>(self, rt: &Rt) {
+        let Reception { done, thread } = self;
+        done.store(true, Ordering::SeqCst);
+        thread.join(rt);
+    }
+}

@@ -1,0 +1,6 @@
+//! A desk that goes on from a saved journal.
+#![tactic(auto)]
+
+mod restoring;
+
+pub use restoring::{RestoreError, restore};

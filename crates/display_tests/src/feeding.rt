@@ -1,0 +1,86 @@
+//! What displays are told of changes, from where they asked to be.
+use crate::following::{tick, ticked};
+use acdm_displays::{Shown, Start, follow_changes, start_named};
+use acdm_lines::Sink;
+use bpf_helpers::{Bank, Helpers};
+use std::alloc::Global;
+use std::process::Abort;
+use std::sync::atomic::AtomicBool;
+
+// The lines of two ticks of the airport, at minutes 7 and 9.
+const FIRST: &str =
+    r#"{"entry":0,"minute":"1970-01-01T00:07:00Z","session":1,"role":"APT","command":{"cmd":"tick"},"outcome":"ok","answers":[],"changed":[]}
+"#;
+
+const SECOND: &str =
+    r#"{"entry":1,"minute":"1970-01-01T00:09:00Z","session":1,"role":"APT","command":{"cmd":"tick"},"outcome":"ok","answers":[],"changed":[]}
+"#;
+
+// What a display is told of two ticks.
+fn told<H: Helpers + Drop>(rt: &impl Abort, alloc: Global, helpers: H, start: Start) -> Vec<u8> {
+    let mut desk = ticked(rt, alloc, helpers, 10);
+    assert!(rt; tick(&mut desk, 9));
+    let closing = AtomicBool::new(true);
+    let writer = Sink::new(Vec::new(alloc));
+    let shown = follow_changes(
+        alloc,
+        desk.row(),
+        start,
+        &closing,
+        &mut "".as_bytes(),
+        writer,
+    );
+    drop(desk);
+    let Shown { watch, writer } = shown.ok().expect(rt, "a display");
+    drop(watch);
+    writer.into_inner()
+}
+
+// Where a display begins, and what it is told.
+static STARTS: [(Start, &[&str]); 5] = [
+    (Start::Entry(0), &[FIRST, SECOND]),
+    (Start::Entry(1), &[SECOND]),
+    (Start::Entry(2), &[]),
+    (Start::Entry(u64::MAX), &[]),
+    (Start::Board, &["{\"next\":2,\"flights\":[]}\n"]),
+];
+
+#[test]
+fn a_display_is_told_what_it_asked_for(rt: HostRuntime) {
+    let alloc = rt.alloc();
+    for (start, lines) in &STARTS {
+        let bank = Bank::new(alloc).expect(&rt, "a bank");
+        let mut wanted = String::new(alloc);
+        for line in *lines {
+            wanted.push_str(line).expect(&rt, "room for a line");
+        }
+        assert!(rt; told(&rt, alloc, bank, *start).as_slice() == wanted.as_bytes());
+    }
+}
+
+// First lines, and what they ask for.
+static LINES: [(&[u8], Option<Start>); 13] = [
+    (b"board", Some(Start::Board)),
+    (b"from 0", Some(Start::Entry(0))),
+    (b"from 7", Some(Start::Entry(7))),
+    (
+        b"from 18446744073709551615",
+        Some(Start::Entry(18_446_744_073_709_551_615)),
+    ),
+    (b"from 18446744073709551616", None),
+    (b"", None),
+    (b"from", None),
+    (b"from ", None),
+    (b"from -1", None),
+    (b"from 7 ", None),
+    (b"FROM 7", None),
+    (b"boards", None),
+    (b"from \xff", None),
+];
+
+#[test]
+fn a_first_line_asks_for_a_start_or_for_nothing(rt: HostRuntime) {
+    for (line, start) in &LINES {
+        assert!(rt; start_named(*line) == *start);
+    }
+}
