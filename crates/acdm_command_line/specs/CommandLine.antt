@@ -40,6 +40,10 @@ watch_rule = record (new_rule (codes "watch")) { long = Some (codes "watch"); va
 abbrev pub changes_rule : Rule
 changes_rule = record (new_rule (codes "changes")) { long = Some (codes "changes"); value_names = 1 }
 
+-- `--web ADDR`
+abbrev pub web_rule : Rule
+web_rule = record (new_rule (codes "web")) { long = Some (codes "web"); value_names = 1 }
+
 -- `--again`, `--control ADDR`, `--pace N`
 abbrev pub again_rule : Rule
 again_rule = record (new_rule (codes "again")) { long = Some (codes "again"); action = Some SetTrue }
@@ -58,8 +62,8 @@ keeping_app name = with_rule (with_rule (new_app name) journal_rule) save_rule
 abbrev pub run_app : App
 run_app = with_rule (keeping_app (codes "run")) keep_rule
 
--- `serve [--journal N] [--save FILE] [--watch ADDR] [--changes ADDR] [--again] [--control ADDR]
--- [--pace N] ROLE=ADDR...`, of at least one partner
+-- `serve [--journal N] [--save FILE] [--watch ADDR] [--changes ADDR] [--web ADDR] [--again]
+-- [--control ADDR] [--pace N] ROLE=ADDR...`, of at least one partner
 abbrev pub partners_rule : Rule
 partners_rule = record (new_rule (codes "partners")) {
   value_names = 1;
@@ -68,7 +72,8 @@ partners_rule = record (new_rule (codes "partners")) {
 }
 
 abbrev pub serve_options_app : App
-serve_options_app = with_rule (with_rule (keeping_app (codes "serve")) watch_rule) changes_rule
+serve_options_app =
+    with_rule (with_rule (with_rule (keeping_app (codes "serve")) watch_rule) changes_rule) web_rule
 
 abbrev pub lasting_app : App
 lasting_app = with_rule (with_rule (with_rule serve_options_app again_rule) control_rule) pace_rule
@@ -215,11 +220,12 @@ Asks found (Run journal save keep) =
     (text : Text) × Runs found text × IsJournal text × (journal ≡ number_of text)
     × (option_map (λ s. s.now) save ≡ value_in (codes "run") (codes "save") found)
     × (option_map (λ s. s.now) keep ≡ value_in (codes "run") (codes "keep") found)
-Asks found (Serve journal save watch changes again control pace partners) =
+Asks found (Serve journal save watch changes web again control pace partners) =
     (text : Text) × Serves found text × IsJournal text × (journal ≡ number_of text)
     × (option_map (λ s. s.now) save ≡ value_in (codes "serve") (codes "save") found)
     × (option_map (λ s. s.now) watch ≡ value_in (codes "serve") (codes "watch") found)
     × (option_map (λ s. s.now) changes ≡ value_in (codes "serve") (codes "changes") found)
+    × (option_map (λ s. s.now) web ≡ value_in (codes "serve") (codes "web") found)
     × (again ≡ is_set_in (codes "serve") (codes "again") found)
     × (option_map (λ s. s.now) control ≡ value_in (codes "serve") (codes "control") found)
     × HasPace found pace

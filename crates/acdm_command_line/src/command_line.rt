@@ -11,7 +11,7 @@ ghost use Rattle.acdm_command_line.specs.CommandLine.{AnswersJudged, length_name
 ghost use Rattle.acdm_command_line.specs.CommandLine.{bare_app, run_app, running_app, serve_app};
 ghost use Rattle.acdm_command_line.specs.CommandLine.{serve_options_app, serving_app};
 ghost use Rattle.acdm_command_line.specs.CommandLine.{changes_rule, journal_rule, keep_rule, save_rule};
-ghost use Rattle.acdm_command_line.specs.CommandLine.{is_set_in, watch_rule};
+ghost use Rattle.acdm_command_line.specs.CommandLine.{is_set_in, watch_rule, web_rule};
 ghost use Rattle.acdm_command_line.specs.CommandLine.{again_rule, control_rule, lasting_app, pace_rule};
 ghost use Rattle.acdm_command_line.specs.CommandLine.{AnswersPace, IsPace};
 ghost use Rattle.acdm_command_line.specs.CommandLine.{partners_in, value_in, values_in};
@@ -37,14 +37,16 @@ pub enum Line<'a> {
         keep: Option<&'a str>,
     },
     /// `serve`, with room for so many entries in the journal, from 1 to 1,000,000, which is to be
-    /// saved in this file, may be watched at this address, and whose changes are told at that one, for
-    /// the partners of these words, as they stand: who may come again where `again` is true, of whom so
-    /// many lines are taken in a minute; it is closed at the control address.
+    /// saved in this file, may be watched at this address, whose changes are told at that one, and for
+    /// which browsers have a page at a third, for the partners of these words, as they stand: who may
+    /// come again where `again` is true, of whom so many lines are taken in a minute; it is closed at the
+    /// control address.
     Serve {
         journal: usize,
         save: Option<&'a str>,
         watch: Option<&'a str>,
         changes: Option<&'a str>,
+        web: Option<&'a str>,
         again: bool,
         control: Option<&'a str>,
         pace: Option<u32>,
@@ -125,6 +127,17 @@ fn changes<'a>(alloc: Global) -> Arg<'a>
         .help("The IP address and port where displays are told what each entry changed, as JSON")
 }
 
+// `--web ADDR`.
+fn web<'a>(alloc: Global) -> Arg<'a>
+    ensures rule { rule_of result ≡ web_rule }
+    ensures optional { (result.required ≡ false) × (result.global ≡ false) }
+{
+    Arg::new(alloc, "web")
+        .long("web")
+        .value_name("ADDR")
+        .help("The IP address and port where browsers have the board as a page")
+}
+
 // `--again`.
 fn again<'a>(alloc: Global) -> Arg<'a>
     ensures rule { rule_of result ≡ again_rule }
@@ -186,7 +199,8 @@ fn serve_options<'a>(alloc: Global) -> Result<Command<'a>, AllocError>
     let about = "Accepts a partner at each address, and serves all at once";
     keeping(alloc, "serve", about)?
         .arg(watch(alloc))?
-        .arg(changes(alloc))
+        .arg(changes(alloc))?
+        .arg(web(alloc))
 }
 
 // `serve` with what holds it open, without its partners.
@@ -472,6 +486,7 @@ fn serve_of<'a>(alloc: Global, matches: &ArgMatches<'a>) -> Result<Option<Line<'
     let save = value(matches, "serve", "save");
     let watch = value(matches, "serve", "watch");
     let changes = value(matches, "serve", "changes");
+    let web = value(matches, "serve", "web");
     let again = is_set(matches, "serve", "again");
     let control = value(matches, "serve", "control");
     let Some(pace) = pace_for(matches) else {
@@ -483,6 +498,7 @@ fn serve_of<'a>(alloc: Global, matches: &ArgMatches<'a>) -> Result<Option<Line<'
         save,
         watch,
         changes,
+        web,
         again,
         control,
         pace,

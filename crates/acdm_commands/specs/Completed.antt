@@ -157,7 +157,7 @@ abbrev pub Does : {R W E : Type 0} → Line → SourceView R → SourceView R �
 Does (Run journal save keep) input input_after output output_after status errors errors_after =
     RunsWords journal (option_map (λ s. s.now) save) (option_map (λ s. s.now) keep) input input_after
     output output_after status errors errors_after
-Does (Serve journal save watch changes again control pace partners) input input_after output output_after status errors errors_after =
+Does (Serve journal save watch changes web again control pace partners) input input_after output output_after status errors errors_after =
     (input_after ≡ input) × EndsBy (ServesLine journal (option_map (λ s. s.now) save)
     (map (λ s. s.now) partners.items) output output_after) status errors errors_after
 Does (Audit file) input input_after output output_after status errors errors_after =

@@ -7,7 +7,7 @@ ghost use Rattle.acdm_failures.specs.Failures.{EndsBy};
 use crate::keeping::keep_line;
 use crate::lasting::Service;
 use crate::saving::{saving_in, settle};
-use crate::serve_command::serve_words;
+use crate::serve_command::{Audience, serve_words};
 use crate::serving::run_on;
 use acdm_command_line::{Line, asked};
 use acdm_failures::{Failure, ended};
@@ -72,6 +72,7 @@ pub fn complete<
             save,
             watch,
             changes,
+            web,
             again,
             control,
             pace,
@@ -81,8 +82,11 @@ pub fn complete<
             alloc,
             journal,
             save,
-            watch,
-            changes,
+            Audience {
+                journal: watch,
+                changes,
+                web,
+            },
             Service {
                 again,
                 control,
@@ -166,8 +170,7 @@ fn serve_line<
     alloc: Global,
     journal: usize,
     save: Option<&str>,
-    watch: Option<&str>,
-    changes: Option<&str>,
+    audience: Audience<'_>,
     service: Service<'_>,
     partners: &[&str],
     output: &mut Sink<W>,
@@ -180,7 +183,7 @@ fn serve_line<
         Ok(mut saving) => {
             let saved = &mut saving.file;
             let status = serve_words(
-                rt, alloc, journal, watch, changes, service, partners, output, saved, errors,
+                rt, alloc, journal, audience, service, partners, output, saved, errors,
             );
             settle(rt, save, saving, status, errors)
         }

@@ -26,10 +26,18 @@ use std::sync::{Arc, Wait};
 use std::thread::Threads;
 use std::time::Clock as SystemClock;
 
+/// Where displays are sent the journal, where they are told what it changes, and where browsers have
+/// the board as a page: an IP address and a port each, or nowhere.
+#[derive(Clone, Copy)]
+pub(crate) struct Audience<'a> {
+    pub(crate) journal: Option<&'a str>,
+    pub(crate) changes: Option<&'a str>,
+    pub(crate) web: Option<&'a str>,
+}
+
 /// Serves a partner for each word `ROLE=ADDR`, at most 64, all at once, with room for so many
-/// entries in the journal, and tells on the writer what it does. Where there is an address for
-/// displays, each that connects there is sent the journal as text meanwhile. When all partners are
-/// gone, the journal is written as text to the writer that it is to be saved by, if there is one.
+/// entries in the journal, and tells on the writer what it does. Displays are sent meanwhile what
+/// they have an address for. When all partners are gone, the journal is written as text to the writer that it is to be saved by, if there is one.
 ///
 /// The status is 0 where all was told and the journal was saved, else 2, with a line on the errors'
 /// writer.
@@ -51,8 +59,7 @@ pub(crate) fn serve_words<
     rt: &Rt,
     alloc: Global,
     journal: usize,
-    watch: Option<&str>,
-    changes: Option<&str>,
+    audience: Audience<'_>,
     service: Service<'_>,
     words: &[&str],
     writer: &mut Sink<W>,
@@ -65,7 +72,7 @@ pub(crate) fn serve_words<
     let helpers = KnownHelpers::new(alloc);
     ended(
         serve_with(
-            rt, alloc, helpers, journal, watch, changes, service, words, writer, saved,
+            rt, alloc, helpers, journal, audience, service, words, writer, saved,
         ),
         errors,
     )
@@ -91,8 +98,7 @@ fn serve_with<
     alloc: Global,
     helpers: H,
     journal: usize,
-    watch: Option<&str>,
-    changes: Option<&str>,
+    audience: Audience<'_>,
     asked: Service<'_>,
     words: &[&str],
     writer: &mut Sink<W>,
@@ -102,7 +108,7 @@ fn serve_with<
         writer.new saved.old saved.new result }
 {
     let desk = Desk::new(alloc, helpers, journal)?;
-    serve_at(rt, alloc, desk, watch, changes, asked, words, writer, saved)?;
+    serve_at(rt, alloc, desk, audience, asked, words, writer, saved)?;
     Ok(0)
 }
 
@@ -125,8 +131,7 @@ fn serve_at<
     rt: &Rt,
     alloc: Global,
     desk: Desk<H>,
-    watch: Option<&str>,
-    changes: Option<&str>,
+    audience: Audience<'_>,
     service: Service<'_>,
     words: &[&str],
     writer: &mut Sink<W>,
@@ -136,7 +141,7 @@ fn serve_at<
         saved.new result }
 {
     let control = service.control(rt, alloc)?;
-    let (partners, displays) = opened(rt, alloc, desk.row(), watch, changes, words)?;
+    let (partners, displays) = opened(rt, alloc, desk.row(), audience, words)?;
     let ended = serve_all(rt, alloc, partners, desk, service, control, writer, saved);
     close_all(rt, displays);
     ended
@@ -160,28 +165,65 @@ fn few_partners<'r, Rt: Net<Listener = TcpListener, Stream = TcpStream> + System
     Ok(partners)
 }
 
-// Displays that are sent the journal, and displays that are told what it changes.
+// Displays that are sent the journal, those that are told what it changes, and browsers.
 #[derive(Drop)]
 struct Outlets {
-    journal: Option<Displays>,
-    changes: Option<Displays>,
-}
-
-// Closes displays, where there are any.
-fn close<Rt: SystemClock + Threads>(rt: &Rt, displays: Option<Displays>) {
-    if let Some(displays) = displays {
-        displays.close(rt);
-    }
+    open: Vec<Displays>,
 }
 
 // Lets all displays go, once they were sent what there is.
 fn close_all<Rt: SystemClock + Threads>(rt: &Rt, outlets: Outlets) {
-    let Outlets { journal, changes } = outlets;
-    close(rt, journal);
-    close(rt, changes);
+    let Outlets { open } = outlets;
+    for displays in open {
+        displays.close(rt);
+    }
 }
 
-// Listens for displays of a row.
+// Listens for displays of a row at an address, if there is one.
+fn add_outlet<
+    Rt: Net<Listener = TcpListener, Stream = TcpStream>
+        + SystemClock
+        + Threads
+        + Clone
+        + Drop
+        + Send
+        + 'static,
+>(
+    rt: &Rt,
+    alloc: Global,
+    row: &Arc<Row>,
+    form: Form,
+    address: Option<&str>,
+    outlets: &mut Outlets,
+) -> Result<(), Failure> {
+    match Displays::open_as(rt, alloc, form, address, row)? {
+        Some(displays) => Ok(outlets.open.push(displays)?),
+        None => Ok(()),
+    }
+}
+
+// Listens for all displays of a row.
+fn add_outlets<
+    Rt: Net<Listener = TcpListener, Stream = TcpStream>
+        + SystemClock
+        + Threads
+        + Clone
+        + Drop
+        + Send
+        + 'static,
+>(
+    rt: &Rt,
+    alloc: Global,
+    row: &Arc<Row>,
+    audience: Audience<'_>,
+    outlets: &mut Outlets,
+) -> Result<(), Failure> {
+    add_outlet(rt, alloc, row, Form::Journal, audience.journal, outlets)?;
+    add_outlet(rt, alloc, row, Form::Changes, audience.changes, outlets)?;
+    add_outlet(rt, alloc, row, Form::Web, audience.web, outlets)
+}
+
+// Listens for all displays of a row, or for none. The room for them is there before the first.
 fn outlets_of<
     Rt: Net<Listener = TcpListener, Stream = TcpStream>
         + SystemClock
@@ -194,14 +236,15 @@ fn outlets_of<
     rt: &Rt,
     alloc: Global,
     row: &Arc<Row>,
-    watch: Option<&str>,
-    changes: Option<&str>,
+    audience: Audience<'_>,
 ) -> Result<Outlets, Failure> {
-    let journal = Displays::open(rt, alloc, watch, row)?;
-    match Displays::open_as(rt, alloc, Form::Changes, changes, row) {
-        Ok(changes) => Ok(Outlets { journal, changes }),
+    let mut outlets = Outlets {
+        open: Vec::with_capacity(alloc, 3)?,
+    };
+    match add_outlets(rt, alloc, row, audience, &mut outlets) {
+        Ok(()) => Ok(outlets),
         Err(failure) => {
-            close(rt, journal);
+            close_all(rt, outlets);
             Err(failure)
         }
     }
@@ -221,8 +264,7 @@ fn opened<
     rt: &'r Rt,
     alloc: Global,
     row: &Arc<Row>,
-    watch: Option<&str>,
-    changes: Option<&str>,
+    audience: Audience<'_>,
     words: &[&str],
 ) -> Result<(Vec<Partner<'r, Rt>>, Outlets), Failure>
     ensures few { IfOk result (λ opened. vec_len opened.0 ≤ 64) }
@@ -231,7 +273,7 @@ fn opened<
     ensures fails { IfErr result (FailsToOpen (map (λ w. w.now) words.now)) }
 {
     let partners = few_partners(rt, alloc, words)?;
-    match outlets_of(rt, alloc, row, watch, changes) {
+    match outlets_of(rt, alloc, row, audience) {
         Ok(displays) => Ok((partners, displays)),
         Err(Failure::Memory) => Err(Failure::Memory),
         Err(_) => Err(Failure::Watch),

@@ -1,5 +1,6 @@
 -- What a display is sent, and why it may get no more.
-use Rattle.std.specs.Prelude.{ℕ, ◌≡◌, ◌++◌, false, List, [], length, reverse}
+use Rattle.std.specs.Prelude.{ℕ, ◌≡◌, ◌+◌, ◌<◌, ◌≤◌, ◌++◌, ◌∷◌, ◌⊎◌, ⊤, false, if◌then◌else◌, nat_lt}
+use Rattle.std.specs.Prelude.{List, [], Option, Some, None, length, reverse}
 use Rattle.acdm_step.specs.declared.entry.Entry.{Entry}
 use Rattle.acdm_step.specs.Commands.{History}
 use Rattle.acdm_step.specs.History.{IsLegal}
@@ -10,6 +11,9 @@ use Rattle.acdm_failures.specs.declared.failure.Failure.TheVariants.{Save, Memor
 use Rattle.acdm_feed.specs.declared.known.Known.{Known}
 use Rattle.acdm_feed.specs.Knowing.{Knows}
 use Rattle.acdm_feed.specs.Resumed.{IsFront, board_text, feed_from}
+use Rattle.acdm_feed.specs.Told.{told}
+use Rattle.acdm_web.specs.Answers.{events_head}
+use Rattle.acdm_web.specs.Events.{event_text}
 use Rattle.acdm_displays.specs.declared.following.Shown.{Shown}
 use Rattle.acdm_displays.specs.declared.asked.Start.{Start}
 use Rattle.acdm_displays.specs.declared.asked.Start.TheVariants as starts
@@ -86,6 +90,59 @@ WasTold start = Took (SaysFeed start)
 
 abbrev pub WasToldSome : {W : Type 0} → RowView → List ℕ → Shown W → Type 0
 WasToldSome row before shown = (start : Start) × WasTold start row before shown
+
+-- ---- events for browsers
+
+-- the events from the entry of this number on, each with the line of the feed
+abbrev pub events_from : ℕ → History → List ℕ
+events_from n [] = []
+events_from n (e ∷ J) = events_from n J
+    ++ (if nat_lt (length J) n then [] else event_text (1 + length J) (told J e))
+
+-- the event of the board after these entries
+abbrev pub board_event : History → List ℕ
+board_event K = event_text (length K) (board_text K)
+
+-- The events from an entry on were told, since it has begun so, and what is known is that of the board.
+pub record EventsFrom (known : Known) (from : ℕ) (seen : List Entry) (start : Begun) (log : List ℕ)
+    : Type 0 where
+  pub knows : Knows (reverse seen) known
+  pub from_is : from ≡ start.from
+  pub front : IsFront start.front (reverse seen)
+  pub told : log ≡ start.before ++ events_from start.from (reverse seen)
+
+abbrev pub at_board_event : List ℕ → History → Begun
+at_board_event before K = record { before = before ++ board_event K; from = length K; front = K }
+
+-- A browser has had no event, or it names an entry that comes next for it and that is none of so many.
+abbrev pub IsPast : Option ℕ → ℕ → Type 0
+IsPast None k = ⊤
+IsPast (Some n) k = k < n
+
+-- behind these bytes, with the entry of this number, after these entries
+abbrev pub at_event : List ℕ → ℕ → History → Begun
+at_event before n K = record { before = before; from = n; front = K }
+
+-- Events have begun after what was seen: with those that come next for a browser, where that has had none but
+-- what was seen; else with the board of what was seen.
+abbrev pub BeginsEvents : Option ℕ → Known → ℕ → List Entry → List ℕ → List ℕ → Type 0
+BeginsEvents last known from seen before log =
+    ((n : ℕ) × (last ≡ Some n) × (n ≤ length seen)
+    × EventsFrom known from seen (at_event before n (reverse seen)) log)
+    ⊎ (IsPast last (length seen)
+    × EventsFrom known from seen (at_board_event before (reverse seen)) log)
+
+-- After some first entries, of which a browser has had those before the entry that comes next for it, the events
+-- from that one on; or, where it has had none or names an entry behind them, their board, and the events behind
+-- them.
+abbrev pub SaysEvents : Option ℕ → List Entry → List ℕ → List ℕ → Type 0
+SaysEvents last seen before log = (K : History) × IsFront K (reverse seen)
+    × (((n : ℕ) × (last ≡ Some n) × (n ≤ length K) × (log ≡ before ++ events_from n (reverse seen)))
+    ⊎ (IsPast last (length K) × (log ≡ (before ++ board_event K) ++ events_from (length K) (reverse seen))))
+
+-- the head of the events, and then these
+abbrev pub WasToldEvents : {W : Type 0} → Option ℕ → RowView → List ℕ → Shown W → Type 0
+WasToldEvents last row before = Took (SaysEvents last) row (before ++ events_head)
 
 -- Sending ends early where the writer failed, or where memory was refused, and for nothing else.
 abbrev pub CutsShort : Failure → Type 0

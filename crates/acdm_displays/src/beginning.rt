@@ -15,8 +15,8 @@ use acdm_watch::Watch;
 use std::alloc::Global;
 use std::io::Write;
 
-// Passes over all entries that are in sight.
-fn pass_all(watch: &mut Watch, known: &mut Known, row: &Row) -> Result<(), Failure>
+/// Passes over all entries that are in sight.
+pub(crate) fn pass_all(watch: &mut Watch, known: &mut Known, row: &Row) -> Result<(), Failure>
     requires { row.now ≡ watch.old.row }
     ensures row { watch.new.row ≡ watch.old.row }
     ensures knows { OnOk result (Knows (reverse watch.old.seen) known.old

@@ -1,15 +1,17 @@
 //! Displays, which are sent the journal as text while partners are served.
 ghost use Rattle.std.specs.Prelude.{[], IfOk};
 ghost use Rattle.std.specs.Arc.{arc_value};
-ghost use Rattle.acdm_displays.specs.Displayed.{WasSent, WasToldSome};
+ghost use Rattle.acdm_displays.specs.Displayed.{WasSent, WasToldEvents, WasToldSome};
 
 use crate::asked::first_asked;
+use crate::browsing::{answer, follow_events};
 use crate::following::{Form, MOST_REFUSALS, Shown, follow, follow_changes};
 use crate::leaving::has_left;
 use crate::places::{Place, Shared};
 use acdm_failures::Failure;
-use acdm_lines::Sink;
+use acdm_lines::{Sink, Source};
 use acdm_row::Row;
+use acdm_web::{PAGE, Wanted, first_wanted};
 use std::alloc::Global;
 use std::io::{self, ErrorKind};
 use std::net::{Net, Shutdown, SocketAddr, TcpListener, TcpStream};
@@ -76,6 +78,9 @@ fn show(alloc: Global, row: &Arc<Row>, form: Form, closing: &AtomicBool, stream:
         Form::Changes => {
             let _ = show_changes(alloc, row, closing, stream);
         }
+        Form::Web => {
+            let _ = show_web(alloc, row, closing, stream);
+        }
     }
 }
 
@@ -126,6 +131,59 @@ fn show_changes(
     let shown = follow_changes(alloc, row, start, closing, &mut reader, Sink::new(stream))?;
     part(&mut reader);
     Ok(shown)
+}
+
+// Sends a browser the events of the feed.
+fn show_events(
+    alloc: Global,
+    row: &Arc<Row>,
+    last: Option<u64>,
+    closing: &AtomicBool,
+    mut reader: TcpStream,
+    stream: TcpStream,
+) -> Result<Shown<TcpStream>, Failure>
+    ensures { IfOk result (WasToldEvents last (arc_value row.now) []) }
+{
+    let shown = follow_events(alloc, row, last, closing, &mut reader, Sink::new(stream))?;
+    part(&mut reader);
+    Ok(shown)
+}
+
+// Answers a browser that asks for something else.
+fn show_page(
+    alloc: Global,
+    wanted: Wanted,
+    mut reader: TcpStream,
+    stream: TcpStream,
+) -> Result<Sink<TcpStream>, Failure>
+{
+    let mut writer = Sink::new(stream);
+    answer(alloc, wanted, PAGE, &mut writer)?;
+    part(&mut reader);
+    Ok(writer)
+}
+
+// Answers a browser what it asks for. One that asks for nothing in its time is let go.
+fn show_web(
+    alloc: Global,
+    row: &Arc<Row>,
+    closing: &AtomicBool,
+    stream: TcpStream,
+) -> Result<(), Failure> {
+    let mut reader = Source::new(reader_of(&stream)?);
+    let Some(wanted) = first_wanted(alloc, &mut reader) else {
+        return Err(Failure::Watch);
+    };
+    let reader = reader.into_inner();
+    match wanted {
+        Wanted::Events(last) => {
+            let _shown = show_events(alloc, row, last, closing, reader, stream)?;
+        }
+        other => {
+            let _writer = show_page(alloc, other, reader, stream)?;
+        }
+    }
+    Ok(())
 }
 
 // Tells a display that no more comes, and waits a little for it to leave. A connection that is

@@ -33,6 +33,8 @@ pub enum Form {
     Journal,
     /// As the feed: what each of them says and changes, as a line of JSON.
     Changes,
+    /// As a page for browsers, with the feed as events.
+    Web,
 }
 
 /// What was shown to a display: the watch that saw it, and the writer that took it.
@@ -113,9 +115,9 @@ pub fn follow_changes<R: Read, W: Write + Drop>(
     })
 }
 
-// Writes what a watch sees, as it comes, until the last entry was made or the reader has ended.
-// What tells the last one is read before the last look, so that no entry comes between.
-fn send_on<T: Telling, R: Read, W: Write + Drop>(
+/// Writes what a watch sees, as it comes, until the last entry was made or the reader has ended.
+/// What tells the last one is read before the last look, so that no entry comes between.
+pub(crate) fn send_on<T: Telling, R: Read, W: Write + Drop>(
     alloc: Global,
     teller: &mut T,
     watch: &mut Watch,
@@ -141,8 +143,8 @@ fn send_on<T: Telling, R: Read, W: Write + Drop>(
     send_all(alloc, teller, watch, row, writer)
 }
 
-// Writes all entries that are in sight, and flushes them.
-fn send_all<T: Telling, W: Write + Drop>(
+/// Writes all entries that are in sight, and flushes them.
+pub(crate) fn send_all<T: Telling, W: Write + Drop>(
     alloc: Global,
     teller: &mut T,
     watch: &mut Watch,

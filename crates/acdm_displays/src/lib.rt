@@ -3,6 +3,7 @@
 
 mod asked;
 mod beginning;
+mod browsing;
 mod displays;
 mod following;
 mod leaving;
@@ -10,5 +11,6 @@ mod places;
 mod telling;
 
 pub use asked::{Start, start_named};
+pub use browsing::{answer, follow_events};
 pub use displays::Displays;
 pub use following::{Form, Shown, follow, follow_changes};

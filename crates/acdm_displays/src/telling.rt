@@ -1,14 +1,17 @@
 //! What a display is told of each entry.
-ghost use Rattle.std.specs.Prelude.{◌≡◌, ℕ, List, ◌++◌, reverse, IfErr, OnOk};
+ghost use Rattle.std.specs.Prelude.{◌≡◌, ℕ, List, [], ◌++◌, reverse, if◌then◌else◌, nat_lt, IfErr};
+ghost use Rattle.std.specs.Prelude.{OnOk};
+ghost use Rattle.acdm_web.specs.Events.{event_text};
 ghost use Rattle.acdm_step.specs.declared.entry.Entry.{Entry as AnEntry};
 ghost use Rattle.acdm_journal.specs.Whole.{Saves};
-ghost use Rattle.acdm_displays.specs.Displayed.{Adds, Begun, CutsShort, TellsFrom};
+ghost use Rattle.acdm_displays.specs.Displayed.{Adds, Begun, CutsShort, EventsFrom, TellsFrom};
 
 use acdm_failures::Failure;
 use acdm_feed::{Known, tell_next};
 use acdm_journal::push_entry;
 use acdm_row::Row;
 use acdm_watch::Watch;
+use acdm_web::push_event;
 
 /// Tells entries as a text.
 pub(crate) trait Telling {
@@ -67,5 +70,53 @@ impl Telling for Changes {
         text: &mut Vec<u8>,
     ) -> Result<bool, Failure> {
         Ok(tell_next(watch, &mut self.known, row, self.from, text)?)
+    }
+}
+
+/// Tells the feed from the entry of this number on, each line as an event for browsers.
+#[derive(Drop)]
+pub(crate) struct Events {
+    pub(crate) known: Known,
+    pub(crate) from: u64,
+    pub(crate) line: Vec<u8>,
+}
+
+// Adds a line as the event of the entry of this number, where it is none of those before that one. Its id is
+// the number of the entry that comes next.
+fn push_from(
+    text: &mut Vec<u8>,
+    number: u64,
+    from: u64,
+    next: u64,
+    line: &[u8],
+) -> Result<(), Failure>
+    ensures added { OnOk result (text.new.items ≡ text.old.items
+        ++ (if nat_lt number from then [] else event_text next line.now)) }
+    ensures failed { IfErr result CutsShort }
+{
+    if number < from {
+        return Ok(());
+    }
+    push_event(text, next, line)?;
+    Ok(())
+}
+
+impl Telling for Events {
+    ghost tells = { λ teller seen start log. EventsFrom teller.known teller.from seen start log };
+
+    fn add_next(
+        &mut self,
+        watch: &mut Watch,
+        row: &Row,
+        text: &mut Vec<u8>,
+    ) -> Result<bool, Failure> {
+        let number = watch.len() as u64;
+        self.line.clear();
+        if !tell_next(watch, &mut self.known, row, self.from, &mut self.line)? {
+            return Ok(false);
+        }
+        let next = watch.len() as u64;
+        push_from(text, number, self.from, next, self.line.as_slice())?;
+        Ok(true)
     }
 }

@@ -174,6 +174,7 @@ fn asks_to_serve(alloc: Global, words: &[&str], wanted: usize, words_wanted: &[&
                 save,
                 watch,
                 changes,
+                web,
                 again: false,
                 control: None,
                 pace: None,
@@ -184,6 +185,7 @@ fn asks_to_serve(alloc: Global, words: &[&str], wanted: usize, words_wanted: &[&
                 && save.is_none()
                 && watch.is_none()
                 && changes.is_none()
+                && web.is_none()
                 && partners.as_slice() == words_wanted
         }
         _ => false,
@@ -207,4 +209,20 @@ fn a_board_is_watched_where_it_is_said(rt: HostRuntime) {
     assert!(rt; asks_to_keep(alloc, &words, None, Some("[::1]:4000")));
     assert!(rt; is_refused(alloc, &["acdm", "run", "--watch", "127.0.0.1:0"]));
     assert!(rt; is_refused(alloc, &["acdm", "serve", "--watch", "127.0.0.1:0"]));
+}
+
+// Whether these words ask for a page for browsers at an address.
+fn asks_for_page(alloc: Global, words: &[&str], address: &str) -> bool {
+    match parse(alloc, words) {
+        Ok(Line::Serve { web, .. }) => web == Some(address),
+        _ => false,
+    }
+}
+
+#[test]
+fn browsers_have_a_page_where_it_is_said(rt: HostRuntime) {
+    let alloc = rt.alloc();
+    let words = ["acdm", "serve", "--web", "127.0.0.1:8080", "NM=127.0.0.1:0"];
+    assert!(rt; asks_for_page(alloc, &words, "127.0.0.1:8080"));
+    assert!(rt; is_refused(alloc, &["acdm", "run", "--web", "127.0.0.1:8080"]));
 }

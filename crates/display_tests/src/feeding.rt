@@ -7,12 +7,13 @@ use std::alloc::Global;
 use std::process::Abort;
 use std::sync::atomic::AtomicBool;
 
-// The lines of two ticks of the airport, at minutes 7 and 9.
-const FIRST: &str =
+/// The line of a tick of the airport at minute 7.
+pub(crate) const FIRST: &str =
     r#"{"entry":0,"minute":"1970-01-01T00:07:00Z","session":1,"role":"APT","command":{"cmd":"tick"},"outcome":"ok","answers":[],"changed":[]}
 "#;
 
-const SECOND: &str =
+/// The line of one at minute 9, behind it.
+pub(crate) const SECOND: &str =
     r#"{"entry":1,"minute":"1970-01-01T00:09:00Z","session":1,"role":"APT","command":{"cmd":"tick"},"outcome":"ok","answers":[],"changed":[]}
 "#;
 

@@ -1,0 +1,52 @@
+//! The hearing of a request.
+ghost use Rattle.std.specs.Prelude.{◌≡◌, [], IfSome};
+ghost use Rattle.acdm_web.specs.Wanted.{Wants};
+
+use crate::request::{Wanted, wanted_in};
+use acdm_lines::Source;
+use std::alloc::Global;
+use std::io::{ErrorKind, Read};
+
+/// How many bytes the head of a request has at most.
+const LONGEST_HEAD: usize = 8_192;
+
+/// How many bytes are read at once at most.
+const PIECE: usize = 512;
+
+/// How often is read at most. A reader that waits for 25 milliseconds at most has 10 seconds so.
+const MOST_READS: u64 = 400;
+
+/// What a browser asks for. `None` where it ends before its head is whole, where that has more than
+/// 8,192 bytes or is not there after 400 reads, where the reader fails, and where memory is refused. A
+/// read that nothing came of in its time, or that a signal interrupted, is made again.
+pub fn first_wanted<R: Read>(alloc: Global, reader: &mut Source<R>) -> Option<Wanted>
+    requires { reader.old.log ≡ [] }
+    ensures { IfSome result (Wants reader.new.log) }
+{
+    let mut bytes = Vec::new(alloc);
+    for _ in 0..MOST_READS {
+        let mut piece = [0u8; PIECE];
+        match reader.read(&mut piece) {
+            Ok(0) => return None,
+            Ok(count) => {
+                if bytes.extend_from_slice(&piece[..count]).is_err() {
+                    return None;
+                }
+            }
+            Err(error) if is_passing(error.kind()) => continue,
+            Err(_) => return None,
+        }
+        if bytes.len() > LONGEST_HEAD {
+            return None;
+        }
+        if let Some(wanted) = wanted_in(bytes.as_slice()) {
+            return Some(wanted);
+        }
+    }
+    None
+}
+
+// Whether a read that failed so is made again.
+fn is_passing(kind: ErrorKind) -> bool {
+    kind == ErrorKind::WouldBlock || kind == ErrorKind::Interrupted
+}

@@ -1,0 +1,148 @@
+//! What browsers ask for, and what they are sent.
+use crate::feeding::{FIRST, SECOND};
+use crate::following::{tick, ticked};
+use acdm_displays::{Shown, answer, follow_events};
+use acdm_lines::{Sink, Source};
+use acdm_web::{PAGE, Wanted, first_wanted, wanted_in};
+use bpf_helpers::{Bank, Helpers};
+use std::alloc::Global;
+use std::fmt::Write;
+use std::process::Abort;
+use std::sync::atomic::AtomicBool;
+
+// The bytes of a request's head, and what they ask for.
+static REQUESTS: [(&str, Option<Wanted>); 16] = [
+    ("GET / HTTP/1.1\r\nHost: board\r\n\r\n", Some(Wanted::Page)),
+    ("GET / HTTP/1.0\r\n\r\n", Some(Wanted::Page)),
+    ("GET /events HTTP/1.1\r\n\r\n", Some(Wanted::Events(None))),
+    ("GET /events HTTP/1.1\r\nLast-Event-ID: 7\r\n\r\n", Some(Wanted::Events(Some(7)))),
+    ("GET /events HTTP/1.1\r\nA: 1\r\nlast-event-id:\t8 \r\n\r\n", Some(Wanted::Events(Some(8)))),
+    (
+        "GET /events HTTP/1.1\r\nLast-Event-ID: 18446744073709551615\r\n\r\n",
+        Some(Wanted::Events(Some(u64::MAX))),
+    ),
+    (
+        "GET /events HTTP/1.1\r\nLast-Event-ID: 18446744073709551616\r\n\r\n",
+        Some(Wanted::Events(None)),
+    ),
+    ("GET /events HTTP/1.1\r\nLast-Event-ID: x\r\n\r\n", Some(Wanted::Events(None))),
+    ("GET /events?x HTTP/1.1\r\n\r\n", Some(Wanted::Nothing)),
+    ("GET /favicon.ico HTTP/1.1\r\n\r\n", Some(Wanted::Nothing)),
+    ("POST / HTTP/1.1\r\n\r\n", Some(Wanted::OtherMethod)),
+    ("HEAD /events HTTP/1.1\r\n\r\n", Some(Wanted::OtherMethod)),
+    ("GET / HTTP/2.0\r\n\r\n", Some(Wanted::NoRequest)),
+    ("\u{16}\u{3}\u{1}", Some(Wanted::NoRequest)),
+    ("GET / HTTP/1.1\r\nHost: board\r\n", None),
+    ("", None),
+];
+
+#[test]
+fn requests_are_told_apart(rt: HostRuntime) {
+    for (bytes, wanted) in &REQUESTS {
+        assert!(rt; wanted_in(bytes.as_bytes()) == *wanted);
+    }
+}
+
+// What is heard of these bytes.
+fn heard(alloc: Global, mut bytes: &[u8]) -> Option<Wanted> {
+    let mut reader = Source::new(&mut bytes);
+    first_wanted(alloc, &mut reader)
+}
+
+#[test]
+fn a_browser_is_heard(rt: HostRuntime) {
+    let alloc = rt.alloc();
+    assert!(rt; heard(alloc, b"GET / HTTP/1.1\r\n\r\n") == Some(Wanted::Page));
+    assert!(rt; heard(alloc, b"GET / HTTP/1.1\r\n").is_none());
+    assert!(rt; heard(alloc, &[b'x'; 9_000]).is_none());
+}
+
+// What is answered.
+fn answered(rt: &impl Abort, alloc: Global, wanted: Wanted) -> Vec<u8> {
+    let mut writer = Sink::new(Vec::new(alloc));
+    assert!(rt; answer(alloc, wanted, "page", &mut writer).is_ok());
+    writer.into_inner()
+}
+
+// How an answer begins and ends.
+static ANSWERS: [(Wanted, &str, &str); 4] = [
+    (
+        Wanted::Page,
+        "HTTP/1.1 200 OK\r\nContent-Type: text/html; charset=utf-8\r\nContent-Length: 4\r\n",
+        "\r\n\r\npage",
+    ),
+    (Wanted::Nothing, "HTTP/1.1 404 Not Found\r\nContent-Length: 0\r\n", "\r\n\r\n"),
+    (
+        Wanted::OtherMethod,
+        "HTTP/1.1 405 Method Not Allowed\r\nAllow: GET\r\nContent-Length: 0\r\n",
+        "\r\n\r\n",
+    ),
+    (Wanted::NoRequest, "HTTP/1.1 400 Bad Request\r\nContent-Length: 0\r\n", "\r\n\r\n"),
+];
+
+#[test]
+fn browsers_are_answered(rt: HostRuntime) {
+    let alloc = rt.alloc();
+    for (wanted, begins, ends) in &ANSWERS {
+        let said = answered(&rt, alloc, *wanted);
+        assert!(rt; said.starts_with(begins.as_bytes()));
+        assert!(rt; said.ends_with(ends.as_bytes()));
+    }
+    assert!(rt; PAGE.starts_with("<!DOCTYPE html>"));
+}
+
+// What a browser is sent of two ticks, behind the head.
+fn sent<H: Helpers + Drop>(
+    rt: &impl Abort,
+    alloc: Global,
+    helpers: H,
+    last: Option<u64>,
+) -> Vec<u8> {
+    let mut desk = ticked(rt, alloc, helpers, 10);
+    assert!(rt; tick(&mut desk, 9));
+    let closing = AtomicBool::new(true);
+    let writer = Sink::new(Vec::new(alloc));
+    let shown = follow_events(
+        alloc,
+        desk.row(),
+        last,
+        &closing,
+        &mut "".as_bytes(),
+        writer,
+    );
+    drop(desk);
+    let Shown { watch, writer } = shown.ok().expect(rt, "a browser");
+    drop(watch);
+    writer.into_inner()
+}
+
+// The number of the entry that comes next for a browser, and the events that it is sent: the id and the
+// data of each.
+static LASTS: [(Option<u64>, &[(&str, &str)]); 6] = [
+    (None, &[("2", "{\"next\":2,\"flights\":[]}\n")]),
+    (Some(0), &[("1", FIRST), ("2", SECOND)]),
+    (Some(1), &[("2", SECOND)]),
+    (Some(2), &[]),
+    (Some(3), &[("2", "{\"next\":2,\"flights\":[]}\n")]),
+    (Some(u64::MAX), &[("2", "{\"next\":2,\"flights\":[]}\n")]),
+];
+
+// The head of the events, and these.
+fn told(rt: &impl Abort, alloc: Global, events: &[(&str, &str)]) -> Vec<u8> {
+    let mut wanted = String::new(alloc);
+    for (id, data) in events {
+        write!(wanted, "id: {id}\ndata: {data}\n").expect(rt, "room for an event");
+    }
+    let mut text = answered(rt, alloc, Wanted::Events(None));
+    text.extend_from_slice(wanted.as_bytes()).expect(rt, "room for events");
+    text
+}
+
+#[test]
+fn a_browser_goes_on_where_it_was(rt: HostRuntime) {
+    let alloc = rt.alloc();
+    for (last, events) in &LASTS {
+        let bank = Bank::new(alloc).expect(&rt, "a bank");
+        assert!(rt; sent(&rt, alloc, bank, *last) == told(&rt, alloc, events));
+    }
+}
