@@ -1,5 +1,5 @@
 -- What is kept of a journal.
-use Rattle.std.specs.Prelude.{ℕ, ◌++◌, List, reverse}
+use Rattle.std.specs.Prelude.{Bool, ℕ, ◌++◌, List, reverse}
 use Rattle.acdm_failures.specs.declared.failure.Failure.{Failure}
 use Rattle.acdm_failures.specs.declared.failure.Failure.TheVariants.{Memory, Save}
 use Rattle.acdm_journal.specs.Whole.{Saves}
@@ -12,6 +12,11 @@ pub record KeeperView (W : Type 0) : Type 0 where
   pub row : RowView
   pub seen : List Entry
   pub writer : SinkView W
+
+-- a keeper, and whether keeping has failed
+pub record WritingView (W : Type 0) : Type 0 where
+  pub keeper : KeeperView W
+  pub has_failed : Bool
 
 -- Entries that were seen since are kept: whatever stands before these bytes, where the text of what had
 -- been seen stood there, from a start on, the text of what is seen then does.

@@ -60,6 +60,21 @@ impl<W: Write + Drop> Keeper<W> {
         })
     }
 
+    /// How many entries it has seen.
+    pub fn len(&self) -> usize
+        ensures { result ≡ length self.now.seen }
+    {
+        self.watch.len()
+    }
+
+    /// Its writer.
+    pub fn into_writer(self) -> Sink<W>
+        ensures { result ≡ self.writer }
+    {
+        let Keeper { writer, .. } = self;
+        writer
+    }
+
     /// Passes over so many entries, which are kept already. `Save` where fewer are in sight, `Memory`
     /// where it was refused.
     pub fn pass_over(&mut self, count: u64) -> Result<(), Failure>

@@ -4,7 +4,16 @@
 mod file;
 mod keeper;
 mod kept;
+mod progress;
+mod receipt;
+mod replies;
+mod shared;
+mod synced;
 
 pub use file::open;
 pub use keeper::Keeper;
 pub use kept::Kept;
+pub use receipt::{Opening, Receipt};
+pub use replies::Replies;
+pub use shared::SharedKeeper;
+pub use synced::Synced;

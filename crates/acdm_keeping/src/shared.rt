@@ -1,0 +1,141 @@
+//! A keeper that many sessions share.
+ghost use Rattle.std.specs.Prelude.{◌≡◌, ◌≤◌, [], false, IfErr, IfOk};
+ghost use Rattle.std.specs.Arc.{arc_value};
+ghost use Rattle.acdm_failures.specs.declared.failure.Failure.TheVariants.{Memory, Save};
+ghost use Rattle.acdm_keeping.specs.Kept.{Keeps};
+ghost use Rattle.acdm_keeping.specs.Turns.{TellsKept};
+
+use crate::keeper::Keeper;
+use crate::progress::{Progress, Turn};
+use crate::receipt::{Opening, Receipt, Writing};
+use acdm_failures::Failure;
+use acdm_row::Row;
+use std::io::Write;
+use std::sync::atomic::{AtomicBool, Ordering};
+use std::sync::{Arc, Condvar, Mutex, Wait};
+
+/// Who keeps the entries of a row for many who wait. One of those who wait writes and flushes all
+/// entries in sight, the others are told once he has: so many are served by one write and one flush.
+/// Nobody holds what tells how far it is while a writer works.
+///
+/// Where keeping fails it has failed for good: nothing is told to be kept any more, and a word is set
+/// that others may look at.
+#[derive(Drop)]
+pub struct SharedKeeper<F: Write + Drop, J: Opening> {
+    row: Arc<Row>,
+    progress: Mutex<Progress>,
+    changed: Condvar,
+    writing: Mutex<Writing<F, J>>,
+    failed: Arc<AtomicBool>,
+}
+
+impl<F: Write + Drop, J: Opening> SharedKeeper<F, J> {
+    /// Shares a keeper of this row, of which all that it has seen is kept already, and that has
+    /// written nothing. The word is set once keeping has failed. `Err` only where memory was refused.
+    pub fn new(
+        keeper: Keeper<F>,
+        row: &Arc<Row>,
+        failed: &Arc<AtomicBool>,
+    ) -> Result<SharedKeeper<F, J>, Failure>
+        requires row { keeper.row ≡ J.desk_row }
+        requires same { arc_value row.now ≡ J.desk_row }
+        requires opening { keeper.seen ≡ J.opening }
+        requires fresh { keeper.writer.log ≡ [] }
+        ensures failed { IfErr result (λ e. e ≡ Memory) }
+    {
+        let row = Arc::try_clone(row)?;
+        let failed = Arc::try_clone(failed)?;
+        let writing = Writing::new(keeper);
+        let Ok(receipt) = writing.begun() else {
+            unreachable!();
+        };
+        Ok(SharedKeeper {
+            row,
+            progress: Mutex::new(Progress::new(receipt)),
+            changed: Condvar::new(),
+            writing: Mutex::new(writing),
+            failed,
+        })
+    }
+
+    /// Waits until all entries that are in sight are kept.
+    ///
+    /// `Save` where keeping has failed.
+    pub fn wait_for_all<Rt: Wait>(&self, rt: &Rt) -> Result<Receipt, Failure>
+        ensures failed { IfErr result (λ e. e ≡ Save) }
+    {
+        let count = self.in_sight(rt);
+        self.wait_for(rt, count)
+    }
+
+    /// Waits until so many entries are kept, and answers how many are.
+    ///
+    /// `Save` where keeping has failed, and where fewer are in sight.
+    pub fn wait_for<Rt: Wait>(&self, rt: &Rt, count: usize) -> Result<Receipt, Failure>
+        ensures kept { IfOk result (λ r. count ≤ r.count) }
+        ensures failed { IfErr result (λ e. e ≡ Save) }
+    {
+        match self.take_turn(rt, count) {
+            Turn::Kept(receipt) => Ok(receipt),
+            Turn::Failed => Err(Failure::Save),
+            Turn::Mine => self.keep_for(rt, count),
+        }
+    }
+
+    /// The keeper, once nobody waits any more, and all entries in sight are kept. What it wrote is the
+    /// text of the entries behind those that had been kept before.
+    ///
+    /// `Save` where keeping has failed.
+    pub fn into_keeper(self) -> Result<Keeper<F>, Failure>
+        ensures row { IfOk result (λ k. k.row ≡ J.desk_row) }
+        ensures kept { IfOk result (λ k. Keeps J.opening k.seen [] k.writer.log) }
+        ensures flushed { IfOk result (λ k. k.writer.waits ≡ false) }
+        ensures failed { IfErr result (λ e. e ≡ Save) }
+    {
+        let SharedKeeper { writing, .. } = self;
+        writing.into_inner().into_keeper()
+    }
+
+    // How many entries are in sight: those that are kept, and those behind them.
+    fn in_sight<Rt: Wait>(&self, rt: &Rt) -> usize {
+        let kept = self.progress.lock(rt).receipt.count();
+        let row = &*self.row;
+        for at in kept..row.len() {
+            let mut note = row.note(at);
+            if row.look(at, &mut note).is_none() {
+                return at;
+            }
+        }
+        kept.max(row.len())
+    }
+
+    // Waits as long as somebody keeps entries, and fewer are kept; then it is as he finds it.
+    fn take_turn<Rt: Wait>(&self, rt: &Rt, count: usize) -> Turn
+        ensures kept { TellsKept count result }
+    {
+        let progress = self.progress.lock(rt);
+        let mut progress = self
+            .changed
+            .wait_while(rt, progress, |p| p.has_to_wait(count));
+        progress.turn(count)
+    }
+
+    // Keeps all entries in sight, of which there are to be so many, and has those who wait look again.
+    fn keep_for<Rt: Wait>(&self, rt: &Rt, count: usize) -> Result<Receipt, Failure>
+        ensures kept { IfOk result (λ r. count ≤ r.count) }
+        ensures failed { IfErr result (λ e. e ≡ Save) }
+    {
+        let written = self.write_on(rt);
+        let ended = self.progress.lock(rt).end(written, count);
+        if ended.is_err() {
+            self.failed.store(true, Ordering::SeqCst);
+        }
+        self.changed.notify_all();
+        ended
+    }
+
+    // Keeps all entries in sight.
+    fn write_on<Rt: Wait>(&self, rt: &Rt) -> Result<Receipt, Failure> {
+        self.writing.lock(rt).write_on()
+    }
+}

@@ -1,0 +1,8 @@
+//! How a journal is kept for sessions that share a keeper, through the public calls of `acdm_keeping`:
+//! what no clause can say of writers and threads.
+#![tactic(auto)]
+
+#[cfg(test)]
+mod files;
+#[cfg(test)]
+mod sharing;

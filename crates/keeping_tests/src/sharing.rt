@@ -1,0 +1,391 @@
+//! Sessions on threads of their own, whose replies wait for the keeping of their entries.
+ghost use Rattle.std.specs.Prelude.{◌≡◌, ◌≤◌, [], length, vec_len};
+ghost use Rattle.acdm_board.specs.Desk.{row_of};
+
+use acdm_board::Desk;
+use acdm_journal::audit;
+use acdm_keeping::{Keeper, Opening, Replies, SharedKeeper};
+use acdm_milestones::Role;
+use acdm_row::Row;
+use acdm_sessions::{Clock, Closed, Gate, Session, Sink, Source, run_sessions};
+use bpf_helpers::{Bank, Helpers};
+use std::alloc::Global;
+use std::io::{self, Cursor, ErrorKind, Write};
+use std::marker::Brand;
+use std::process::Abort;
+use std::sync::atomic::{AtomicBool, AtomicU64, Ordering};
+use std::sync::{Arc, Wait};
+use std::thread::{Threads, yield_now};
+
+const TICK: &str = "{\"cmd\":\"tick\"}\n";
+
+/// Tells 2025-02-20T07:00Z.
+#[derive(Drop)]
+struct Fixed;
+
+impl Clock for Fixed {
+    ghost use Rattle.std.specs.Prelude.{true};
+
+    ghost gives = { λ _ _. true };
+
+    fn minute(&mut self) -> Option<u32> {
+        Some(29_000_580)
+    }
+}
+
+/// Holds nobody up.
+#[derive(Drop)]
+struct Open;
+
+impl Gate for Open {
+    fn enter(&self, _session: u8, _call: u64) {}
+
+    fn answered(&self, _session: u8, _call: u64) {}
+}
+
+/// What is known of a kept journal beside the writer that it is kept by.
+#[derive(Drop)]
+struct Shelf {
+    // How many lines were flushed, and how many flushes there were.
+    lines: AtomicU64,
+    flushes: AtomicU64,
+    // How many replies there were, and how many of them before their line was flushed.
+    replies: AtomicU64,
+    early: AtomicU64,
+}
+
+impl Shelf {
+    fn new(rt: &impl Abort, alloc: Global) -> Arc<Shelf> {
+        let shelf = Shelf {
+            lines: AtomicU64::new(0),
+            flushes: AtomicU64::new(0),
+            replies: AtomicU64::new(0),
+            early: AtomicU64::new(0),
+        };
+        Arc::new(alloc, shelf).expect(rt, "a shelf")
+    }
+
+    fn lines(&self) -> u64 {
+        self.lines.load(Ordering::SeqCst)
+    }
+
+    fn replies(&self) -> u64 {
+        self.replies.load(Ordering::SeqCst)
+    }
+}
+
+fn same<T>(rt: &impl Abort, shared: &Arc<T>) -> Arc<T> {
+    Arc::try_clone(shared).expect(rt, "one more owner")
+}
+
+/// Keeps a text until no write is left. A flush waits until so many entries are in sight, for so many
+/// turns at most.
+#[derive(Drop)]
+struct Paper {
+    shelf: Arc<Shelf>,
+    row: Arc<Row>,
+    awaited: usize,
+    left: u64,
+    lines: u64,
+    text: Vec<u8>,
+}
+
+impl Paper {
+    // Whether as many entries are in sight as are waited for.
+    fn is_awaited(&self) -> bool {
+        match self.awaited.checked_sub(1) {
+            Some(last) if last < self.row.len() => {
+                let mut note = self.row.note(last);
+                self.row.look(last, &mut note).is_some()
+            }
+            _ => true,
+        }
+    }
+}
+
+impl Write for Paper {
+    fn write(&mut self, buf: &[u8]) -> io::Result<usize> {
+        let Some(left) = self.left.checked_sub(1) else {
+            return Err(io::Error::from(ErrorKind::StorageFull));
+        };
+        self.left = left;
+        self.text.extend_from_slice(buf)?;
+        let lines = buf.iter().filter(|byte| **byte == b'\n').count() as u64;
+        self.lines = self.lines.saturating_add(lines);
+        Ok(buf.len())
+    }
+
+    fn flush(&mut self) -> io::Result<()> {
+        for _ in 0..10_000_000u64 {
+            if self.is_awaited() {
+                break;
+            }
+            yield_now();
+        }
+        self.shelf.lines.store(self.lines, Ordering::SeqCst);
+        self.shelf.flushes.fetch_add(1, Ordering::SeqCst);
+        Ok(())
+    }
+}
+
+/// Takes replies, and sees of each whether its line was flushed before. The second word of a reply is
+/// the number of its entry, from 0.
+#[derive(Drop)]
+struct Reader {
+    shelf: Arc<Shelf>,
+    words: u64,
+    number: u64,
+}
+
+impl Reader {
+    fn take(&mut self, byte: u8) {
+        if byte == b'\n' {
+            self.shelf.replies.fetch_add(1, Ordering::SeqCst);
+            if self.number >= self.shelf.lines() {
+                self.shelf.early.fetch_add(1, Ordering::SeqCst);
+            }
+            self.words = 0;
+            self.number = 0;
+        } else if byte == b' ' {
+            self.words = self.words.saturating_add(1);
+        } else if self.words == 1 && byte.is_ascii_digit() {
+            let digit = u64::from(byte.saturating_sub(b'0'));
+            self.number = self.number.saturating_mul(10).saturating_add(digit);
+        }
+    }
+}
+
+impl Write for Reader {
+    fn write(&mut self, buf: &[u8]) -> io::Result<usize> {
+        for byte in buf {
+            self.take(*byte);
+        }
+        Ok(buf.len())
+    }
+
+    fn flush(&mut self) -> io::Result<()> {
+        Ok(())
+    }
+}
+
+type Answered<'r, J, Rt> = Replies<'r, Paper, J, Reader, Rt>;
+
+type Opened<'r, J, Rt> = Session<Cursor<Vec<u8>>, Answered<'r, J, Rt>, Fixed>;
+
+// So many ticks.
+fn ticks(rt: &impl Abort, alloc: Global, count: usize) -> Vec<u8> {
+    let mut text = Vec::new(alloc);
+    for _ in 0..count {
+        text.extend_from_slice(TICK.as_bytes()).expect(rt, "room");
+    }
+    text
+}
+
+// A session of the airport that sends so many ticks.
+fn opened<'r, J: Opening, Rt: Wait + Abort>(
+    rt: &'r Rt,
+    alloc: Global,
+    keeper: &'r SharedKeeper<Paper, J>,
+    shelf: &Arc<Shelf>,
+    count: usize,
+) -> Opened<'r, J, Rt> {
+    let reader = Reader {
+        shelf: same(rt, shelf),
+        words: 0,
+        number: 0,
+    };
+    Session {
+        role: Role::AirportOperator,
+        reader: Source::new(Cursor::new(ticks(rt, alloc, count))),
+        writer: Sink::new(Replies::new(rt, Some(keeper), reader)),
+        clock: Fixed,
+    }
+}
+
+// So many of them, at most 64.
+fn sessions_of<'r, J: Opening, Rt: Wait + Abort>(
+    rt: &'r Rt,
+    alloc: Global,
+    keeper: &'r SharedKeeper<Paper, J>,
+    shelf: &Arc<Shelf>,
+    sessions: u8,
+    count: usize,
+) -> Vec<Opened<'r, J, Rt>> {
+    let mut all = Vec::new(alloc);
+    for _ in 0..sessions {
+        let is_pushed = all.push(opened(rt, alloc, keeper, shelf, count)).is_ok();
+        assert!(rt; is_pushed);
+    }
+    all
+}
+
+// How many entries there are once these sessions have ended.
+fn entries_after<
+    H: Helpers + Drop + Send,
+    W: Write + Drop + Send,
+    Rt: Threads + Wait + Abort + Sync,
+>(rt: &Rt, alloc: Global, desk: Desk<H>, sessions: Vec<Session<Cursor<Vec<u8>>, W, Fixed>>) -> u64 {
+    assert!(rt; sessions.len() <= 64);
+    let closed = run_sessions(rt, alloc, desk, sessions, &Open)
+        .ok()
+        .expect(rt, "memory for the sessions");
+    let entries = closed.desk.len();
+    drop(closed);
+    entries
+}
+
+// How many entries there are once so many sessions have sent so many ticks each.
+fn entries_kept<
+    'r,
+    J: Opening + Send + Sync,
+    H: Helpers + Drop + Send,
+    Rt: Threads + Wait + Abort + Sync,
+>(
+    rt: &'r Rt,
+    alloc: Global,
+    desk: Desk<H>,
+    keeper: &'r SharedKeeper<Paper, J>,
+    shelf: &Arc<Shelf>,
+    sessions: u8,
+    count: usize,
+) -> u64 {
+    let all = sessions_of(rt, alloc, keeper, shelf, sessions, count);
+    entries_after(rt, alloc, desk, all)
+}
+
+// What was kept, where all was.
+#[derive(Drop)]
+struct Outcome {
+    entries: u64,
+    has_failed: bool,
+    text: Option<Vec<u8>>,
+}
+
+// What comes of sessions whose replies wait for a keeper.
+fn served<J: Opening + Send + Sync, H: Helpers + Drop + Send, Rt: Threads + Wait + Abort + Sync>(
+    rt: &Rt,
+    alloc: Global,
+    desk: Desk<H>,
+    keeper: Keeper<Paper>,
+    shelf: &Arc<Shelf>,
+    sessions: u8,
+    count: usize,
+) -> Outcome
+    requires desk { row_of desk ≡ J.desk_row }
+    requires row { keeper.row ≡ J.desk_row }
+    requires opening { keeper.seen ≡ J.opening }
+    requires fresh { keeper.writer.log ≡ [] }
+{
+    let failed = Arc::new(alloc, AtomicBool::new(false)).expect(rt, "a word");
+    let shared: SharedKeeper<Paper, J> = SharedKeeper::new(keeper, desk.row(), &failed)
+        .ok()
+        .expect(rt, "a keeper");
+    let entries = entries_kept(rt, alloc, desk, &shared, shelf, sessions, count);
+    let has_failed = failed.load(Ordering::SeqCst);
+    let text = match shared.into_keeper() {
+        Ok(keeper) => {
+            let Paper { text, .. } = keeper.into_writer().into_inner();
+            Some(text)
+        }
+        Err(_) => None,
+    };
+    Outcome {
+        entries,
+        has_failed,
+        text,
+    }
+}
+
+// The same, by a desk of its own and a keeper whose writer has so many writes left, and waits for so
+// many entries before it flushes.
+fn outcome_of<H: Helpers + Drop + Send, Rt: Threads + Wait + Abort + Sync>(
+    rt: &Rt,
+    alloc: Global,
+    helpers: H,
+    shelf: &Arc<Shelf>,
+    sessions: u8,
+    count: usize,
+    left: u64,
+    awaited: usize,
+) -> Outcome {
+    let desk = Desk::new(alloc, helpers, 1_000).expect(rt, "a desk");
+    let paper = Paper {
+        shelf: same(rt, shelf),
+        row: same(rt, desk.row()),
+        awaited,
+        left,
+        lines: 0,
+        text: Vec::new(alloc),
+    };
+    let keeper = Keeper::new(alloc, desk.row(), Sink::new(paper))
+        .ok()
+        .expect(rt, "a keeper");
+    served::<Brand, H, Rt>(rt, alloc, desk, keeper, shelf, sessions, count)
+}
+
+// A text is a legal journal of so many entries.
+fn is_journal<H: Helpers + Drop>(
+    rt: &impl Abort,
+    alloc: Global,
+    helpers: H,
+    text: &[u8],
+    entries: u64,
+) {
+    let desk = Desk::new(alloc, helpers, 0).expect(rt, "a desk");
+    let mut reader = Source::new(text);
+    let found = audit(alloc, &mut reader, desk.row().sigs()).ok();
+    assert!(rt; found == Some(entries));
+}
+
+// No reply comes before its line is kept, and all that is entered is kept.
+#[test]
+fn replies_come_behind_their_entries(rt: HostRuntime) {
+    let alloc = rt.alloc();
+    let bank = Bank::new(alloc).expect(&rt, "a bank");
+    let shelf = Shelf::new(&rt, alloc);
+    let outcome = outcome_of(&rt, alloc, bank, &shelf, 8, 60, u64::MAX, 0);
+    assert!(rt; outcome.entries == 480 && !outcome.has_failed);
+    assert!(rt; shelf.replies() == 480 && shelf.lines() == 480);
+    assert!(rt; shelf.early.load(Ordering::SeqCst) == 0);
+    let text = outcome.text.expect(&rt, "a text");
+    let bank = Bank::new(alloc).expect(&rt, "a bank");
+    is_journal(&rt, alloc, bank, text.as_slice(), 480);
+}
+
+// The first flush waits until the entries of all eight are in sight: one more keeps the others.
+#[test]
+fn one_flush_keeps_the_entries_of_many(rt: HostRuntime) {
+    let alloc = rt.alloc();
+    let bank = Bank::new(alloc).expect(&rt, "a bank");
+    let shelf = Shelf::new(&rt, alloc);
+    let outcome = outcome_of(&rt, alloc, bank, &shelf, 8, 1, u64::MAX, 8);
+    assert!(rt; outcome.entries == 8 && !outcome.has_failed);
+    assert!(rt; shelf.replies() == 8 && shelf.lines() == 8);
+    assert!(rt; shelf.early.load(Ordering::SeqCst) == 0);
+    // (the last is that of the keeper when it is given back)
+    assert!(rt; shelf.flushes.load(Ordering::SeqCst) <= 3);
+}
+
+// Once the file takes nothing more, no further reply is sent, and the word is set.
+#[test]
+fn nothing_is_replied_once_keeping_has_failed(rt: HostRuntime) {
+    let alloc = rt.alloc();
+    let bank = Bank::new(alloc).expect(&rt, "a bank");
+    let shelf = Shelf::new(&rt, alloc);
+    let outcome = outcome_of(&rt, alloc, bank, &shelf, 8, 60, 5, 0);
+    assert!(rt; outcome.has_failed && outcome.text.is_none());
+    assert!(rt; outcome.entries > shelf.lines());
+    assert!(rt; shelf.replies() > 0 && shelf.replies() <= shelf.lines());
+    assert!(rt; shelf.early.load(Ordering::SeqCst) == 0);
+}
+
+// A keeper whose writer fails at once tells nobody that anything is kept, now and later.
+#[test]
+fn a_keeper_that_has_failed_goes_on_failing(rt: HostRuntime) {
+    let alloc = rt.alloc();
+    let bank = Bank::new(alloc).expect(&rt, "a bank");
+    let shelf = Shelf::new(&rt, alloc);
+    let outcome = outcome_of(&rt, alloc, bank, &shelf, 8, 3, 0, 0);
+    assert!(rt; outcome.has_failed && outcome.text.is_none());
+    assert!(rt; shelf.replies() == 0 && shelf.lines() == 0);
+}
