@@ -44,12 +44,14 @@ NOT_RUN = {
     "python3 bench/verifier/": LONG,
     "python3 ../../bench/model/random_programs.py": "belongs to a run of the command before it, by rt",
     "clients/board.py": WAITS,
+    "clients/load.py examples/rules/slot.c --milestone": WAITS,
+    "bridges/": LONG,
     "examples/serve/": WAITS,
 }
 # How a command begins that ends so, as its page says.
 STATUS = {'sed "2,3s/': 1, 'sed "1s/': 1, "./acdm verify slot-unbounded.bin": 1, "./acdm verify pair.bin": 1}
 # What stands for a file of the reader's own, and what is taken for it; the text of a .hex as its bytes.
-STANDS_FOR = {"lines": "examples/day.txt", "rule.bin": "examples/rules/slot.hex", "slot.bin": "examples/rules/slot.hex"}
+STANDS_FOR = {"lines": "examples/day.txt", "day.journal": "examples/journal/day.journal", "rule.bin": "examples/rules/slot.hex", "slot.bin": "examples/rules/slot.hex"}
 
 
 def pages():

@@ -80,7 +80,7 @@ class Board:
 class Page:
     """A page in a browser."""
 
-    def __init__(self, port, size="1500,720", words=()):
+    def __init__(self, port, size="1500,480", words=()):
         options = Options()
         for it in ("--headless=new", "--no-sandbox", "--disable-gpu", "--force-device-scale-factor=1", f"--window-size={size}", *words):
             options.add_argument(it)
@@ -93,6 +93,11 @@ class Page:
 
     def rows(self):
         return self.driver.execute_script("return document.querySelectorAll('#rows tr').length")
+
+    def shown(self):
+        """How many flights are to be shown, as the page says."""
+        said = re.search(r"(\d+) of \d+ flights", self.text("sums"))
+        return int(said[1]) if said else 0
 
     def wait(self, is_so, seconds=20):
         end = time.monotonic() + seconds
@@ -116,7 +121,7 @@ def shown(board, page, folder):
     page.picture(folder, "empty")
     lines = (TOP / "examples" / "day.txt").read_text().splitlines()[:60]
     board.play(lines, datetime.datetime(2025, 2, 20, 8, 50))
-    yield "the morning's flights", page.wait(lambda: page.rows() == 5)
+    yield "the morning's flights", page.wait(lambda: page.rows() == 4 and "entry 59" in page.text("sums"))
     yield "partners are told", page.wait(lambda: all(role in page.text("partners") for role in ROLES))
     yield "alerts in words", "SOBT and EOBT differ" in page.text("rows")
     page.picture(folder, "board")
@@ -139,7 +144,11 @@ def shown(board, page, folder):
 def many(board, page, folder):
     for flight in range(1, MANY + 1):
         board.ask("APT", board.schedule(10_000 + flight, f"AB{flight}", flight % 600, flight % 90))
-    yield "4,000 flights", page.wait(lambda: page.rows() >= MANY, 60)
+    yield "4,000 flights", page.wait(lambda: page.shown() > MANY, 60)
+    yield "a first part of them has rows", 100 < page.rows() < 1000
+    page.driver.execute_script("window.scrollTo(0, document.body.scrollHeight)")
+    yield "and more where it is scrolled to", page.wait(lambda: page.rows() >= 400)
+    page.driver.execute_script("window.scrollTo(0, 0)")
     page.picture(folder, "many")
     times = []
     for flight in range(1, 101):
@@ -152,10 +161,13 @@ def many(board, page, folder):
     times.sort()
     print(f"from a partner's line to the browser, at 4,000 flights: p50 {statistics.median(times):.1f} ms, p99 {times[98]:.1f} ms, with the asking")
     yield "each line comes within a second", len(times) == 100 and times[-1] < 1000
+    page.driver.set_script_timeout(120)
     frame = page.driver.execute_async_script(
-        "const done=arguments[0];let last=performance.now(),most=0,left=60;function f(t){most=Math.max(most,t-last);last=t;all=true;soon();--left?requestAnimationFrame(f):done(most)}requestAnimationFrame(f)"
+        "const done=arguments[0];let last=performance.now(),most=0,left=10;"
+        "function f(t){most=Math.max(most,t-last);last=t;for(const id of rows.keys())stale.add(id);soon();--left?requestAnimationFrame(f):done(most)}"
+        "requestAnimationFrame(f)"
     )
-    print(f"the longest frame while all rows are drawn anew: {frame:.0f} ms")
+    print(f"the longest frame where all rows are made anew, as each minute: {frame:.0f} ms")
 
 
 def other_pages(port, folder):
@@ -191,7 +203,7 @@ def main():
     hold(many(board, page, asked.pictures))
     hold(other_pages(port, asked.pictures))
     hold([("no fault so far", page.faults() == []), ("the board ends with status 0", board.end() == 0)])
-    hold([("a lost connection is told", page.wait(lambda: "lost" in page.text("state"))), ("and the board stays", page.rows() >= MANY)])
+    hold([("a lost connection is told", page.wait(lambda: "lost" in page.text("state"))), ("and the board stays", page.shown() > MANY)])
     page.picture(asked.pictures, "lost")
     again = Board(asked.program, port)
     again.ask("APT", again.schedule(7, "DLH7", 60))

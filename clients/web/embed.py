@@ -14,14 +14,13 @@ SOURCE = TOP / "crates" / "acdm_web" / "src" / "page.rt"
 BEGIN = """//! The page for browsers, which clients/web/embed.py writes from clients/web/page.html.
 
 /// The page, complete in itself.
-pub static PAGE: &str =
-"""
+pub static PAGE: &str = """
 
 
 def source_of(page):
     if '"##' in page or "\r" in page:
         sys.exit('embed: the page has "## or a carriage return')
-    return f'{BEGIN}    r##"{page}"##;\n'
+    return f'{BEGIN}r##"{page}"##;\n'
 
 
 def main():

@@ -1,13 +1,13 @@
 #!/usr/bin/env python3
 """Starts `acdm serve` and plays a morning as five partners over TCP.
 
-    examples/serve/play.py [STREAM] [--board PORT] [--pause SECONDS]
+    examples/serve/play.py [STREAM] [--web PORT] [--pause SECONDS]
 
 STREAM is a file of lines `SESSION MINUTE ROLE JSON`, as `examples/day.txt`, which is the default. Each
 line's JSON is sent by the partner of its role; the minute before it is not sent, since the clock of
 `acdm serve` tells the moment. Each reply is waited for before the next line is sent, and is printed
-beside its line. With --board there is a sixth partner, for whom the first line waits: in another terminal,
-`clients/board.py 127.0.0.1:PORT` shows the morning as it goes. Outside what is proved.
+beside its line. With --web browsers see the morning as it goes at `http://127.0.0.1:PORT/`, and the board
+stays until Enter is pressed. Outside what is proved.
 """
 import argparse
 import pathlib
@@ -49,22 +49,21 @@ def play(lines, partners, pause):
 def main():
     words = argparse.ArgumentParser(description="Plays a morning as five partners over TCP.")
     words.add_argument("stream", nargs="?", type=pathlib.Path, default=TOP / "examples" / "day.txt")
-    words.add_argument("--board", type=int, metavar="PORT", help="the port of a sixth partner, of the airport")
+    words.add_argument("--web", type=int, metavar="PORT", help="the port at which browsers have the board")
     words.add_argument("--pause", type=float, default=0, metavar="SECONDS", help="how long it waits after a line")
     asked = words.parse_args()
     command = [str(TOP / "acdm"), "serve"] + [f"{role}=127.0.0.1:0" for role in ROLES]
-    command += [f"APT=127.0.0.1:{asked.board}"] if asked.board else []
+    command += ["--web", f"127.0.0.1:{asked.web}"] if asked.web else []
     server = subprocess.Popen(command, stdin=subprocess.DEVNULL, stdout=subprocess.PIPE, text=True)
     partners = connect(server)
-    if asked.board:
-        print(f"waiting for clients/board.py 127.0.0.1:{asked.board}", flush=True)
-        server.stdout.readline()
+    if asked.web:
+        print(f"the board is at http://127.0.0.1:{asked.web}/", flush=True)
     with asked.stream.open(encoding="utf-8") as lines:
         play(lines, partners, asked.pause)
+    if asked.web:
+        input("the morning is over; Enter ends the board ")
     for partner in partners.values():
         partner.close()
-    if asked.board:
-        print("the morning is over; it ends when the board does", flush=True)
     print(server.stdout.read(), end="")
     sys.exit(server.wait())
 

@@ -32,6 +32,10 @@ save_rule = record (new_rule (codes "save")) { long = Some (codes "save"); value
 abbrev pub keep_rule : Rule
 keep_rule = record (new_rule (codes "keep")) { long = Some (codes "keep"); value_names = 1 }
 
+-- `--sync`
+abbrev pub sync_rule : Rule
+sync_rule = record (new_rule (codes "sync")) { long = Some (codes "sync"); action = Some SetTrue }
+
 -- `--watch ADDR`
 abbrev pub watch_rule : Rule
 watch_rule = record (new_rule (codes "watch")) { long = Some (codes "watch"); value_names = 1 }
@@ -56,14 +60,15 @@ pace_rule = record (new_rule (codes "pace")) { long = Some (codes "pace"); value
 
 -- a subcommand of this name that keeps a journal
 abbrev pub keeping_app : Text → App
-keeping_app name = with_rule (with_rule (new_app name) journal_rule) save_rule
+keeping_app name =
+    with_rule (with_rule (with_rule (with_rule (new_app name) journal_rule) save_rule) keep_rule) sync_rule
 
--- `run [--journal N] [--save FILE] [--keep FILE]`
+-- `run [--journal N] [--save FILE] [--keep FILE] [--sync]`
 abbrev pub run_app : App
-run_app = with_rule (keeping_app (codes "run")) keep_rule
+run_app = keeping_app (codes "run")
 
--- `serve [--journal N] [--save FILE] [--watch ADDR] [--changes ADDR] [--web ADDR] [--again]
--- [--control ADDR] [--pace N] ROLE=ADDR...`, of at least one partner
+-- `serve [--journal N] [--save FILE] [--keep FILE] [--sync] [--watch ADDR] [--changes ADDR] [--web ADDR]
+-- [--again] [--control ADDR] [--pace N] ROLE=ADDR...`, of at least one partner
 abbrev pub partners_rule : Rule
 partners_rule = record (new_rule (codes "partners")) {
   value_names = 1;
@@ -216,13 +221,16 @@ TellsFile found file = value_in (codes "tell") (codes "file") found ≡ Some fil
 -- it is `run` or `serve` with the journal, the files, the addresses and the partners that are named, or
 -- `verify`, `audit`, `explain` or `tell` of the file that is, with the length
 abbrev pub Asks : Option (Text × List Row) → Line → Type 0
-Asks found (Run journal save keep) =
+Asks found (Run journal save keep sync) =
     (text : Text) × Runs found text × IsJournal text × (journal ≡ number_of text)
     × (option_map (λ s. s.now) save ≡ value_in (codes "run") (codes "save") found)
     × (option_map (λ s. s.now) keep ≡ value_in (codes "run") (codes "keep") found)
-Asks found (Serve journal save watch changes web again control pace partners) =
+    × (sync ≡ is_set_in (codes "run") (codes "sync") found)
+Asks found (Serve journal save keep sync watch changes web again control pace partners) =
     (text : Text) × Serves found text × IsJournal text × (journal ≡ number_of text)
     × (option_map (λ s. s.now) save ≡ value_in (codes "serve") (codes "save") found)
+    × (option_map (λ s. s.now) keep ≡ value_in (codes "serve") (codes "keep") found)
+    × (sync ≡ is_set_in (codes "serve") (codes "sync") found)
     × (option_map (λ s. s.now) watch ≡ value_in (codes "serve") (codes "watch") found)
     × (option_map (λ s. s.now) changes ≡ value_in (codes "serve") (codes "changes") found)
     × (option_map (λ s. s.now) web ≡ value_in (codes "serve") (codes "web") found)

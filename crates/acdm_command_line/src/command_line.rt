@@ -10,7 +10,7 @@ ghost use Rattle.acdm_command_line.specs.CommandLine.{file_rule, length_rule, pr
 ghost use Rattle.acdm_command_line.specs.CommandLine.{AnswersJudged, length_named};
 ghost use Rattle.acdm_command_line.specs.CommandLine.{bare_app, run_app, running_app, serve_app};
 ghost use Rattle.acdm_command_line.specs.CommandLine.{serve_options_app, serving_app};
-ghost use Rattle.acdm_command_line.specs.CommandLine.{changes_rule, journal_rule, keep_rule, save_rule};
+ghost use Rattle.acdm_command_line.specs.CommandLine.{changes_rule, journal_rule, keep_rule, save_rule, sync_rule};
 ghost use Rattle.acdm_command_line.specs.CommandLine.{is_set_in, watch_rule, web_rule};
 ghost use Rattle.acdm_command_line.specs.CommandLine.{again_rule, control_rule, lasting_app, pace_rule};
 ghost use Rattle.acdm_command_line.specs.CommandLine.{AnswersPace, IsPace};
@@ -30,20 +30,24 @@ const MOST_ENTRIES: usize = 1_000_000;
 #[derive(Debug, Drop, PartialEq, Eq)]
 pub enum Line<'a> {
     /// `run`, with room for so many entries in the journal, from 1 to 1,000,000, which is to be
-    /// saved in this file, and kept in that one, from which it goes on.
+    /// saved in this file, and kept in that one, from which it goes on; where `sync` is true, what is
+    /// kept is synced to the disk.
     Run {
         journal: usize,
         save: Option<&'a str>,
         keep: Option<&'a str>,
+        sync: bool,
     },
     /// `serve`, with room for so many entries in the journal, from 1 to 1,000,000, which is to be
-    /// saved in this file, may be watched at this address, whose changes are told at that one, and for
+    /// saved in this file, and kept as that of `run`, may be watched at this address, whose changes are told at that one, and for
     /// which browsers have a page at a third, for the partners of these words, as they stand: who may
     /// come again where `again` is true, of whom so many lines are taken in a minute; it is closed at the
     /// control address.
     Serve {
         journal: usize,
         save: Option<&'a str>,
+        keep: Option<&'a str>,
+        sync: bool,
         watch: Option<&'a str>,
         changes: Option<&'a str>,
         web: Option<&'a str>,
@@ -105,6 +109,17 @@ fn keep<'a>(alloc: Global) -> Arg<'a>
     )
 }
 
+// `--sync`.
+fn sync<'a>(alloc: Global) -> Arg<'a>
+    ensures rule { rule_of result ≡ sync_rule }
+    ensures optional { (result.required ≡ false) × (result.global ≡ false) }
+{
+    Arg::new(alloc, "sync")
+        .long("sync")
+        .action(ArgAction::SetTrue)
+        .help("With --keep: a reply is sent once its entry stands on the disk")
+}
+
 // `--watch ADDR`.
 fn watch<'a>(alloc: Global) -> Arg<'a>
     ensures rule { rule_of result ≡ watch_rule }
@@ -132,10 +147,9 @@ fn web<'a>(alloc: Global) -> Arg<'a>
     ensures rule { rule_of result ≡ web_rule }
     ensures optional { (result.required ≡ false) × (result.global ≡ false) }
 {
-    Arg::new(alloc, "web")
-        .long("web")
-        .value_name("ADDR")
-        .help("The IP address and port where browsers have the board as a page")
+    Arg::new(alloc, "web").long("web").value_name("ADDR").help(
+        "The IP address and port where browsers have the board as a page",
+    )
 }
 
 // `--again`.
@@ -180,7 +194,9 @@ fn keeping<'a>(alloc: Global, name: &'a str, about: &'a str) -> Result<Command<'
     Command::new(alloc, name)
         .about(about)
         .arg(journal(alloc))?
-        .arg(save(alloc))
+        .arg(save(alloc))?
+        .arg(keep(alloc))?
+        .arg(sync(alloc))
 }
 
 fn run_command<'a>(alloc: Global) -> Result<Command<'a>, AllocError>
@@ -188,7 +204,7 @@ fn run_command<'a>(alloc: Global) -> Result<Command<'a>, AllocError>
     ensures local { IfOk result (λ c. (fields_of c).has_globals ≡ false) }
 {
     let about = "Answers the lines of standard input on standard output";
-    keeping(alloc, "run", about)?.arg(keep(alloc))
+    keeping(alloc, "run", about)
 }
 
 // `serve` without its partners.
@@ -446,10 +462,12 @@ fn run_of<'a>(matches: &ArgMatches<'a>) -> Option<Line<'a>>
     let journal = journal_for(matches, "run")?;
     let save = value(matches, "run", "save");
     let keep = value(matches, "run", "keep");
+    let sync = is_set(matches, "run", "sync");
     Some(Line::Run {
         journal,
         save,
         keep,
+        sync,
     })
 }
 
@@ -484,6 +502,8 @@ fn serve_of<'a>(alloc: Global, matches: &ArgMatches<'a>) -> Result<Option<Line<'
         return Ok(None);
     };
     let save = value(matches, "serve", "save");
+    let keep = value(matches, "serve", "keep");
+    let sync = is_set(matches, "serve", "sync");
     let watch = value(matches, "serve", "watch");
     let changes = value(matches, "serve", "changes");
     let web = value(matches, "serve", "web");
@@ -496,6 +516,8 @@ fn serve_of<'a>(alloc: Global, matches: &ArgMatches<'a>) -> Result<Option<Line<'
     Ok(Some(Line::Serve {
         journal,
         save,
+        keep,
+        sync,
         watch,
         changes,
         web,

@@ -18,10 +18,12 @@ use Rattle.acdm_lines.specs.Counted.{SinkView, SourceView}
 use Rattle.acdm_telling.specs.Told.{Gives, Told}
 use Rattle.acdm_judging.specs.Helpers.{helpers}
 use Rattle.acdm_commands.specs.Completed.{ExplainsLine, IsUnread, IsUnwritten, read_from}
-use Rattle.acdm_commands.specs.Completed.{KeepsLine, Places, RunsLine, ServesLine, Settles, written_to}
-use Rattle.acdm_commands.specs.Keeping.{KeepsTo}
+use Rattle.acdm_commands.specs.Completed.{KeepsLine, Places, RunsLine, ServesKeptLine, ServesLine, Settles}
+use Rattle.acdm_commands.specs.Completed.{written_to}
+use Rattle.acdm_board.specs.Desk.{DeskView}
+use Rattle.acdm_commands.specs.Keeping.{KeepsTo, ServesKeptTo}
 use Rattle.acdm_commands.specs.Served.{FailsToSave, IsSaved, Runs, RunsTo}
-use Rattle.acdm_commands.specs.Partners.{ServesWords, ServesWordsTo}
+use Rattle.acdm_commands.specs.Partners.{ServesNamed, ServesWords, ServesWordsTo}
 
 -- ---- files that are read
 
@@ -391,6 +393,71 @@ kept_line journal path file later input input_after work status given errors mid
             (KeepsTo helpers journal input input_after (option_map written_to file)
             (option_map written_to later))
             (keeps_any journal input input_after file later) e.work e.comes,
+      );
+      ends = e.ends;
+    }
+
+named_as : {W : Type 0} (opening : DeskView) (words : List (List ℕ)) (old new : SinkView W)
+    (Kept Known : History → Type 0) → ((J : History) → Kept J → Known J)
+    → ServesNamed opening words old new Kept → ServesNamed opening words old new Known
+named_as opening words old new Kept Known knows named =
+    let all = named.partners in
+    record {
+      roles = named.roles;
+      named = named.named;
+      partners = record {
+        closed = all.closed;
+        sessions = all.sessions;
+        sum = all.sum;
+        begins = all.begins;
+        ended = all.ended;
+        served = all.served;
+        shown = all.shown;
+        kept = knows all.closed.history all.kept;
+        tells = all.tells;
+      };
+    }
+
+serves_kept_any : {W F : Type 0} (capacity : ℕ) (words : List (List ℕ)) (old new : SinkView W)
+    (file later : Option (SinkView F)) (work : Result ℕ Failure)
+    → ServesKeptTo helpers capacity words old new file later work
+    → ServesKeptTo helpers capacity words old new (option_map written_to file)
+    (option_map written_to later) work
+serves_kept_any capacity words old new file later (Ok status) (inl p) = inl (
+  record {
+    opening = p.0.opening;
+    room = p.0.room;
+    helpers = p.0.helpers;
+    serves = named_as p.0.opening words old new (λ J. IsSaved J file later)
+        (λ J. IsSaved J (option_map written_to file) (option_map written_to later))
+        (λ J. saved_any J file later) p.0.serves;
+  },
+  p.1,
+)
+serves_kept_any capacity words old new file later (Ok status) (inr p) = inr p
+serves_kept_any capacity words old new file later (Err failure) p = tt
+
+-- `serve --keep`, the same
+pub served_kept_line : {W F E : Type 0} (journal : ℕ) (path : Option (List ℕ))
+    (partners : List (List ℕ)) (file later : Option (SinkView F)) (output output_after : SinkView W)
+    (status given : ℕ) (errors mid last : SinkView E) → IsUnwritten path file
+    → EndsBy (ServesKeptTo helpers journal partners output output_after file later) status errors mid
+    → Settles path status mid last given
+    → EndsBy (ServesKeptLine journal path partners output output_after) given errors last
+served_kept_line journal path partners file later output output_after status given errors mid last made
+    served settles =
+    let e = settled path (ServesKeptTo helpers journal partners output output_after file later) status
+    given errors mid last served settles in
+    record {
+      work = e.work;
+      comes = inl (
+        option_map written_to file,
+        option_map written_to later,
+        unwritten_any path file made,
+        placed_any path (ServesKeptTo helpers journal partners output output_after file later)
+            (ServesKeptTo helpers journal partners output output_after (option_map written_to file)
+            (option_map written_to later))
+            (serves_kept_any journal partners output output_after file later) e.work e.comes,
       );
       ends = e.ends;
     }

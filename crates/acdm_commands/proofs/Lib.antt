@@ -6,5 +6,6 @@ mod Done
 mod Failing
 mod Files
 mod MinuteRows
+mod KeptOn
 mod Named
 mod Told

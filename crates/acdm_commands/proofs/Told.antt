@@ -132,7 +132,7 @@ comes_served desk roles starts old new saved later J (Err failure) served kept f
 module _ {W P : Type 0} (ps : List P) (role : P → Role) (desk : DeskView) (words : List (List ℕ))
     (old new : SinkView W) (named : map role_in words ≡ map (λ p. Some (role p)) ps) where
   -- the partners that words name were served
-  serves_named : (Kept : History → Type 0)
+  pub serves_named : (Kept : History → Type 0)
       → ServesPartners desk (map role ps) (map (λ p. new_session (role p) is_minute) ps) old new Kept
       → ServesNamed desk words old new Kept
   serves_named Kept served = record {

@@ -16,7 +16,7 @@ use Rattle.acdm_judging.specs.Helpers.{helpers}
 use Rattle.acdm_judging.specs.Verdicts.{Verifies}
 use Rattle.acdm_lines.specs.Counted.{SinkView, SourceView}
 use Rattle.acdm_telling.specs.Told.{Told}
-use Rattle.acdm_commands.specs.Keeping.{KeepsTo}
+use Rattle.acdm_commands.specs.Keeping.{KeepsTo, ServesKeptTo}
 use Rattle.acdm_commands.specs.Partners.{ServesWordsTo}
 use Rattle.acdm_commands.specs.Served.{RunsTo}
 
@@ -117,6 +117,22 @@ ServesLine journal path partners output output_after work =
     × Places path (ServesWordsTo helpers journal partners output output_after saved saved_after) work)
     ⊎ (IsNotMade path work × (output_after ≡ output))
 
+-- the same with a journal that is kept
+abbrev pub ServesKeptLine : {W : Type 0} → ℕ → Option (List ℕ) → List (List ℕ) → SinkView W → SinkView W
+    → Result ℕ Failure → Type 0
+ServesKeptLine journal path partners output output_after work =
+    ((saved saved_after : Option (SinkView ⊤)) × IsUnwritten path saved
+    × Places path (ServesKeptTo helpers journal partners output output_after saved saved_after) work)
+    ⊎ (IsNotMade path work × (output_after ≡ output))
+
+-- `serve`, with a journal that is kept in the file of this path, if there is one
+abbrev pub ServesLines : {W E : Type 0} → ℕ → Option (List ℕ) → Option (List ℕ) → List (List ℕ)
+    → SinkView W → SinkView W → ℕ → SinkView E → SinkView E → Type 0
+ServesLines journal path None partners output output_after status errors errors_after =
+    EndsBy (ServesLine journal path partners output output_after) status errors errors_after
+ServesLines journal path (Some kept) partners output output_after status errors errors_after =
+    EndsBy (ServesKeptLine journal path partners output output_after) status errors errors_after
+
 -- a file could not be opened, and nothing was written
 abbrev pub FailsToOpen : {W : Type 0} → SinkView W → SinkView W → Result ℕ Failure → Type 0
 FailsToOpen output output_after work = (work ≡ Err Read) × (output_after ≡ output)
@@ -154,12 +170,13 @@ ExplainsLine long path output output_after status errors errors_after =
 -- what is done for a line; none but `run` reads the input
 abbrev pub Does : {R W E : Type 0} → Line → SourceView R → SourceView R → SinkView W → SinkView W → ℕ
     → SinkView E → SinkView E → Type 0
-Does (Run journal save keep) input input_after output output_after status errors errors_after =
+Does (Run journal save keep sync) input input_after output output_after status errors errors_after =
     RunsWords journal (option_map (λ s. s.now) save) (option_map (λ s. s.now) keep) input input_after
     output output_after status errors errors_after
-Does (Serve journal save watch changes web again control pace partners) input input_after output output_after status errors errors_after =
-    (input_after ≡ input) × EndsBy (ServesLine journal (option_map (λ s. s.now) save)
-    (map (λ s. s.now) partners.items) output output_after) status errors errors_after
+Does (Serve journal save keep sync watch changes web again control pace partners) input input_after output output_after status errors errors_after =
+    (input_after ≡ input) × ServesLines journal (option_map (λ s. s.now) save)
+    (option_map (λ s. s.now) keep) (map (λ s. s.now) partners.items) output output_after status errors
+    errors_after
 Does (Audit file) input input_after output output_after status errors errors_after =
     (input_after ≡ input) × EndsBy (AuditsLine output output_after) status errors errors_after
 Does (Verify long file) input input_after output output_after status errors errors_after =

@@ -7,7 +7,12 @@ use Rattle.acdm_judging.specs.Findings.{status_of}
 use Rattle.acdm_judging.specs.declared.auditing.Finding.{Finding}
 use Rattle.acdm_lines.specs.Counted.{SinkView, SourceView}
 use Rattle.acdm_sessions.specs.Run.{ServesAll}
-use Rattle.acdm_commands.specs.Served.{IsSaved}
+use Rattle.acdm_failures.specs.declared.failure.Failure.TheVariants.{Keep}
+use Rattle.acdm_milestones.specs.declared.role.Role.{Role}
+use Rattle.acdm_sessions.specs.Sessions.{SessionStart}
+use Rattle.acdm_commands.specs.Partners.{FailsToServe, FailsToServeAll, ServesNamed, ServesPartners}
+use Rattle.acdm_step.specs.Commands.{History}
+use Rattle.acdm_commands.specs.Served.{FailsToSave, IsSaved}
 
 -- A desk that had no entry has those of a kept journal, and the rest of it is as it was; or something is
 -- to be told of the journal, with the status 1.
@@ -40,3 +45,50 @@ KeepsTo sigs capacity read read_after saved saved_after (Ok status) =
     (KeepsAll sigs capacity read read_after saved saved_after × (status ≡ 0))
     ⊎ ((status ≡ 1) × (read_after ≡ read))
 KeepsTo sigs capacity read read_after saved saved_after (Err failure) = Unit {0}
+
+-- ---- `serve`
+
+-- Why partners were not served by a desk that is kept, or not to their end, or what they made was not kept
+-- or saved. That it was not kept is told only once they were served.
+abbrev pub FailsToServeKept : {W F : Type 0} → DeskView → List Role → List SessionStart → SinkView W
+    → SinkView W → Option (SinkView F) → Option (SinkView F) → Failure → Type 0
+FailsToServeKept desk roles starts written written_after saved saved_after failure =
+    FailsToServeAll written written_after failure
+    ⊎ ((failure ≡ Keep) × ServesPartners desk roles starts written written_after (λ J. Unit {0}))
+    ⊎ ServesPartners desk roles starts written written_after (λ J. FailsToSave saved saved_after failure)
+
+-- what comes of serving partners by a desk that is kept
+abbrev pub ServesKeptAt : {W F T : Type 0} → DeskView → List Role → List SessionStart → SinkView W
+    → SinkView W → Option (SinkView F) → Option (SinkView F) → Result T Failure → Type 0
+ServesKeptAt desk roles starts written written_after saved saved_after (Ok x) =
+    ServesPartners desk roles starts written written_after (λ J. IsSaved J saved saved_after)
+ServesKeptAt desk roles starts written written_after saved saved_after (Err failure) =
+    FailsToServeKept desk roles starts written written_after saved saved_after failure
+
+-- the same of the partners that words name, or none was accepted
+abbrev pub ServesKeptWords : {W F T : Type 0} → DeskView → List (List ℕ) → SinkView W → SinkView W
+    → Option (SinkView F) → Option (SinkView F) → Result T Failure → Type 0
+ServesKeptWords desk words written written_after saved saved_after (Ok x) =
+    ServesNamed desk words written written_after (λ J. IsSaved J saved saved_after)
+ServesKeptWords desk words written written_after saved saved_after (Err failure) =
+    FailsToServe words written written_after failure
+    ⊎ ((failure ≡ Keep) × ServesNamed desk words written written_after (λ J. Unit {0}))
+    ⊎ ServesNamed desk words written written_after (λ J. FailsToSave saved saved_after failure)
+
+-- That desk had room for so many entries, and went on from a kept journal.
+pub record ServesFrom {W : Type 0} (sigs : List (ℕ × Promise)) (capacity : ℕ) (words : List (List ℕ))
+    (written written_after : SinkView W) (Kept : History → Type 0) : Type 0 where
+  pub opening : DeskView
+  pub room : opening.capacity ≡ capacity
+  pub helpers : opening.sigs ≡ sigs
+  pub serves : ServesNamed opening words written written_after Kept
+
+-- What comes of it: all was done, with the status 0; or the kept journal is not legal, with the status 1;
+-- or something failed.
+abbrev pub ServesKeptTo : {W F : Type 0} → List (ℕ × Promise) → ℕ → List (List ℕ) → SinkView W
+    → SinkView W → Option (SinkView F) → Option (SinkView F) → Result ℕ Failure → Type 0
+ServesKeptTo sigs capacity words written written_after saved saved_after (Ok status) =
+    (ServesFrom sigs capacity words written written_after (λ J. IsSaved J saved saved_after)
+    × (status ≡ 0))
+    ⊎ (status ≡ 1)
+ServesKeptTo sigs capacity words written written_after saved saved_after (Err failure) = Unit {0}

@@ -1,13 +1,14 @@
 //! The commands, over the files, the reader and the writers that they are handed.
 ghost use Rattle.std.specs.Prelude.{◌≡◌, ◌-◌, ◌^◌, ◌<◌, map, option_map};
 ghost use Rattle.acdm_commands.specs.Completed.{AuditsLine, Completes, ExplainsLine, RunsLine, RunsWords};
-ghost use Rattle.acdm_commands.specs.Completed.{ServesLine, TellsLine, VerifiesLine};
+ghost use Rattle.acdm_commands.specs.Completed.{ServesKeptLine, ServesLine, ServesLines, TellsLine, VerifiesLine};
 ghost use Rattle.acdm_failures.specs.Failures.{EndsBy};
 
-use crate::keeping::keep_line;
+use crate::keeping::{KeepIn, keep_line};
 use crate::lasting::Service;
 use crate::saving::{saving_in, settle};
 use crate::serve_command::{Audience, serve_words};
+use crate::serve_keeping::serve_kept_words;
 use crate::serving::run_on;
 use acdm_command_line::{Line, asked};
 use acdm_failures::{Failure, ended};
@@ -66,10 +67,13 @@ pub fn complete<
             journal,
             save,
             keep,
-        } => run_words(rt, alloc, journal, save, keep, input, output, errors),
+            sync,
+        } => run_words(rt, alloc, journal, save, keep, sync, input, output, errors),
         Line::Serve {
             journal,
             save,
+            keep,
+            sync,
             watch,
             changes,
             web,
@@ -77,11 +81,13 @@ pub fn complete<
             control,
             pace,
             partners,
-        } => serve_line(
+        } => serve_lines(
             rt,
             alloc,
             journal,
             save,
+            keep,
+            sync,
             Audience {
                 journal: watch,
                 changes,
@@ -110,6 +116,7 @@ fn run_words<Rt: Files<File = File>, R: Read, W: Write, E: Write>(
     journal: usize,
     save: Option<&str>,
     keep: Option<&str>,
+    sync: bool,
     input: &mut Source<R>,
     output: &mut Sink<W>,
     errors: &mut Sink<E>,
@@ -121,7 +128,13 @@ fn run_words<Rt: Files<File = File>, R: Read, W: Write, E: Write>(
         errors.old errors.new }
 {
     match keep {
-        Some(path) => keep_line(rt, alloc, journal, save, path, input, output, errors),
+        Some(path) => {
+            let keep = KeepIn {
+                path,
+                is_synced: sync,
+            };
+            keep_line(rt, alloc, journal, save, keep, input, output, errors)
+        }
         None => run_line(rt, alloc, journal, save, input, output, errors),
     }
 }
@@ -184,6 +197,96 @@ fn serve_line<
             let saved = &mut saving.file;
             let status = serve_words(
                 rt, alloc, journal, audience, service, partners, output, saved, errors,
+            );
+            settle(rt, save, saving, status, errors)
+        }
+        Err(failure) => ended(Err(failure), errors),
+    }
+}
+
+// `serve`, with the files that the journal is to be saved and kept in.
+fn serve_lines<
+    Rt: Files<File = File>
+        + Net<Listener = TcpListener, Stream = TcpStream>
+        + SystemClock
+        + Eprint
+        + Threads
+        + Wait
+        + Clone
+        + Drop
+        + Send
+        + Sync
+        + 'static,
+    W: Write,
+    E: Write,
+>(
+    rt: &Rt,
+    alloc: Global,
+    journal: usize,
+    save: Option<&str>,
+    keep: Option<&str>,
+    sync: bool,
+    audience: Audience<'_>,
+    service: Service<'_>,
+    partners: &[&str],
+    output: &mut Sink<W>,
+    errors: &mut Sink<E>,
+) -> u8
+    ensures { ServesLines journal (option_map (λ s. s.now) save.entry)
+        (option_map (λ s. s.now) keep.entry) (map (λ w. w.now) partners.now) output.old output.new
+        result errors.old errors.new }
+{
+    match keep {
+        Some(path) => {
+            let keep = KeepIn {
+                path,
+                is_synced: sync,
+            };
+            serve_kept_line(
+                rt, alloc, journal, save, keep, audience, service, partners, output, errors,
+            )
+        }
+        None => serve_line(
+            rt, alloc, journal, save, audience, service, partners, output, errors,
+        ),
+    }
+}
+
+// `serve` with a journal that is kept, with the file that it is to be saved in.
+fn serve_kept_line<
+    Rt: Files<File = File>
+        + Net<Listener = TcpListener, Stream = TcpStream>
+        + SystemClock
+        + Eprint
+        + Threads
+        + Wait
+        + Clone
+        + Drop
+        + Send
+        + Sync
+        + 'static,
+    W: Write,
+    E: Write,
+>(
+    rt: &Rt,
+    alloc: Global,
+    journal: usize,
+    save: Option<&str>,
+    keep: KeepIn<'_>,
+    audience: Audience<'_>,
+    service: Service<'_>,
+    partners: &[&str],
+    output: &mut Sink<W>,
+    errors: &mut Sink<E>,
+) -> u8
+    ensures { EndsBy (ServesKeptLine journal (option_map (λ s. s.now) save.entry)
+        (map (λ w. w.now) partners.now) output.old output.new) result errors.old errors.new }
+{
+    match saving_in(rt, alloc, save) {
+        Ok(mut saving) => {
+            let saved = &mut saving.file;
+            let status = serve_kept_words(
+                rt, alloc, journal, keep, audience, service, partners, output, saved, errors,
             );
             settle(rt, save, saving, status, errors)
         }

@@ -9,7 +9,7 @@ use crate::saving::{save, saving_in, settle};
 use acdm_board::Desk;
 use acdm_failures::{Failure, ended};
 use acdm_judging::{Finding, KnownHelpers};
-use acdm_keeping::{Keeper, Kept, open};
+use acdm_keeping::{Keeper, Kept, Synced, open};
 use acdm_restoring::{RestoreError, restore};
 use acdm_sessions::{Sink, Source, run};
 use bpf_helpers::Helpers;
@@ -19,6 +19,15 @@ use std::io::{BufWriter, Read, Write};
 
 /// How many bytes of replies are held until the entries before them are kept, at most.
 const BUFFER: usize = 65_536;
+
+/// Where a journal is kept.
+#[derive(Clone, Copy, Debug, PartialEq, Eq)]
+pub(crate) struct KeepIn<'a> {
+    /// The file.
+    pub(crate) path: &'a str,
+    /// Whether what is kept stands on the disk before it is replied to.
+    pub(crate) is_synced: bool,
+}
 
 /// Answers the lines of a reader on a writer, as `run`, by a desk that goes on from the journal in a
 /// file, in which it is kept: a reply is handed to the writer once its entry stands in the file.
@@ -32,7 +41,7 @@ pub(crate) fn keep_line<Rt: Files<File = File>, R: Read, W: Write, E: Write>(
     alloc: Global,
     journal: usize,
     saved: Option<&str>,
-    path: &str,
+    keep: KeepIn<'_>,
     input: &mut Source<R>,
     output: &mut Sink<W>,
     errors: &mut Sink<E>,
@@ -43,20 +52,20 @@ pub(crate) fn keep_line<Rt: Files<File = File>, R: Read, W: Write, E: Write>(
 {
     match saving_in(rt, alloc, saved) {
         Ok(mut saving) => {
-            let kept = keep(rt, alloc, journal, path, input, output, &mut saving.file);
-            let status = ended(kept, errors);
+            let served = run_kept(rt, alloc, journal, keep, input, output, &mut saving.file);
+            let status = ended(served, errors);
             settle(rt, saved, saving, status, errors)
         }
         Err(failure) => ended(Err(failure), errors),
     }
 }
 
-// Opens the file.
-fn keep<Rt: Files<File = File>, R: Read, W: Write, F: Write + Drop>(
+// Opens the file, and answers.
+fn run_kept<Rt: Files<File = File>, R: Read, W: Write, F: Write + Drop>(
     rt: &Rt,
     alloc: Global,
     journal: usize,
-    path: &str,
+    keep: KeepIn<'_>,
     input: &mut Source<R>,
     output: &mut Sink<W>,
     saved: &mut Option<Sink<F>>,
@@ -64,9 +73,12 @@ fn keep<Rt: Files<File = File>, R: Read, W: Write, F: Write + Drop>(
     requires reads { input.old.faults < 2 ^ 64 - 1 }
     ensures { KeepsTo known journal input.old input.new saved.old saved.new result }
 {
-    let file = open(rt, path)?;
+    let file = open(rt, keep.path)?;
     let helpers = KnownHelpers::new(alloc);
-    keep_with(alloc, helpers, journal, file, input, output, saved)
+    let is_synced = keep.is_synced;
+    keep_with(
+        alloc, helpers, journal, file, is_synced, input, output, saved,
+    )
 }
 
 // Goes on from the file, serves, and saves the journal.
@@ -75,6 +87,7 @@ fn keep_with<H: Helpers + Drop, R: Read, W: Write, F: Write + Drop>(
     helpers: H,
     journal: usize,
     file: File,
+    is_synced: bool,
     input: &mut Source<R>,
     output: &mut Sink<W>,
     saved: &mut Option<Sink<F>>,
@@ -89,14 +102,20 @@ fn keep_with<H: Helpers + Drop, R: Read, W: Write, F: Write + Drop>(
             Err(failure) => Err(failure),
         };
     }
-    serve_kept(alloc, &mut desk, file, input, output)?;
+    serve_from(
+        alloc,
+        &mut desk,
+        Synced::new(file, is_synced),
+        input,
+        output,
+    )?;
     save(alloc, &mut desk, saved)?;
     Ok(0)
 }
 
-// Puts the journal of a file into a desk, and takes a rest without a line feed off the file. Answers
-// what is to be told of a journal that is not legal.
-fn go_on<H: Helpers + Drop>(
+/// Puts the journal of a file into a desk, and takes a rest without a line feed off the file. Answers
+/// what is to be told of a journal that is not legal.
+pub(crate) fn go_on<H: Helpers + Drop>(
     alloc: Global,
     file: &File,
     desk: &mut Desk<H>,
@@ -132,10 +151,10 @@ fn cut(file: &File, bytes: u64) -> Result<(), Failure> {
 }
 
 // Answers the lines of a reader on a writer, behind the keeping of their entries in a file.
-fn serve_kept<H: Helpers + Drop, R: Read, W: Write>(
+fn serve_from<H: Helpers + Drop, R: Read, W: Write>(
     alloc: Global,
     desk: &mut Desk<H>,
-    file: File,
+    file: Synced,
     input: &mut Source<R>,
     output: &mut Sink<W>,
 ) -> Result<(), Failure>

@@ -12,6 +12,7 @@ ghost use Rattle.acdm_sessions.specs.Sessions.{session_left, session_start};
 use crate::partners::{REPLIES_HELD, announce, served_by, tell};
 use acdm_board::Desk;
 use acdm_failures::{Failure, ServeError};
+use acdm_keeping::{Opening, Replies as Behind, SharedKeeper, Synced};
 use acdm_milestones::Role;
 use acdm_partners::{
     Acceptor, Arriving, Connection, Control, Door, Place, Reception, Replies, Standing, Terms,
@@ -35,8 +36,12 @@ const MOST_KEPT: usize = LONGEST_LINE + 1;
 /// What the lines of a session come from: all its connections.
 pub(crate) type Reading<'r, Rt> = WholeLines<Arriving<'r, Rt>, Connection, MOST_KEPT>;
 
-/// What its replies go to: the connection whose lines they answer.
-pub(crate) type Writing<'r, Rt> = BufWriter<Replies<'r, Rt>>;
+/// Who keeps the journal, where it is kept, for all whose replies wait.
+pub(crate) type FileKeeper<J> = SharedKeeper<Synced, J>;
+
+/// What its replies go to: the connection whose lines they answer, once their entries are kept, where
+/// the journal is.
+pub(crate) type Writing<'r, J, Rt> = BufWriter<Behind<'r, Synced, J, Replies<'r, Rt>, Rt>>;
 
 /// How `serve` is to serve its partners, beside the rest.
 #[derive(Clone, Copy, Debug, PartialEq, Eq)]
@@ -183,13 +188,14 @@ impl Standing for Tally {
 }
 
 // A session over all connections at a place.
-fn session_at<'r, Rt: Wait + SystemClock, C: Clock + Drop>(
+fn session_at<'r, J: Opening, Rt: Wait + SystemClock, C: Clock + Drop>(
     rt: &'r Rt,
     alloc: Global,
     role: Role,
     place: Arc<Place>,
+    keeper: Option<&'r FileKeeper<J>>,
     clock: C,
-) -> Result<Session<Reading<'r, Rt>, Writing<'r, Rt>, C>, ServeError>
+) -> Result<Session<Reading<'r, Rt>, Writing<'r, J, Rt>, C>, ServeError>
     ensures role { IfOk result (λ session. session.role ≡ role) }
     ensures start { IfOk result (λ s. session_start s.role s.reader s.writer (C.gives s.clock)
         ≡ new_session role (C.gives clock)) }
@@ -201,7 +207,8 @@ fn session_at<'r, Rt: Wait + SystemClock, C: Clock + Drop>(
     let Ok(reader) = WholeLines::new(alloc, Arriving::new(rt, same)) else {
         return Err(ServeError::Memory);
     };
-    let Ok(writer) = BufWriter::with_capacity(alloc, REPLIES_HELD, Replies::new(rt, place)) else {
+    let replies = Behind::new(rt, keeper, Replies::new(rt, place));
+    let Ok(writer) = BufWriter::with_capacity(alloc, REPLIES_HELD, replies) else {
         return Err(ServeError::Memory);
     };
     Ok(Session {
@@ -213,15 +220,16 @@ fn session_at<'r, Rt: Wait + SystemClock, C: Clock + Drop>(
 }
 
 // Opens the address of a partner, and its session.
-fn open<'r, Rt: Wait + SystemClock, C: Clock + Drop>(
+fn open<'r, J: Opening, Rt: Wait + SystemClock, C: Clock + Drop>(
     rt: &'r Rt,
     alloc: Global,
     number: usize,
     partner: (Role, TcpListener, C),
     terms: Terms,
     closing: &Arc<AtomicBool>,
+    keeper: Option<&'r FileKeeper<J>>,
     addresses: &mut Addresses,
-) -> Result<Session<Reading<'r, Rt>, Writing<'r, Rt>, C>, ServeError>
+) -> Result<Session<Reading<'r, Rt>, Writing<'r, J, Rt>, C>, ServeError>
     ensures role { IfOk result (λ session. session.role ≡ partner.0) }
     ensures start { IfOk result (λ s. session_start s.role s.reader s.writer (C.gives s.clock)
         ≡ new_session partner.0 (C.gives partner.2)) }
@@ -229,18 +237,19 @@ fn open<'r, Rt: Wait + SystemClock, C: Clock + Drop>(
 {
     let (role, listener, clock) = partner;
     let place = addresses.add(alloc, number, role, listener, terms, closing)?;
-    session_at(rt, alloc, role, place, clock)
+    session_at(rt, alloc, role, place, keeper, clock)
 }
 
 // Opens the address of each partner, in order, and its session.
-fn open_all<'r, Rt: Wait + SystemClock, C: Clock + Drop>(
+fn open_all<'r, J: Opening, Rt: Wait + SystemClock, C: Clock + Drop>(
     rt: &'r Rt,
     alloc: Global,
     partners: Vec<(Role, TcpListener, C)>,
     terms: Terms,
     closing: &Arc<AtomicBool>,
+    keeper: Option<&'r FileKeeper<J>>,
     addresses: &mut Addresses,
-) -> Result<Vec<Session<Reading<'r, Rt>, Writing<'r, Rt>, C>>, ServeError>
+) -> Result<Vec<Session<Reading<'r, Rt>, Writing<'r, J, Rt>, C>>, ServeError>
     ensures len { IfOk result (λ sessions. vec_len sessions ≡ vec_len partners) }
     ensures roles { IfOk result (λ sessions. map (λ s. s.role) sessions.items
         ≡ map (λ p. p.0) partners.items) }
@@ -254,7 +263,9 @@ fn open_all<'r, Rt: Wait + SystemClock, C: Clock + Drop>(
     };
     for partner in partners {
         let number = sessions.len() + 1;
-        let session = open(rt, alloc, number, partner, terms, closing, addresses)?;
+        let session = open(
+            rt, alloc, number, partner, terms, closing, keeper, addresses,
+        )?;
         sessions.push_reserved(session);
     }
     Ok(sessions)
@@ -295,15 +306,16 @@ fn receive<Rt: Threads + Wait + SystemClock + Eprint + Clone + Drop + Send + 'st
 }
 
 // Tells of the listeners, and opens the sessions of their partners.
-fn opened<'r, Rt: Wait + SystemClock, C: Clock + Drop, W: Write>(
+fn opened<'r, J: Opening, Rt: Wait + SystemClock, C: Clock + Drop, W: Write>(
     rt: &'r Rt,
     alloc: Global,
     partners: Vec<(Role, TcpListener, C)>,
     terms: Terms,
     closing: &Arc<AtomicBool>,
+    keeper: Option<&'r FileKeeper<J>>,
     addresses: &mut Addresses,
     writer: &mut Sink<W>,
-) -> Result<Vec<Session<Reading<'r, Rt>, Writing<'r, Rt>, C>>, ServeError>
+) -> Result<Vec<Session<Reading<'r, Rt>, Writing<'r, J, Rt>, C>>, ServeError>
     requires few { vec_len partners ≤ 64 }
     ensures len { IfOk result (λ sessions. vec_len sessions ≡ vec_len partners) }
     ensures roles { IfOk result (λ sessions. map (λ s. s.role) sessions.items
@@ -315,12 +327,13 @@ fn opened<'r, Rt: Wait + SystemClock, C: Clock + Drop, W: Write>(
     ensures fails { IfErr result (FailsToTell writer.old writer.new) }
 {
     announce(alloc, partners.as_slice(), writer)?;
-    open_all(rt, alloc, partners, terms, closing, addresses)
+    open_all(rt, alloc, partners, terms, closing, keeper, addresses)
 }
 
 // Serves the sessions while partners are accepted.
 fn served_while<
     'r,
+    J: Opening + Send + Sync,
     Rt: Threads + Wait + SystemClock + Eprint + Clone + Drop + Send + Sync + 'static,
     H: Helpers + Drop + Send,
     C: Clock + Drop + Send,
@@ -328,12 +341,12 @@ fn served_while<
     rt: &'r Rt,
     alloc: Global,
     desk: Desk<H>,
-    sessions: Vec<Session<Reading<'r, Rt>, Writing<'r, Rt>, C>>,
+    sessions: Vec<Session<Reading<'r, Rt>, Writing<'r, J, Rt>, C>>,
     addresses: Addresses,
     control: Option<Control>,
     closing: Arc<AtomicBool>,
     again: bool,
-) -> Result<Closed<H, Reading<'r, Rt>, Writing<'r, Rt>, C>, ServeError>
+) -> Result<Closed<H, Reading<'r, Rt>, Writing<'r, J, Rt>, C>, ServeError>
     requires few { vec_len sessions ≤ 64 }
     ensures sum { IfOk result (λ c. length c.desk.history
         ≡ length desk.history + sum_by (λ e. e.calls) c.sessions.items) }
@@ -361,12 +374,14 @@ fn served_while<
 
 /// Serves a partner on each listener, all at once against one desk, as `serve_on`, by these terms: who
 /// connects is served at once, and where they say so, each session goes on with the next who connects.
-/// At the control address the board can be closed: all sessions end then.
+/// At the control address the board can be closed, as by the word: all sessions end then. Replies wait
+/// for the keeper, if there is one.
 ///
 /// `Accept` where a listener has no address or can't be asked; `Write` where the writer failed, which may
 /// be after the sessions; `Memory` where it was refused before they began, or no thread could be made.
 pub(crate) fn serve_again<
     'r,
+    J: Opening + Send + Sync,
     Rt: Threads + Wait + SystemClock + Eprint + Clone + Drop + Send + Sync + 'static,
     H: Helpers + Drop + Send,
     C: Clock + Drop + Send,
@@ -377,9 +392,11 @@ pub(crate) fn serve_again<
     partners: Vec<(Role, TcpListener, C)>,
     terms: Terms,
     control: Option<Control>,
+    closing: Arc<AtomicBool>,
+    keeper: Option<&'r FileKeeper<J>>,
     desk: Desk<H>,
     writer: &mut Sink<W>,
-) -> Result<Closed<H, Reading<'r, Rt>, Writing<'r, Rt>, C>, ServeError>
+) -> Result<Closed<H, Reading<'r, Rt>, Writing<'r, J, Rt>, C>, ServeError>
     requires few { vec_len partners ≤ 64 }
     ensures sum { IfOk result (λ c. length c.desk.history
         ≡ length desk.history + sum_by (λ e. e.calls) c.sessions.items) }
@@ -398,11 +415,9 @@ pub(crate) fn serve_again<
         (length c.desk.history) writer.old writer.new) }
     ensures fails { IfErr result (FailsToTell writer.old writer.new) }
 {
-    let Ok(closing) = Arc::new(alloc, AtomicBool::new(false)) else {
-        return Err(ServeError::Memory);
-    };
     let mut addresses = Addresses::new(alloc);
-    let sessions = opened(rt, alloc, partners, terms, &closing, &mut addresses, writer)?;
+    let open = &mut addresses;
+    let sessions = opened(rt, alloc, partners, terms, &closing, keeper, open, writer)?;
     let closed = served_while(
         rt,
         alloc,

@@ -10,6 +10,7 @@ mod minutes;
 mod partners;
 mod saving;
 mod serve_command;
+mod serve_keeping;
 mod serving;
 
 pub use acdm_failures::{Failure, ServeError};

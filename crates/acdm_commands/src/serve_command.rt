@@ -7,13 +7,14 @@ ghost use Rattle.acdm_judging.specs.Helpers.{helpers as known};
 ghost use Rattle.acdm_sessions.specs.Sessions.{new_session};
 
 use crate::addresses::{Partner, listen};
-use crate::lasting::{Service, serve_again};
+use crate::lasting::{FileKeeper, Service, serve_again};
 use crate::partners::serve_on;
 use crate::saving::save;
 use acdm_board::Desk;
 use acdm_displays::{Displays, Form};
 use acdm_failures::{Failure, ended};
 use acdm_judging::KnownHelpers;
+use acdm_keeping::Opening;
 use acdm_milestones::Role;
 use acdm_partners::{Control, Terms};
 use acdm_row::Row;
@@ -21,7 +22,9 @@ use acdm_sessions::{Clock, Sink};
 use bpf_helpers::Helpers;
 use std::alloc::Global;
 use std::io::{Eprint, Write};
+use std::marker::Brand;
 use std::net::{Net, TcpListener, TcpStream};
+use std::sync::atomic::AtomicBool;
 use std::sync::{Arc, Wait};
 use std::thread::Threads;
 use std::time::Clock as SystemClock;
@@ -165,14 +168,14 @@ fn few_partners<'r, Rt: Net<Listener = TcpListener, Stream = TcpStream> + System
     Ok(partners)
 }
 
-// Displays that are sent the journal, those that are told what it changes, and browsers.
+/// Displays that are sent the journal, those that are told what it changes, and browsers.
 #[derive(Drop)]
-struct Outlets {
+pub(crate) struct Outlets {
     open: Vec<Displays>,
 }
 
-// Lets all displays go, once they were sent what there is.
-fn close_all<Rt: SystemClock + Threads>(rt: &Rt, outlets: Outlets) {
+/// Lets all displays go, once they were sent what there is.
+pub(crate) fn close_all<Rt: SystemClock + Threads>(rt: &Rt, outlets: Outlets) {
     let Outlets { open } = outlets;
     for displays in open {
         displays.close(rt);
@@ -232,12 +235,7 @@ fn outlets_of<
         + Drop
         + Send
         + 'static,
->(
-    rt: &Rt,
-    alloc: Global,
-    row: &Arc<Row>,
-    audience: Audience<'_>,
-) -> Result<Outlets, Failure> {
+>(rt: &Rt, alloc: Global, row: &Arc<Row>, audience: Audience<'_>) -> Result<Outlets, Failure> {
     let mut outlets = Outlets {
         open: Vec::with_capacity(alloc, 3)?,
     };
@@ -250,8 +248,8 @@ fn outlets_of<
     }
 }
 
-// Listens for partners, and for displays of a row.
-fn opened<
+/// Listens for partners, and for displays of a row.
+pub(crate) fn opened<
     'r,
     Rt: Net<Listener = TcpListener, Stream = TcpStream>
         + SystemClock
@@ -303,19 +301,44 @@ fn serve_all<
         saved.new result }
 {
     if service.is_plain() {
-        serve_once(rt, alloc, partners, desk, writer, saved)
-    } else {
-        serve_lasting(
-            rt,
-            alloc,
-            partners,
-            desk,
-            service.terms(),
-            control,
-            writer,
-            saved,
-        )
+        return serve_once(rt, alloc, partners, desk, writer, saved);
     }
+    let closing = Arc::new(alloc, AtomicBool::new(false))?;
+    let terms = service.terms();
+    serve_unkept::<Brand, Rt, H, C, W, F>(
+        rt, alloc, partners, desk, terms, control, closing, writer, saved,
+    )
+}
+
+// Serves partners by these terms. The journal is not kept.
+fn serve_unkept<
+    'r,
+    J: Opening + Send + Sync + 'r,
+    Rt: SystemClock + Eprint + Threads + Wait + Clone + Drop + Send + Sync + 'static,
+    H: Helpers + Drop + Send,
+    C: Clock + Drop + Send,
+    W: Write,
+    F: Write + Drop,
+>(
+    rt: &'r Rt,
+    alloc: Global,
+    partners: Vec<(Role, TcpListener, C)>,
+    desk: Desk<H>,
+    terms: Terms,
+    control: Option<Control>,
+    closing: Arc<AtomicBool>,
+    writer: &mut Sink<W>,
+    saved: &mut Option<Sink<F>>,
+) -> Result<(), Failure>
+    requires { vec_len partners ≤ 64 }
+    ensures { ServesPartnersTo desk (map (λ p. p.0) partners.items)
+        (map (λ p. new_session p.0 (C.gives p.2)) partners.items) writer.old writer.new saved.old
+        saved.new result }
+{
+    let keeper: Option<&'r FileKeeper<J>> = None;
+    serve_lasting(
+        rt, alloc, partners, desk, terms, control, closing, keeper, writer, saved,
+    )
 }
 
 // Serves each partner to the end of its connection, and saves what they made.
@@ -342,20 +365,25 @@ fn serve_once<
     save(alloc, &mut closed.desk, saved)
 }
 
-// Serves partners by these terms, and saves what they made.
+// Serves partners by these terms, whose replies wait for the keeper, if there is one, and saves what they
+// made.
 fn serve_lasting<
+    'r,
+    J: Opening + Send + Sync,
     Rt: SystemClock + Eprint + Threads + Wait + Clone + Drop + Send + Sync + 'static,
     H: Helpers + Drop + Send,
     C: Clock + Drop + Send,
     W: Write,
     F: Write + Drop,
 >(
-    rt: &Rt,
+    rt: &'r Rt,
     alloc: Global,
     partners: Vec<(Role, TcpListener, C)>,
     desk: Desk<H>,
     terms: Terms,
     control: Option<Control>,
+    closing: Arc<AtomicBool>,
+    keeper: Option<&'r FileKeeper<J>>,
     writer: &mut Sink<W>,
     saved: &mut Option<Sink<F>>,
 ) -> Result<(), Failure>
@@ -364,6 +392,8 @@ fn serve_lasting<
         (map (λ p. new_session p.0 (C.gives p.2)) partners.items) writer.old writer.new saved.old
         saved.new result }
 {
-    let mut lasted = serve_again(rt, alloc, partners, terms, control, desk, writer)?;
+    let mut lasted = serve_again(
+        rt, alloc, partners, terms, control, closing, keeper, desk, writer,
+    )?;
     save(alloc, &mut lasted.desk, saved)
 }

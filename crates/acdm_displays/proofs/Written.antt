@@ -257,15 +257,13 @@ pub says_events : (last : Option ℕ) (known later_known : Known) (from later_fr
     → EventsFrom later_known later_from later begun new)
     → SaysEvents last later before new
 says_events last known later_known from later_from seen later before old new (inl (n, is, few, k)) follows =
-    let t = follows (at_event before n (reverse seen)) k in
-    (
+    let t = follows (at_event before n (reverse seen)) k in (
       reverse seen,
       t.front,
       inl (n, is, subst (λ l. n ≤ l) (sym (length-reverse seen)) few, t.told),
     )
 says_events last known later_known from later_from seen later before old new (inr (past, k)) follows =
-    let t = follows (at_board_event before (reverse seen)) k in
-    (
+    let t = follows (at_board_event before (reverse seen)) k in (
       reverse seen,
       t.front,
       inr (subst (λ l. IsPast last l) (sym (length-reverse seen)) past, t.told),

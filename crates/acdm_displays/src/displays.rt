@@ -155,8 +155,7 @@ fn show_page(
     wanted: Wanted,
     mut reader: TcpStream,
     stream: TcpStream,
-) -> Result<Sink<TcpStream>, Failure>
-{
+) -> Result<Sink<TcpStream>, Failure> {
     let mut writer = Sink::new(stream);
     answer(alloc, wanted, PAGE, &mut writer)?;
     part(&mut reader);

@@ -1,8 +1,7 @@
 -- What tells whether two names are one, and the first value of a name.
-use Rattle.std.proofs.Common.{◌≡◌, ℕ, Bool, true, false, List, ◌∷◌, map, codes, refl, sym, ap, subst, ◌∙◌, IsTrue, ◌↔◌, All, length}
+use Rattle.std.proofs.Common.{◌≡◌, ℕ, Bool, true, false, List, ◌∷◌, map, refl, sym, ap, subst, ◌∙◌, IsTrue, ◌↔◌, All, length}
 use Rattle.std.proofs.Common.{if◌then◌else◌}
 use Rattle.std.specs.Prelude.{Some}
-use Rattle.std.specs.Char.{to_ascii_lowercase}
 use Rattle.std.specs.Str.{bytes_eq}
 use Rattle.std.proofs.lemmas.Slice.Eq.{bytes_eq-Decides}
 use Rattle.std.proofs.lemmas.List.Elements.{All-tail}
@@ -25,8 +24,7 @@ pub passed_over : (buf : List ℕ) (field : HeaderSpan) (more rest : List Header
     → (value_of (map (header_bytes buf) more) ≡ wanted) × All (IsHeaderWithin (length buf)) more
 passed_over buf field more rest wanted is other here =
     let value = subst (λ r. value_of (map (header_bytes buf) r) ≡ wanted) is here.0 in
-    let within = subst (λ r. All (IsHeaderWithin (length buf)) r) is here.1 in
-    (
+    let within = subst (λ r. All (IsHeaderWithin (length buf)) r) is here.1 in (
       sym (ap (λ b. if b then Some (header_bytes buf field).1 else value_of (map (header_bytes buf) more)) other)
           ∙ value,
       All-tail (IsHeaderWithin (length buf)) field more within,

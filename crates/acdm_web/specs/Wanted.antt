@@ -1,6 +1,6 @@
 -- What a browser asks for by the head of a request (RFC 9112; the HTML standard, "Server-sent events"; the paths
 -- and the ids: this project's profile).
-use Rattle.std.specs.Prelude.{ℕ, ◌≡◌, ◌≢◌, ◌<◌, ◌^◌, Bool, IsUtf8, List, [], ◌∷◌, ◌++◌, Option, Some, None, if◌then◌else◌, codes, length, map, ⊤}
+use Rattle.std.specs.Prelude.{ℕ, ◌≡◌, ◌≢◌, ◌<◌, ◌^◌, Bool, IsUtf8, List, [], ◌∷◌, Option, Some, None, if◌then◌else◌, codes, map, ⊤}
 use Rattle.std.specs.Str.{str_eq_ignore_ascii_case}
 use Rattle.std.specs.Str.Parse.{IsNumeral, digits_value, without_leading_plus}
 use Rattle.httparse.specs.Grammar.{ReadsRequest, RequestHead}

@@ -9,7 +9,8 @@ use itoa::Buffer;
 use std::alloc::AllocError;
 
 /// What a page may load and run: what stands in it, and the events of where it came from.
-const POLICY: &str = "Content-Security-Policy: default-src 'none'; style-src 'unsafe-inline'; script-src 'unsafe-inline'; connect-src 'self'; base-uri 'none'; frame-ancestors 'self'";
+const POLICY: &str =
+    "Content-Security-Policy: default-src 'none'; style-src 'unsafe-inline'; script-src 'unsafe-inline'; connect-src 'self'; base-uri 'none'; frame-ancestors 'self'";
 
 // Adds words.
 fn push_words(text: &mut Vec<u8>, words: &str) -> Result<(), AllocError>

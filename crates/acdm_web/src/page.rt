@@ -1,8 +1,7 @@
 //! The page for browsers, which clients/web/embed.py writes from clients/web/page.html.
 
 /// The page, complete in itself.
-pub static PAGE: &str =
-    r##"<!DOCTYPE html>
+pub static PAGE: &str = r##"<!DOCTYPE html>
 <html lang="en"><head><meta charset="utf-8"><meta name="viewport" content="width=device-width,initial-scale=1">
 <title>A-CDM board</title>
 <style>
@@ -20,7 +19,7 @@ tr.alerted td:first-child{border-left:4px solid var(--alert)}td.alerts{white-spa
 .alert{display:inline-block;margin:0 4px 2px 0;padding:0 5px;border:1px solid var(--alert);border-radius:3px;color:var(--alert)}.alert.local{border-color:var(--local);color:var(--local)}
 small{color:var(--faint)}.soon{color:var(--local);font-weight:700}.past{color:var(--alert);font-weight:700}
 #refused{padding:8px 12px;color:var(--faint)}dialog{border:1px solid var(--line);background:var(--back);color:var(--text);max-width:95vw}dialog td{padding:2px 10px}#day{width:900px;max-width:90vw}svg text{font-size:12px}.axis{stroke:var(--faint);stroke-width:2}.stem{stroke:var(--line)}circle.actual,text.actual{fill:var(--actual)}path.target{fill:var(--back);stroke:var(--warn);stroke-width:1.5}text.target{fill:var(--warn)}
-#none{padding:24px 12px;color:var(--faint)}
+#none,#more{padding:24px 12px;color:var(--faint)}
 @media(max-width:760px){thead{display:none}tbody tr{display:grid;grid-template-columns:repeat(4,auto);padding:6px 4px;border-bottom:1px solid var(--line)}td{border:0;padding:2px 6px}td[data-name]:before{content:attr(data-name) " ";color:var(--faint);font-size:11px}td.wide{grid-column:1/-1}}
 </style></head><body>
 <header><span id="clock">--:--</span><span id="state" role="status">connecting</span><span id="sums"></span><span id="partners"></span>
@@ -28,15 +27,15 @@ small{color:var(--faint)}.soon{color:var(--local);font-weight:700}.past{color:va
 <label><input id="only" type="checkbox"> alerts only</label><label><input id="gone" type="checkbox"> departed too</label>
 <label title="A text file of the airport's, a line each, as: LOC03 de-icing late">Names of local alerts <input id="names" type="file" accept=".txt,text/plain"></label></header>
 <table><thead><tr><th>Flight<th>Type, registration<th>To<th>Stand<th>Milestones<th>ELDT or ALDT<th>AIBT<th>EOBT<th>TOBT<th>TSAT<th>CTOT<th>Alerts</tr></thead><tbody id="rows"></tbody></table>
-<p id="none" hidden>No flight to show.</p><p id="refused"></p><dialog id="one"><form method="dialog"><button autofocus>Close</button></form><div id="day"></div><table id="detail"></table></dialog>
+<p id="more" hidden></p><p id="none" hidden>No flight to show.</p><p id="refused"></p><dialog id="one"><form method="dialog"><button autofocus>Close</button></form><div id="day"></div><table id="detail"></table></dialog>
 <script>
 "use strict";
 const WORDS={CDM01:"no airport slot",CDM02:"SOBT and EOBT differ",CDM03:"aircraft types differ",CDM04:"registrations differ",CDM05:"destinations differ",CDM07:"EOBT too early for the turn-round",CDM07a:"TOBT too early for the turn-round",CDM08:"TOBT over 15 min from EOBT",CDM09:"boarding not started",CDM10:"TOBT taken back",CDM11:"TSAT missed",CDM12:"start-up off its TSAT",CDM13:"no flight plan",CDM14:"no automatic TOBT"};
 const OWNER=["","NM","NM","NM","ATC","ATC","ATC","APT","GH","AO","ATC","AO","AO","ATC","ATC","APT","ATC"];
 const NAMES=["","flight plan","EOBT minus 2 h","take-off from outstation","radar update","final approach","landed","in-block","ground handling","TOBT","TSAT","boarding","ready","start-up request","start-up approved","off-block","take-off"];
 const REFUSED={201:"role does not own the command",202:"no such flight",203:"a needed milestone was not reached",204:"a milestone bars it",205:"TOBT or TSAT not set",206:"times in the wrong order",207:"already planned",321:"no program in the slot",323:"other record length",324:"migrated already",325:"not migrated",503:"board full"};
-const at=(id)=>document.getElementById(id),flights=new Map(),rows=new Map(),partners=new Map(),reported=new Map(),dirty=new Set();
-let next=0,refused=[],all=true,heard=0,local={};
+const STEP=200,at=(id)=>document.getElementById(id),flights=new Map(),facts=new Map(),rows=new Map(),partners=new Map(),reported=new Map(),stale=new Set();
+let next=0,refused=[],all=true,heard=0,alerted=0,most=STEP,local={};
 try{local=JSON.parse(localStorage.getItem("names"))||{}}catch{}
 const clock=(t)=>t?t.slice(-9,-4):"–",tag=(name,text,kind)=>{const it=document.createElement(name);if(text!==undefined)it.textContent=text;if(kind)it.className=kind;return it};
 const half=(f,key)=>f["plan_"+key]||f["scheduled_"+key],words=(a)=>WORDS[a]||local[a]||"local alert "+a.slice(3);
@@ -47,23 +46,27 @@ function cells(f){const it=tag("td",undefined,"cells wide");for(let n=1;n<=16;n+
 function row(f){const tr=rows.get(f.flight)||tag("tr");rows.set(f.flight,tr);tr.tabIndex=0;tr.dataset.flight=f.flight;tr.className=f.alerts.length?"alerted":"";
 const first=tag("td");first.append(tag("b",f.callsign)," ",tag("small",f.flight));const alerts=tag("td",undefined,"alerts wide");for(const a of f.alerts){const it=tag("span",words(a),"alert"+(a.startsWith("LOC")?" local":""));it.title=a;alerts.append(it)}
 const named=(name,td)=>{td.dataset.name=name;return td},land=tag("td");land.append(f.aldt?tag("b",clock(f.aldt)):clock(f.eldt));
-tr.replaceChildren(first,tag("td",half(f,"type")+" "+half(f,"reg")),named("to",tag("td",half(f,"dest"))),named("stand",tag("td",f.stand||"–")),cells(f),named("land",land),named("AIBT",tag("td",clock(f.aibt))),named("EOBT",tag("td",clock(f.eobt))),named("TOBT",target(f.tobt,f.aobt)),named("TSAT",target(f.tsat,f.asat)),named("CTOT",tag("td",clock(f.ctot))),alerts);
-tr.search=[f.callsign,f.flight,half(f,"type"),half(f,"reg"),half(f,"dest"),"stand "+f.stand,...f.alerts,...f.alerts.map(words)].join(" ").toLowerCase();tr.order=(f.tobt||f.eobt||f.sobt||"~")+(f.eobt||"~")+f.flight.padStart(20,"0");return tr}
+tr.replaceChildren(first,tag("td",half(f,"type")+" "+half(f,"reg")),named("to",tag("td",half(f,"dest"))),named("stand",tag("td",f.stand||"–")),cells(f),named("land",land),named("AIBT",tag("td",clock(f.aibt))),named("EOBT",tag("td",clock(f.eobt))),named("TOBT",target(f.tobt,f.aobt)),named("TSAT",target(f.tsat,f.asat)),named("CTOT",tag("td",clock(f.ctot))),alerts); return tr}
+// What a flight is found and put in order by.
+function fact(f){return{search:[f.callsign,f.flight,half(f,"type"),half(f,"reg"),half(f,"dest"),"stand "+f.stand,...f.alerts,...f.alerts.map(words)].join(" ").toLowerCase(),order:(f.tobt||f.eobt||f.sobt||"~")+(f.eobt||"~")+f.flight.padStart(20,"0")}}
+function put(f){flights.set(f.flight,f);facts.set(f.flight,fact(f));stale.add(f.flight)}
 function draw(){const now=new Date().toISOString();at("clock").textContent=now.slice(11,16)+"Z";
-for(const id of all?flights.keys():dirty)row(flights.get(id));
-const changed=all||dirty.size;dirty.clear();all=false;
-const asked=at("text").value.toLowerCase().split(/\s+/).filter(Boolean);let shown=0,alerted=0;
-if(changed||draw.again){draw.again=false;const body=at("rows"),list=[];for(const[id,f]of flights){const tr=rows.get(id);if(f.alerts.length)alerted++;
-if((at("gone").checked||!f.reached.includes(16))&&(!at("only").checked||f.alerts.length)&&asked.every((w)=>tr.search.includes(w)))list.push(tr)}
-list.sort((a,b)=>a.order<b.order?-1:a.order>b.order?1:0);let place=body.firstChild;for(const tr of list){if(tr===place)place=place.nextSibling;else body.insertBefore(tr,place)}while(place){const gone=place;place=place.nextSibling;gone.remove()}
-shown=list.length;at("none").hidden=shown>0;at("sums").textContent=(next?"entry "+(next-1)+", ":"")+shown+" of "+flights.size+" flights, "+alerted+" with alerts";
+if(all){all=false;draw.again=true;for(const f of flights.values())put(f)}
+if(draw.again){draw.again=false;const body=at("rows"),asked=at("text").value.toLowerCase().split(/\s+/).filter(Boolean),list=[];alerted=0;
+for(const[id,f]of flights){if(f.alerts.length)alerted++;if((at("gone").checked||!f.reached.includes(16))&&(!at("only").checked||f.alerts.length)&&asked.every((w)=>facts.get(id).search.includes(w)))list.push(id)}
+list.sort((a,b)=>facts.get(a).order<facts.get(b).order?-1:1);const seen=new Set(list.slice(0,most));
+// Rows are made for those in sight alone; more come as the end of them is scrolled to.
+for(const id of rows.keys())if(!seen.has(id)){rows.get(id).remove();rows.delete(id)}
+let place=body.firstChild;for(const id of seen){const tr=rows.has(id)&&!stale.has(id)?rows.get(id):row(flights.get(id));stale.delete(id);if(tr===place)place=place.nextSibling;else body.insertBefore(tr,place)}
+at("more").hidden=list.length<=most;at("more").textContent=list.length-most+" more";at("none").hidden=list.length>0;
+at("sums").textContent=(next?"entry "+(next-1)+", ":"")+list.length+" of "+flights.size+" flights, "+alerted+" with alerts";
 at("partners").replaceChildren(...[...partners].sort((a,b)=>a[0]-b[0]).flatMap(([session,p])=>{const old=Date.now()-Date.parse(p.last)>18e5,it=tag("span",p.role+" "+session+" "+clock(p.last)+(old?" (silent)":"")+(p.refused?", "+p.refused+" refused":""),"partner"+(old?" old":""));return[it," "]}));
 at("refused").textContent=refused.length?"Refused last: "+refused.map((e)=>clock(e.minute)+" "+e.role+" "+e.command.cmd+(e.command.flight?" "+e.command.flight:"")+": "+(REFUSED[e.outcome.code]||e.outcome.name)).join("; "):""}}
 let waits=false;function soon(){draw.again=true;if(!waits){waits=true;requestAnimationFrame(()=>{waits=false;draw()})}}
-function take(line){if(line.flights){flights.clear();rows.clear();at("rows").replaceChildren();for(const f of line.flights)flights.set(f.flight,f);next=line.next;all=true;return}
+function take(line){if(line.flights){flights.clear();facts.clear();rows.clear();at("rows").replaceChildren();for(const f of line.flights)put(f);next=line.next;return}
 if(line.entry<next)return;next=line.entry+1;const p=partners.get(line.session)||{role:line.role,refused:0};p.last=line.minute;partners.set(line.session,p);
 if(line.outcome!=="ok"){p.refused++;refused=[line,...refused].slice(0,5)}else if(line.command.cmd==="report")reported.set(line.command.flight+"/"+line.command.milestone,line);
-for(const f of line.changed){flights.set(f.flight,f);dirty.add(f.flight)}}
+for(const f of line.changed)put(f)}
 const source=new EventSource("/events");
 source.onopen=()=>{at("state").textContent="live";at("state").className=""};
 source.onerror=()=>{at("state").textContent="connection lost, trying again";at("state").className="lost"};
@@ -83,6 +86,7 @@ function open(id){const f=flights.get(id);if(!f)return;const lines=[["call sign"
 at("detail").replaceChildren(...lines.map(([name,value])=>{const tr=tag("tr");tr.append(tag("td",name),tag("td",value));return tr}));at("day").replaceChildren(dayline(f));at("one").showModal()}
 at("rows").addEventListener("click",(e)=>open(e.target.closest("tr").dataset.flight));
 at("rows").addEventListener("keydown",(e)=>{const tr=e.target.closest("tr");if(e.key==="Enter")open(tr.dataset.flight);const to=e.key==="ArrowDown"?tr.nextSibling:e.key==="ArrowUp"?tr.previousSibling:null;if(to){to.focus();e.preventDefault()}});
-setInterval(()=>{all=true;soon()},60000);setInterval(draw,1000);soon();
+new IntersectionObserver((seen)=>{if(seen.some((it)=>it.isIntersecting)){most+=STEP;soon()}},{rootMargin:"400px"}).observe(at("more"));
+setInterval(()=>{for(const id of rows.keys())stale.add(id);soon()},60000);setInterval(draw,1000);soon();
 </script></body></html>
 "##;

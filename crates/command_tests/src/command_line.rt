@@ -32,6 +32,7 @@ fn a_journal_is_read_or_the_usual_one(rt: HostRuntime) {
             journal: *journal,
             save: None,
             keep: None,
+            sync: false,
         };
         assert!(rt; asks_for(rt.alloc(), *words, &wanted), "{journal}");
     }
@@ -130,6 +131,7 @@ fn a_journal_is_saved_where_it_is_said(rt: HostRuntime) {
     let save = Some("day.txt");
     let journal = 100_000;
     let keep = None;
+    let sync = false;
     assert!(rt;
         asks_for(
             alloc,
@@ -137,7 +139,8 @@ fn a_journal_is_saved_where_it_is_said(rt: HostRuntime) {
             &Line::Run {
                 journal,
                 save,
-                keep
+                keep,
+                sync
             }
         )
     );
@@ -148,9 +151,18 @@ fn a_journal_is_saved_where_it_is_said(rt: HostRuntime) {
 #[test]
 fn a_journal_is_kept_where_it_is_said(rt: HostRuntime) {
     let alloc = rt.alloc();
-    let words = ["acdm", "run", "--keep", "day.txt", "--journal", "7"];
+    let words = [
+        "acdm",
+        "run",
+        "--keep",
+        "day.txt",
+        "--sync",
+        "--journal",
+        "7",
+    ];
     let save = None;
     let keep = Some("day.txt");
+    let sync = true;
     let journal = 7;
     assert!(rt;
         asks_for(
@@ -159,7 +171,8 @@ fn a_journal_is_kept_where_it_is_said(rt: HostRuntime) {
             &Line::Run {
                 journal,
                 save,
-                keep
+                keep,
+                sync
             }
         )
     );
@@ -172,6 +185,8 @@ fn asks_to_serve(alloc: Global, words: &[&str], wanted: usize, words_wanted: &[&
             Line::Serve {
                 journal,
                 save,
+                keep: None,
+                sync: false,
                 watch,
                 changes,
                 web,
@@ -209,6 +224,32 @@ fn a_board_is_watched_where_it_is_said(rt: HostRuntime) {
     assert!(rt; asks_to_keep(alloc, &words, None, Some("[::1]:4000")));
     assert!(rt; is_refused(alloc, &["acdm", "run", "--watch", "127.0.0.1:0"]));
     assert!(rt; is_refused(alloc, &["acdm", "serve", "--watch", "127.0.0.1:0"]));
+}
+
+// Whether these words ask to serve with a journal that is kept in this file.
+fn asks_to_serve_from(alloc: Global, words: &[&str], file: &str, is_synced: bool) -> bool {
+    match parse(alloc, words) {
+        Ok(Line::Serve { keep, sync, .. }) => keep == Some(file) && sync == is_synced,
+        _ => false,
+    }
+}
+
+#[test]
+fn partners_make_a_journal_that_is_kept_where_it_is_said(rt: HostRuntime) {
+    let alloc = rt.alloc();
+    let words = ["acdm", "serve", "--keep", "day.txt", "NM=127.0.0.1:0"];
+    assert!(rt; asks_to_serve_from(alloc, &words, "day.txt", false));
+    let words = [
+        "acdm",
+        "serve",
+        "--sync",
+        "--keep",
+        "day.txt",
+        "NM=127.0.0.1:0",
+    ];
+    assert!(rt; asks_to_serve_from(alloc, &words, "day.txt", true));
+    assert!(rt; is_refused(alloc, &["acdm", "serve", "--keep", "NM=127.0.0.1:0"]));
+    assert!(rt; is_refused(alloc, &["acdm", "audit", "--sync", "day.txt"]));
 }
 
 // Whether these words ask for a page for browsers at an address.

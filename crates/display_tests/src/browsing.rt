@@ -15,8 +15,14 @@ static REQUESTS: [(&str, Option<Wanted>); 16] = [
     ("GET / HTTP/1.1\r\nHost: board\r\n\r\n", Some(Wanted::Page)),
     ("GET / HTTP/1.0\r\n\r\n", Some(Wanted::Page)),
     ("GET /events HTTP/1.1\r\n\r\n", Some(Wanted::Events(None))),
-    ("GET /events HTTP/1.1\r\nLast-Event-ID: 7\r\n\r\n", Some(Wanted::Events(Some(7)))),
-    ("GET /events HTTP/1.1\r\nA: 1\r\nlast-event-id:\t8 \r\n\r\n", Some(Wanted::Events(Some(8)))),
+    (
+        "GET /events HTTP/1.1\r\nLast-Event-ID: 7\r\n\r\n",
+        Some(Wanted::Events(Some(7))),
+    ),
+    (
+        "GET /events HTTP/1.1\r\nA: 1\r\nlast-event-id:\t8 \r\n\r\n",
+        Some(Wanted::Events(Some(8))),
+    ),
     (
         "GET /events HTTP/1.1\r\nLast-Event-ID: 18446744073709551615\r\n\r\n",
         Some(Wanted::Events(Some(u64::MAX))),
@@ -25,7 +31,10 @@ static REQUESTS: [(&str, Option<Wanted>); 16] = [
         "GET /events HTTP/1.1\r\nLast-Event-ID: 18446744073709551616\r\n\r\n",
         Some(Wanted::Events(None)),
     ),
-    ("GET /events HTTP/1.1\r\nLast-Event-ID: x\r\n\r\n", Some(Wanted::Events(None))),
+    (
+        "GET /events HTTP/1.1\r\nLast-Event-ID: x\r\n\r\n",
+        Some(Wanted::Events(None)),
+    ),
     ("GET /events?x HTTP/1.1\r\n\r\n", Some(Wanted::Nothing)),
     ("GET /favicon.ico HTTP/1.1\r\n\r\n", Some(Wanted::Nothing)),
     ("POST / HTTP/1.1\r\n\r\n", Some(Wanted::OtherMethod)),
@@ -71,13 +80,21 @@ static ANSWERS: [(Wanted, &str, &str); 4] = [
         "HTTP/1.1 200 OK\r\nContent-Type: text/html; charset=utf-8\r\nContent-Length: 4\r\n",
         "\r\n\r\npage",
     ),
-    (Wanted::Nothing, "HTTP/1.1 404 Not Found\r\nContent-Length: 0\r\n", "\r\n\r\n"),
+    (
+        Wanted::Nothing,
+        "HTTP/1.1 404 Not Found\r\nContent-Length: 0\r\n",
+        "\r\n\r\n",
+    ),
     (
         Wanted::OtherMethod,
         "HTTP/1.1 405 Method Not Allowed\r\nAllow: GET\r\nContent-Length: 0\r\n",
         "\r\n\r\n",
     ),
-    (Wanted::NoRequest, "HTTP/1.1 400 Bad Request\r\nContent-Length: 0\r\n", "\r\n\r\n"),
+    (
+        Wanted::NoRequest,
+        "HTTP/1.1 400 Bad Request\r\nContent-Length: 0\r\n",
+        "\r\n\r\n",
+    ),
 ];
 
 #[test]
@@ -134,7 +151,8 @@ fn told(rt: &impl Abort, alloc: Global, events: &[(&str, &str)]) -> Vec<u8> {
         write!(wanted, "id: {id}\ndata: {data}\n").expect(rt, "room for an event");
     }
     let mut text = answered(rt, alloc, Wanted::Events(None));
-    text.extend_from_slice(wanted.as_bytes()).expect(rt, "room for events");
+    text.extend_from_slice(wanted.as_bytes())
+        .expect(rt, "room for events");
     text
 }
 

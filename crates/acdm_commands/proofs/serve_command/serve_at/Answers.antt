@@ -1,5 +1,3 @@
-use Rattle.std.proofs.Common.{inl}
-use Rattle.std.proofs.lemmas.Result.{err_from_is_err_and}
 use Rattle.acdm_commands.proofs.Told.{comes_named}
 use Rattle.acdm_commands.proofs.serve_command.serve_at.Goals as goal
 

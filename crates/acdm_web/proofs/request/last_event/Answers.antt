@@ -1,4 +1,4 @@
-use Rattle.std.proofs.Common.{false, subst, sym, ◌∙◌, ◌≡◌, ap}
+use Rattle.std.proofs.Common.{sym, ◌∙◌, ap}
 use Rattle.acdm_web.specs.Wanted.{is_last_id}
 use Rattle.acdm_web.proofs.Names.{passed_over}
 use Rattle.acdm_web.proofs.request.last_event.Goals as goal

@@ -1,0 +1,230 @@
+#!/usr/bin/env python3
+"""Kills the built `acdm` while it serves partners and keeps their journal, and says what it then goes on from.
+
+    python3 bench/hostile/keep_serving.py [--program PATH] [--kills N] [--seed S]
+
+`serve --keep FILE` under 8 partners, killed at N moments by chance, a quarter of them with `--sync`, and begun again each time with
+the same words: every reply that a partner read has its entry in FILE, FILE is a legal journal with the rest of a line at most behind
+it, and the numbers go on. Then a file system that takes no more after so many bytes: no reply without its entry, the board closes by
+itself, with status 2 and its line; journals with each kind of fault, another that has the file, too little room; and `--watch` beside
+it, which sends the same text. The last line is `N cases, M failed`; status 1 where one failed.
+"""
+
+import pathlib
+import random
+import socket
+import subprocess
+import sys
+import tempfile
+import threading
+import time
+
+from cases import ALERTS, DAY, DAY_JOURNAL, PLAN, SCHEDULE, TARGET, Cases, ran, text, words
+from keep import came, legal, limited, numbers_of, whole_of
+
+PARTNERS = 8
+ROLES = ["APT", "NM", *["GH"] * (PARTNERS - 2)]
+
+
+class Board:
+    """A board that keeps its journal, and one partner for each role."""
+
+    def __init__(self, program, file, more=(), roles=ROLES, **how):
+        command = [str(program), "serve", "--keep", str(file), *more, *(f"{it}=127.0.0.1:0" for it in roles)]
+        self.ran = subprocess.Popen(command, stdin=subprocess.DEVNULL, stdout=subprocess.PIPE, stderr=subprocess.PIPE, text=True, **how)
+        self.ports = []
+        for _ in roles:
+            line = self.ran.stdout.readline()
+            if not line:
+                break
+            self.ports.append(int(line.split()[3].rsplit(":", 1)[1]))
+
+    def connect(self):
+        return [socket.create_connection(("127.0.0.1", it), timeout=30) for it in self.ports]
+
+    def end(self, seconds=30):
+        """Its status, and what it said."""
+        try:
+            said, errors = self.ran.communicate(timeout=seconds)
+        except subprocess.TimeoutExpired:
+            self.ran.kill()
+            said, errors = self.ran.communicate()
+            return "no end", said, errors
+        return self.ran.returncode, said, errors
+
+
+def talk(stream, lines, replies, window=8):
+    """Sends lines, some at once, and keeps the replies, until the connection ends."""
+    try:
+        held = b""
+        sent = got = 0
+        while got < len(lines):
+            while sent < len(lines) and sent - got < window:
+                stream.sendall(lines[sent].encode() + b"\n")
+                sent += 1
+            part = stream.recv(65536)
+            if not part:
+                return
+            held += part
+            *whole, held = held.split(b"\n")
+            got += len(whole)
+            replies += [it.decode() for it in whole]
+    except OSError:
+        pass
+
+
+def lines_of(role, is_first):
+    if role == "APT":
+        return ([SCHEDULE] if is_first else []) + [ALERTS] * 3000
+    return [PLAN if role == "NM" else TARGET] * 3000
+
+
+def killed_once(program, file, chance, more):
+    """Serves partners until the program is killed at a moment by chance; answers what each read until then."""
+    board = Board(program, file, more)
+    streams = board.connect()
+    replies = [[] for _ in streams]
+    is_first = not whole_of(file)
+    talks = [threading.Thread(target=talk, args=(it, lines_of(role, is_first), got)) for it, role, got in zip(streams, ROLES, replies)]
+    for it in talks:
+        it.start()
+    time.sleep(chance.uniform(0.0, 0.06))
+    board.ran.kill()
+    board.ran.communicate()
+    for it in talks:
+        it.join()
+    for it in streams:
+        it.close()
+    return replies
+
+
+def kills(cases, program, room, count, seed):
+    file, chance = room / "kept", random.Random(seed)
+    told_ever = 0
+    for turn in range(count):
+        before = len(whole_of(file)) if file.exists() else 0
+        replies = killed_once(program, file, chance, ["--sync"] if turn % 4 == 3 else [])
+        told = [numbers_of(text(it)) for it in replies]
+        after = len(whole_of(file)) if file.exists() else 0
+        name = f"killed {turn}, seed {seed}"
+        flat = sorted(it for numbers in told for it in numbers)
+        told_ever += len(flat)
+        cases.expect(name, all(it < after for it in flat), (after, flat[-1:]))
+        cases.expect(name, len({*flat}) == len(flat) and all(it >= before for it in flat), (before, flat[:1]))
+        cases.expect(name, all(it == sorted(it) for it in told), told)
+        cases.expect(name, legal(program, file, room), after)
+        if after > 60_000:
+            file.unlink()
+    cases.expect("many replies were read", told_ever > 10 * count, told_ever)
+    before = len(whole_of(file)) if file.exists() else 0
+    board = Board(program, file, roles=["APT"])
+    (stream,) = board.connect()
+    got = []
+    talk(stream, [ALERTS], got)
+    stream.close()
+    cases.expect("gone on", got[0].startswith(f"alerts {before} "), got)
+    ended = board.end()
+    cases.expect("ended", ended[0] == 0 and ended[1].endswith(f"closed {before + 1}\n"), ended)
+
+
+def full_disk(cases, program, room):
+    for size in [0, 1, 60, 61, *range(200, 4000, 199)]:
+        file = room / f"full-{size}"
+        board = Board(program, file, preexec_fn=limited(size))
+        streams = board.connect()
+        replies = [[] for _ in streams]
+        talks = [threading.Thread(target=talk, args=(it, lines_of(role, True), got)) for it, role, got in zip(streams, ROLES, replies)]
+        for it in talks:
+            it.start()
+        ended = board.end()
+        for it in talks:
+            it.join()
+        for it in streams:
+            it.close()
+        name = f"no more than {size} bytes"
+        told = sorted(it for got in replies for it in numbers_of(text(got)))
+        kept = len(whole_of(file))
+        cases.expect(name, ended[0] == 2 and ended[2].endswith("acdm: keep failed\n"), ended)
+        cases.expect(name, all(it < kept for it in told), (kept, told[-1:]))
+        cases.expect(name, legal(program, file, room), kept)
+
+
+def faulty(cases, program, room):
+    file = room / "faulty"
+    wrong = [
+        (DAY_JOURNAL[1:], "entry 0 402\n"),
+        (DAY_JOURNAL[:3] + ["3 5 29000580 GH 0 1 11 report 7 9 29000760"], "entry 3 404\n"),
+        (DAY_JOURNAL[:2] + ["2 2 29000580 NM 201 0 report 7 1 29000760 DLH7 A320 DAIBC EDDM"], "entry 2 405\n"),
+        (DAY_JOURNAL[:1] + ["what is this"], "entry 1 401\n"),
+        (["0 1 29000580 APT 0 0 load 9 alert 9500000000000000"], "entry 0 403\n"),
+    ]
+    serve = ["serve", "--keep", file, "APT=127.0.0.1:0"]
+    for lines, told in wrong:
+        file.write_text(text(lines) + "a rest")
+        done = came(ran(program, serve))
+        cases.expect(told, done == (1, told, ""), done)
+        cases.expect(f"untouched, {told}", file.read_text() == text(lines) + "a rest")
+    file.write_text(text(DAY_JOURNAL))
+    done = came(ran(program, ["serve", "--journal", "4", "--keep", file, "APT=127.0.0.1:0"]))
+    cases.expect("too little room", done == (2, "", "acdm: the kept journal needs a larger --journal\n"), done)
+    done = came(ran(program, ["serve", "--keep", room / "no-folder" / "file", "APT=127.0.0.1:0"]))
+    cases.expect("no folder", done == (2, "", "acdm: keep failed\n"), done)
+    done = came(ran(program, ["serve", "--keep", file, "APT=nowhere"]))
+    cases.expect("no address", done == (2, "", "acdm: address 1\n"), done)
+    cases.expect("untouched", file.read_text() == text(DAY_JOURNAL))
+
+
+def in_use(cases, program, room):
+    file = room / "used"
+    board = Board(program, file, roles=["APT"])
+    for other in (["serve", "--keep", file, "APT=127.0.0.1:0"], ["run", "--keep", file]):
+        done = came(ran(program, other))
+        cases.expect(f"in use, {other[0]}", done == (2, "", "acdm: the kept journal is in use\n"), done)
+    (stream,) = board.connect()
+    got = []
+    talk(stream, [SCHEDULE], got)
+    stream.close()
+    cases.expect("the first goes on", got == ["ok 0"], got)
+    cases.expect("and ends", board.end()[0] == 0)
+    done = came(ran(program, ["run", "--keep", file], text(DAY[1:2]).encode()))
+    cases.expect("the next goes on", done[0] == 0 and done[1] == "ok 1\n", done)
+
+
+def watched(cases, program, room):
+    """What displays are sent is the text of the file, from its first entry on."""
+    file = room / "watched"
+    file.write_text(text(DAY_JOURNAL))
+    with socket.create_server(("127.0.0.1", 0)) as it:
+        port = it.getsockname()[1]
+    board = Board(program, file, ["--watch", f"127.0.0.1:{port}", "--save", str(room / "saved")], roles=["APT", "GH"])
+    display = socket.create_connection(("127.0.0.1", port), timeout=30)
+    streams = board.connect()
+    for stream, line in zip(streams, (ALERTS, TARGET)):
+        talk(stream, [line] * 50, [])
+        stream.close()
+    ended = board.end()
+    sent = b""
+    while part := display.recv(65536):
+        sent += part
+    display.close()
+    cases.expect("ended", ended[0] == 0 and ended[1].endswith(f"closed {len(DAY_JOURNAL) + 100}\n"), ended)
+    cases.expect("displays are sent the file's text", sent == file.read_bytes(), len(sent))
+    cases.expect("and so is what is saved", (room / "saved").read_bytes() == file.read_bytes())
+
+
+def main():
+    parser = words(__doc__)
+    parser.add_argument("--kills", type=int, default=200, help="how often it is killed")
+    parser.add_argument("--seed", type=int, default=1)
+    given = parser.parse_args()
+    cases = Cases()
+    with tempfile.TemporaryDirectory(prefix="acdm-keep-") as folder:
+        room = pathlib.Path(folder)
+        for part in (faulty, in_use, watched, full_disk):
+            part(cases, given.program, room)
+        kills(cases, given.program, room, given.kills, given.seed)
+    return cases.end()
+
+
+if __name__ == "__main__":
+    sys.exit(main())

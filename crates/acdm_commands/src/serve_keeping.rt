@@ -1,0 +1,310 @@
+//! The command `serve` with a journal that is kept in a file.
+ghost use Rattle.std.specs.Prelude.{◌≡◌, ◌≤◌, [], IfErr, IfOk, length, map, vec_len};
+ghost use Rattle.acdm_board.specs.Desk.{row_of};
+ghost use Rattle.acdm_commands.specs.Keeping.{ServesKeptAt, ServesKeptTo, ServesKeptWords};
+ghost use Rattle.acdm_commands.specs.Partners.{FailsToTell, ServesPartners};
+ghost use Rattle.acdm_failures.specs.Failures.{EndsBy};
+ghost use Rattle.acdm_judging.specs.Helpers.{helpers as known};
+ghost use Rattle.acdm_sessions.specs.Sessions.{new_session};
+
+use crate::keeping::{KeepIn, go_on};
+use crate::lasting::{FileKeeper, Service, serve_again};
+use crate::saving::save;
+use crate::serve_command::{Audience, close_all, opened};
+use acdm_board::Desk;
+use acdm_failures::{Failure, ServeError, ended};
+use acdm_judging::KnownHelpers;
+use acdm_keeping::{Keeper, Opening, SharedKeeper, Synced, open};
+use acdm_milestones::Role;
+use acdm_partners::{Control, Terms};
+use acdm_sessions::{Clock, Closed, Sink};
+use bpf_helpers::Helpers;
+use std::alloc::Global;
+use std::fs::{File, Files};
+use std::io::{Eprint, Write};
+use std::marker::Brand;
+use std::net::{Net, TcpListener, TcpStream};
+use std::sync::atomic::AtomicBool;
+use std::sync::{Arc, Wait};
+use std::thread::Threads;
+use std::time::Clock as SystemClock;
+
+// Serves partners by these terms, whose replies wait for the keeper, and answers the desk once they are
+// gone.
+fn desk_after<
+    J: Opening + Send + Sync,
+    Rt: SystemClock + Eprint + Threads + Wait + Clone + Drop + Send + Sync + 'static,
+    H: Helpers + Drop + Send,
+    C: Clock + Drop + Send,
+    W: Write,
+>(
+    rt: &Rt,
+    alloc: Global,
+    partners: Vec<(Role, TcpListener, C)>,
+    desk: Desk<H>,
+    terms: Terms,
+    control: Option<Control>,
+    closing: Arc<AtomicBool>,
+    keeper: &FileKeeper<J>,
+    writer: &mut Sink<W>,
+) -> Result<Desk<H>, ServeError>
+    requires few { vec_len partners ≤ 64 }
+    ensures serves { IfOk result (λ after. ServesPartners desk (map (λ p. p.0) partners.items)
+        (map (λ p. new_session p.0 (C.gives p.2)) partners.items) writer.old writer.new
+        (λ J. J ≡ after.history)) }
+    ensures fails { IfErr result (FailsToTell writer.old writer.new) }
+{
+    let Closed { desk, sessions } = serve_again(
+        rt,
+        alloc,
+        partners,
+        terms,
+        control,
+        closing,
+        Some(keeper),
+        desk,
+        writer,
+    )?;
+    drop(sessions);
+    Ok(desk)
+}
+
+// Shares the keeper among the partners, keeps what is left in the end, and saves what they made.
+fn serve_shared<
+    J: Opening + Send + Sync,
+    Rt: SystemClock + Eprint + Threads + Wait + Clone + Drop + Send + Sync + 'static,
+    H: Helpers + Drop + Send,
+    C: Clock + Drop + Send,
+    W: Write,
+    F: Write + Drop,
+>(
+    rt: &Rt,
+    alloc: Global,
+    partners: Vec<(Role, TcpListener, C)>,
+    desk: Desk<H>,
+    keeper: Keeper<Synced>,
+    terms: Terms,
+    control: Option<Control>,
+    writer: &mut Sink<W>,
+    saved: &mut Option<Sink<F>>,
+) -> Result<(), Failure>
+    requires few { vec_len partners ≤ 64 }
+    requires desk { row_of desk ≡ J.desk_row }
+    requires row { keeper.row ≡ J.desk_row }
+    requires opening { keeper.seen ≡ J.opening }
+    requires fresh { keeper.writer.log ≡ [] }
+    ensures { ServesKeptAt desk (map (λ p. p.0) partners.items)
+        (map (λ p. new_session p.0 (C.gives p.2)) partners.items) writer.old writer.new saved.old
+        saved.new result }
+{
+    let closing = Arc::new(alloc, AtomicBool::new(false))?;
+    let shared: FileKeeper<J> = SharedKeeper::new(keeper, desk.row(), &closing)?;
+    let served = desk_after(
+        rt, alloc, partners, desk, terms, control, closing, &shared, writer,
+    );
+    let kept = shared.into_keeper();
+    let mut after = match served {
+        Ok(after) => after,
+        Err(error) => return Err(Failure::from(error)),
+    };
+    match kept {
+        Ok(_keeper) => save(alloc, &mut after, saved),
+        Err(_) => Err(Failure::Keep),
+    }
+}
+
+// A keeper of what a desk has, all of which is kept already.
+fn keeper_of<H: Helpers + Drop>(
+    alloc: Global,
+    desk: &Desk<H>,
+    writer: Synced,
+) -> Result<Keeper<Synced>, Failure>
+    ensures row { IfOk result (λ k. k.row ≡ row_of desk.now) }
+    ensures all { IfOk result (λ k. length k.seen ≡ length desk.now.history) }
+    ensures fresh { IfOk result (λ k. k.writer.log ≡ []) }
+{
+    let mut keeper = match Keeper::new(alloc, desk.row(), Sink::new(writer)) {
+        Ok(keeper) => keeper,
+        Err(failure) => return Err(failure),
+    };
+    match keeper.pass_over(desk.len()) {
+        Ok(()) => Ok(keeper),
+        Err(failure) => Err(failure),
+    }
+}
+
+// Serves a desk at the addresses of the words, and of displays. What its partners make is kept.
+fn serve_kept_at<
+    Rt: Net<Listener = TcpListener, Stream = TcpStream>
+        + SystemClock
+        + Eprint
+        + Threads
+        + Wait
+        + Clone
+        + Drop
+        + Send
+        + Sync
+        + 'static,
+    H: Helpers + Drop + Send,
+    W: Write,
+    F: Write + Drop,
+>(
+    rt: &Rt,
+    alloc: Global,
+    desk: Desk<H>,
+    keeper: Keeper<Synced>,
+    audience: Audience<'_>,
+    service: Service<'_>,
+    words: &[&str],
+    writer: &mut Sink<W>,
+    saved: &mut Option<Sink<F>>,
+) -> Result<(), Failure>
+    requires row { keeper.row ≡ row_of desk }
+    requires all { length keeper.seen ≡ length desk.history }
+    requires fresh { keeper.writer.log ≡ [] }
+    ensures { ServesKeptWords desk (map (λ w. w.now) words.now) writer.old writer.new saved.old
+        saved.new result }
+{
+    let control = service.control(rt, alloc)?;
+    let (partners, displays) = opened(rt, alloc, desk.row(), audience, words)?;
+    let terms = service.terms();
+    let ended = serve_shared::<Brand, Rt, H, _, W, F>(
+        rt, alloc, partners, desk, keeper, terms, control, writer, saved,
+    );
+    close_all(rt, displays);
+    ended
+}
+
+// Goes on from the file, serves, and saves the journal.
+fn serve_kept_with<
+    Rt: Net<Listener = TcpListener, Stream = TcpStream>
+        + SystemClock
+        + Eprint
+        + Threads
+        + Wait
+        + Clone
+        + Drop
+        + Send
+        + Sync
+        + 'static,
+    H: Helpers + Drop + Send,
+    W: Write,
+    F: Write + Drop,
+>(
+    rt: &Rt,
+    alloc: Global,
+    helpers: H,
+    journal: usize,
+    file: File,
+    is_synced: bool,
+    audience: Audience<'_>,
+    service: Service<'_>,
+    words: &[&str],
+    writer: &mut Sink<W>,
+    saved: &mut Option<Sink<F>>,
+) -> Result<u8, Failure>
+    ensures { ServesKeptTo (H.entries helpers) journal (map (λ w. w.now) words.now) writer.old
+        writer.new saved.old saved.new result }
+{
+    let mut desk = Desk::new(alloc, helpers, journal)?;
+    if let Some(finding) = go_on(alloc, &file, &mut desk)? {
+        return match finding.tell(writer) {
+            Ok(status) => Ok(status),
+            Err(failure) => Err(failure),
+        };
+    }
+    let keeper = keeper_of(alloc, &desk, Synced::new(file, is_synced))?;
+    serve_kept_at(
+        rt, alloc, desk, keeper, audience, service, words, writer, saved,
+    )?;
+    Ok(0)
+}
+
+// Opens the file, and serves.
+fn serve_kept<
+    Rt: Net<Listener = TcpListener, Stream = TcpStream>
+        + SystemClock
+        + Eprint
+        + Threads
+        + Wait
+        + Files<File = File>
+        + Clone
+        + Drop
+        + Send
+        + Sync
+        + 'static,
+    W: Write,
+    F: Write + Drop,
+>(
+    rt: &Rt,
+    alloc: Global,
+    journal: usize,
+    keep: KeepIn<'_>,
+    audience: Audience<'_>,
+    service: Service<'_>,
+    words: &[&str],
+    writer: &mut Sink<W>,
+    saved: &mut Option<Sink<F>>,
+) -> Result<u8, Failure>
+    ensures { ServesKeptTo known journal (map (λ w. w.now) words.now) writer.old writer.new
+        saved.old saved.new result }
+{
+    let file = open(rt, keep.path)?;
+    let helpers = KnownHelpers::new(alloc);
+    serve_kept_with(
+        rt,
+        alloc,
+        helpers,
+        journal,
+        file,
+        keep.is_synced,
+        audience,
+        service,
+        words,
+        writer,
+        saved,
+    )
+}
+
+/// Serves a partner for each word `ROLE=ADDR`, as `serve_words`, by a desk that goes on from the journal
+/// in a file, in which it is kept: a reply is sent once its entry stands there. Each partner is served
+/// from the moment on that it connects.
+///
+/// The status is 0 where all was told and the journal was kept and saved; 1 where what the file has is
+/// no legal journal, which is told as an audit tells it, and nobody is served; else 2, with a line on the
+/// errors' writer.
+pub(crate) fn serve_kept_words<
+    Rt: Net<Listener = TcpListener, Stream = TcpStream>
+        + SystemClock
+        + Eprint
+        + Threads
+        + Wait
+        + Files<File = File>
+        + Clone
+        + Drop
+        + Send
+        + Sync
+        + 'static,
+    W: Write,
+    F: Write + Drop,
+    E: Write,
+>(
+    rt: &Rt,
+    alloc: Global,
+    journal: usize,
+    keep: KeepIn<'_>,
+    audience: Audience<'_>,
+    service: Service<'_>,
+    words: &[&str],
+    writer: &mut Sink<W>,
+    saved: &mut Option<Sink<F>>,
+    errors: &mut Sink<E>,
+) -> u8
+    ensures { EndsBy (ServesKeptTo known journal (map (λ w. w.now) words.now) writer.old writer.new
+        saved.old saved.new) result errors.old errors.new }
+{
+    let served = serve_kept(
+        rt, alloc, journal, keep, audience, service, words, writer, saved,
+    );
+    ended(served, errors)
+}
