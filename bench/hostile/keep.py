@@ -22,6 +22,14 @@ import threading
 from cases import ALERTS, DAY, DAY_JOURNAL, DAY_REPLIES, PLAN, SCHEDULE, Cases, ran, text, words
 
 REPORT = '{"cmd":"report","flight":7,"milestone":9,"time":"2025-02-20T10:00:00Z"}'
+# Journals that are not legal, and what is told of them.
+FAULTY = [
+    (DAY_JOURNAL[1:], "entry 0 402\n"),
+    (DAY_JOURNAL[:3] + ["3 5 29000580 GH 0 1 11 report 7 9 29000760"], "entry 3 404\n"),
+    (DAY_JOURNAL[:2] + ["2 2 29000580 NM 201 0 report 7 1 29000760 DLH7 A320 DAIBC EDDM"], "entry 2 405\n"),
+    (DAY_JOURNAL[:1] + ["what is this"], "entry 1 401\n"),
+    (["0 1 29000580 APT 0 0 load 9 alert 9500000000000000"], "entry 0 403\n"),
+]
 MANY = [f"1 29000580 APT {SCHEDULE}", f"2 29000580 NM {PLAN}"] + [f"5 29000580 GH {REPORT}"] * 4000
 
 
@@ -124,14 +132,7 @@ def gone_on(cases, program, room):
 
 def faulty(cases, program, room):
     file = room / "faulty"
-    wrong = [
-        (DAY_JOURNAL[1:], "entry 0 402\n"),
-        (DAY_JOURNAL[:3] + ["3 5 29000580 GH 0 1 11 report 7 9 29000760"], "entry 3 404\n"),
-        (DAY_JOURNAL[:2] + ["2 2 29000580 NM 201 0 report 7 1 29000760 DLH7 A320 DAIBC EDDM"], "entry 2 405\n"),
-        (DAY_JOURNAL[:1] + ["what is this"], "entry 1 401\n"),
-        (["0 1 29000580 APT 0 0 load 9 alert 9500000000000000"], "entry 0 403\n"),
-    ]
-    for lines, told in wrong:
+    for lines, told in FAULTY:
         file.write_text(text(lines) + "a rest")
         done = came(ran(program, ["run", "--keep", file], text(DAY).encode()))
         cases.expect(told, done == (1, told, ""), done)

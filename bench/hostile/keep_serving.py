@@ -20,7 +20,7 @@ import threading
 import time
 
 from cases import ALERTS, DAY, DAY_JOURNAL, PLAN, SCHEDULE, TARGET, Cases, ran, text, words
-from keep import came, legal, limited, numbers_of, whole_of
+from keep import FAULTY, came, legal, limited, numbers_of, whole_of
 
 PARTNERS = 8
 ROLES = ["APT", "NM", *["GH"] * (PARTNERS - 2)]
@@ -151,15 +151,8 @@ def full_disk(cases, program, room):
 
 def faulty(cases, program, room):
     file = room / "faulty"
-    wrong = [
-        (DAY_JOURNAL[1:], "entry 0 402\n"),
-        (DAY_JOURNAL[:3] + ["3 5 29000580 GH 0 1 11 report 7 9 29000760"], "entry 3 404\n"),
-        (DAY_JOURNAL[:2] + ["2 2 29000580 NM 201 0 report 7 1 29000760 DLH7 A320 DAIBC EDDM"], "entry 2 405\n"),
-        (DAY_JOURNAL[:1] + ["what is this"], "entry 1 401\n"),
-        (["0 1 29000580 APT 0 0 load 9 alert 9500000000000000"], "entry 0 403\n"),
-    ]
     serve = ["serve", "--keep", file, "APT=127.0.0.1:0"]
-    for lines, told in wrong:
+    for lines, told in FAULTY:
         file.write_text(text(lines) + "a rest")
         done = came(ran(program, serve))
         cases.expect(told, done == (1, told, ""), done)
