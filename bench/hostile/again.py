@@ -5,8 +5,8 @@
 
 A partner that comes back 100 times in the middle of lines while 63 others work; two connections at one address; probes
 before the day and during it; an absent partner; partners that never read, which are let go after 30 seconds or when the
-board closes; `status` and `close`; a bounded pace; SIGTERM and Ctrl-C through the script `acdm`; and, with none of these
-words, sessions whose connections are closed as they end. The last line is `N cases, M failed`; status 1 where one failed.
+board closes; `status` and `close`; a bounded pace; SIGTERM and Ctrl-C through the script `acdm`, which says when a journal is
+nearly full; and, with none of these words, sessions whose connections are closed as they end. The last line is `N cases, M failed`; status 1 where one failed.
 """
 
 import pathlib
@@ -344,6 +344,22 @@ def by_script(cases, program, number):
     cases.expect("and the partner sees the end", airport.reads_end())
 
 
+def nearly_full(cases, program):
+    """The script says when 80 and 95 per cent of the journal are used, each once."""
+    command = [sys.executable, "-c", BY_SCRIPT, str(TOP / "acdm"), str(program)]
+    board = Board(command, ["--control", "PORT", "--journal", "20"], ["APT"])
+    airport = board.connect(1)
+    told = lambda: [it.split()[1] for it in board.said if "entries of the journal" in it]
+    entries = 0
+    for number, wanted in ((15, []), (16, ["16"]), (18, ["16"]), (19, ["16", "19"]), (20, ["16", "19"])):
+        while entries < number:
+            entries += airport.asks(ALERTS) != ""
+        time.sleep(6 if wanted == told() else 0)
+        cases.expect(f"{number} of 20 entries", board.waits_for(lambda wanted=wanted: told() == wanted), board.said)
+    airport.close()
+    cases.expect("it ends as ever", board.ended() == (0, ["session 1 20 end", "closed 20"]))
+
+
 def main():
     asked = words(__doc__).parse_args()
     program, cases = str(asked.program.resolve()), Cases()
@@ -358,6 +374,7 @@ def main():
         once(cases, program)
         for number in (signal.SIGTERM, signal.SIGINT):
             by_script(cases, program, number)
+        nearly_full(cases, program)
         for again in ([], ["--again"]):
             never_reads(cases, program, again)
         for it in slow:
