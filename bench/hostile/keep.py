@@ -19,9 +19,8 @@ import sys
 import tempfile
 import threading
 
-from cases import ALERTS, DAY, DAY_JOURNAL, DAY_REPLIES, PLAN, SCHEDULE, Cases, ran, text, words
+from cases import ALERTS, DAY, DAY_JOURNAL, DAY_REPLIES, PLAN, SCHEDULE, TARGET, Cases, ran, text, words
 
-REPORT = '{"cmd":"report","flight":7,"milestone":9,"time":"2025-02-20T10:00:00Z"}'
 # Journals that are not legal, and what is told of them.
 FAULTY = [
     (DAY_JOURNAL[1:], "entry 0 402\n"),
@@ -30,7 +29,7 @@ FAULTY = [
     (DAY_JOURNAL[:1] + ["what is this"], "entry 1 401\n"),
     (["0 1 29000580 APT 0 0 load 9 alert 9500000000000000"], "entry 0 403\n"),
 ]
-MANY = [f"1 29000580 APT {SCHEDULE}", f"2 29000580 NM {PLAN}"] + [f"5 29000580 GH {REPORT}"] * 4000
+MANY = [f"1 29000580 APT {SCHEDULE}", f"2 29000580 NM {PLAN}"] + [f"5 29000580 GH {TARGET}"] * 4000
 
 
 def came(done):
@@ -60,7 +59,7 @@ def killed_once(program, file, chance):
     it = subprocess.Popen([str(program), "run", "--keep", str(file)], stdin=subprocess.PIPE, stdout=subprocess.PIPE)
     timer = threading.Timer(chance.uniform(0.0, 0.05), it.kill)
     timer.start()
-    lines = MANY if not whole_of(file) else [f"5 29000580 GH {REPORT}"] * 4000
+    lines = MANY if not whole_of(file) else [f"5 29000580 GH {TARGET}"] * 4000
     try:
         for line in lines:
             it.stdin.write(f"{line}\n".encode())
