@@ -6,7 +6,8 @@
 `acdm run` is sent a rule and then a flight plan of each of some flights, on which the rule runs; what the same lines take with a
 rule of two slots is taken off. machine.c runs the same program on such a record as often. A time is the processor time of a run,
 the least of N, the two in turn. Instructions are counted by callgrind, which no other work on the machine changes, and told for
-each slot of the program. Needed are a C compiler and valgrind.
+each slot of the program: what twice as many runs take more, so that the reading of the rule is no part of them. Needed are a C
+compiler and valgrind.
 """
 
 import argparse
@@ -84,7 +85,8 @@ def main():
                         at = name, len(of)
                         least[at] = min(took, least.get(at, took))
             for name, (command, text) in peers.items():
-                number[name] = (counted(command, text(slots, COUNTED), folder) - counted(command, text(NOTHING, COUNTED), folder)) / COUNTED / len(slots)
+                more = [counted(command, text(of, 2 * COUNTED), folder) - counted(command, text(of, COUNTED), folder) for of in (slots, NOTHING)]
+                number[name] = (more[0] - more[1]) / COUNTED / len(slots)
             took = {name: (least[name, len(slots)] - least[name, 2]) / TIMED for name in peers}
             print(
                 f"{title}: acdm {took['acdm'] * 1e6:.1f} us, C {took['C'] * 1e6:.1f} us, {took['acdm'] / took['C']:.2f} times; "

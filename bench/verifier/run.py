@@ -1,14 +1,15 @@
 #!/usr/bin/env python3
 """Times `verify` against the same pass in C, says what memory it takes, and compares verdicts.
 
-    python3 bench/verifier/run.py [--runs N] [--programs N] [--built FILE]
+    python3 bench/verifier/run.py [--runs N] [--programs N] [--count] [--built FILE]
 
 `verifier.c` is built with the system's compiler at -O2, and speed.rt.txt is proved and built by
 `rt run` in a small repository beside copies of the crates below it (`rt all check` first). Both
 judge programs by chance as the model in Python does, and verify the same programs of 4,096 slots,
 one after the other in turn. Of ours the time in which a program is copied is taken off, since
 `verify` takes its program by value. Memory is what the pass holds at most beside the programs, as
-peak.c counts it.
+peak.c counts it. With --count callgrind counts the instructions for each slot, which no other work
+on the machine changes.
 """
 
 import argparse
@@ -79,6 +80,17 @@ def kilobytes(program, shim, digits):
     return (peaks[1] - peaks[0]) / 1000
 
 
+def instructions(program, word, folder, digits):
+    """The instructions of one pass for each slot: what twenty passes take more than ten."""
+    told = []
+    tool = ["valgrind", "--tool=callgrind", f"--callgrind-out-file={folder}/calls"]
+    for times in (10, 20):
+        text = f"{word} {times}\n{digits}\n"
+        came = subprocess.run([*tool, program], input=text, capture_output=True, text=True, check=True)
+        told.append(int(came.stderr.split("Collected : ")[1].split()[0]))
+    return (told[1] - told[0]) / 10 / (len(digits) // 16)
+
+
 def compared(peers, count):
     """Tells of so many programs by chance how many have another verdict than the model's."""
     draws, codes, owed = Programs(random.Random(16)), [], []
@@ -106,6 +118,7 @@ def main():
     words = argparse.ArgumentParser(description="Times two verifiers.")
     words.add_argument("--runs", type=int, default=5, metavar="N")
     words.add_argument("--programs", type=int, default=20_000, metavar="N", help="by chance")
+    words.add_argument("--count", action="store_true", help="instructions, by callgrind")
     words.add_argument("--built", metavar="FILE", help="speed.rt.txt's program, where it is built")
     given = words.parse_args()
     with tempfile.TemporaryDirectory() as name:
@@ -126,6 +139,9 @@ def main():
             ratio = spent_here / theirs
             times_told = f"C {theirs:,.0f} us, verify {spent_here:,.0f} us, {ratio:.2f} times C"
             print(f"{title}: {verdict}; {times_told}; {held:,.0f} KB")
+            if given.count:
+                mine = instructions(ours, "verify", folder, digits) - instructions(ours, "copy", folder, digits)
+                print(f"  instructions a slot {mine:.0f}, in C {instructions(peer, 'verify', folder, digits):.0f}")
 
 
 if __name__ == "__main__":

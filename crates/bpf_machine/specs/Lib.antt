@@ -1,5 +1,5 @@
+pub use Rattle.bpf_run.specs.Ends
 pub mod Outcome
-pub mod Plain
 pub mod Refusals
 pub mod Registry
 pub mod Steps

@@ -5,11 +5,10 @@ ghost use Rattle.acdm_milestones.specs.Tables.{number as number_of};
 ghost use Rattle.bpf_regstate.specs.Lengths.{bytes_in};
 ghost use Rattle.bpf_machine.specs.Outcome.{EndsWithin};
 
-use crate::outcome::Ended;
-use crate::untested::run;
 use acdm_milestones::Milestone;
 use bpf_decode::NoMemory;
 use bpf_helpers::{Helpers, Live};
+use bpf_run::{Ended, run};
 use bpf_verifier::Checked;
 use std::alloc::Global;
 

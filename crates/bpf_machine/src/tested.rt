@@ -2,15 +2,17 @@
 
 ghost use Rattle.std.specs.Prelude.{◌≡◌, ◌<◌, ◌≤◌, ◌^◌, length, IfOk, IfErr};
 ghost use Rattle.bpf_decode.specs.declared.program.TheConstants.{MOST_SLOTS};
-ghost use Rattle.bpf_machine.specs.Outcome.{EndsOver, TrapsOver, is_refused};
+ghost use Rattle.bpf_run.specs.Ends.{EndsOver};
+ghost use Rattle.bpf_machine.specs.Outcome.{TrapsOver, is_refused};
 ghost use Rattle.bpf_helpers.specs.Oracles.{Counts, MayBeAsked, SameRule};
 ghost use Rattle.acdm_milestones.specs.Tables.{number as number_of};
 
-use crate::outcome::{Ended, Trap};
+use crate::outcome::Trap;
 use crate::state::{State, Step};
 use acdm_milestones::Milestone;
 use bpf_decode::{Op, Program};
 use bpf_helpers::{Oracle, Sigs};
+use bpf_run::Ended;
 
 /// Runs these slots, of which there is one.
 fn run_slots<O: Oracle>(

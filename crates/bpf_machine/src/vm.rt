@@ -6,13 +6,13 @@ ghost use Rattle.std.specs.Option.{ForSome};
 ghost use Rattle.bpf_machine.specs.Registry.{entries_in};
 
 use crate::execution::execute;
-use crate::outcome::Ended;
 use crate::refusal::{ExecuteError, RegisterFault, SetError};
 use crate::registry::Registry;
 use acdm_milestones::Milestone;
 use bpf_decode::{NoMemory, decode};
 use bpf_helpers::{BankFault, Helper, Helpers};
 use bpf_regstate::Length;
+use bpf_run::Ended;
 use bpf_verifier::{Checked, verify};
 use std::alloc::Global;
 

@@ -18,8 +18,8 @@ mod winter;
 
 use crate::rows::marks::MARKS;
 use acdm_board::Desk;
-use acdm_judging::KnownHelpers;
 use acdm_sessions::{Sink, Source, run};
+use acdm_tables::{KnownHelpers, Tables};
 use bpf_helpers::Helpers;
 use std::alloc::Global;
 use std::process::Abort;
@@ -203,17 +203,23 @@ fn replies_in(rt: &impl Abort, alloc: Global, marked: &str) -> String {
         .expect(rt, "replies of a table")
 }
 
+// The helpers with the tables that are built in.
+fn known(rt: &impl Abort, alloc: Global) -> KnownHelpers {
+    let tables = Tables::built_in(alloc).expect(rt, "tables");
+    KnownHelpers::new(alloc, tables)
+}
+
 pub(crate) fn is_answered(rt: &impl Abort, alloc: Global, row: &Row) {
     let text = text_of(rt, alloc, row);
     let replies = replies_in(rt, alloc, row.replies);
-    let helpers = KnownHelpers::new(alloc);
+    let helpers = known(rt, alloc);
     let found = replies_with(rt, alloc, helpers, row.capacity, text.as_slice());
     assert_eq!(rt; found.as_str(), replies.as_str(), "for {}", row.shows);
 }
 
 pub(crate) fn is_long_answered(rt: &impl Abort, alloc: Global, row: &Long) {
     let text = long_text(rt, alloc, row);
-    let helpers = KnownHelpers::new(alloc);
+    let helpers = known(rt, alloc);
     let found = replies_with(rt, alloc, helpers, 10, text.as_slice());
     assert_eq!(rt; found.as_str(), row.replies, "for {}", row.shows);
 }
@@ -221,7 +227,7 @@ pub(crate) fn is_long_answered(rt: &impl Abort, alloc: Global, row: &Long) {
 pub(crate) fn is_crowd_answered(rt: &impl Abort, alloc: Global, row: &Crowd) {
     let text = crowd_text(rt, alloc, row);
     let wanted = crowd_replies(rt, alloc, row);
-    let helpers = KnownHelpers::new(alloc);
+    let helpers = known(rt, alloc);
     let found = replies_with(rt, alloc, helpers, row.capacity, text.as_slice());
     assert!(rt; found.as_bytes() == wanted.as_slice(), "for {}", row.shows);
 }

@@ -1,4 +1,4 @@
-use Rattle.std.proofs.Common.{◌≡◌, List, [], ap, length, arith}
+use Rattle.std.proofs.Common.{◌≡◌, [], ap, length, arith}
 use Rattle.std.proofs.lemmas.Bool.{leb-true}
 use Rattle.bpf_helpers.specs.Oracles.{Asking}
 use Rattle.bpf_machine.proofs.Room.{counted_within}

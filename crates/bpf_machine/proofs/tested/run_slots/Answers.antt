@@ -1,6 +1,6 @@
 use Rattle.std.proofs.Common.{◌∙◌, refl, arith}
 use Rattle.bpf_helpers.proofs.OracleLemmas.{same_again, same_rule}
-use Rattle.bpf_machine.proofs.Running.{begins, went}
+use Rattle.bpf_run.proofs.Running.{begins, went}
 use Rattle.bpf_machine.proofs.tested.run_slots.Goals as goal
 
 pub loop-r0-init : goal.loop-r0-init

@@ -1,6 +1,6 @@
 use Rattle.std.proofs.Common.{◌≡◌, ◌-◌, length}
 use Rattle.bpf_helpers.specs.Oracles.{SameRule}
-use Rattle.bpf_machine.proofs.Running.{Running}
+use Rattle.bpf_run.proofs.Running.{Running}
 use Rattle.bpf_machine.proofs.tested.run_slots.Given as goal
 
 -- the steps so far are a run, with the answers that the log has gained
