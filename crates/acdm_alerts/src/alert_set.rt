@@ -38,17 +38,17 @@ impl AlertSet {
     }
 
     /// The alerts that a record has.
-    pub fn of(record: &Record) -> AlertSet
-        ensures { result ≡ number_of record.now Alerts }
+    pub fn of(flight: &Record) -> AlertSet
+        ensures { result ≡ number_of flight.now Alerts }
     {
-        AlertSet::from_word(record.get(Field::Alerts) as u32)
+        AlertSet::from_word(flight.get(Field::Alerts) as u32)
     }
 
     /// Puts the set into a record.
-    pub fn store(self, record: &mut Record)
-        ensures { record.new ≡ set_number record.old Alerts self }
+    pub fn store(self, flight: &mut Record)
+        ensures { flight.new ≡ set_number flight.old Alerts self }
     {
-        record.set(Field::Alerts, u64::from(self.word));
+        flight.set(Field::Alerts, u64::from(self.word));
     }
 
     /// The alert word.

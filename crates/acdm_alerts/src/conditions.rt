@@ -20,14 +20,14 @@ use acdm_milestones::{Milestone, has_reached};
 use acdm_record::{Field, Record, TextField};
 
 fn is_set(record: &Record, field: Field) -> bool
-    ensures { result ≡ is_given record.now field }
+    ensures { result ≡ is_given «record».now field }
 {
     record.get(field) != 0
 }
 
 // The estimated in-block time: AIBT, else ALDT or else ELDT with the taxi-in time.
 fn eibt(record: &Record) -> Option<u64>
-    ensures value { result ≡ in_block_time record.now }
+    ensures value { result ≡ in_block_time «record».now }
     ensures small { IfSome result (λ n. n < 2 ^ 33) }
 {
     let exit = record.get(Field::Exit);
@@ -47,7 +47,7 @@ fn eibt(record: &Record) -> Option<u64>
 
 // The turn-round ends after a time that is set.
 fn turns_after(record: &Record, field: Field) -> bool
-    ensures { result ≡ turns_later record.now field }
+    ensures { result ≡ turns_later «record».now field }
 {
     let limit = record.get(field);
     let turn_round = record.get(Field::Mttt);
@@ -62,7 +62,7 @@ fn differ_by(minutes: u64, record: &Record, one: Field, other: Field) -> bool
     requires small { minutes ≤ 15 }
     requires one_fits { width_of one ≤ 4 }
     requires other_fits { width_of other ≤ 4 }
-    ensures { result ≡ are_apart minutes record.now one other }
+    ensures { result ≡ are_apart minutes «record».now one other }
 {
     let first = record.get(one);
     let second = record.get(other);
@@ -70,19 +70,19 @@ fn differ_by(minutes: u64, record: &Record, one: Field, other: Field) -> bool
 }
 
 fn texts_differ(record: &Record, one: TextField, other: TextField) -> bool
-    ensures { result ≡ have_other_texts record.now one other }
+    ensures { result ≡ have_other_texts «record».now one other }
 {
     has_reached(record, 0) && has_reached(record, 1) && !record.has_same_text(one, other)
 }
 
 fn no_airport_slot(record: &Record) -> bool
-    ensures { result ≡ lacks_slot record.now }
+    ensures { result ≡ lacks_slot «record».now }
 {
     has_reached(record, 1) && !has_reached(record, 0)
 }
 
 fn boarding_not_started(record: &Record, moment: u32) -> bool
-    ensures { result ≡ is_not_boarding record.now moment }
+    ensures { result ≡ is_not_boarding «record».now moment }
 {
     let tobt = record.get(Field::Tobt);
     tobt != 0
@@ -92,20 +92,20 @@ fn boarding_not_started(record: &Record, moment: u32) -> bool
 }
 
 fn tobt_deleted(record: &Record) -> bool
-    ensures { result ≡ has_no_tobt record.now }
+    ensures { result ≡ has_no_tobt «record».now }
 {
     has_reached(record, Milestone::TobtUpdate.number()) && !is_set(record, Field::Tobt)
 }
 
 fn tsat_passed(record: &Record, moment: u32) -> bool
-    ensures { result ≡ is_past_tsat record.now moment }
+    ensures { result ≡ is_past_tsat «record».now moment }
 {
     let tsat = record.get(Field::Tsat);
     tsat != 0 && !is_set(record, Field::Asat) && u64::from(moment) > tsat + 5
 }
 
 fn no_flight_plan(record: &Record, moment: u32) -> bool
-    ensures { result ≡ lacks_plan record.now moment }
+    ensures { result ≡ lacks_plan «record».now moment }
 {
     let sobt = record.get(Field::Sobt);
     has_reached(record, 0) && !has_reached(record, 1) && u64::from(moment) + 180 >= sobt
@@ -122,7 +122,7 @@ fn bit_if(holds: bool, bit: u32) -> u32
 
 // The alerts that are computed, as a word.
 fn computed(record: &Record, moment: u32) -> u32
-    ensures { result ≡ computed_word record.now moment }
+    ensures { result ≡ computed_word «record».now moment }
 {
     let types = texts_differ(record, TextField::ScheduledType, TextField::PlanType);
     let registrations = texts_differ(
@@ -160,7 +160,7 @@ fn kept_bits(word: u32) -> u32
 /// The alerts of a record at a moment, in minutes since 1970-01-01T00:00Z: the built-in alerts
 /// anew, while CDM14 and the local alerts stay as they are in the record. Sums never wrap.
 pub fn builtin(record: &Record, moment: u32) -> AlertSet
-    ensures { result ≡ alert_word record.now moment }
+    ensures { result ≡ alert_word «record».now moment }
 {
     let word = kept_bits(AlertSet::of(record).word());
     AlertSet::from_word(word + computed(record, moment))

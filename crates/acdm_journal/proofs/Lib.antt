@@ -5,6 +5,7 @@ pub mod ReadBack
 pub mod NoSpaces
 pub mod OneLine
 pub mod Pieces
+pub mod Digits
 pub mod Unanswered
 pub mod Checked
 pub mod Refusals

@@ -19,3 +19,8 @@ abbrev pub Takes : {W : Type 0} {T : Type 0} → SinkView W → SinkView W → L
     → Type 0
 Takes old new text (Ok x) = new.log ≡ old.log ++ text
 Takes old new text (Err error) = TookPart old new text × (error ≡ errors.Write)
+
+-- a text that is added to: what stood there before, and what was added
+pub record AppendedView : Type 0 where
+  pub before : List ℕ
+  pub added : List ℕ

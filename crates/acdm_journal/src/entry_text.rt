@@ -1,5 +1,5 @@
 //! The text of an entry, and its writing.
-ghost use Rattle.std.specs.Prelude.{◌≡◌, ◌≤◌, ◌<◌, ◌^◌, ◌∷◌, ◌++◌, [], map, Err, OnOk, OnErr, IfOk};
+ghost use Rattle.std.specs.Prelude.{◌≡◌, ◌≤◌, ◌<◌, ◌^◌, ◌∷◌, ◌++◌, [], map, Err, OnOk, OnErr};
 ghost use Rattle.std.specs.Fmt.{decimal};
 ghost use Rattle.std.specs.List.{AllByRecursion};
 ghost use Rattle.hex.specs.Hex.{encode_lower};
@@ -15,6 +15,7 @@ ghost use Rattle.acdm_journal.specs.Ranges.{IsReportLine, IsAsked, LoadsProgram,
 ghost use Rattle.acdm_journal.specs.Spaced.{spaced};
 ghost use Rattle.acdm_journal.specs.Written.{TookPart};
 
+use crate::appended::Appended;
 use crate::writing::write_whole;
 use acdm_lines::Sink;
 use acdm_milestones::Milestone;
@@ -24,6 +25,7 @@ use bpf_regstate::Length;
 use itoa::Buffer;
 use std::alloc::{AllocError, Global};
 use std::io::Write;
+use std::mem;
 
 /// Why an entry was not written.
 #[derive(Clone, Copy, Debug, PartialEq, Eq)]
@@ -44,29 +46,32 @@ pub(crate) fn code_of(verdict: Verdict) -> u64
 }
 
 // Adds a space and a word.
-fn push_word(text: &mut Vec<u8>, word: &[u8]) -> Result<(), AllocError>
-    ensures { OnOk result (text.new.items ≡ text.old.items ++ 32 ∷ word.now) }
+fn push_word(text: &mut Appended, word: &[u8]) -> Result<(), AllocError>
+    ensures before { text.new.before ≡ text.old.before }
+    ensures adds { OnOk result (text.new.added ≡ text.old.added ++ 32 ∷ word.now) }
 {
-    text.push(b' ')?;
-    text.extend_from_slice(word)?;
-    Ok(())
+    text.push(b" ")?;
+    text.push(word)
 }
 
-fn push_number(text: &mut Vec<u8>, number: u64) -> Result<(), AllocError>
-    ensures { OnOk result (text.new.items ≡ text.old.items ++ 32 ∷ decimal number) }
+fn push_number(text: &mut Appended, number: u64) -> Result<(), AllocError>
+    ensures before { text.new.before ≡ text.old.before }
+    ensures adds { OnOk result (text.new.added ≡ text.old.added ++ 32 ∷ decimal number) }
 {
     let mut digits = Buffer::new();
     push_word(text, digits.format(number).as_bytes())
 }
 
-fn push_milestone(text: &mut Vec<u8>, milestone: Milestone) -> Result<(), AllocError>
-    ensures { OnOk result (text.new.items ≡ text.old.items ++ 32 ∷ decimal (number_in milestone)) }
+fn push_milestone(text: &mut Appended, milestone: Milestone) -> Result<(), AllocError>
+    ensures before { text.new.before ≡ text.old.before }
+    ensures adds { OnOk result (text.new.added ≡ text.old.added ++ 32 ∷ decimal (number_in milestone)) }
 {
     push_number(text, u64::from(milestone.number()))
 }
 
-fn push_plan(text: &mut Vec<u8>, plan: &Plan) -> Result<(), AllocError>
-    ensures adds { OnOk result (text.new.items ≡ text.old.items ++ spaced (plan_words plan.now)) }
+fn push_plan(text: &mut Appended, plan: &Plan) -> Result<(), AllocError>
+    ensures before { text.new.before ≡ text.old.before }
+    ensures adds { OnOk result (text.new.added ≡ text.old.added ++ spaced (plan_words plan.now)) }
     ensures ranges { OnOk result (IsPlan plan.now) }
 {
     push_word(text, plan.callsign.as_bytes())?;
@@ -76,9 +81,10 @@ fn push_plan(text: &mut Vec<u8>, plan: &Plan) -> Result<(), AllocError>
     Ok(())
 }
 
-fn push_schedule(text: &mut Vec<u8>, schedule: &Schedule) -> Result<(), AllocError>
-    ensures adds { OnOk result (text.new.items
-        ≡ text.old.items ++ spaced (schedule_words schedule.now)) }
+fn push_schedule(text: &mut Appended, schedule: &Schedule) -> Result<(), AllocError>
+    ensures before { text.new.before ≡ text.old.before }
+    ensures adds { OnOk result (text.new.added
+        ≡ text.old.added ++ spaced (schedule_words schedule.now)) }
     ensures ranges { OnOk result (IsScheduleLine schedule.now) }
 {
     push_word(text, b"schedule")?;
@@ -89,9 +95,10 @@ fn push_schedule(text: &mut Vec<u8>, schedule: &Schedule) -> Result<(), AllocErr
 }
 
 // SOBT, MTTT, EXIT, EXOT and the stand.
-fn push_times(text: &mut Vec<u8>, schedule: &Schedule) -> Result<(), AllocError>
-    ensures adds { OnOk result (text.new.items
-        ≡ text.old.items ++ spaced (time_words schedule.now)) }
+fn push_times(text: &mut Appended, schedule: &Schedule) -> Result<(), AllocError>
+    ensures before { text.new.before ≡ text.old.before }
+    ensures adds { OnOk result (text.new.added
+        ≡ text.old.added ++ spaced (time_words schedule.now)) }
     ensures ranges { OnOk result (AreTimes schedule.now) }
 {
     push_number(text, u64::from(schedule.sobt()))?;
@@ -102,9 +109,10 @@ fn push_times(text: &mut Vec<u8>, schedule: &Schedule) -> Result<(), AllocError>
     Ok(())
 }
 
-fn push_report(text: &mut Vec<u8>, report: &Report) -> Result<(), AllocError>
-    ensures adds { OnOk result (text.new.items
-        ≡ text.old.items ++ spaced (report_words report.now)) }
+fn push_report(text: &mut Appended, report: &Report) -> Result<(), AllocError>
+    ensures before { text.new.before ≡ text.old.before }
+    ensures adds { OnOk result (text.new.added
+        ≡ text.old.added ++ spaced (report_words report.now)) }
     ensures ranges { OnOk result (IsReportLine report.now) }
 {
     push_word(text, b"report")?;
@@ -118,23 +126,48 @@ fn push_report(text: &mut Vec<u8>, report: &Report) -> Result<(), AllocError>
 }
 
 // Adds a space and bytes in hexadecimal.
-fn push_bytes(text: &mut Vec<u8>, bytes: &[u8]) -> Result<(), AllocError>
-    ensures adds { OnOk result (text.new.items ≡ text.old.items ++ 32 ∷ encode_lower bytes.now) }
+fn push_bytes(text: &mut Appended, bytes: &[u8]) -> Result<(), AllocError>
+    ensures before { text.new.before ≡ text.old.before }
+    ensures adds { OnOk result (text.new.added ≡ text.old.added ++ 32 ∷ encode_lower bytes.now) }
     ensures ranges { AllByRecursion IsByte bytes.now }
 {
-    let alloc = *text.allocator();
-    let digits = hex::encode(alloc, bytes)?;
-    push_word(text, digits.as_bytes())
+    text.push(b" ")?;
+    push_digits(text, bytes)
 }
 
-fn push_load(text: &mut Vec<u8>, load: &Load) -> Result<(), AllocError>
-    ensures adds { OnOk result (text.new.items ≡ text.old.items ++ spaced (
+// Adds the two digits of each byte.
+fn push_digits(text: &mut Appended, bytes: &[u8]) -> Result<(), AllocError>
+    ensures before { text.new.before ≡ text.old.before }
+    ensures adds { OnOk result (text.new.added ≡ text.old.added ++ encode_lower bytes.now) }
+{
+    let mut rest = bytes;
+    while let Some((byte, more)) = rest.split_first() {
+        push_byte(text, *byte)?;
+        rest = more;
+    }
+    Ok(())
+}
+
+// Adds the two digits of a byte.
+fn push_byte(text: &mut Appended, byte: u8) -> Result<(), AllocError>
+    ensures before { text.new.before ≡ text.old.before }
+    ensures adds { OnOk result (text.new.added ≡ text.old.added ++ encode_lower (byte ∷ [])) }
+{
+    let mut digits = [0; 2];
+    if hex::encode_to_slice([byte], &mut digits).is_err() {
+        unreachable!();
+    }
+    text.push(&digits)
+}
+
+fn push_load(alloc: Global, text: &mut Appended, load: &Load) -> Result<(), AllocError>
+    ensures before { text.new.before ≡ text.old.before }
+    ensures adds { OnOk result (text.new.added ≡ text.old.added ++ spaced (
         load_words load.now.milestone load.now.kind (encoding load.now.program.ops)
         load.now.program.record_length)) }
     ensures bytes { OnOk result (AllByRecursion IsByte (encoding load.now.program.ops)) }
     ensures program { OnOk result (IsProgram load.now.program.ops) }
 {
-    let alloc = *text.allocator();
     let bytes = encode(alloc, load.program.program())?;
     push_word(text, b"load")?;
     push_milestone(text, load.milestone)?;
@@ -144,9 +177,10 @@ fn push_load(text: &mut Vec<u8>, load: &Load) -> Result<(), AllocError>
 }
 
 // The length of records beside which a program was checked, where it is not that of layout 1.
-fn push_length(text: &mut Vec<u8>, record_length: Length) -> Result<(), AllocError>
-    ensures { OnOk result (text.new.items
-        ≡ text.old.items ++ spaced (length_words record_length)) }
+fn push_length(text: &mut Appended, record_length: Length) -> Result<(), AllocError>
+    ensures before { text.new.before ≡ text.old.before }
+    ensures adds { OnOk result (text.new.added
+        ≡ text.old.added ++ spaced (length_words record_length)) }
 {
     match record_length {
         Length::L128 => Ok(()),
@@ -154,8 +188,9 @@ fn push_length(text: &mut Vec<u8>, record_length: Length) -> Result<(), AllocErr
     }
 }
 
-fn push_deice(text: &mut Vec<u8>, deice: &Deice) -> Result<(), AllocError>
-    ensures adds { OnOk result (text.new.items ≡ text.old.items ++ spaced (deice_words deice.now)) }
+fn push_deice(text: &mut Appended, deice: &Deice) -> Result<(), AllocError>
+    ensures before { text.new.before ≡ text.old.before }
+    ensures adds { OnOk result (text.new.added ≡ text.old.added ++ spaced (deice_words deice.now)) }
     ensures ranges { OnOk result ((1 ≤ deice.now.flight) × IsWord deice.now.flight
         × (deice.now.time < 2 ^ 32)) }
 {
@@ -165,9 +200,10 @@ fn push_deice(text: &mut Vec<u8>, deice: &Deice) -> Result<(), AllocError>
     push_number(text, u64::from(deice.time))
 }
 
-fn push_command(text: &mut Vec<u8>, command: &Command) -> Result<(), AllocError>
-    ensures adds { OnOk result (text.new.items
-        ≡ text.old.items ++ spaced (command_words command.now)) }
+fn push_command(alloc: Global, text: &mut Appended, command: &Command) -> Result<(), AllocError>
+    ensures before { text.new.before ≡ text.old.before }
+    ensures adds { OnOk result (text.new.added
+        ≡ text.old.added ++ spaced (command_words command.now)) }
     ensures ranges { OnOk result (IsAsked (asked_in command.now)) }
     ensures program { OnOk result (LoadsProgram command.now) }
 {
@@ -175,7 +211,7 @@ fn push_command(text: &mut Vec<u8>, command: &Command) -> Result<(), AllocError>
         Command::Flight(FlightCommand::Schedule(schedule)) => push_schedule(text, schedule),
         Command::Flight(FlightCommand::Report(report)) => push_report(text, report),
         Command::Flight(FlightCommand::Deice(deice)) => push_deice(text, deice),
-        Command::Load(load) => push_load(text, load),
+        Command::Load(load) => push_load(alloc, text, load),
         Command::Unload(unload) => {
             push_word(text, b"unload")?;
             push_milestone(text, unload.milestone)?;
@@ -192,9 +228,10 @@ fn push_command(text: &mut Vec<u8>, command: &Command) -> Result<(), AllocError>
 }
 
 // How many answers there are, and then each.
-fn push_answers(text: &mut Vec<u8>, answers: &[u64]) -> Result<(), AllocError>
-    ensures adds { OnOk result (text.new.items
-        ≡ text.old.items ++ spaced (answer_words answers.now)) }
+fn push_answers(text: &mut Appended, answers: &[u64]) -> Result<(), AllocError>
+    ensures before { text.new.before ≡ text.old.before }
+    ensures adds { OnOk result (text.new.added
+        ≡ text.old.added ++ spaced (answer_words answers.now)) }
     ensures ranges { OnOk result (AllByRecursion IsWord answers.now) }
 {
     push_number(text, answers.len() as u64)?;
@@ -207,9 +244,10 @@ fn push_answers(text: &mut Vec<u8>, answers: &[u64]) -> Result<(), AllocError>
 }
 
 // The session, the moment, the role and the outcome.
-fn push_head(text: &mut Vec<u8>, entry: &Entry) -> Result<(), AllocError>
-    ensures { OnOk result (text.new.items
-        ≡ text.old.items ++ spaced (head_words (stated_in entry.now))) }
+fn push_head(text: &mut Appended, entry: &Entry) -> Result<(), AllocError>
+    ensures before { text.new.before ≡ text.old.before }
+    ensures adds { OnOk result (text.new.added
+        ≡ text.old.added ++ spaced (head_words (stated_in entry.now))) }
 {
     push_number(text, u64::from(entry.session))?;
     push_number(text, u64::from(entry.moment))?;
@@ -218,30 +256,46 @@ fn push_head(text: &mut Vec<u8>, entry: &Entry) -> Result<(), AllocError>
     Ok(())
 }
 
-fn text_of(alloc: Global, entry: &Entry) -> Result<Vec<u8>, AllocError>
-    ensures text { IfOk result (λ text. text.items ≡ entry_text entry.now) }
+// Adds the text of an entry where nothing was added yet.
+fn push_line(alloc: Global, text: &mut Appended, entry: &Entry) -> Result<(), AllocError>
+    requires none { text.old.added ≡ [] }
+    ensures before { text.new.before ≡ text.old.before }
+    ensures adds { OnOk result (text.new.added ≡ entry_text entry.now) }
     ensures types { OnOk result (FitsTypes entry.now) }
 {
     let mut digits = Buffer::new();
-    let mut text = Vec::from_slice(alloc, digits.format(entry.number).as_bytes())?;
-    push_head(&mut text, entry)?;
-    push_answers(&mut text, entry.answers.as_slice())?;
-    push_command(&mut text, &entry.command)?;
-    text.push(b'\n')?;
-    Ok(text)
+    text.push(digits.format(entry.number).as_bytes())?;
+    push_head(text, entry)?;
+    push_answers(text, entry.answers.as_slice())?;
+    push_command(alloc, text, &entry.command)?;
+    text.push(b"\n")?;
+    Ok(())
 }
 
 /// Adds the text of an entry: `N SESSION MINUTE ROLE OUT K A1 .. AK COMMAND` and a line feed, with
 /// OUT 0 or the number of the refusal and K the count of the answers that its programs used (this
-/// project's profile). `Err` only where memory was refused; nothing has changed then.
+/// project's profile). It is written where the text has room, so no memory is asked for where that is
+/// enough, but for the bytes of a program that is loaded.
+///
+/// `Err` only where memory was refused; nothing has changed then.
 pub fn push_entry(text: &mut Vec<u8>, entry: &Entry) -> Result<(), AllocError>
     ensures text { OnOk result (text.new.items ≡ text.old.items ++ entry_text entry.now) }
     // What was added has the parts that an entry can have.
     ensures types { OnOk result (FitsTypes entry.now) }
     ensures err { OnErr result (text.new.items ≡ text.old.items) }
 {
-    let line = text_of(*text.allocator(), entry)?;
-    text.extend_from_slice(line.as_slice())
+    let alloc = *text.allocator();
+    let mut line = Appended::new(mem::replace(text, Vec::new(alloc)));
+    match push_line(alloc, &mut line, entry) {
+        Ok(()) => {
+            *text = line.whole();
+            Ok(())
+        }
+        Err(refused) => {
+            *text = line.before();
+            Err(refused)
+        }
+    }
 }
 
 /// Writes the text of an entry. A write that a signal interrupts is made once more.
@@ -261,8 +315,29 @@ pub fn write_entry<W: Write>(
         → TookPart writer.old writer.new (entry_text entry.now) }
     ensures faults { writer.old.faults ≤ writer.new.faults }
 {
-    let Ok(text) = text_of(alloc, entry) else {
+    write_entry_by(&mut Vec::new(alloc), entry, writer)
+}
+
+/// Writes the text of an entry by way of a buffer, whatever that holds. Where the buffer has room for
+/// it no memory is asked for, but for the bytes of a program that is loaded: `MOST_KEPT` bytes are
+/// room for each line that an audit reads.
+///
+/// It answers what `write_entry` does.
+pub fn write_entry_by<W: Write>(
+    buffer: &mut Vec<u8>,
+    entry: &Entry,
+    writer: &mut Sink<W>,
+) -> Result<(), WriteError>
+    ensures written { OnOk result (writer.new.log ≡ writer.old.log ++ entry_text entry.now) }
+    ensures types { OnOk result (FitsTypes entry.now) }
+    ensures memory { result ≡ Err WriteError.Memory → writer.new ≡ writer.old }
+    ensures failed { result ≡ Err WriteError.Write
+        → TookPart writer.old writer.new (entry_text entry.now) }
+    ensures faults { writer.old.faults ≤ writer.new.faults }
+{
+    buffer.clear();
+    if push_entry(buffer, entry).is_err() {
         return Err(WriteError::Memory);
-    };
-    write_whole(writer, text.as_slice(), 1)
+    }
+    write_whole(writer, buffer.as_slice(), 1)
 }

@@ -2,6 +2,7 @@
 //! before it, and the audit of all of them.
 #![tactic(auto)]
 
+mod appended;
 mod auditing;
 mod entry_text;
 mod judge;
@@ -12,7 +13,7 @@ mod words;
 mod writing;
 
 pub use auditing::{Fault, MOST_KEPT, audit};
-pub use entry_text::{WriteError, push_entry, write_entry};
+pub use entry_text::{WriteError, push_entry, write_entry, write_entry_by};
 pub use judge::{AuditError, Clause, PlannedEntry, judge_line, plan_line, plan_with};
 pub use reading::read_line;
 pub use stated::{Asked, LineError, LoadLine, ProgramBytes, Stated};

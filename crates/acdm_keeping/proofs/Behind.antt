@@ -20,11 +20,25 @@ keeps_one seen later e old new took added fits before start saves =
       types = (fits, saves.types);
     })
 
--- a text was written behind what a writer had taken
-pub written_behind : (seen later : List Entry) (none text old new : List ℕ) → none ≡ []
-    → Keeps seen later none text → new ≡ old ++ text → Keeps seen later old new
-written_behind seen later none text old new empty keeps wrote before start saves =
-    subst (λ l. Saves (reverse later) start l)
-    (append_assoc before old text ∙ ap (λ l. before ++ l) (sym wrote))
-    (keeps (before ++ old) start (subst (λ l. Saves (reverse seen) start l)
-    (sym (ap (λ l. (before ++ old) ++ l) empty ∙ append-nil (before ++ old))) saves))
+-- what was added to a text was added behind what a writer had taken before it
+pub added_behind : (seen later : List Entry) (taken text more : List ℕ) → Keeps seen later text more
+    → Keeps seen later (taken ++ text) (taken ++ more)
+added_behind seen later taken text more adds before start saves =
+    subst (λ l. Saves (reverse later) start l) (append_assoc before taken more)
+    (adds (before ++ taken) start (subst (λ l. Saves (reverse seen) start l)
+    (sym (append_assoc before taken text)) saves))
+
+-- and was then written, so that nothing is left of it
+pub written_behind : (seen later : List Entry) (taken text more new none : List ℕ) → none ≡ []
+    → new ≡ taken ++ more → Keeps seen later text more → Keeps seen later (taken ++ text) (new ++ none)
+written_behind seen later taken text more new none empty wrote adds =
+    subst (λ l. Keeps seen later (taken ++ text) l)
+    (sym (ap (λ l. new ++ l) empty ∙ append-nil new ∙ wrote))
+    (added_behind seen later taken text more adds)
+
+-- nothing was gathered at first, and all of it was written in the end
+pub all_behind : (seen later : List Entry) (taken none gone more new : List ℕ) → none ≡ []
+    → new ≡ gone ++ more → Keeps seen later (taken ++ none) (gone ++ more) → Keeps seen later taken new
+all_behind seen later taken none gone more new empty wrote keeps =
+    subst (λ l. Keeps seen later l new) (ap (λ l. taken ++ l) empty ∙ append-nil taken)
+    (subst (λ l. Keeps seen later (taken ++ none) l) (sym wrote) keeps)

@@ -8,8 +8,8 @@ use Rattle.std.specs.declared.io.traits.Write as write
 use Rattle.std.specs.contracts.sync.Mutex as lock
 use Rattle.acdm_lines.proofs.sink.Sink.TheSendSync as sink
 use Rattle.acdm_row.proofs.Crossing.{row_send, row_sync}
-use Rattle.acdm_watch.proofs.Crossing.{watch_send}
-use Rattle.acdm_watch.specs.contracts.watch.Watch as watch
+use Rattle.acdm_watch.proofs.Crossing.{sight_send}
+use Rattle.acdm_watch.specs.contracts.sight.Sight as sight
 use Rattle.acdm_keeping.specs.declared.receipt.Opening as opening
 use Rattle.acdm_keeping.proofs.progress.Progress.TheSendSync as progress
 use Rattle.acdm_keeping.specs.contracts.keeper.Keeper as keeper
@@ -22,7 +22,7 @@ use Rattle.acdm_keeping.specs.contracts.replies.Replies as replies
 keeper_parts : (F : RattleType) (o : write.Ghosts F.Denot) → IsSend F → IsSend (keeper_inside.the_row F o)
 keeper_parts F o f =
     declared_send (keeper_inside.the_type F o) (
-      as_row_send watch.the_field watch_send,
+      as_row_send sight.the_field sight_send,
       (
         search (row_send, row_sync, sendable, crosses) depth 20,
         (

@@ -1,14 +1,16 @@
 //! The writing of entries to the place where they are kept.
-ghost use Rattle.std.specs.Prelude.{◌≡◌, ◌+◌, ◌++◌, [], false, length, IfErr, IfOk, OnOk};
+ghost use Rattle.std.specs.Prelude.{◌≡◌, ◌+◌, ◌++◌, ◌∷◌, [], false, length, IfErr, IfOk, IfSome};
+ghost use Rattle.std.specs.Prelude.{OnOk, Ok, None};
 ghost use Rattle.std.specs.Arc.{arc_value};
 ghost use Rattle.acdm_keeping.specs.Kept.{CutsShort, Keeps};
 
 use acdm_failures::Failure;
-use acdm_journal::{push_entry, write_whole};
+use acdm_journal::{MOST_KEPT, push_entry, write_whole};
 use acdm_lines::Sink;
 use acdm_row::Row;
-use acdm_watch::Watch;
-use std::alloc::Global;
+use acdm_step::Entry;
+use acdm_watch::Sight;
+use std::alloc::{AllocError, Global};
 use std::io::Write;
 use std::marker::Model;
 use std::sync::Arc;
@@ -16,11 +18,15 @@ use std::sync::Arc;
 /// How often in a row a writer may take nothing in its time, until it is given up.
 const MOST_REFUSALS: u64 = 120;
 
+/// How many bytes are gathered until they are written, where more entries are in sight.
+const BUFFER: usize = 65_536;
+
 /// Who writes the entries of a row, as text, to the place where they are kept. It follows the row by
-/// a watch of its own, and takes no lock.
+/// a sight of its own, and takes no lock. Its text is gathered in a buffer that it takes at its start, with
+/// room for the longest line behind what is gathered, and that is written and used again.
 #[derive(Drop)]
 pub struct Keeper<W: Write> {
-    watch: Watch,
+    sight: Sight,
     row: Arc<Row>,
     writer: Sink<W>,
     text: Vec<u8>,
@@ -34,9 +40,9 @@ impl<W: Write> Model for Keeper<W> {
 
     ghost Value = { KeeperView W };
 
-    ghost view = { λ k. record { row = k.watch.row; seen = k.watch.seen; writer = k.writer } };
+    ghost view = { λ k. record { row = k.sight.row; seen = k.sight.entries; writer = k.writer } };
 
-    ghost invariant = { λ k. arc_value k.row ≡ k.watch.row };
+    ghost invariant = { λ k. arc_value k.row ≡ k.sight.row };
 }
 
 impl<W: Write + Drop> Keeper<W> {
@@ -48,11 +54,11 @@ impl<W: Write + Drop> Keeper<W> {
         ensures writer { IfOk result (λ k. k.writer ≡ writer) }
         ensures failed { IfErr result CutsShort }
     {
-        let watch = Watch::new(alloc, row)?;
+        let sight = Sight::new(alloc, Arc::try_clone(row)?);
         let row = Arc::try_clone(row)?;
-        let text = Vec::new(alloc);
+        let text = Vec::with_capacity(alloc, BUFFER + MOST_KEPT)?;
         Ok(Keeper {
-            watch,
+            sight,
             row,
             writer,
             text,
@@ -64,7 +70,7 @@ impl<W: Write + Drop> Keeper<W> {
     pub fn len(&self) -> usize
         ensures { result ≡ length self.now.seen }
     {
-        self.watch.len()
+        self.sight.len()
     }
 
     /// Its writer.
@@ -83,7 +89,7 @@ impl<W: Write + Drop> Keeper<W> {
         ensures passed { OnOk result (length self.new.seen ≡ length self.old.seen + count) }
         ensures failed { IfErr result CutsShort }
     {
-        pass_over(&mut self.watch, &self.row, count)
+        pass_over(&mut self.sight, &self.row, count)
     }
 
     /// Writes all entries in sight that were not written yet, and flushes them. After an error it
@@ -102,22 +108,37 @@ impl<W: Write + Drop> Keeper<W> {
         }
         self.has_failed = true;
         self.text.clear();
-        add_all(&mut self.watch, &self.row, &mut self.text)?;
-        send(&mut self.writer, self.text.as_slice())?;
+        send_all(&mut self.sight, &self.row, &mut self.text, &mut self.writer)?;
         self.has_failed = false;
         Ok(())
     }
 }
 
-// Advances a watch by so many entries.
-fn pass_over(watch: &mut Watch, row: &Row, count: u64) -> Result<(), Failure>
-    requires { row.now ≡ watch.old.row }
-    ensures row { watch.new.row ≡ watch.old.row }
-    ensures passed { OnOk result (length watch.new.seen ≡ length watch.old.seen + count) }
+// Takes the next entry, where it is in sight, and shows it. `Err` only where memory was refused.
+fn take_next<'a>(sight: &mut Sight, row: &'a Row) -> Result<Option<&'a Entry>, AllocError>
+    requires { row.now ≡ sight.old.row }
+    ensures row { sight.new.row ≡ sight.old.row }
+    ensures took { IfOk result (λ o. IfSome o (λ e.
+        sight.new.entries ≡ sight.old.entries ++ e.now ∷ [])) }
+    ensures left { result ≡ Ok None → sight.new ≡ sight.old }
+{
+    let Some((found, note)) = sight.look(row) else {
+        return Ok(None);
+    };
+    sight.reserve()?;
+    sight.take(note);
+    Ok(Some(&found.entry))
+}
+
+// Takes so many entries.
+fn pass_over(sight: &mut Sight, row: &Row, count: u64) -> Result<(), Failure>
+    requires { row.now ≡ sight.old.row }
+    ensures row { sight.new.row ≡ sight.old.row }
+    ensures passed { OnOk result (length sight.new.entries ≡ length sight.old.entries + count) }
     ensures failed { IfErr result CutsShort }
 {
     for _ in 0..count {
-        if !watch.advance_alone(row)? {
+        if take_next(sight, row)?.is_none() {
             return Err(Failure::Save);
         }
     }
@@ -125,43 +146,91 @@ fn pass_over(watch: &mut Watch, row: &Row, count: u64) -> Result<(), Failure>
 }
 
 // Adds the text of the next entry, where it is in sight, and says whether it was.
-fn add_next(watch: &mut Watch, row: &Row, text: &mut Vec<u8>) -> Result<bool, Failure>
-    requires { row.now ≡ watch.old.row }
-    ensures row { watch.new.row ≡ watch.old.row }
-    ensures added { OnOk result (Keeps watch.old.seen watch.new.seen text.old.items text.new.items) }
+fn add_next(sight: &mut Sight, row: &Row, text: &mut Vec<u8>) -> Result<bool, Failure>
+    requires { row.now ≡ sight.old.row }
+    ensures row { sight.new.row ≡ sight.old.row }
+    ensures added { OnOk result (Keeps sight.old.entries sight.new.entries text.old.items text.new.items) }
     ensures failed { IfErr result CutsShort }
 {
-    let Some(entry) = watch.take_next(row)? else {
+    let Some(entry) = take_next(sight, row)? else {
         return Ok(false);
     };
     push_entry(text, entry)?;
     Ok(true)
 }
 
-// Adds the text of all entries in sight.
-fn add_all(watch: &mut Watch, row: &Row, text: &mut Vec<u8>) -> Result<(), Failure>
-    requires { row.now ≡ watch.old.row }
-    ensures row { watch.new.row ≡ watch.old.row }
-    ensures added { OnOk result (Keeps watch.old.seen watch.new.seen text.old.items text.new.items) }
+// Writes all entries in sight by way of an empty buffer, and flushes them.
+fn send_all<W: Write>(
+    sight: &mut Sight,
+    row: &Row,
+    text: &mut Vec<u8>,
+    writer: &mut Sink<W>,
+) -> Result<(), Failure>
+    requires row { row.now ≡ sight.old.row }
+    requires empty { text.old.items ≡ [] }
+    ensures row { sight.new.row ≡ sight.old.row }
+    ensures sent { OnOk result (Keeps sight.old.entries sight.new.entries writer.old.log writer.new.log) }
+    ensures flushed { OnOk result (writer.new.waits ≡ false) }
     ensures failed { IfErr result CutsShort }
 {
-    for _ in watch.len()..row.len() {
-        if !add_next(watch, row, text)? {
+    gather_all(sight, row, text, writer)?;
+    send(writer, text)?;
+    if writer.flush().is_err() {
+        return Err(Failure::Save);
+    }
+    Ok(())
+}
+
+// Gathers all entries in sight, of which those are written that the buffer is full of.
+fn gather_all<W: Write>(
+    sight: &mut Sight,
+    row: &Row,
+    text: &mut Vec<u8>,
+    writer: &mut Sink<W>,
+) -> Result<(), Failure>
+    requires { row.now ≡ sight.old.row }
+    ensures row { sight.new.row ≡ sight.old.row }
+    ensures gathered { OnOk result (Keeps sight.old.entries sight.new.entries
+        (writer.old.log ++ text.old.items) (writer.new.log ++ text.new.items)) }
+    ensures failed { IfErr result CutsShort }
+{
+    for _ in sight.len()..row.len() {
+        if !gather_next(sight, row, text, writer)? {
             break;
         }
     }
     Ok(())
 }
 
-// Writes a text, and flushes it.
-fn send<W: Write>(writer: &mut Sink<W>, text: &[u8]) -> Result<(), Failure>
-    ensures sent { OnOk result (writer.new.log ≡ writer.old.log ++ text.now) }
-    ensures flushed { OnOk result (writer.new.waits ≡ false) }
+// Gathers the next entry, where it is in sight, and says whether it was. What a full buffer holds is
+// written.
+fn gather_next<W: Write>(
+    sight: &mut Sight,
+    row: &Row,
+    text: &mut Vec<u8>,
+    writer: &mut Sink<W>,
+) -> Result<bool, Failure>
+    requires { row.now ≡ sight.old.row }
+    ensures row { sight.new.row ≡ sight.old.row }
+    ensures gathered { OnOk result (Keeps sight.old.entries sight.new.entries
+        (writer.old.log ++ text.old.items) (writer.new.log ++ text.new.items)) }
     ensures failed { IfErr result CutsShort }
 {
-    write_whole(writer, text, MOST_REFUSALS)?;
-    if writer.flush().is_err() {
-        return Err(Failure::Save);
+    let is_there = add_next(sight, row, text)?;
+    if text.len() < BUFFER {
+        return Ok(is_there);
     }
+    send(writer, text)?;
+    Ok(is_there)
+}
+
+// Writes what is gathered in a buffer, which is empty then.
+fn send<W: Write>(writer: &mut Sink<W>, text: &mut Vec<u8>) -> Result<(), Failure>
+    ensures sent { OnOk result (writer.new.log ≡ writer.old.log ++ text.old.items) }
+    ensures empty { OnOk result (text.new.items ≡ []) }
+    ensures failed { IfErr result CutsShort }
+{
+    write_whole(writer, text.as_slice(), MOST_REFUSALS)?;
+    text.clear();
     Ok(())
 }

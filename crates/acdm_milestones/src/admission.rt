@@ -45,7 +45,7 @@ fn field_of(milestone: Milestone) -> Field
 ///
 /// A TOBT update without a time clears TOBT and TSAT.
 pub fn set_time(record: &mut Record, milestone: Milestone, time: u32)
-    ensures { record.new ≡ with_all record.old (times_of milestone time) }
+    ensures { «record».new ≡ with_all «record».old (times_of milestone time) }
 {
     record.set(field_of(milestone), u64::from(time));
     if time == 0 && matches!(milestone, Milestone::TobtUpdate) {
@@ -72,13 +72,13 @@ fn barred_by(milestone: Milestone) -> u32
 }
 
 fn is_set(record: &Record, field: Field) -> bool
-    ensures { result ≡ is_given record.now field }
+    ensures { result ≡ is_given «record».now field }
 {
     record.get(field) != 0
 }
 
 fn has_needed(record: &Record, milestone: Milestone) -> bool
-    ensures { result ≡ list_all (is_reached record.now) (needs milestone) }
+    ensures { result ≡ list_all (is_reached «record».now) (needs milestone) }
 {
     match milestone {
         Milestone::FlightPlanActivated => true,
@@ -95,7 +95,7 @@ fn has_needed(record: &Record, milestone: Milestone) -> bool
 }
 
 fn has_set(record: &Record, milestone: Milestone) -> bool
-    ensures { result ≡ list_all (is_given record.now) (needs_set milestone) }
+    ensures { result ≡ list_all (is_given «record».now) (needs_set milestone) }
 {
     match milestone {
         Milestone::TsatIssue | Milestone::BoardingStarts | Milestone::AircraftReady => {
@@ -108,7 +108,7 @@ fn has_set(record: &Record, milestone: Milestone) -> bool
 
 /// Whether the later of two times is not before the earlier, where both are set.
 pub(crate) fn follows(record: &Record, later: Field, earlier: Field) -> bool
-    ensures { result ≡ is_after record.now later earlier }
+    ensures { result ≡ is_after «record».now later earlier }
 {
     let first = record.get(earlier);
     let second = record.get(later);
@@ -116,7 +116,7 @@ pub(crate) fn follows(record: &Record, later: Field, earlier: Field) -> bool
 }
 
 fn is_in_order(record: &Record) -> bool
-    ensures { result ≡ are_ordered record.now }
+    ensures { result ≡ are_ordered «record».now }
 {
     follows(record, Field::Aibt, Field::Aldt)
         && follows(record, Field::Acgt, Field::Aibt)
@@ -132,7 +132,7 @@ fn is_in_order(record: &Record) -> bool
 /// 205 where a time that it needs is not set, 206 where the times would stand in the wrong order
 /// after the report.
 pub fn admit(record: &Record, role: Role, milestone: Milestone, time: u32) -> Result<(), Refusal>
-    ensures { result ≡ admission record.now role milestone time }
+    ensures { result ≡ admission «record».now role milestone time }
 {
     if !owns(role, Action::Report(milestone)) {
         return Err(Refusal::NotOwner);

@@ -72,14 +72,14 @@ impl DeicingTime {
 /// Sets a time of de-icing in a record of layout 2, in minutes since 1970-01-01T00:00Z; 0 is no
 /// time.
 pub fn set_deicing_time(record: &mut Record, which: DeicingTime, time: u32)
-    requires { number_of record.old Layout ≡ 2 }
-    ensures { record.new ≡ set_number record.old (deicing_field which) time }
+    requires { number_of «record».old Layout ≡ 2 }
+    ensures { «record».new ≡ set_number «record».old (deicing_field which) time }
 {
     record.set(which.field(), u64::from(time));
 }
 
 fn is_in_order(record: &Record) -> bool
-    ensures { result ≡ is_deicing_in_order record.now }
+    ensures { result ≡ is_deicing_in_order «record».now }
 {
     follows(record, Field::Eezt, Field::Eczt) && follows(record, Field::Aezt, Field::Aczt)
 }
@@ -91,8 +91,8 @@ fn is_in_order(record: &Record) -> bool
 /// activated, 204 where the flight has taken off, 206 where an end of de-icing would stand before
 /// its commencement.
 pub fn admit_deicing(record: &Record, which: DeicingTime, time: u32) -> Result<(), Refusal>
-    requires { number_of record.now Layout ≡ 2 }
-    ensures { result ≡ deicing_admission record.now which time }
+    requires { number_of «record».now Layout ≡ 2 }
+    ensures { result ≡ deicing_admission «record».now which time }
 {
     if !has_reached(record, 1) {
         return Err(Refusal::MissingMilestone);

@@ -1,6 +1,7 @@
 //! The thread that accepts partners, and answers at the control address.
 use crate::control::{Control, Standing};
 use crate::doors::Door;
+use crate::levels::Levels;
 use crate::times::{LAST_PAUSES, PAUSE};
 use std::alloc::{AllocError, Global};
 use std::io::Eprint;
@@ -10,8 +11,8 @@ use std::sync::{Arc, Wait};
 use std::thread::{self, JoinHandle, Threads};
 use std::time::{Clock, Duration};
 
-/// Who accepts partners at all addresses, tells who comes and leaves, and answers at the control
-/// address.
+/// Who accepts partners at all addresses, tells who comes and leaves and when the journal is nearly full,
+/// and answers at the control address.
 #[derive(Drop)]
 pub struct Acceptor<K: Drop, S: Drop> {
     rt: K,
@@ -19,6 +20,7 @@ pub struct Acceptor<K: Drop, S: Drop> {
     doors: Vec<Door>,
     control: Option<Control>,
     standing: S,
+    levels: Levels,
     closing: Arc<AtomicBool>,
     done: Arc<AtomicBool>,
 }
@@ -40,6 +42,7 @@ impl<K: Wait + Clock + Eprint + Drop, S: Standing + Drop> Acceptor<K, S> {
             doors,
             control,
             standing,
+            levels: Levels::new(),
             closing,
             done,
         })
@@ -77,6 +80,7 @@ impl<K: Wait + Clock + Eprint + Drop, S: Standing + Drop> Acceptor<K, S> {
         for door in self.doors.as_mut_slice() {
             door.look(&self.rt, self.alloc);
         }
+        self.levels.look(&self.rt, self.alloc, &self.standing);
         if let Some(control) = &mut self.control {
             if control.look(self.alloc, self.doors.as_slice(), &self.standing) {
                 self.closing.store(true, Ordering::SeqCst);

@@ -8,6 +8,7 @@ mod connection;
 mod control;
 mod doors;
 mod hearing;
+mod levels;
 mod pace;
 mod patient;
 mod places;

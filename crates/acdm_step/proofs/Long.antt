@@ -1,6 +1,6 @@
 -- Each record of a board is as long as its programs were told.
 use Rattle.std.proofs.Common.{cond, take, drop, ◌+◌, ◌-◌, slice_get, Some}
-use Rattle.std.proofs.Common.{◌≡◌, ℕ, zero, suc, ◌<◌, ◌≤◌, Bool, true, false, ◌&&◌, ◌==◌, nat_lt, List, [], ◌∷◌}
+use Rattle.std.proofs.Common.{◌≡◌, ℕ, zero, suc, ◌<◌, ◌≤◌, Bool, true, false, ◌==◌, nat_lt, List, [], ◌∷◌}
 use Rattle.std.proofs.Common.{◌++◌, map, length, set, get_or, refl, sym, ap, ◌∙◌, subst, arith, eq-eqb, eqb-true}
 use Rattle.std.proofs.lemmas.List.{get_or_past, length-map, length-take-le, get_or-append_right}
 use Rattle.std.proofs.lemmas.List.{get_or-drop}

@@ -37,7 +37,7 @@ use Rattle.acdm_step.specs.InSlots.{with_slots, slots_of, record_length_after, m
 use Rattle.acdm_step.specs.InSlots.{judged_again}
 use Rattle.bpf_regstate.specs.declared.length.Length.TheVariants.{L128, L160}
 use Rattle.acdm_slots.specs.Migration.{kept_program, unloaded}
-use Rattle.acdm_step.specs.Summaries.{Summary, with_command, with_tick, with_migrate, summary}
+use Rattle.acdm_step.specs.Summaries.{Summary, with_command, with_tick, summary}
 use Rattle.acdm_step.specs.Summaries.{effect_on}
 use Rattle.acdm_step.specs.Summaries.{record_from, record_of, with_flight, flights, exists}
 use Rattle.acdm_step.specs.Summaries.{run_record_of}

@@ -11,8 +11,8 @@ use Rattle.bpf_semantics.specs.Runs.{RunEnds}
 use Rattle.bpf_semantics.proofs.Questions.{end_uses_fewer, run_asks_calls}
 use Rattle.bpf_regstate.specs.States.{instruction_count}
 use Rattle.bpf_verifier.specs.Verdict.{Verified}
-use Rattle.bpf_machine.specs.declared.outcome.Ended.{Ended}
-use Rattle.bpf_machine.specs.Outcome.{AsksOver, EndsOver}
+use Rattle.bpf_run.specs.declared.outcome.Ended.{Ended}
+use Rattle.bpf_run.specs.Ends.{AsksOver, EndsOver}
 use Rattle.acdm_slots.specs.Loaded.{Loaded}
 use Rattle.acdm_step.specs.declared.command.Command.{Command}
 use Rattle.acdm_step.specs.declared.command.Command.TheVariants as commands

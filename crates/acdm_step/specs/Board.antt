@@ -17,6 +17,7 @@ use Rattle.acdm_slots.specs.declared.kind.Kind.TheVariants as kinds
 use Rattle.acdm_slots.specs.Loaded.{Loaded}
 use Rattle.acdm_slots.specs.Loaded as slots
 use Rattle.acdm_slots.specs.Migration.{unloaded}
+use Rattle.acdm_milestones.specs.declared.milestone.Milestone.{Milestone}
 use Rattle.acdm_step.specs.declared.command.Command.{Command}
 use Rattle.acdm_step.specs.declared.command.Command.TheVariants.{Load, Unload, Migrate, Show}
 use Rattle.acdm_step.specs.declared.command.FlightCommand.TheVariants.{Report, Deice}
@@ -85,13 +86,16 @@ record_on b f = slice_index_or b.records (place_of b.records f) (begun b.slots.r
 abbrev pub put : List Fields → ℕ → Fields → List Fields
 put board f r = if is_there board f then slice_set board (place_of board f) r else board ++ r ∷ []
 
+-- the programs of a milestone
+abbrev pub programs_at : Loaded → Milestone → Programs
+programs_at l m = record {
+  tobt = slots.program_in l m kinds.Tobt;
+  alert = slots.program_in l m kinds.Alert;
+}
+
 -- the programs that a command runs
 abbrev pub programs_on : Loaded → Command → Programs
-programs_on l (commands.Flight (Report r)) =
-    record {
-      tobt = slots.program_in l r.milestone kinds.Tobt;
-      alert = slots.program_in l r.milestone kinds.Alert;
-    }
+programs_on l (commands.Flight (Report r)) = programs_at l r.milestone
 programs_on l _ = no_programs
 
 -- what the slots, and the length of the records, have against a command

@@ -6,7 +6,7 @@ use Rattle.acdm_milestones.specs.declared.refusal.Refusal.TheVariants.{Unanswere
 use Rattle.bpf_helpers.specs.Promise.{Promise}
 use Rattle.bpf_helpers.specs.Oracles.{OracleView, Gained, SameRule}
 use Rattle.bpf_verifier.specs.Verdict.{Verified}
-use Rattle.bpf_machine.specs.Outcome.{AsksOver}
+use Rattle.bpf_run.specs.Ends.{AsksOver}
 use Rattle.acdm_step.specs.declared.command.Command.{Command}
 use Rattle.acdm_step.specs.declared.outcome.Outcome.{Outcome}
 use Rattle.acdm_step.specs.declared.outcome.Outcome.TheVariants as outcomes

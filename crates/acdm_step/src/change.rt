@@ -17,17 +17,17 @@ use acdm_milestones::{mark_reached, set_deicing_time, set_time};
 use acdm_record::{Field, Record, TextField};
 use acdm_slots::Slots;
 use bpf_helpers::Oracle;
-use bpf_machine::BadAnswer;
+use bpf_run::BadAnswer;
 
 /// Computes the alerts of a record anew.
 pub(crate) fn touch(record: &mut Record, moment: u32)
-    ensures { record.new ≡ touched moment record.old }
+    ensures { «record».new ≡ touched moment «record».old }
 {
     builtin(record, moment).store(record);
 }
 
 fn set_scheduled(record: &mut Record, schedule: &Schedule)
-    ensures { record.new ≡ assigned_to record.old
+    ensures { «record».new ≡ assigned_to «record».old
         (Command.Flight (FlightCommand.Schedule schedule.now)) }
 {
     record.set_text(TextField::Callsign, schedule.plan.callsign.as_bytes());
@@ -49,15 +49,15 @@ fn set_scheduled(record: &mut Record, schedule: &Schedule)
 }
 
 fn set_deiced(record: &mut Record, deice: &Deice)
-    requires { length_of record.old ≡ 160 }
-    ensures { record.new ≡ assigned_to record.old
+    requires { length_of «record».old ≡ 160 }
+    ensures { «record».new ≡ assigned_to «record».old
         (Command.Flight (FlightCommand.Deice deice.now)) }
 {
     set_deicing_time(record, deice.which, deice.time);
 }
 
 fn set_planned(record: &mut Record, plan: &Option<Plan>)
-    ensures { record.new ≡ with_all record.old (plan_assignments plan.now) }
+    ensures { «record».new ≡ with_all «record».old (plan_assignments plan.now) }
 {
     if let Some(plan) = plan {
         record.set_text(TextField::Callsign, plan.callsign.as_bytes());
@@ -68,7 +68,7 @@ fn set_planned(record: &mut Record, plan: &Option<Plan>)
 }
 
 fn set_reported(record: &mut Record, report: &Report)
-    ensures { record.new ≡ assigned_to record.old
+    ensures { «record».new ≡ assigned_to «record».old
         (Command.Flight (FlightCommand.Report report.now)) }
 {
     set_time(record, report.milestone, report.time);
@@ -85,14 +85,14 @@ fn change_reported<O: Oracle>(
     oracle: &mut O,
 ) -> Result<(), BadAnswer>
     requires oracle { MayBeAsked slots.now.sigs (O.view oracle.old) }
-    requires long { length_of record.old ≡ bytes_in slots.now.record_length }
+    requires long { length_of «record».old ≡ bytes_in slots.now.record_length }
     ensures changed { OnOk result (ChangesTo
-        (programs_on slots.now (Command.Flight (FlightCommand.Report report.now))) record.old moment
+        (programs_on slots.now (Command.Flight (FlightCommand.Report report.now))) «record».old moment
         (Command.Flight (FlightCommand.Report report.now)) (O.view oracle.old) (O.view oracle.new)
-        record.new) }
+        «record».new) }
     ensures unanswered { OnErr result
         (AsksIn (programs_on slots.now (Command.Flight (FlightCommand.Report report.now)))
-        (assigned_to record.old (Command.Flight (FlightCommand.Report report.now))) moment
+        (assigned_to «record».old (Command.Flight (FlightCommand.Report report.now))) moment
         (number report.now.milestone) (O.view oracle.old) (O.view oracle.new)) }
     ensures same_rule { SameRule (O.view oracle.old) (O.view oracle.new) }
 {
@@ -112,15 +112,15 @@ pub(crate) fn change<O: Oracle>(
     oracle: &mut O,
 ) -> Result<(), BadAnswer>
     requires oracle { MayBeAsked slots.now.sigs (O.view oracle.old) }
-    requires long { length_of record.old ≡ bytes_in slots.now.record_length }
+    requires long { length_of «record».old ≡ bytes_in slots.now.record_length }
     requires second { IsTrue (is_deice (Command.Flight command.now))
         → slots.now.record_length ≡ L160 }
     ensures changed { OnOk result (ChangesTo (programs_on slots.now (Command.Flight command.now))
-        record.old moment (Command.Flight command.now) (O.view oracle.old) (O.view oracle.new)
-        record.new) }
+        «record».old moment (Command.Flight command.now) (O.view oracle.old) (O.view oracle.new)
+        «record».new) }
     ensures unanswered { OnErr result
         (AsksIn (programs_on slots.now (Command.Flight command.now))
-        (assigned_to record.old (Command.Flight command.now)) moment
+        (assigned_to «record».old (Command.Flight command.now)) moment
         (told_milestone (Command.Flight command.now)) (O.view oracle.old) (O.view oracle.new)) }
     ensures same_rule { SameRule (O.view oracle.old) (O.view oracle.new) }
 {

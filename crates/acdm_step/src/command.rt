@@ -29,7 +29,7 @@ pub struct Plan {
 /// are at most `MINUTES_OF_DAY`, EXIT is in minutes.
 #[derive(Drop)]
 pub struct Schedule {
-    pub(crate) flight: u64,
+    pub(crate) flight: FlightNumber,
     pub(crate) plan: Plan,
     pub(crate) sobt: u32,
     pub(crate) mttt: u16,
@@ -82,7 +82,7 @@ impl Schedule {
         } }
     {
         Schedule {
-            flight,
+            flight: FlightNumber::new(flight),
             plan,
             sobt,
             mttt,
@@ -98,7 +98,7 @@ impl Schedule {
         ensures given { 1 ≤ result }
     {
         let Schedule { flight, .. } = self;
-        *flight
+        flight.get()
     }
 
     /// What is planned for it.
@@ -153,7 +153,7 @@ impl Schedule {
 /// milestones 2 and 9 alone. A plan comes with milestone 1, and with it alone.
 #[derive(Drop)]
 pub struct Report {
-    pub(crate) flight: u64,
+    pub(crate) flight: FlightNumber,
     pub(crate) milestone: Milestone,
     pub(crate) time: u32,
     pub(crate) plan: Option<Plan>,
@@ -188,7 +188,7 @@ impl Report {
         } }
     {
         Report {
-            flight,
+            flight: FlightNumber::new(flight),
             milestone,
             time,
             plan,
@@ -200,7 +200,7 @@ impl Report {
         ensures value { result ≡ self.now.flight }
         ensures given { 1 ≤ result }
     {
-        self.flight
+        self.flight.get()
     }
 
     /// The milestone.
@@ -227,22 +227,22 @@ impl Report {
     }
 }
 
-/// The number of a flight, which is at least 1.
-#[derive(Clone, Copy)]
+/// The number of a flight, which is at least 1. It is kept as bytes, so that a command which has one
+/// is not filled up to a multiple of eight.
+#[derive(Drop)]
 pub struct FlightNumber {
-    number: u64,
+    bytes: [u8; 8],
 }
 
 impl Model for FlightNumber {
     ghost use Rattle.std.specs.Prelude.{ℕ, ◌≤◌};
+    ghost use Rattle.std.specs.Int.{from_le_bytes, w64};
 
     ghost Value = { ℕ };
 
-    ghost view = { λ f. f.number };
+    ghost view = { λ f. from_le_bytes w64 f.bytes };
 
-    ghost invariant = { λ f. 1 ≤ f.number };
-
-    ghost inverse = { λ n. record { number = n } };
+    ghost invariant = { λ f. 1 ≤ from_le_bytes w64 f.bytes };
 }
 
 impl FlightNumber {
@@ -251,15 +251,17 @@ impl FlightNumber {
         requires { 1 ≤ number }
         ensures { result ≡ number }
     {
-        FlightNumber { number }
+        FlightNumber {
+            bytes: number.to_le_bytes(),
+        }
     }
 
     /// The number.
-    pub fn get(self) -> u64
-        ensures value { result ≡ self }
+    pub fn get(&self) -> u64
+        ensures value { result ≡ self.now }
         ensures given { 1 ≤ result }
     {
-        self.number
+        u64::from_le_bytes(self.bytes)
     }
 }
 
@@ -299,7 +301,7 @@ pub struct Unload {
 /// Reports a time of de-icing of a flight.
 ///
 /// The time is in minutes since 1970-01-01T00:00Z; 0 clears it.
-#[derive(Clone, Copy)]
+#[derive(Drop)]
 pub struct Deice {
     pub flight: FlightNumber,
     pub which: DeicingTime,

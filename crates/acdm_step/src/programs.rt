@@ -5,7 +5,8 @@ ghost use Rattle.bpf_decode.specs.declared.program.TheConstants.{MOST_SLOTS};
 ghost use Rattle.acdm_milestones.specs.Tables.{number};
 ghost use Rattle.acdm_slots.specs.Loaded.{program_in};
 ghost use Rattle.bpf_helpers.specs.Oracles.{MayBeAsked, SameRule};
-ghost use Rattle.acdm_step.specs.Programs.{Programs, is_usable as may_be_set, rejecting};
+ghost use Rattle.acdm_step.specs.Board.{programs_at};
+ghost use Rattle.acdm_step.specs.Programs.{is_usable as may_be_set, rejecting};
 ghost use Rattle.acdm_step.specs.Programs.{suggestion, with_suggestion, local_alerts};
 ghost use Rattle.acdm_step.specs.Programs.{with_local_alerts};
 ghost use Rattle.acdm_step.specs.InSlots.{may_ask as asks_helpers, size_of};
@@ -19,7 +20,7 @@ use acdm_milestones::{Milestone, mark_reached};
 use acdm_record::{Field, Record};
 use acdm_slots::{Kind, Slots};
 use bpf_helpers::Oracle;
-use bpf_machine::{BadAnswer, run};
+use bpf_run::{BadAnswer, run};
 
 // Runs the program in a slot, if there is one.
 fn run_slot<O: Oracle>(
@@ -31,11 +32,11 @@ fn run_slot<O: Oracle>(
     oracle: &mut O,
 ) -> Result<Option<u64>, BadAnswer>
     requires oracle { MayBeAsked slots.now.sigs (O.view oracle.old) }
-    requires long { length_of record.now ≡ bytes_in slots.now.record_length }
-    ensures ended { IfOk result (EndsAt (program_in slots.now milestone kind) record.now moment
+    requires long { length_of «record».now ≡ bytes_in slots.now.record_length }
+    ensures ended { IfOk result (EndsAt (program_in slots.now milestone kind) «record».now moment
         (number milestone) (O.view oracle.old) (O.view oracle.new)) }
     ensures unanswered { OnErr result
-        (AsksAt (program_in slots.now milestone kind) record.now moment (number milestone)
+        (AsksAt (program_in slots.now milestone kind) «record».now moment (number milestone)
         (O.view oracle.old) (O.view oracle.new)) }
     ensures counted { OnOk result ((O.view oracle.new).refusals ≡ (O.view oracle.old).refusals) }
     ensures same_rule { SameRule (O.view oracle.old) (O.view oracle.new) }
@@ -49,14 +50,14 @@ fn run_slot<O: Oracle>(
 
 // Sets or clears CDM14, no automatic TOBT.
 fn set_rejected(record: &mut Record, rejected: bool)
-    ensures { record.new ≡ rejecting rejected record.old }
+    ensures { «record».new ≡ rejecting rejected «record».old }
 {
     AlertSet::of(record).with_rejection(rejected).store(record);
 }
 
 // Whether a time is a TOBT that a program may set.
 fn is_usable(record: &Record, moment: u32, time: u64) -> bool
-    ensures { result ≡ may_be_set record.now moment time }
+    ensures { result ≡ may_be_set «record».now moment time }
 {
     let moment = u64::from(moment);
     moment <= time
@@ -67,7 +68,7 @@ fn is_usable(record: &Record, moment: u32, time: u64) -> bool
 
 // Does to a record what r0 of its TOBT program means.
 fn suggest(record: &mut Record, moment: u32, r0: Option<u64>)
-    ensures { record.new ≡ with_suggestion (suggestion record.old moment r0) record.old }
+    ensures { «record».new ≡ with_suggestion (suggestion «record».old moment r0) «record».old }
 {
     let Some(time) = r0 else {
         return;
@@ -86,7 +87,7 @@ fn suggest(record: &mut Record, moment: u32, r0: Option<u64>)
 
 // Does to a record what r0 of its alert program means.
 fn decide_locals(record: &mut Record, r0: Option<u64>)
-    ensures { record.new ≡ with_local_alerts (local_alerts r0) record.old }
+    ensures { «record».new ≡ with_local_alerts (local_alerts r0) «record».old }
 {
     let Some(word) = r0 else {
         return;
@@ -107,19 +108,11 @@ pub(crate) fn run_programs<O: Oracle>(
     oracle: &mut O,
 ) -> Result<(), BadAnswer>
     requires oracle { MayBeAsked slots.now.sigs (O.view oracle.old) }
-    requires long { length_of record.old ≡ bytes_in slots.now.record_length }
-    ensures ended { OnOk result (EndsIn
-        (record {
-          tobt = program_in slots.now milestone Kind.Tobt;
-          alert = program_in slots.now milestone Kind.Alert;
-        })
-        record.old moment (number milestone) (O.view oracle.old) (O.view oracle.new) record.new) }
+    requires long { length_of «record».old ≡ bytes_in slots.now.record_length }
+    ensures ended { OnOk result (EndsIn (programs_at slots.now milestone)
+        «record».old moment (number milestone) (O.view oracle.old) (O.view oracle.new) «record».new) }
     ensures unanswered { OnErr result
-        (AsksIn (record {
-          tobt = program_in slots.now milestone Kind.Tobt;
-          alert = program_in slots.now milestone Kind.Alert;
-        })
-        record.old moment (number milestone) (O.view oracle.old) (O.view oracle.new)) }
+        (AsksIn (programs_at slots.now milestone) «record».old moment (number milestone) (O.view oracle.old) (O.view oracle.new)) }
     ensures same_rule { SameRule (O.view oracle.old) (O.view oracle.new) }
 {
     let tobt = run_slot(slots, milestone, Kind::Tobt, record, moment, oracle)?;

@@ -23,7 +23,7 @@ use bpf_regstate::Length;
 pub const MOST_FLIGHTS: usize = 4096;
 
 fn verdict_on_schedule(record: &Record, is_there: bool, count: usize, role: Role) -> Verdict
-    ensures { result ≡ schedule_verdict is_there count record.now role }
+    ensures { result ≡ schedule_verdict is_there count «record».now role }
 {
     if !owns(role, Action::Schedule) {
         return Verdict::Refused(Refusal::NotOwner);
@@ -45,7 +45,7 @@ fn verdict_on_report(
     milestone: Milestone,
     time: u32,
 ) -> Verdict
-    ensures { result ≡ report_verdict is_there count record.now role milestone time }
+    ensures { result ≡ report_verdict is_there count «record».now role milestone time }
 {
     if !owns(role, Action::Report(milestone)) {
         return Verdict::Refused(Refusal::NotOwner);
@@ -129,8 +129,8 @@ fn verdict_on_deice(
     role: Role,
     deice: &Deice,
 ) -> Verdict
-    requires long { length_of record.now ≡ bytes_in record_length }
-    ensures value { result ≡ deice_verdict is_there record.now (deice_obstacle record_length) role
+    requires long { length_of «record».now ≡ bytes_in record_length }
+    ensures value { result ≡ deice_verdict is_there «record».now (deice_obstacle record_length) role
         deice.now.which deice.now.time }
     ensures second { result ≡ Verdict.Accepted → record_length ≡ L160 }
 {
@@ -169,8 +169,8 @@ pub(crate) fn verdict(
     role: Role,
     command: &FlightCommand,
 ) -> Verdict
-    requires long { length_of record.now ≡ bytes_in slots.now.record_length }
-    ensures value { result ≡ verdict_for is_there count record.now
+    requires long { length_of «record».now ≡ bytes_in slots.now.record_length }
+    ensures value { result ≡ verdict_for is_there count «record».now
         (obstacle_on slots.now (Command.Flight command.now)) role (Command.Flight command.now) }
     ensures second { IsTrue (is_accepted result) → IsTrue (is_deice (Command.Flight command.now))
         → slots.now.record_length ≡ L160 }
@@ -202,8 +202,8 @@ pub(crate) fn flight_of_command(command: &FlightCommand) -> u64
     ensures { result ≡ flight_of (Command.Flight command.now) }
 {
     match command {
-        FlightCommand::Schedule(schedule) => schedule.flight,
-        FlightCommand::Report(report) => report.flight,
+        FlightCommand::Schedule(schedule) => schedule.flight(),
+        FlightCommand::Report(report) => report.flight(),
         FlightCommand::Deice(deice) => deice.flight.get(),
     }
 }

@@ -2,8 +2,8 @@
 use crate::texts::{EXIT, push, push_number, push_times, replies_of};
 use acdm_board::Desk;
 use acdm_journal::{audit, write_entry};
-use acdm_judging::{KnownHelpers, known_sigs};
 use acdm_sessions::{Sink, Source};
+use acdm_tables::{KnownHelpers, Tables, known_sigs};
 use bpf_helpers::{Helpers, Sigs};
 use std::alloc::Global;
 use std::process::Abort;
@@ -11,7 +11,8 @@ use std::sync::Arc;
 
 // Such a text is the journal of so many entries.
 fn is_legal(rt: &impl Abort, alloc: Global, text: &[u8], entries: u64) {
-    let sigs = known_sigs(alloc).expect(rt, "signatures");
+    let tables = Tables::built_in(alloc).expect(rt, "tables");
+    let sigs = known_sigs(alloc, &tables).expect(rt, "signatures");
     is_legal_by(rt, alloc, text, &sigs, entries);
     drop(sigs);
 }
@@ -119,6 +120,7 @@ fn asks_with<H: Helpers + Drop>(rt: &impl Abort, alloc: Global, helpers: H) {
 
 #[test]
 fn four_thousand_answers_are_saved_and_audited(rt: HostRuntime) {
-    let helpers = KnownHelpers::new(rt.alloc());
+    let tables = Tables::built_in(rt.alloc()).expect(&rt, "tables");
+    let helpers = KnownHelpers::new(rt.alloc(), tables);
     asks_with(&rt, rt.alloc(), helpers);
 }

@@ -1,8 +1,8 @@
 //! A reader that failed before, and goes on: that is no want of memory.
 use acdm_board::Desk;
 use acdm_journal::{Fault, audit};
-use acdm_judging::known_sigs;
 use acdm_sessions::{RunError, Sink, Source, run};
+use acdm_tables::{Tables, known_sigs};
 use bpf_helpers::{Bank, Helpers, Sigs};
 use std::alloc::Global;
 use std::io::{self, Read};
@@ -86,7 +86,8 @@ fn audits_on(rt: &impl Abort, alloc: Global, reader: &mut Source<Late<'_>>, sigs
 
 #[test]
 fn an_audit_goes_on_after_a_failure(rt: HostRuntime) {
-    let sigs = known_sigs(rt.alloc()).expect(&rt, "signatures");
+    let tables = Tables::built_in(rt.alloc()).expect(&rt, "tables");
+    let sigs = known_sigs(rt.alloc(), &tables).expect(&rt, "signatures");
     audits(&rt, rt.alloc(), &sigs);
     drop(sigs);
 }

@@ -588,9 +588,9 @@ fn answers_are_kept_in_order(rt: HostRuntime) {
 
 // With its cell, the length of those before it and what malloc adds, it takes 120 bytes of a journal.
 #[test]
-fn an_entry_takes_96_bytes(rt: HostRuntime) {
+fn an_entry_takes_88_bytes(rt: HostRuntime) {
     let command = size_of::<Command>();
-    assert!(rt; command == 64, "a command takes {command}");
+    assert!(rt; command == 56, "a command takes {command}");
     let entry = size_of::<Entry>();
-    assert!(rt; entry == 96, "an entry takes {entry}");
+    assert!(rt; entry == 88, "an entry takes {entry}");
 }

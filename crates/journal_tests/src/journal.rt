@@ -1,6 +1,8 @@
 //! Entries written, and lines read.
 use crate::fixture::{SEVEN, TEN, deiced, planned, reported, same_number, scheduled};
-use acdm_journal::{Asked, LineError, Stated, WriteError, read_line, write_entry};
+use acdm_journal::{
+    Asked, LineError, Stated, WriteError, push_entry, read_line, write_entry, write_entry_by,
+};
 use acdm_lines::Sink;
 use acdm_milestones::{DeicingTime, Milestone, Refusal, Role};
 use acdm_slots::Kind;
@@ -196,22 +198,54 @@ fn ticks_and_questions_are_written(rt: HostRuntime) {
     );
 }
 
-#[test]
-fn a_writer_that_is_full_fails(rt: HostRuntime) {
-    let tick = Entry {
-        number: 0,
+// The entry of a tick, of this number.
+fn ticked(number: u64) -> Entry {
+    Entry {
+        number,
         session: 1,
         role: Role::AirportOperator,
         moment: SEVEN,
         command: Command::Tick,
         verdict: Verdict::Accepted,
         answers: Answers::none(),
-    };
+    }
+}
+
+#[test]
+fn a_writer_that_is_full_fails(rt: HostRuntime) {
+    let tick = ticked(0);
     let mut room = [0; 9];
     let mut out = Sink::new(room.as_mut_slice());
     let written = write_entry(rt.alloc(), &tick, &mut out);
     assert!(rt; written == Err(WriteError::Write));
     drop(tick);
+}
+
+#[test]
+fn a_buffer_is_used_for_each_entry(rt: HostRuntime) {
+    let alloc = rt.alloc();
+    let mut buffer = Vec::from_slice(alloc, b"what is not written").expect(&rt, "a buffer");
+    let mut out = Sink::new(Vec::new(alloc));
+    for number in 0..2 {
+        let tick = ticked(number);
+        let is_written = write_entry_by(&mut buffer, &tick, &mut out).is_ok();
+        drop(tick);
+        assert!(rt; is_written);
+    }
+    let out = out.into_inner();
+    let both = "0 1 29000580 APT 0 0 tick\n1 1 29000580 APT 0 0 tick\n";
+    assert!(rt; out.as_slice() == both.as_bytes());
+}
+
+#[test]
+fn an_entry_is_added_behind_a_text(rt: HostRuntime) {
+    let alloc = rt.alloc();
+    let mut text = Vec::from_slice(alloc, b"before\n").expect(&rt, "a text");
+    let tick = ticked(7);
+    let is_added = push_entry(&mut text, &tick).is_ok();
+    drop(tick);
+    let whole = "before\n7 1 29000580 APT 0 0 tick\n";
+    assert!(rt; is_added && text.as_slice() == whole.as_bytes());
 }
 
 // What a line states.

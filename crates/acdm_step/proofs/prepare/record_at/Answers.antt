@@ -1,4 +1,4 @@
-use Rattle.std.proofs.Common.{◌≤◌, length, sym, ap, ◌∙◌, arith}
+use Rattle.std.proofs.Common.{sym, ap, ◌∙◌, arith}
 use Rattle.std.proofs.lemmas.List.{get_or_past}
 use Rattle.acdm_step.specs.Board.{begun, place_of}
 use Rattle.acdm_step.proofs.prepare.record_at.Goals as goal

@@ -1,4 +1,4 @@
-use Rattle.std.proofs.Common.{◌≡◌, true, sym, subst, ◌∙◌}
+use Rattle.std.proofs.Common.{◌≡◌, true, sym, subst}
 use Rattle.std.specs.List.{list_all}
 use Rattle.acdm_step.specs.History.{Board}
 use Rattle.acdm_step.specs.Board.{is_long}

@@ -1,0 +1,12 @@
+use Rattle.acdm_keeping.proofs.Behind.{added_behind, written_behind}
+use Rattle.acdm_keeping.proofs.keeper.gather_next.Goals as goal
+
+pub returns-then-len-lt-BUFFER-clause-gathered : goal.returns-then-len-lt-BUFFER-clause-gathered
+returns-then-len-lt-BUFFER-clause-gathered g c =
+    added_behind c.args.sight.now.entries c.add_next.new.sight.entries c.args.writer.now.log _ _
+    c.in_ok-is_there.ensures.added
+
+pub returns-clause-gathered : goal.returns-clause-gathered
+returns-clause-gathered g c =
+    written_behind c.args.sight.now.entries c.add_next.new.sight.entries c.args.writer.now.log _ _ _ _
+    c.in_ok-send.ensures.empty c.in_ok-send.ensures.sent c.in_ok-is_there.ensures.added
