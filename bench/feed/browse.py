@@ -136,7 +136,7 @@ def told(board):
     with board.browser(get("/events")) as it:
         head, found = events(it, 1)
         yield "events are a stream", b"Content-Type: text/event-stream" in head
-        yield "an empty board comes first", found == [("0", {"next": 0, "flights": []})]
+        yield "an empty board comes first", found == [("0", {"next": 0, "room": 100_000, "flights": []})]
         yield "a schedule is taken", board.ask(SCHEDULE) == "ok 0"
         found = events_behind(it, 1)
         yield "its event comes", [(id_, line["entry"]) for id_, line in found] == [("1", 0)]

@@ -121,7 +121,7 @@ def shown(board, page, folder):
     page.picture(folder, "empty")
     lines = (TOP / "examples" / "day.txt").read_text().splitlines()[:60]
     board.play(lines, datetime.datetime(2025, 2, 20, 8, 50))
-    yield "the morning's flights", page.wait(lambda: page.rows() == 4 and "entry 59" in page.text("sums"))
+    yield "the morning's flights", page.wait(lambda: page.rows() == 4 and "60 of 100000 entries" in page.text("sums"))
     yield "partners are told", page.wait(lambda: all(role in page.text("partners") for role in ROLES))
     yield "alerts in words", "SOBT and EOBT differ" in page.text("rows")
     page.picture(folder, "board")

@@ -65,17 +65,17 @@ none_from n (e ∷ J) few =
     ∙ ap (λ b. if b then [] else told J e) (lt-ltb (length J) n less)
 
 -- the line of the board of what was seen was written
-pub board_told : (seen : List Entry) (known : Known) (before text log : List ℕ) (entries : ℕ)
+pub board_told : (room : ℕ) (seen : List Entry) (known : Known) (before text log : List ℕ) (entries : ℕ)
     → Knows (reverse seen) known → entries ≡ length (reverse seen)
-    → text ≡ board_text (reverse seen) → log ≡ before ++ text
-    → TellsFrom known entries seen (at_board before (reverse seen)) log
-board_told seen known before text log entries knows count is wrote = record {
+    → text ≡ board_text room (reverse seen) → log ≡ before ++ text
+    → TellsFrom known entries seen (at_board room before (reverse seen)) log
+board_told room seen known before text log entries knows count is wrote = record {
   knows = knows;
   from_is = count;
   front = ([], refl);
   told = wrote ∙ ap (λ t. before ++ t) is
-      ∙ sym (append-nil (before ++ board_text (reverse seen)))
-      ∙ ap (λ t. (before ++ board_text (reverse seen)) ++ t)
+      ∙ sym (append-nil (before ++ board_text room (reverse seen)))
+      ∙ ap (λ t. (before ++ board_text room (reverse seen)) ++ t)
       (sym (none_from (length (reverse seen)) (reverse seen) (omega arith)));
 }
 
@@ -107,15 +107,15 @@ tells_more from old new known known_after text text_after tells before start k =
     }
 
 -- what was begun as a display asked was gone on with
-pub says_feed : (start : Start) (known later_known : Known) (from later_from : ℕ)
-    (seen later : List Entry) (before old new : List ℕ) → Begins start known from seen before old
+pub says_feed : (room : ℕ) (start : Start) (known later_known : Known) (from later_from : ℕ)
+    (seen later : List Entry) (before old new : List ℕ) → Begins room start known from seen before old
     → ((begun : Begun) → TellsFrom known from seen begun old
     → TellsFrom later_known later_from later begun new)
-    → SaysFeed start later before new
-says_feed (starts.Entry n) known later_known from later_from seen later before old new begins follows =
+    → SaysFeed room start later before new
+says_feed room (starts.Entry n) known later_known from later_from seen later before old new begins follows =
     (follows (at_entry before n) begins).told
-says_feed starts.Board known later_known from later_from seen later before old new begins follows =
-    let t = follows (at_board before (reverse seen)) begins in (reverse seen, t.front, t.told)
+says_feed room starts.Board known later_known from later_from seen later before old new begins follows =
+    let t = follows (at_board room before (reverse seen)) begins in (reverse seen, t.front, t.told)
 
 -- ---- events for browsers
 
@@ -199,10 +199,10 @@ no_event n seen before known none k =
     })
 
 -- events from an entry on, after what was seen
-pub events_begun : (n : ℕ) (last : Option ℕ) (known : Known) (from : ℕ) (seen : List Entry)
+pub events_begun : (room n : ℕ) (last : Option ℕ) (known : Known) (from : ℕ) (seen : List Entry)
     (before log : List ℕ) → last ≡ Some n → n ≤ length seen
-    → EventsFrom known from seen (at_event before n []) log → BeginsEvents last known from seen before log
-events_begun n last known from seen before log is few k =
+    → EventsFrom known from seen (at_event before n []) log → BeginsEvents room last known from seen before log
+events_begun room n last known from seen before log is few k =
     inl (
       n,
       is,
@@ -211,19 +211,19 @@ events_begun n last known from seen before log is few k =
     )
 
 -- the event of the board of what was seen was written
-pub board_event_told : (seen : List Entry) (known : Known) (before line text log : List ℕ) (entries : ℕ)
-    → Knows (reverse seen) known → entries ≡ length (reverse seen) → line ≡ board_text (reverse seen)
+pub board_event_told : (room : ℕ) (seen : List Entry) (known : Known) (before line text log : List ℕ) (entries : ℕ)
+    → Knows (reverse seen) known → entries ≡ length (reverse seen) → line ≡ board_text room (reverse seen)
     → text ≡ event_text entries line → log ≡ before ++ text
-    → EventsFrom known entries seen (at_board_event before (reverse seen)) log
-board_event_told seen known before line text log entries knows count is event wrote = record {
+    → EventsFrom known entries seen (at_board_event room before (reverse seen)) log
+board_event_told room seen known before line text log entries knows count is event wrote = record {
   knows = knows;
   from_is = count;
   front = ([], refl);
   told = wrote
       ∙ ap (λ t. before ++ t) (event ∙ ap (λ n. event_text n line) count
       ∙ ap (λ l. event_text (length (reverse seen)) l) is)
-      ∙ sym (append-nil (before ++ board_event (reverse seen)))
-      ∙ ap (λ t. (before ++ board_event (reverse seen)) ++ t)
+      ∙ sym (append-nil (before ++ board_event room (reverse seen)))
+      ∙ ap (λ t. (before ++ board_event room (reverse seen)) ++ t)
       (sym (no_event_from (length (reverse seen)) (reverse seen) (omega arith)));
 }
 
@@ -237,33 +237,33 @@ none_told n known from seen before log k past =
     ∙ append-nil before
 
 -- so the board stands where they would
-pub begun_past : (n : ℕ) (last : Option ℕ) (known later_known : Known) (from later_from : ℕ)
+pub begun_past : (room n : ℕ) (last : Option ℕ) (known later_known : Known) (from later_from : ℕ)
     (seen : List Entry) (before mid log : List ℕ) → last ≡ Some n → length seen < n
     → EventsFrom known from seen (at_event before n []) mid
-    → EventsFrom later_known later_from seen (at_board_event mid (reverse seen)) log
-    → BeginsEvents last later_known later_from seen before log
-begun_past n last known later_known from later_from seen before mid log is past k begun =
+    → EventsFrom later_known later_from seen (at_board_event room mid (reverse seen)) log
+    → BeginsEvents room last later_known later_from seen before log
+begun_past room n last known later_known from later_from seen before mid log is past k begun =
     inr (
       subst (λ l. IsPast l (length seen)) (sym is) past,
-      subst (λ b. EventsFrom later_known later_from seen (at_board_event b (reverse seen)) log)
+      subst (λ b. EventsFrom later_known later_from seen (at_board_event room b (reverse seen)) log)
           (none_told n known from seen before mid k past) begun,
     )
 
 -- what was begun for a browser was gone on with
-pub says_events : (last : Option ℕ) (known later_known : Known) (from later_from : ℕ)
+pub says_events : (room : ℕ) (last : Option ℕ) (known later_known : Known) (from later_from : ℕ)
     (seen later : List Entry) (before old new : List ℕ)
-    → BeginsEvents last known from seen before old
+    → BeginsEvents room last known from seen before old
     → ((begun : Begun) → EventsFrom known from seen begun old
     → EventsFrom later_known later_from later begun new)
-    → SaysEvents last later before new
-says_events last known later_known from later_from seen later before old new (inl (n, is, few, k)) follows =
+    → SaysEvents room last later before new
+says_events room last known later_known from later_from seen later before old new (inl (n, is, few, k)) follows =
     let t = follows (at_event before n (reverse seen)) k in (
       reverse seen,
       t.front,
       inl (n, is, subst (λ l. n ≤ l) (sym (length-reverse seen)) few, t.told),
     )
-says_events last known later_known from later_from seen later before old new (inr (past, k)) follows =
-    let t = follows (at_board_event before (reverse seen)) k in (
+says_events room last known later_known from later_from seen later before old new (inr (past, k)) follows =
+    let t = follows (at_board_event room before (reverse seen)) k in (
       reverse seen,
       t.front,
       inr (subst (λ l. IsPast last l) (sym (length-reverse seen)) past, t.told),

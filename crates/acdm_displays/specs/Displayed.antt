@@ -66,27 +66,33 @@ pub record TellsFrom (known : Known) (from : ℕ) (seen : List Entry) (start : B
 abbrev pub at_entry : List ℕ → ℕ → Begun
 at_entry before n = record { before = before; from = n; front = [] }
 
-abbrev pub at_board : List ℕ → History → Begun
-at_board before K = record { before = before ++ board_text K; from = length K; front = K }
+abbrev pub at_board : ℕ → List ℕ → History → Begun
+at_board room before K = record {
+  before = before ++ board_text room K;
+  from = length K;
+  front = K;
+}
 
--- A teller has begun: with the entry of a number, or with the line of the board of what was seen.
-abbrev pub Begins : Start → Known → ℕ → List Entry → List ℕ → List ℕ → Type 0
-Begins (starts.Entry n) known from seen before log = TellsFrom known from seen (at_entry before n) log
-Begins starts.Board known from seen before log =
-    TellsFrom known from seen (at_board before (reverse seen)) log
+-- A teller has begun: with the entry of a number, or with the line of the board of what was seen, in a row
+-- with room for so many entries.
+abbrev pub Begins : ℕ → Start → Known → ℕ → List Entry → List ℕ → List ℕ → Type 0
+Begins room (starts.Entry n) known from seen before log =
+    TellsFrom known from seen (at_entry before n) log
+Begins room starts.Board known from seen before log =
+    TellsFrom known from seen (at_board room before (reverse seen)) log
 
 -- the feed from the entry of a number on; or the line of the board after some first entries, and the feed
 -- from there on
-abbrev pub SaysFeed : Start → List Entry → List ℕ → List ℕ → Type 0
-SaysFeed (starts.Entry n) seen before log = log ≡ before ++ feed_from n (reverse seen)
-SaysFeed starts.Board seen before log = (K : History) × IsFront K (reverse seen)
-    × (log ≡ (before ++ board_text K) ++ feed_from (length K) (reverse seen))
+abbrev pub SaysFeed : ℕ → Start → List Entry → List ℕ → List ℕ → Type 0
+SaysFeed room (starts.Entry n) seen before log = log ≡ before ++ feed_from n (reverse seen)
+SaysFeed room starts.Board seen before log = (K : History) × IsFront K (reverse seen)
+    × (log ≡ (before ++ board_text room K) ++ feed_from (length K) (reverse seen))
 
 abbrev pub WasSent : {W : Type 0} → RowView → List ℕ → Shown W → Type 0
 WasSent = Took SaysJournal
 
 abbrev pub WasTold : {W : Type 0} → Start → RowView → List ℕ → Shown W → Type 0
-WasTold start = Took (SaysFeed start)
+WasTold start row = Took (SaysFeed (length row.cells) start) row
 
 abbrev pub WasToldSome : {W : Type 0} → RowView → List ℕ → Shown W → Type 0
 WasToldSome row before shown = (start : Start) × WasTold start row before shown
@@ -99,9 +105,9 @@ events_from n [] = []
 events_from n (e ∷ J) = events_from n J
     ++ (if nat_lt (length J) n then [] else event_text (1 + length J) (told J e))
 
--- the event of the board after these entries
-abbrev pub board_event : History → List ℕ
-board_event K = event_text (length K) (board_text K)
+-- the event of the board after these entries, in a row with room for so many
+abbrev pub board_event : ℕ → History → List ℕ
+board_event room K = event_text (length K) (board_text room K)
 
 -- The events from an entry on were told, since it has begun so, and what is known is that of the board.
 pub record EventsFrom (known : Known) (from : ℕ) (seen : List Entry) (start : Begun) (log : List ℕ)
@@ -111,8 +117,12 @@ pub record EventsFrom (known : Known) (from : ℕ) (seen : List Entry) (start : 
   pub front : IsFront start.front (reverse seen)
   pub told : log ≡ start.before ++ events_from start.from (reverse seen)
 
-abbrev pub at_board_event : List ℕ → History → Begun
-at_board_event before K = record { before = before ++ board_event K; from = length K; front = K }
+abbrev pub at_board_event : ℕ → List ℕ → History → Begun
+at_board_event room before K = record {
+  before = before ++ board_event room K;
+  from = length K;
+  front = K;
+}
 
 -- A browser has had no event, or it names an entry that comes next for it and that is none of so many.
 abbrev pub IsPast : Option ℕ → ℕ → Type 0
@@ -125,24 +135,24 @@ at_event before n K = record { before = before; from = n; front = K }
 
 -- Events have begun after what was seen: with those that come next for a browser, where that has had none but
 -- what was seen; else with the board of what was seen.
-abbrev pub BeginsEvents : Option ℕ → Known → ℕ → List Entry → List ℕ → List ℕ → Type 0
-BeginsEvents last known from seen before log =
+abbrev pub BeginsEvents : ℕ → Option ℕ → Known → ℕ → List Entry → List ℕ → List ℕ → Type 0
+BeginsEvents room last known from seen before log =
     ((n : ℕ) × (last ≡ Some n) × (n ≤ length seen)
     × EventsFrom known from seen (at_event before n (reverse seen)) log)
     ⊎ (IsPast last (length seen)
-    × EventsFrom known from seen (at_board_event before (reverse seen)) log)
+    × EventsFrom known from seen (at_board_event room before (reverse seen)) log)
 
 -- After some first entries, of which a browser has had those before the entry that comes next for it, the events
 -- from that one on; or, where it has had none or names an entry behind them, their board, and the events behind
 -- them.
-abbrev pub SaysEvents : Option ℕ → List Entry → List ℕ → List ℕ → Type 0
-SaysEvents last seen before log = (K : History) × IsFront K (reverse seen)
+abbrev pub SaysEvents : ℕ → Option ℕ → List Entry → List ℕ → List ℕ → Type 0
+SaysEvents room last seen before log = (K : History) × IsFront K (reverse seen)
     × (((n : ℕ) × (last ≡ Some n) × (n ≤ length K) × (log ≡ before ++ events_from n (reverse seen)))
-    ⊎ (IsPast last (length K) × (log ≡ (before ++ board_event K) ++ events_from (length K) (reverse seen))))
+    ⊎ (IsPast last (length K) × (log ≡ (before ++ board_event room K) ++ events_from (length K) (reverse seen))))
 
 -- the head of the events, and then these
 abbrev pub WasToldEvents : {W : Type 0} → Option ℕ → RowView → List ℕ → Shown W → Type 0
-WasToldEvents last row before = Took (SaysEvents last) row (before ++ events_head)
+WasToldEvents last row before = Took (SaysEvents (length row.cells) last) row (before ++ events_head)
 
 -- Sending ends early where the writer failed, or where memory was refused, and for nothing else.
 abbrev pub CutsShort : Failure → Type 0

@@ -1,6 +1,7 @@
 //! What a display asks for first.
 ghost use Rattle.std.specs.Prelude.{◌≡◌, IfSome};
-ghost use Rattle.acdm_displays.specs.Asked.{IsNamed, Names};
+ghost use Rattle.acdm_displays.specs.Asked.{Names};
+ghost use Rattle.acdm_web.specs.Wanted.{IsNamed};
 
 use crate::leaving::is_passing;
 use std::io::Read;

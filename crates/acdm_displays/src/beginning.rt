@@ -1,5 +1,5 @@
 //! What a display is sent before the feed.
-ghost use Rattle.std.specs.Prelude.{◌≡◌, [], reverse, IfErr, OnOk};
+ghost use Rattle.std.specs.Prelude.{◌≡◌, [], length, reverse, IfErr, OnOk};
 ghost use Rattle.acdm_feed.specs.Knowing.{Knows};
 ghost use Rattle.acdm_displays.specs.Displayed.{Begins, CutsShort};
 
@@ -42,7 +42,7 @@ fn begin_board<W: Write + Drop>(
     requires row { row.now ≡ watch.old.row }
     requires knows { Knows (reverse watch.old.seen) teller.old.known }
     ensures row { watch.new.row ≡ watch.old.row }
-    ensures begins { OnOk result (Begins Start.Board teller.new.known teller.new.from watch.new.seen
+    ensures begins { OnOk result (Begins (length row.now.cells) Start.Board teller.new.known teller.new.from watch.new.seen
         writer.old.log writer.new.log) }
     ensures failed { IfErr result CutsShort }
 {
@@ -50,7 +50,13 @@ fn begin_board<W: Write + Drop>(
     let entries = watch.len() as u64;
     teller.from = entries;
     let mut text = Vec::new(alloc);
-    push_board(&mut text, &teller.known, watch.board(), entries)?;
+    push_board(
+        &mut text,
+        &teller.known,
+        watch.board(),
+        entries,
+        row.len() as u64,
+    )?;
     write_whole(writer, text.as_slice(), MOST_REFUSALS)?;
     Ok(())
 }
@@ -69,7 +75,7 @@ pub(crate) fn begin<W: Write + Drop>(
     requires empty { watch.old.seen ≡ [] }
     requires knows { Knows [] teller.old.known }
     ensures row { watch.new.row ≡ watch.old.row }
-    ensures begins { OnOk result (Begins start teller.new.known teller.new.from watch.new.seen
+    ensures begins { OnOk result (Begins (length row.now.cells) start teller.new.known teller.new.from watch.new.seen
         writer.old.log writer.new.log) }
     ensures failed { IfErr result CutsShort }
 {

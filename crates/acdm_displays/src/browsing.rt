@@ -1,5 +1,5 @@
 //! What a browser is sent.
-ghost use Rattle.std.specs.Prelude.{◌≡◌, ◌++◌, [], false, reverse, IfErr, IfOk, OnOk};
+ghost use Rattle.std.specs.Prelude.{◌≡◌, ◌++◌, [], false, length, reverse, IfErr, IfOk, OnOk};
 ghost use Rattle.std.specs.Arc.{arc_value};
 ghost use Rattle.acdm_feed.specs.Knowing.{Knows};
 ghost use Rattle.acdm_web.specs.Answers.{answer_text};
@@ -49,17 +49,24 @@ fn begin_board<W: Write + Drop>(
     alloc: Global,
     teller: &mut Events,
     watch: &Watch,
+    row: &Row,
     writer: &mut Sink<W>,
 ) -> Result<(), Failure>
     requires knows { Knows (reverse watch.now.seen) teller.old.known }
     ensures begins { OnOk result (EventsFrom teller.new.known teller.new.from watch.now.seen
-        (at_board_event writer.old.log (reverse watch.now.seen)) writer.new.log) }
+        (at_board_event (length row.now.cells) writer.old.log (reverse watch.now.seen)) writer.new.log) }
     ensures failed { IfErr result CutsShort }
 {
     let entries = watch.len() as u64;
     teller.from = entries;
     let mut line = Vec::new(alloc);
-    push_board(&mut line, &teller.known, watch.board(), entries)?;
+    push_board(
+        &mut line,
+        &teller.known,
+        watch.board(),
+        entries,
+        row.len() as u64,
+    )?;
     let mut text = Vec::new(alloc);
     push_event(&mut text, entries, line.as_slice())?;
     write_whole(writer, text.as_slice(), MOST_REFUSALS)?;
@@ -80,20 +87,20 @@ fn begin_events<W: Write + Drop>(
     requires empty { watch.old.seen ≡ [] }
     requires knows { Knows [] teller.old.known }
     ensures row { watch.new.row ≡ watch.old.row }
-    ensures begins { OnOk result (BeginsEvents last teller.new.known teller.new.from
+    ensures begins { OnOk result (BeginsEvents (length row.now.cells) last teller.new.known teller.new.from
         watch.new.seen writer.old.log writer.new.log) }
     ensures failed { IfErr result CutsShort }
 {
     let Some(next) = last else {
         pass_all(watch, &mut teller.known, row)?;
-        return begin_board(alloc, teller, watch, writer);
+        return begin_board(alloc, teller, watch, row, writer);
     };
     teller.from = next;
     send_all(alloc, teller, watch, row, writer)?;
     if next <= watch.len() as u64 {
         return Ok(());
     }
-    begin_board(alloc, teller, watch, writer)?;
+    begin_board(alloc, teller, watch, row, writer)?;
     Ok(())
 }
 

@@ -36,20 +36,11 @@ line_pieces J e before tokens line fed old new none is h1 h2 h3 =
     h3 ∙ ap (λ l. old ++ l) (h2 ∙ ap (λ l. l ++ 10 ∷ [])
     (h1 ∙ ap (λ b. b ++ print tokens) none ∙ ap print is))
 
-pub board_pieces : (old one two three four number list : List Token) (b e : Token) → one ≡ old ++ b ∷ []
-    → two ≡ one ++ number → three ≡ two ++ list → four ≡ three ++ e ∷ []
-    → four ≡ old ++ (b ∷ ((number ++ list) ++ e ∷ []))
-board_pieces old one two three four number list b e h1 h2 h3 h4 =
-    h4 ∙ ap (λ l. l ++ e ∷ []) (h3 ∙ ap (λ l. l ++ list) h2 ∙ append_assoc one number list
-    ∙ ap (λ l. l ++ (number ++ list)) h1)
-    ∙ append_assoc (old ++ b ∷ []) (number ++ list) (e ∷ [])
-    ∙ append_assoc old (b ∷ []) ((number ++ list) ++ e ∷ [])
-
-pub standing_pieces : (J : History) (before : List ℕ) (tokens : List Token)
-    (line fed old new : List ℕ) → before ≡ [] → tokens ≡ board_tokens J
+pub standing_pieces : (room : ℕ) (J : History) (before : List ℕ) (tokens : List Token)
+    (line fed old new : List ℕ) → before ≡ [] → tokens ≡ board_tokens room J
     → line ≡ before ++ print tokens → fed ≡ line ++ 10 ∷ [] → new ≡ old ++ fed
-    → new ≡ old ++ board_text J
+    → new ≡ old ++ board_text room J
 unfolding board_text
-standing_pieces J before tokens line fed old new none is h1 h2 h3 =
+standing_pieces room J before tokens line fed old new none is h1 h2 h3 =
     h3 ∙ ap (λ l. old ++ l) (h2 ∙ ap (λ l. l ++ 10 ∷ [])
     (h1 ∙ ap (λ b. b ++ print tokens) none ∙ ap print is))

@@ -13,14 +13,16 @@ abbrev pub feed_from : ℕ → History → List ℕ
 feed_from n [] = []
 feed_from n (e ∷ J) = feed_from n J ++ (if nat_lt (length J) n then [] else told J e)
 
--- the number of the entry that comes next, and the records of all flights in order of creation
-abbrev pub board_tokens : History → List Token
-board_tokens J = object_of (number_member (codes "next") (length J)
-    ++ list_member (codes "flights") (flat_map (flight_tokens J) (flights J)))
+-- the number of the entry that comes next, how many entries there is room for, and the records of all
+-- flights in order of creation
+abbrev pub board_tokens : ℕ → History → List Token
+board_tokens room J = object_of (number_member (codes "next") (length J)
+    ++ (number_member (codes "room") room
+    ++ list_member (codes "flights") (flat_map (flight_tokens J) (flights J))))
 
--- the line of a board: one object, without space, and a line feed
-unfoldable pub board_text : History → List ℕ
-board_text J = print (board_tokens J) ++ 10 ∷ []
+-- the line of a board with room for so many entries: one object, without space, and a line feed
+unfoldable pub board_text : ℕ → History → List ℕ
+board_text room J = print (board_tokens room J) ++ 10 ∷ []
 
 -- a history is what another was before
 abbrev pub IsFront : History → History → Type 0

@@ -53,34 +53,38 @@ fn push_object(
     known: &Known,
     board: &Core,
     entries: u64,
+    room: u64,
 ) -> Result<(), AllocError>
     ensures before { line.new.before ≡ line.old.before }
     ensures adds { OnOk result ((sigs : List (ℕ × Promise)) (J : History)
         → board.now ≡ replay sigs J → Knows J known.now → entries ≡ length J
-        → line.new.tokens ≡ line.old.tokens ++ board_tokens J) }
+        → line.new.tokens ≡ line.old.tokens ++ board_tokens room J) }
 {
     line.begin_object()?;
     push_number(line, "next", entries)?;
+    push_number(line, "room", room)?;
     push_list(line, known, board)?;
     line.end_object()?;
     Ok(())
 }
 
 /// Adds the line of a board after so many entries: one object of JSON, without space, and a line feed,
-/// with the number of the entry that comes next and the records of all flights in order of creation.
-/// What is known is that of this board. `Err` only where memory was refused; nothing was added then.
+/// with the number of the entry that comes next, how many entries there is room for, and the records of
+/// all flights in order of creation. What is known is that of this board. `Err` only where memory was
+/// refused; nothing was added then.
 pub fn push_board(
     text: &mut Vec<u8>,
     known: &Known,
     board: &Core,
     entries: u64,
+    room: u64,
 ) -> Result<(), AllocError>
     ensures stands { OnOk result ((sigs : List (ℕ × Promise)) (J : History)
         → board.now ≡ replay sigs J → Knows J known.now → entries ≡ length J
-        → text.new.items ≡ text.old.items ++ board_text J) }
+        → text.new.items ≡ text.old.items ++ board_text room J) }
 {
     let mut line = Writer::new(Vec::new(*text.allocator()));
-    push_object(&mut line, known, board, entries)?;
+    push_object(&mut line, known, board, entries, room)?;
     let mut bytes = line.into_inner();
     bytes.push(b'\n')?;
     text.extend_from_slice(bytes.as_slice())?;

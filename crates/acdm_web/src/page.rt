@@ -34,8 +34,8 @@ const WORDS={CDM01:"no airport slot",CDM02:"SOBT and EOBT differ",CDM03:"aircraf
 const OWNER=["","NM","NM","NM","ATC","ATC","ATC","APT","GH","AO","ATC","AO","AO","ATC","ATC","APT","ATC"];
 const NAMES=["","flight plan","EOBT minus 2 h","take-off from outstation","radar update","final approach","landed","in-block","ground handling","TOBT","TSAT","boarding","ready","start-up request","start-up approved","off-block","take-off"];
 const REFUSED={201:"role does not own the command",202:"no such flight",203:"a needed milestone was not reached",204:"a milestone bars it",205:"TOBT or TSAT not set",206:"times in the wrong order",207:"already planned",321:"no program in the slot",323:"other record length",324:"migrated already",325:"not migrated",503:"board full"};
-const STEP=200,at=(id)=>document.getElementById(id),flights=new Map(),facts=new Map(),rows=new Map(),partners=new Map(),reported=new Map(),stale=new Set();
-let next=0,refused=[],all=true,heard=0,alerted=0,most=STEP,local={};
+const STEP=200,PART=40,at=(id)=>document.getElementById(id),flights=new Map(),facts=new Map(),rows=new Map(),partners=new Map(),reported=new Map(),stale=new Set();
+let next=0,room=0,refused=[],all=true,heard=0,alerted=0,most=STEP,local={};
 try{local=JSON.parse(localStorage.getItem("names"))||{}}catch{}
 const clock=(t)=>t?t.slice(-9,-4):"–",tag=(name,text,kind)=>{const it=document.createElement(name);if(text!==undefined)it.textContent=text;if(kind)it.className=kind;return it};
 const half=(f,key)=>f["plan_"+key]||f["scheduled_"+key],words=(a)=>WORDS[a]||local[a]||"local alert "+a.slice(3);
@@ -55,15 +55,15 @@ if(all){all=false;draw.again=true;for(const f of flights.values())put(f)}
 if(draw.again){draw.again=false;const body=at("rows"),asked=at("text").value.toLowerCase().split(/\s+/).filter(Boolean),list=[];alerted=0;
 for(const[id,f]of flights){if(f.alerts.length)alerted++;if((at("gone").checked||!f.reached.includes(16))&&(!at("only").checked||f.alerts.length)&&asked.every((w)=>facts.get(id).search.includes(w)))list.push(id)}
 list.sort((a,b)=>facts.get(a).order<facts.get(b).order?-1:1);const seen=new Set(list.slice(0,most));
-// Rows are made for those in sight alone; more come as the end of them is scrolled to.
+// Rows are made for those in sight alone, a part of them in each frame; more come as the end of them is scrolled to.
 for(const id of rows.keys())if(!seen.has(id)){rows.get(id).remove();rows.delete(id)}
-let place=body.firstChild;for(const id of seen){const tr=rows.has(id)&&!stale.has(id)?rows.get(id):row(flights.get(id));stale.delete(id);if(tr===place)place=place.nextSibling;else body.insertBefore(tr,place)}
+let place=body.firstChild,left=PART;for(const id of seen){let tr=rows.get(id);if(!tr||stale.has(id)){if(left>0){left--;tr=row(flights.get(id));stale.delete(id)}else{soon();if(!tr)continue}}if(tr===place)place=place.nextSibling;else body.insertBefore(tr,place)}
 at("more").hidden=list.length<=most;at("more").textContent=list.length-most+" more";at("none").hidden=list.length>0;
-at("sums").textContent=(next?"entry "+(next-1)+", ":"")+list.length+" of "+flights.size+" flights, "+alerted+" with alerts";
+at("sums").textContent=next+" of "+room+" entries"+(room&&next>=.8*room?" (nearly full)":"")+", "+list.length+" of "+flights.size+" flights, "+alerted+" with alerts";
 at("partners").replaceChildren(...[...partners].sort((a,b)=>a[0]-b[0]).flatMap(([session,p])=>{const old=Date.now()-Date.parse(p.last)>18e5,it=tag("span",p.role+" "+session+" "+clock(p.last)+(old?" (silent)":"")+(p.refused?", "+p.refused+" refused":""),"partner"+(old?" old":""));return[it," "]}));
 at("refused").textContent=refused.length?"Refused last: "+refused.map((e)=>clock(e.minute)+" "+e.role+" "+e.command.cmd+(e.command.flight?" "+e.command.flight:"")+": "+(REFUSED[e.outcome.code]||e.outcome.name)).join("; "):""}}
 let waits=false;function soon(){draw.again=true;if(!waits){waits=true;requestAnimationFrame(()=>{waits=false;draw()})}}
-function take(line){if(line.flights){flights.clear();facts.clear();rows.clear();at("rows").replaceChildren();for(const f of line.flights)put(f);next=line.next;return}
+function take(line){if(line.flights){flights.clear();facts.clear();rows.clear();at("rows").replaceChildren();for(const f of line.flights)put(f);next=line.next;room=line.room;return}
 if(line.entry<next)return;next=line.entry+1;const p=partners.get(line.session)||{role:line.role,refused:0};p.last=line.minute;partners.set(line.session,p);
 if(line.outcome!=="ok"){p.refused++;refused=[line,...refused].slice(0,5)}else if(line.command.cmd==="report")reported.set(line.command.flight+"/"+line.command.milestone,line);
 for(const f of line.changed)put(f)}

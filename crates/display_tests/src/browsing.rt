@@ -136,12 +136,18 @@ fn sent<H: Helpers + Drop>(
 // The number of the entry that comes next for a browser, and the events that it is sent: the id and the
 // data of each.
 static LASTS: [(Option<u64>, &[(&str, &str)]); 6] = [
-    (None, &[("2", "{\"next\":2,\"flights\":[]}\n")]),
+    (None, &[("2", "{\"next\":2,\"room\":10,\"flights\":[]}\n")]),
     (Some(0), &[("1", FIRST), ("2", SECOND)]),
     (Some(1), &[("2", SECOND)]),
     (Some(2), &[]),
-    (Some(3), &[("2", "{\"next\":2,\"flights\":[]}\n")]),
-    (Some(u64::MAX), &[("2", "{\"next\":2,\"flights\":[]}\n")]),
+    (
+        Some(3),
+        &[("2", "{\"next\":2,\"room\":10,\"flights\":[]}\n")],
+    ),
+    (
+        Some(u64::MAX),
+        &[("2", "{\"next\":2,\"room\":10,\"flights\":[]}\n")],
+    ),
 ];
 
 // The head of the events, and these.

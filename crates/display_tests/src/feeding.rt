@@ -43,7 +43,7 @@ static STARTS: [(Start, &[&str]); 5] = [
     (Start::Entry(1), &[SECOND]),
     (Start::Entry(2), &[]),
     (Start::Entry(u64::MAX), &[]),
-    (Start::Board, &["{\"next\":2,\"flights\":[]}\n"]),
+    (Start::Board, &["{\"next\":2,\"room\":10,\"flights\":[]}\n"]),
 ];
 
 #[test]

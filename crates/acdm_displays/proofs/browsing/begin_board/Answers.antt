@@ -1,4 +1,4 @@
-use Rattle.std.proofs.Common.{◌≡◌, ◌++◌, ℕ, ap, sym, length, ◌∙◌}
+use Rattle.std.proofs.Common.{◌≡◌, ◌++◌, ℕ, List, ap, sym, length, ◌∙◌}
 use Rattle.std.specs.Prelude.{reverse}
 use Rattle.std.proofs.lemmas.List.{length-reverse}
 use Rattle.acdm_feed.specs.Resumed.{board_text}
@@ -10,13 +10,16 @@ pub returns-clause-begins : goal.returns-clause-begins
 returns-clause-begins g c =
     let seen = c.args.watch.now.seen in
     let sigs = c.args.watch.now.row.sigs in
+    let room = length c.args.row.now.cells in
     let count : c.len-entries.result ≡ length (reverse seen) =
     ◌∙◌ {A = ℕ} c.len-entries.ensures (sym (length-reverse seen)) in
-    board_event_told seen c.args.teller.now.known c.args.writer.now.log c.as_slice.result.now
+    board_event_told room seen c.args.teller.now.known c.args.writer.now.log c.as_slice.result.now
     c.as_slice-2.result.now c.write_whole.new.writer.log c.len-entries.result c.requires.knows count
-    (c.as_slice.ensures.value
-    ∙ c.in_ok-push_board.ensures.stands sigs (reverse seen) c.board.ensures.replays c.requires.knows count
-    ∙ ap (λ t. t ++ board_text (reverse seen)) c.new-line.ensures.items)
-    (c.as_slice-2.ensures.value ∙ c.in_ok-push_event.ensures
-    ∙ ap (λ t. t ++ event_text c.len-entries.result c.as_slice.result.now) c.new-text.ensures.items)
+    (◌∙◌ {A = List ℕ} c.as_slice.ensures.value (◌∙◌ {A = List ℕ}
+    (c.in_ok-push_board.ensures.stands sigs (reverse seen) c.board.ensures.replays c.requires.knows count)
+    (◌∙◌ {A = List ℕ}
+    (ap (λ t. t ++ board_text c.len.result (reverse seen)) c.new-line.ensures.items)
+    (ap (λ r. board_text r (reverse seen)) c.len.ensures))))
+    (◌∙◌ {A = List ℕ} c.as_slice-2.ensures.value (◌∙◌ {A = List ℕ} c.in_ok-push_event.ensures
+    (ap (λ t. t ++ event_text c.len-entries.result c.as_slice.result.now) c.new-text.ensures.items)))
     c.in_ok-write_whole.ensures.takes
