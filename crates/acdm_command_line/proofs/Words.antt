@@ -1,15 +1,15 @@
 -- The subcommand that a parse entered, by its name and its rows.
-use Rattle.std.proofs.Common.{◌≡◌, Bool, true, false, not, cond, List, Option, Some, None}
+use Rattle.std.proofs.Common.{◌≡◌, codes, Bool, true, false, not, cond, List, Option, Some, None}
 use Rattle.std.proofs.Common.{option_map, refl, ap, subst, ◌∙◌, ◌⊎◌, inl, inr}
 use Rattle.std.specs.Str.{bytes_eq}
 use Rattle.clap.proofs.OnLiterals.{clap_on_literals}
 use Rattle.clap.specs.Words.{Row, Text, all_of, first_of, is_simple, subcommand_of}
 use Rattle.bpf_regstate.specs.declared.length.Length.{Length}
 use Rattle.acdm_command_line.specs.declared.command_line.Line.{Line}
-use Rattle.acdm_command_line.specs.CommandLine.{Answers, Asks, AsksFor, AsksNothing, AuditsFile}
+use Rattle.acdm_command_line.specs.CommandLine.{Answers, Asks, AsksNothing, AsksWith, AuditsFile}
 use Rattle.acdm_command_line.specs.CommandLine.{Explains, TellsFile}
 use Rattle.acdm_command_line.specs.CommandLine.{IsJournal, IsRight, Runs, Serves, Verifies}
-use Rattle.acdm_command_line.specs.CommandLine.{program, value_in, values_in}
+use Rattle.acdm_command_line.specs.CommandLine.{program, tables_in, value_in, values_in}
 
 module _ {X : Type 0} (name : X → Text) (rows : X → List Row) where
   abbrev both : X → Text × List Row
@@ -33,6 +33,11 @@ pub value_found : (o : Option (Text × List Row)) (name id n : Text) (r : List R
     → not (bytes_eq n name) ≡ false → value_in name id o ≡ first_of id r
 value_found o name id n r e h = ap (value_in name id) e
     ∙ ap (λ b. cond b (first_of id r) None) (is_true (bytes_eq n name) h)
+
+-- the file of tables of the subcommand
+pub tables_found : (o : Option (Text × List Row)) (n : Text) (r : List Row) → o ≡ Some (n, r)
+    → tables_in o ≡ first_of (codes "tables") r
+tables_found o n r e = ap tables_in e
 
 -- all values of an argument of the subcommand that has this name
 pub values_found : (o : Option (Text × List Row)) (name id n : Text) (r : List Row)
@@ -62,10 +67,13 @@ none_asked found none (inr (inr (inr (inr (inr h))))) = none.tell h.0 h.1
 
 -- words of which something is answered ask for it
 pub some_right : (words : List Text) (found : Option (Text × List Row)) (line : Option Line) (l : Line)
-    → found ≡ subcommand_of program words → Answers found line → line ≡ Some l → AsksFor words l
-some_right words found line l same answers is =
-    subst (λ (o : Option (Text × List Row)). Asks o l) same
-    (subst (λ (it : Option Line). Answers found it) is answers)
+    (tables : Option Text) → found ≡ subcommand_of program words → Answers found line → line ≡ Some l
+    → tables ≡ tables_in found → AsksWith (subcommand_of program words) l tables
+some_right words found line l tables same answers is named = (
+  subst (λ (o : Option (Text × List Row)). Asks o l) same
+      (subst (λ (it : Option Line). Answers found it) is answers),
+  named ∙ ap tables_in same,
+)
 
 -- words of which nothing is answered are not right
 pub none_right : (words : List Text) (found : Option (Text × List Row)) (line : Option Line)

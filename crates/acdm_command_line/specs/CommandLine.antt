@@ -13,6 +13,7 @@ use Rattle.clap.specs.declared.error.kind.ErrorKind.TheVariants.{OutOfMemory}
 use Rattle.bpf_regstate.specs.declared.length.Length.{Length}
 use Rattle.bpf_regstate.specs.declared.length.Length.TheVariants.{L128, L160}
 use Rattle.acdm_command_line.specs.declared.command_line.Line.{Line}
+use Rattle.acdm_command_line.specs.declared.command_line.Order.{Order}
 use Rattle.acdm_command_line.specs.declared.command_line.Line.TheVariants.{Run, Serve, Verify, Audit}
 use Rattle.acdm_command_line.specs.declared.command_line.Line.TheVariants.{Explain, Tell}
 
@@ -58,17 +59,24 @@ control_rule = record (new_rule (codes "control")) { long = Some (codes "control
 abbrev pub pace_rule : Rule
 pace_rule = record (new_rule (codes "pace")) { long = Some (codes "pace"); value_names = 1 }
 
--- a subcommand of this name that keeps a journal
-abbrev pub keeping_app : Text → App
-keeping_app name =
+-- `--tables FILE`
+abbrev pub tables_rule : Rule
+tables_rule = record (new_rule (codes "tables")) { long = Some (codes "tables"); value_names = 1 }
+
+-- a subcommand of this name that has a journal; and one that takes tables too
+abbrev pub journal_app : Text → App
+journal_app name =
     with_rule (with_rule (with_rule (with_rule (new_app name) journal_rule) save_rule) keep_rule) sync_rule
 
--- `run [--journal N] [--save FILE] [--keep FILE] [--sync]`
+abbrev pub keeping_app : Text → App
+keeping_app name = with_rule (journal_app name) tables_rule
+
+-- `run [--journal N] [--save FILE] [--keep FILE] [--sync] [--tables FILE]`
 abbrev pub run_app : App
 run_app = keeping_app (codes "run")
 
--- `serve [--journal N] [--save FILE] [--keep FILE] [--sync] [--watch ADDR] [--changes ADDR] [--web ADDR]
--- [--again] [--control ADDR] [--pace N] ROLE=ADDR...`, of at least one partner
+-- `serve [--journal N] [--save FILE] [--keep FILE] [--sync] [--tables FILE] [--watch ADDR] [--changes ADDR]
+-- [--web ADDR] [--again] [--control ADDR] [--pace N] ROLE=ADDR...`, of at least one partner
 abbrev pub partners_rule : Rule
 partners_rule = record (new_rule (codes "partners")) {
   value_names = 1;
@@ -86,12 +94,12 @@ lasting_app = with_rule (with_rule (with_rule serve_options_app again_rule) cont
 abbrev pub serve_app : App
 serve_app = with_rule lasting_app partners_rule
 
--- a subcommand of this name on a file, as `audit FILE`
+-- a subcommand of this name on a file, as `audit [--tables FILE] FILE`
 abbrev pub file_rule : Rule
 file_rule = record (new_rule (codes "file")) { value_names = 1; required = true }
 
 abbrev pub file_app : Text → App
-file_app name = with_rule (new_app name) file_rule
+file_app name = with_rule (with_rule (new_app name) tables_rule) file_rule
 
 -- `--length N`, 128 where it is not given
 abbrev pub length_rule : Rule
@@ -101,9 +109,9 @@ length_rule = record (new_rule (codes "length")) {
   defaults = codes "128" ∷ [];
 }
 
--- a subcommand of this name on a program, as `verify [--length N] FILE`
+-- a subcommand of this name on a program, as `verify [--length N] [--tables FILE] FILE`
 abbrev pub program_app : Text → App
-program_app name = with_rule (with_rule (new_app name) length_rule) file_rule
+program_app name = with_rule (with_rule (with_rule (new_app name) length_rule) tables_rule) file_rule
 
 abbrev required : App → App
 required a = record a { top = record a.top { subcommand_required = true } }
@@ -144,6 +152,10 @@ is_true None = false
 
 abbrev pub is_set_in : List ℕ → List ℕ → Option (Text × List Row) → Bool
 is_set_in name id found = is_true (value_in name id found)
+
+-- the file of tables of the subcommand that was entered, whichever it is
+abbrev pub tables_in : Option (Text × List Row) → Option Text
+tables_in found = option_and_then (λ p. first_of (codes "tables") p.1) found
 
 -- a list, empty where there is none
 abbrev pub listed : Option (List Text) → List Text
@@ -243,9 +255,13 @@ Asks found (Audit file) = AuditsFile found file.now
 Asks found (Explain length file) = Explains found length file.now
 Asks found (Tell file) = TellsFile found file.now
 
--- the words ask for this
-abbrev pub AsksFor : List Text → Line → Type 0
-AsksFor words = Asks (subcommand_of program words)
+-- the words ask for this, with this file of tables
+abbrev pub AsksWith : Option (Text × List Row) → Line → Option Text → Type 0
+AsksWith found line tables = Asks found line × (tables ≡ tables_in found)
+
+abbrev pub AsksFor : List Text → Order → Type 0
+AsksFor words order =
+    AsksWith (subcommand_of program words) order.line (option_map (λ s. s.now) order.tables)
 
 -- it is none of the six
 pub record AsksNothing (found : Option (Text × List Row)) : Type 0 where

@@ -12,6 +12,7 @@ ghost use Rattle.acdm_command_line.specs.CommandLine.{bare_app, run_app, running
 ghost use Rattle.acdm_command_line.specs.CommandLine.{serve_options_app, serving_app};
 ghost use Rattle.acdm_command_line.specs.CommandLine.{changes_rule, journal_rule, keep_rule, save_rule, sync_rule};
 ghost use Rattle.acdm_command_line.specs.CommandLine.{is_set_in, watch_rule, web_rule};
+ghost use Rattle.acdm_command_line.specs.CommandLine.{journal_app, tables_in, tables_rule};
 ghost use Rattle.acdm_command_line.specs.CommandLine.{again_rule, control_rule, lasting_app, pace_rule};
 ghost use Rattle.acdm_command_line.specs.CommandLine.{AnswersPace, IsPace};
 ghost use Rattle.acdm_command_line.specs.CommandLine.{partners_in, value_in, values_in};
@@ -76,6 +77,13 @@ pub enum Line<'a> {
     },
 }
 
+/// What the words of a command line ask for, and the file of the airport's tables, if it is named.
+#[derive(Debug, Drop, PartialEq, Eq)]
+pub struct Order<'a> {
+    pub line: Line<'a>,
+    pub tables: Option<&'a str>,
+}
+
 // `--journal N`.
 fn journal<'a>(alloc: Global) -> Arg<'a>
     ensures rule { rule_of result ≡ journal_rule }
@@ -118,6 +126,17 @@ fn sync<'a>(alloc: Global) -> Arg<'a>
         .long("sync")
         .action(ArgAction::SetTrue)
         .help("With --keep: a reply is sent once its entry stands on the disk")
+}
+
+// `--tables FILE`.
+fn tables<'a>(alloc: Global) -> Arg<'a>
+    ensures rule { rule_of result ≡ tables_rule }
+    ensures optional { (result.required ≡ false) × (result.global ≡ false) }
+{
+    Arg::new(alloc, "tables")
+        .long("tables")
+        .value_name("FILE")
+        .help("The turn-round and taxi times of the airport, as TOML")
 }
 
 // `--watch ADDR`.
@@ -186,9 +205,9 @@ fn pace<'a>(alloc: Global) -> Arg<'a>
     )
 }
 
-// A subcommand that keeps a journal, with `--journal` and `--save`.
-fn keeping<'a>(alloc: Global, name: &'a str, about: &'a str) -> Result<Command<'a>, AllocError>
-    ensures shape { IfOk result (λ c. app_of c ≡ keeping_app name.now) }
+// A subcommand that has a journal.
+fn with_journal<'a>(alloc: Global, name: &'a str, about: &'a str) -> Result<Command<'a>, AllocError>
+    ensures shape { IfOk result (λ c. app_of c ≡ journal_app name.now) }
     ensures local { IfOk result (λ c. (fields_of c).has_globals ≡ false) }
 {
     Command::new(alloc, name)
@@ -197,6 +216,14 @@ fn keeping<'a>(alloc: Global, name: &'a str, about: &'a str) -> Result<Command<'
         .arg(save(alloc))?
         .arg(keep(alloc))?
         .arg(sync(alloc))
+}
+
+// One that takes tables too.
+fn keeping<'a>(alloc: Global, name: &'a str, about: &'a str) -> Result<Command<'a>, AllocError>
+    ensures shape { IfOk result (λ c. app_of c ≡ keeping_app name.now) }
+    ensures local { IfOk result (λ c. (fields_of c).has_globals ≡ false) }
+{
+    with_journal(alloc, name, about)?.arg(tables(alloc))
 }
 
 fn run_command<'a>(alloc: Global) -> Result<Command<'a>, AllocError>
@@ -277,6 +304,7 @@ fn on_file<'a>(
 {
     Command::new(alloc, name)
         .about(about)
+        .arg(tables(alloc))?
         .arg(file(alloc, help))
 }
 
@@ -288,6 +316,7 @@ fn on_program<'a>(alloc: Global, name: &'a str, about: &'a str) -> Result<Comman
     Command::new(alloc, name)
         .about(about)
         .arg(length(alloc))?
+        .arg(tables(alloc))?
         .arg(file(alloc, "The raw bytes of a BPF program"))
 }
 
@@ -387,6 +416,14 @@ fn value<'a>(matches: &ArgMatches<'a>, name: &str, id: &str) -> Option<&'a str>
         return None;
     }
     inner.get_str(id)
+}
+
+// The file of tables that the subcommand names, whichever it is.
+fn tables_of<'a>(matches: &ArgMatches<'a>) -> Option<&'a str>
+    ensures { option_map (λ s. s.now) result ≡ tables_in (subcommand_rows_of matches.now) }
+{
+    let (_, inner) = matches.subcommand()?;
+    inner.get_str("tables")
 }
 
 // All values of an argument of the subcommand of this name.
@@ -570,7 +607,7 @@ fn parse_by<'a>(
     alloc: Global,
     command: &mut Command<'a>,
     words: &'a [&'a str],
-) -> Result<Line<'a>, Error>
+) -> Result<Order<'a>, Error>
     requires shape { app_of command.old ≡ the_program }
     requires local { (fields_of command.old).has_globals ≡ false }
     ensures asks { IfOk result (AsksFor (map (λ w. w.now) words.entry.now)) }
@@ -578,8 +615,9 @@ fn parse_by<'a>(
         Refuses (map (λ w. w.now) words.entry.now) (kind_of error)) }
 {
     let matches = command.try_get_matches_from_mut(words)?;
+    let tables = tables_of(&matches);
     if let Some(line) = line_of(alloc, &matches)? {
-        return Ok(line);
+        return Ok(Order { line, tables });
     }
     Err(command.error(ErrorKind::ValueValidation, reason(&matches))?)
 }
@@ -590,7 +628,7 @@ fn parse_by<'a>(
 /// and the other words are taken as they stand. Words that name no such command are refused by
 /// `clap`; a journal outside 1 to 1,000,000 is refused, a length that is neither 128 nor 160, and a
 /// pace that is no number from 1 to 4,294,967,295. A request for help counts as a refusal.
-pub fn parse<'a>(alloc: Global, words: &'a [&'a str]) -> Result<Line<'a>, Error>
+pub fn parse<'a>(alloc: Global, words: &'a [&'a str]) -> Result<Order<'a>, Error>
     ensures asks { IfOk result (AsksFor (map (λ w. w.now) words.entry.now)) }
     ensures refuses { IfErr result (λ error.
         Refuses (map (λ w. w.now) words.entry.now) (kind_of error)) }
@@ -606,13 +644,13 @@ pub fn asked<'a, E: Write>(
     alloc: Global,
     words: &'a [&'a str],
     errors: &mut E,
-) -> Result<Line<'a>, ErrorKind>
+) -> Result<Order<'a>, ErrorKind>
     ensures asks { IfOk result (AsksFor (map (λ w. w.now) words.entry.now)) }
     ensures refuses { IfErr result (Refuses (map (λ w. w.now) words.entry.now)) }
     ensures quiet { OnOk result (errors.new ≡ errors.old) }
 {
     match parse(alloc, words) {
-        Ok(line) => Ok(line),
+        Ok(order) => Ok(order),
         Err(error) => {
             let _ = write!(errors, "{error}");
             Err(error.kind())

@@ -9,14 +9,13 @@ use Rattle.acdm_failures.specs.declared.failure.Failure.{Failure}
 use Rattle.acdm_failures.specs.declared.failure.Failure.TheVariants as failures
 use Rattle.acdm_judging.specs.Explained.{Explains, FailsToRead}
 use Rattle.acdm_judging.specs.Findings.{Audited, Finds}
-use Rattle.acdm_judging.specs.Gave.{GaveBytes}
+use Rattle.acdm_judging.specs.Gave.{GaveBytes, most_bytes}
 use Rattle.acdm_judging.specs.Verdicts.{Judged, Verifies}
 use Rattle.acdm_judging.specs.declared.auditing.Finding.{Finding}
 use Rattle.acdm_judging.specs.declared.auditing.Finding.TheVariants.{Legal, Faulty}
 use Rattle.acdm_judging.specs.declared.verifying.Verdict.{Verdict}
 use Rattle.acdm_lines.specs.Counted.{SinkView, SourceView}
 use Rattle.acdm_telling.specs.Told.{Gives, Told}
-use Rattle.acdm_judging.specs.Helpers.{helpers}
 use Rattle.acdm_commands.specs.Completed.{ExplainsLine, IsUnread, IsUnwritten, read_from}
 use Rattle.acdm_commands.specs.Completed.{KeepsLine, Places, RunsLine, ServesKeptLine, ServesLine, Settles}
 use Rattle.acdm_commands.specs.Completed.{written_to}
@@ -101,13 +100,13 @@ module _ {F : Type 0} (sigs : List (ℕ × Promise)) (file later : SourceView F)
   told_any old new (Err failures.InUse) p = absurd p
   told_any old new (Err failures.Room) p = absurd p
 
-  gave_any : (bytes : List ℕ) → GaveBytes file later bytes
-      → GaveBytes (read_from file) (read_from later) bytes
-  gave_any bytes p = record { gave = p.gave; enough = p.enough; well = p.well }
+  pub gave_any : (most : ℕ) (bytes : List ℕ) → GaveBytes most file later bytes
+      → GaveBytes most (read_from file) (read_from later) bytes
+  gave_any most bytes p = record { gave = p.gave; enough = p.enough; well = p.well }
 
   judged_any : (long : Length) (verdict : Verdict) → Judged sigs long file later verdict
       → Judged sigs long (read_from file) (read_from later) verdict
-  judged_any long verdict p = record { bytes = p.bytes; gave = gave_any p.bytes p.gave; is = p.is }
+  judged_any long verdict p = record { bytes = p.bytes; gave = gave_any most_bytes p.bytes p.gave; is = p.is }
 
   pub verified_any : {W : Type 0} (long : Length) (old new : SinkView W) (work : Result ℕ Failure)
       → Verifies sigs long file later old new work
@@ -140,27 +139,27 @@ module _ {F : Type 0} (sigs : List (ℕ × Promise)) (file later : SourceView F)
 
   pub explained_any : (long : Length) (work : Result ℕ Failure) → Explains sigs long file later work
       → Explains sigs long (read_from file) (read_from later) work
-  explained_any long work (inl p) = inl (p.0, gave_any p.0 p.1, p.2)
+  explained_any long work (inl p) = inl (p.0, gave_any most_bytes p.0 p.1, p.2)
   explained_any long work (inr p) = inr p
 
 -- a file that could be opened was explained, or could not be read
-pub explained_line : {F W E : Type 0} (long : Length) (path : List ℕ) (file later : SourceView F)
+pub explained_line : {F W E : Type 0} (sigs : List (ℕ × Promise)) (long : Length) (path : List ℕ) (file later : SourceView F)
     (old new : SinkView W) (status : ℕ) (errors errors_after : SinkView E) → IsUnread file
-    → EndsBy (Explains helpers long file later) status errors errors_after
+    → EndsBy (Explains sigs long file later) status errors errors_after
     ⊎ FailsToRead path file later old new status errors errors_after
-    → ExplainsLine long path old new status errors errors_after
-explained_line long path file later old new status errors errors_after unread (inl e) =
+    → ExplainsLine sigs long path old new status errors errors_after
+explained_line sigs long path file later old new status errors errors_after unread (inl e) =
     inl (
       read_from file,
       read_from later,
       unread,
       record {
         work = e.work;
-        comes = explained_any helpers file later long e.work e.comes;
+        comes = explained_any sigs file later long e.work e.comes;
         ends = e.ends;
       },
     )
-explained_line long path file later old new status errors errors_after unread (inr f) =
+explained_line sigs long path file later old new status errors errors_after unread (inr f) =
     inr (f.status_is, f.same, f.told)
 
 -- ---- files that are written
@@ -304,15 +303,15 @@ served_any sigs capacity words old new file later (Err failure) (inr p) =
     (λ J. fails_any file later failure) p)
 
 -- `run` with a file that takes its place
-pub ran_line : {R W F E : Type 0} (journal : ℕ) (path : Option (List ℕ)) (file later : Option (SinkView F))
+pub ran_line : {R W F E : Type 0} (sigs : List (ℕ × Promise)) (journal : ℕ) (path : Option (List ℕ)) (file later : Option (SinkView F))
     (input input_after : SourceView R) (output output_after : SinkView W) (status given : ℕ)
     (errors mid last : SinkView E) → IsUnwritten path file
-    → EndsBy (RunsTo helpers journal input input_after output output_after file later) status errors mid
+    → EndsBy (RunsTo sigs journal input input_after output output_after file later) status errors mid
     → Settles path status mid last given
-    → EndsBy (RunsLine journal path input input_after output output_after) given errors last
-ran_line journal path file later input input_after output output_after status given errors mid last made
+    → EndsBy (RunsLine sigs journal path input input_after output output_after) given errors last
+ran_line sigs journal path file later input input_after output output_after status given errors mid last made
     ran settles =
-    let e = settled path (RunsTo helpers journal input input_after output output_after file later) status
+    let e = settled path (RunsTo sigs journal input input_after output output_after file later) status
     given errors mid last ran settles in
     record {
       work = e.work;
@@ -320,24 +319,24 @@ ran_line journal path file later input input_after output output_after status gi
         option_map written_to file,
         option_map written_to later,
         unwritten_any path file made,
-        placed_any path (RunsTo helpers journal input input_after output output_after file later)
-            (RunsTo helpers journal input input_after output output_after (option_map written_to file)
+        placed_any path (RunsTo sigs journal input input_after output output_after file later)
+            (RunsTo sigs journal input input_after output output_after (option_map written_to file)
             (option_map written_to later))
-            (runs_any helpers journal input input_after output output_after file later) e.work e.comes,
+            (runs_any sigs journal input input_after output output_after file later) e.work e.comes,
       );
       ends = e.ends;
     }
 
 -- `serve`, the same
-pub served_line : {W F E : Type 0} (journal : ℕ) (path : Option (List ℕ)) (partners : List (List ℕ))
+pub served_line : {W F E : Type 0} (sigs : List (ℕ × Promise)) (journal : ℕ) (path : Option (List ℕ)) (partners : List (List ℕ))
     (file later : Option (SinkView F)) (output output_after : SinkView W) (status given : ℕ)
     (errors mid last : SinkView E) → IsUnwritten path file
-    → EndsBy (ServesWordsTo helpers journal partners output output_after file later) status errors mid
+    → EndsBy (ServesWordsTo sigs journal partners output output_after file later) status errors mid
     → Settles path status mid last given
-    → EndsBy (ServesLine journal path partners output output_after) given errors last
-served_line journal path partners file later output output_after status given errors mid last made served
+    → EndsBy (ServesLine sigs journal path partners output output_after) given errors last
+served_line sigs journal path partners file later output output_after status given errors mid last made served
     settles =
-    let e = settled path (ServesWordsTo helpers journal partners output output_after file later) status
+    let e = settled path (ServesWordsTo sigs journal partners output output_after file later) status
     given errors mid last served settles in
     record {
       work = e.work;
@@ -345,20 +344,20 @@ served_line journal path partners file later output output_after status given er
         option_map written_to file,
         option_map written_to later,
         unwritten_any path file made,
-        placed_any path (ServesWordsTo helpers journal partners output output_after file later)
-            (ServesWordsTo helpers journal partners output output_after (option_map written_to file)
+        placed_any path (ServesWordsTo sigs journal partners output output_after file later)
+            (ServesWordsTo sigs journal partners output output_after (option_map written_to file)
             (option_map written_to later))
-            (served_any helpers journal partners output output_after file later) e.work e.comes,
+            (served_any sigs journal partners output output_after file later) e.work e.comes,
       );
       ends = e.ends;
     }
 
-keeps_any : {R F : Type 0} (journal : ℕ) (input input_after : SourceView R)
+keeps_any : {R F : Type 0} (sigs : List (ℕ × Promise)) (journal : ℕ) (input input_after : SourceView R)
     (file later : Option (SinkView F)) (work : Result ℕ Failure)
-    → KeepsTo helpers journal input input_after file later work
-    → KeepsTo helpers journal input input_after (option_map written_to file)
+    → KeepsTo sigs journal input input_after file later work
+    → KeepsTo sigs journal input input_after (option_map written_to file)
     (option_map written_to later) work
-keeps_any journal input input_after file later (Ok status) (inl p) = inl (
+keeps_any sigs journal input input_after file later (Ok status) (inl p) = inl (
   record {
     opening = p.0.opening;
     desk = p.0.desk;
@@ -369,19 +368,19 @@ keeps_any journal input input_after file later (Ok status) (inl p) = inl (
   },
   p.1,
 )
-keeps_any journal input input_after file later (Ok status) (inr p) = inr p
-keeps_any journal input input_after file later (Err failure) p = tt
+keeps_any sigs journal input input_after file later (Ok status) (inr p) = inr p
+keeps_any sigs journal input input_after file later (Err failure) p = tt
 
 -- `run --keep`, the same
-pub kept_line : {R F E : Type 0} (journal : ℕ) (path : Option (List ℕ))
+pub kept_line : {R F E : Type 0} (sigs : List (ℕ × Promise)) (journal : ℕ) (path : Option (List ℕ))
     (file later : Option (SinkView F)) (input input_after : SourceView R) (work : Result ℕ Failure)
     (status given : ℕ) (errors mid last : SinkView E) → IsUnwritten path file
-    → KeepsTo helpers journal input input_after file later work → Ends work status errors mid
+    → KeepsTo sigs journal input input_after file later work → Ends work status errors mid
     → Settles path status mid last given
-    → EndsBy (KeepsLine journal path input input_after) given errors last
-kept_line journal path file later input input_after work status given errors mid last made keeps ends
+    → EndsBy (KeepsLine sigs journal path input input_after) given errors last
+kept_line sigs journal path file later input input_after work status given errors mid last made keeps ends
     settles =
-    let e = settled path (KeepsTo helpers journal input input_after file later) status given errors mid
+    let e = settled path (KeepsTo sigs journal input input_after file later) status given errors mid
     last (record { work = work; comes = keeps; ends = ends }) settles in
     record {
       work = e.work;
@@ -389,10 +388,10 @@ kept_line journal path file later input input_after work status given errors mid
         option_map written_to file,
         option_map written_to later,
         unwritten_any path file made,
-        placed_any path (KeepsTo helpers journal input input_after file later)
-            (KeepsTo helpers journal input input_after (option_map written_to file)
+        placed_any path (KeepsTo sigs journal input input_after file later)
+            (KeepsTo sigs journal input input_after (option_map written_to file)
             (option_map written_to later))
-            (keeps_any journal input input_after file later) e.work e.comes,
+            (keeps_any sigs journal input input_after file later) e.work e.comes,
       );
       ends = e.ends;
     }
@@ -418,12 +417,12 @@ named_as opening words old new Kept Known knows named =
       };
     }
 
-serves_kept_any : {W F : Type 0} (capacity : ℕ) (words : List (List ℕ)) (old new : SinkView W)
+serves_kept_any : {W F : Type 0} (sigs : List (ℕ × Promise)) (capacity : ℕ) (words : List (List ℕ)) (old new : SinkView W)
     (file later : Option (SinkView F)) (work : Result ℕ Failure)
-    → ServesKeptTo helpers capacity words old new file later work
-    → ServesKeptTo helpers capacity words old new (option_map written_to file)
+    → ServesKeptTo sigs capacity words old new file later work
+    → ServesKeptTo sigs capacity words old new (option_map written_to file)
     (option_map written_to later) work
-serves_kept_any capacity words old new file later (Ok status) (inl p) = inl (
+serves_kept_any sigs capacity words old new file later (Ok status) (inl p) = inl (
   record {
     opening = p.0.opening;
     room = p.0.room;
@@ -434,19 +433,19 @@ serves_kept_any capacity words old new file later (Ok status) (inl p) = inl (
   },
   p.1,
 )
-serves_kept_any capacity words old new file later (Ok status) (inr p) = inr p
-serves_kept_any capacity words old new file later (Err failure) p = tt
+serves_kept_any sigs capacity words old new file later (Ok status) (inr p) = inr p
+serves_kept_any sigs capacity words old new file later (Err failure) p = tt
 
 -- `serve --keep`, the same
-pub served_kept_line : {W F E : Type 0} (journal : ℕ) (path : Option (List ℕ))
+pub served_kept_line : {W F E : Type 0} (sigs : List (ℕ × Promise)) (journal : ℕ) (path : Option (List ℕ))
     (partners : List (List ℕ)) (file later : Option (SinkView F)) (output output_after : SinkView W)
     (status given : ℕ) (errors mid last : SinkView E) → IsUnwritten path file
-    → EndsBy (ServesKeptTo helpers journal partners output output_after file later) status errors mid
+    → EndsBy (ServesKeptTo sigs journal partners output output_after file later) status errors mid
     → Settles path status mid last given
-    → EndsBy (ServesKeptLine journal path partners output output_after) given errors last
-served_kept_line journal path partners file later output output_after status given errors mid last made
+    → EndsBy (ServesKeptLine sigs journal path partners output output_after) given errors last
+served_kept_line sigs journal path partners file later output output_after status given errors mid last made
     served settles =
-    let e = settled path (ServesKeptTo helpers journal partners output output_after file later) status
+    let e = settled path (ServesKeptTo sigs journal partners output output_after file later) status
     given errors mid last served settles in
     record {
       work = e.work;
@@ -454,10 +453,10 @@ served_kept_line journal path partners file later output output_after status giv
         option_map written_to file,
         option_map written_to later,
         unwritten_any path file made,
-        placed_any path (ServesKeptTo helpers journal partners output output_after file later)
-            (ServesKeptTo helpers journal partners output output_after (option_map written_to file)
+        placed_any path (ServesKeptTo sigs journal partners output output_after file later)
+            (ServesKeptTo sigs journal partners output output_after (option_map written_to file)
             (option_map written_to later))
-            (serves_kept_any journal partners output output_after file later) e.work e.comes,
+            (serves_kept_any sigs journal partners output output_after file later) e.work e.comes,
       );
       ends = e.ends;
     }

@@ -8,4 +8,5 @@ mod Files
 mod MinuteRows
 mod KeptOn
 mod Named
+mod Refusing
 mod Told

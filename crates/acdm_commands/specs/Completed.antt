@@ -1,9 +1,8 @@
--- What is done for the words of a command line.
+-- What is done for a line, with the helpers of these signatures.
 use Rattle.std.specs.Prelude.{ℕ, ◌≡◌, ◌⊎◌, ⊤, false, List, [], Option, Some, None, Result, Ok, Err}
 use Rattle.std.specs.Prelude.{map, option_map}
+use Rattle.bpf_helpers.specs.Promise.{Promise}
 use Rattle.bpf_regstate.specs.declared.length.Length.{Length}
-use Rattle.clap.specs.declared.error.kind.ErrorKind.{ErrorKind}
-use Rattle.acdm_command_line.specs.CommandLine.{AsksFor, Refuses}
 use Rattle.acdm_command_line.specs.declared.command_line.Line.{Line}
 use Rattle.acdm_command_line.specs.declared.command_line.Line.TheVariants.{Audit, Explain, Run, Serve}
 use Rattle.acdm_command_line.specs.declared.command_line.Line.TheVariants.{Tell, Verify}
@@ -12,7 +11,6 @@ use Rattle.acdm_failures.specs.declared.failure.Failure.{Failure}
 use Rattle.acdm_failures.specs.declared.failure.Failure.TheVariants.{Memory, Read, Save}
 use Rattle.acdm_judging.specs.Explained.{Explains, TellsUnread}
 use Rattle.acdm_judging.specs.Findings.{Audited}
-use Rattle.acdm_judging.specs.Helpers.{helpers}
 use Rattle.acdm_judging.specs.Verdicts.{Verifies}
 use Rattle.acdm_lines.specs.Counted.{SinkView, SourceView}
 use Rattle.acdm_telling.specs.Told.{Told}
@@ -85,125 +83,105 @@ IsNotMade path (Err failure) = FailsToMake path failure
 
 -- `run`: its file was made, and the run came so and the file took its place, or the file could not be
 -- made, and nothing was done
-abbrev pub RunsLine : {R W : Type 0} → ℕ → Option (List ℕ) → SourceView R → SourceView R → SinkView W
-    → SinkView W → Result ℕ Failure → Type 0
-RunsLine journal path input input_after output output_after work =
+abbrev pub RunsLine : {R W : Type 0} → List (ℕ × Promise) → ℕ → Option (List ℕ) → SourceView R
+    → SourceView R → SinkView W → SinkView W → Result ℕ Failure → Type 0
+RunsLine sigs journal path input input_after output output_after work =
     ((saved saved_after : Option (SinkView ⊤)) × IsUnwritten path saved
-    × Places path (RunsTo helpers journal input input_after output output_after saved saved_after) work)
+    × Places path (RunsTo sigs journal input input_after output output_after saved saved_after) work)
     ⊎ (IsNotMade path work × (input_after ≡ input) × (output_after ≡ output))
 
 -- `run` with a journal that is kept: the file that the journal is saved in was made, and it came so and the file took its place, or the file
 -- could not be made, and nothing was done
-abbrev pub KeepsLine : {R : Type 0} → ℕ → Option (List ℕ) → SourceView R → SourceView R
+abbrev pub KeepsLine : {R : Type 0} → List (ℕ × Promise) → ℕ → Option (List ℕ) → SourceView R → SourceView R
     → Result ℕ Failure → Type 0
-KeepsLine journal path input input_after work =
+KeepsLine sigs journal path input input_after work =
     ((saved saved_after : Option (SinkView ⊤)) × IsUnwritten path saved
-    × Places path (KeepsTo helpers journal input input_after saved saved_after) work)
+    × Places path (KeepsTo sigs journal input input_after saved saved_after) work)
     ⊎ (IsNotMade path work × (input_after ≡ input))
 
 -- `run`, with a journal that is kept in the file of this path, if there is one
-abbrev pub RunsWords : {R W E : Type 0} → ℕ → Option (List ℕ) → Option (List ℕ) → SourceView R
-    → SourceView R → SinkView W → SinkView W → ℕ → SinkView E → SinkView E → Type 0
-RunsWords journal path None input input_after output output_after status errors errors_after =
-    EndsBy (RunsLine journal path input input_after output output_after) status errors errors_after
-RunsWords journal path (Some kept) input input_after output output_after status errors errors_after =
-    EndsBy (KeepsLine journal path input input_after) status errors errors_after
+abbrev pub RunsWords : {R W E : Type 0} → List (ℕ × Promise) → ℕ → Option (List ℕ) → Option (List ℕ)
+    → SourceView R → SourceView R → SinkView W → SinkView W → ℕ → SinkView E → SinkView E → Type 0
+RunsWords sigs journal path None input input_after output output_after status errors errors_after =
+    EndsBy (RunsLine sigs journal path input input_after output output_after) status errors errors_after
+RunsWords sigs journal path (Some kept) input input_after output output_after status errors errors_after =
+    EndsBy (KeepsLine sigs journal path input input_after) status errors errors_after
 
 -- `serve`, as `run`
-abbrev pub ServesLine : {W : Type 0} → ℕ → Option (List ℕ) → List (List ℕ) → SinkView W → SinkView W
-    → Result ℕ Failure → Type 0
-ServesLine journal path partners output output_after work =
+abbrev pub ServesLine : {W : Type 0} → List (ℕ × Promise) → ℕ → Option (List ℕ) → List (List ℕ)
+    → SinkView W → SinkView W → Result ℕ Failure → Type 0
+ServesLine sigs journal path partners output output_after work =
     ((saved saved_after : Option (SinkView ⊤)) × IsUnwritten path saved
-    × Places path (ServesWordsTo helpers journal partners output output_after saved saved_after) work)
+    × Places path (ServesWordsTo sigs journal partners output output_after saved saved_after) work)
     ⊎ (IsNotMade path work × (output_after ≡ output))
 
 -- the same with a journal that is kept
-abbrev pub ServesKeptLine : {W : Type 0} → ℕ → Option (List ℕ) → List (List ℕ) → SinkView W → SinkView W
-    → Result ℕ Failure → Type 0
-ServesKeptLine journal path partners output output_after work =
+abbrev pub ServesKeptLine : {W : Type 0} → List (ℕ × Promise) → ℕ → Option (List ℕ) → List (List ℕ)
+    → SinkView W → SinkView W → Result ℕ Failure → Type 0
+ServesKeptLine sigs journal path partners output output_after work =
     ((saved saved_after : Option (SinkView ⊤)) × IsUnwritten path saved
-    × Places path (ServesKeptTo helpers journal partners output output_after saved saved_after) work)
+    × Places path (ServesKeptTo sigs journal partners output output_after saved saved_after) work)
     ⊎ (IsNotMade path work × (output_after ≡ output))
 
 -- `serve`, with a journal that is kept in the file of this path, if there is one
-abbrev pub ServesLines : {W E : Type 0} → ℕ → Option (List ℕ) → Option (List ℕ) → List (List ℕ)
-    → SinkView W → SinkView W → ℕ → SinkView E → SinkView E → Type 0
-ServesLines journal path None partners output output_after status errors errors_after =
-    EndsBy (ServesLine journal path partners output output_after) status errors errors_after
-ServesLines journal path (Some kept) partners output output_after status errors errors_after =
-    EndsBy (ServesKeptLine journal path partners output output_after) status errors errors_after
+abbrev pub ServesLines : {W E : Type 0} → List (ℕ × Promise) → ℕ → Option (List ℕ) → Option (List ℕ)
+    → List (List ℕ) → SinkView W → SinkView W → ℕ → SinkView E → SinkView E → Type 0
+ServesLines sigs journal path None partners output output_after status errors errors_after =
+    EndsBy (ServesLine sigs journal path partners output output_after) status errors errors_after
+ServesLines sigs journal path (Some kept) partners output output_after status errors errors_after =
+    EndsBy (ServesKeptLine sigs journal path partners output output_after) status errors errors_after
 
 -- a file could not be opened, and nothing was written
 abbrev pub FailsToOpen : {W : Type 0} → SinkView W → SinkView W → Result ℕ Failure → Type 0
 FailsToOpen output output_after work = (work ≡ Err Read) × (output_after ≡ output)
 
 -- `audit`, of what the file gave, or it could not be opened
-abbrev pub AuditsLine : {W : Type 0} → SinkView W → SinkView W → Result ℕ Failure → Type 0
-AuditsLine output output_after work =
+abbrev pub AuditsLine : {W : Type 0} → List (ℕ × Promise) → SinkView W → SinkView W
+    → Result ℕ Failure → Type 0
+AuditsLine sigs output output_after work =
     ((file file_after : SourceView ⊤) × IsUnread file
-    × Audited helpers file file_after output output_after work)
+    × Audited sigs file file_after output output_after work)
     ⊎ FailsToOpen output output_after work
 
 -- `tell`, the same
-abbrev pub TellsLine : {W : Type 0} → SinkView W → SinkView W → Result ℕ Failure → Type 0
-TellsLine output output_after work =
+abbrev pub TellsLine : {W : Type 0} → List (ℕ × Promise) → SinkView W → SinkView W → Result ℕ Failure → Type 0
+TellsLine sigs output output_after work =
     ((file file_after : SourceView ⊤) × IsUnread file
-    × Told helpers file file_after output output_after work)
+    × Told sigs file file_after output output_after work)
     ⊎ FailsToOpen output output_after work
 
 -- `verify`, the same, beside records of this length
-abbrev pub VerifiesLine : {W : Type 0} → Length → SinkView W → SinkView W → Result ℕ Failure → Type 0
-VerifiesLine long output output_after work =
+abbrev pub VerifiesLine : {W : Type 0} → List (ℕ × Promise) → Length → SinkView W → SinkView W
+    → Result ℕ Failure → Type 0
+VerifiesLine sigs long output output_after work =
     ((file file_after : SourceView ⊤) × IsUnread file
-    × Verifies helpers long file file_after output output_after work)
+    × Verifies sigs long file file_after output output_after work)
     ⊎ FailsToOpen output output_after work
 
 -- `explain`: what it tells is of what the file gave, or the file of this path could not be read or opened,
 -- the status is 2, that was said, and nothing was written
-abbrev pub ExplainsLine : {W E : Type 0} → Length → List ℕ → SinkView W → SinkView W → ℕ
+abbrev pub ExplainsLine : {W E : Type 0} → List (ℕ × Promise) → Length → List ℕ → SinkView W → SinkView W → ℕ
     → SinkView E → SinkView E → Type 0
-ExplainsLine long path output output_after status errors errors_after =
+ExplainsLine sigs long path output output_after status errors errors_after =
     ((file file_after : SourceView ⊤) × IsUnread file
-    × EndsBy (Explains helpers long file file_after) status errors errors_after)
+    × EndsBy (Explains sigs long file file_after) status errors errors_after)
     ⊎ ((status ≡ 2) × (output_after ≡ output) × TellsUnread path errors errors_after)
 
 -- what is done for a line; none but `run` reads the input
-abbrev pub Does : {R W E : Type 0} → Line → SourceView R → SourceView R → SinkView W → SinkView W → ℕ
-    → SinkView E → SinkView E → Type 0
-Does (Run journal save keep sync) input input_after output output_after status errors errors_after =
-    RunsWords journal (option_map (λ s. s.now) save) (option_map (λ s. s.now) keep) input input_after
+abbrev pub Does : {R W E : Type 0} → List (ℕ × Promise) → Line → SourceView R → SourceView R
+    → SinkView W → SinkView W → ℕ → SinkView E → SinkView E → Type 0
+Does sigs (Run journal save keep sync) input input_after output output_after status errors errors_after =
+    RunsWords sigs journal (option_map (λ s. s.now) save) (option_map (λ s. s.now) keep) input input_after
     output output_after status errors errors_after
-Does (Serve journal save keep sync watch changes web again control pace partners) input input_after output output_after status errors errors_after =
-    (input_after ≡ input) × ServesLines journal (option_map (λ s. s.now) save)
+Does sigs (Serve journal save keep sync watch changes web again control pace partners) input input_after output output_after status errors errors_after =
+    (input_after ≡ input) × ServesLines sigs journal (option_map (λ s. s.now) save)
     (option_map (λ s. s.now) keep) (map (λ s. s.now) partners.items) output output_after status errors
     errors_after
-Does (Audit file) input input_after output output_after status errors errors_after =
-    (input_after ≡ input) × EndsBy (AuditsLine output output_after) status errors errors_after
-Does (Verify long file) input input_after output output_after status errors errors_after =
-    (input_after ≡ input) × EndsBy (VerifiesLine long output output_after) status errors errors_after
-Does (Explain long file) input input_after output output_after status errors errors_after =
-    (input_after ≡ input) × ExplainsLine long file.now output output_after status errors errors_after
-Does (Tell file) input input_after output output_after status errors errors_after =
-    (input_after ≡ input) × EndsBy (TellsLine output output_after) status errors errors_after
-
--- the words ask for this line, and it was done
-pub record DoesAsked {R W E : Type 0} (words : List (List ℕ)) (input input_after : SourceView R)
-    (output output_after : SinkView W) (status : ℕ) (errors errors_after : SinkView E) : Type 0 where
-  pub line : Line
-  pub asked : AsksFor words line
-  pub done : Does line input input_after output output_after status errors errors_after
-
--- the words were refused for this reason, and nothing was done
-pub record Refused {R W : Type 0} (words : List (List ℕ)) (input input_after : SourceView R)
-    (output output_after : SinkView W) (status : ℕ) : Type 0 where
-  pub kind : ErrorKind
-  pub refused : Refuses words kind
-  pub status_is : status ≡ 2
-  pub unread : input_after ≡ input
-  pub unwritten : output_after ≡ output
-
-abbrev pub Completes : {R W E : Type 0} → List (List ℕ) → SourceView R → SourceView R → SinkView W
-    → SinkView W → ℕ → SinkView E → SinkView E → Type 0
-Completes words input input_after output output_after status errors errors_after =
-    DoesAsked words input input_after output output_after status errors errors_after
-    ⊎ Refused words input input_after output output_after status
+Does sigs (Audit file) input input_after output output_after status errors errors_after =
+    (input_after ≡ input) × EndsBy (AuditsLine sigs output output_after) status errors errors_after
+Does sigs (Verify long file) input input_after output output_after status errors errors_after =
+    (input_after ≡ input) × EndsBy (VerifiesLine sigs long output output_after) status errors errors_after
+Does sigs (Explain long file) input input_after output output_after status errors errors_after =
+    (input_after ≡ input) × ExplainsLine sigs long file.now output output_after status errors errors_after
+Does sigs (Tell file) input input_after output output_after status errors errors_after =
+    (input_after ≡ input) × EndsBy (TellsLine sigs output output_after) status errors errors_after

@@ -1,7 +1,9 @@
+pub mod Asked
+pub mod ByTables
 pub mod Completed
 pub mod Keeping
 pub mod Minutes
 pub mod Partners
 pub mod Served
 pub use Rattle.acdm_failures.specs.Failures
-pub use Rattle.acdm_judging.specs.Helpers
+pub use Rattle.acdm_tables.specs.Helpers

@@ -1,8 +1,10 @@
 //! The commands, over the files, the reader and the writers that they are handed.
 ghost use Rattle.std.specs.Prelude.{◌≡◌, ◌-◌, ◌^◌, ◌<◌, map, option_map};
-ghost use Rattle.acdm_commands.specs.Completed.{AuditsLine, Completes, ExplainsLine, RunsLine, RunsWords};
+ghost use Rattle.acdm_commands.specs.Asked.{Completes};
+ghost use Rattle.acdm_commands.specs.Completed.{AuditsLine, Does, ExplainsLine, RunsLine, RunsWords};
 ghost use Rattle.acdm_commands.specs.Completed.{ServesKeptLine, ServesLine, ServesLines, TellsLine, VerifiesLine};
 ghost use Rattle.acdm_failures.specs.Failures.{EndsBy};
+ghost use Rattle.acdm_tables.specs.Helpers.{helpers_by};
 
 use crate::keeping::{KeepIn, keep_line};
 use crate::lasting::Service;
@@ -10,10 +12,12 @@ use crate::saving::{saving_in, settle};
 use crate::serve_command::{Audience, serve_words};
 use crate::serve_keeping::serve_kept_words;
 use crate::serving::run_on;
-use acdm_command_line::{Line, asked};
+use crate::tables::tables_of;
+use acdm_command_line::{Line, Order, asked};
 use acdm_failures::{Failure, ended};
 use acdm_judging::{audit_on, explain_on, unread, verify_on};
 use acdm_sessions::{Sink, Source};
+use acdm_tables::Tables;
 use acdm_telling::tell_on;
 use bpf_regstate::Length;
 use std::alloc::Global;
@@ -58,17 +62,55 @@ pub fn complete<
     ensures { Completes (map (λ w. w.now) words.entry.now) input.old input.new output.old output.new
         result errors.old errors.new }
 {
-    let line = match asked(alloc, words, errors) {
-        Ok(line) => line,
+    let Order { line, tables } = match asked(alloc, words, errors) {
+        Ok(order) => order,
         Err(_) => return 2,
     };
+    match tables_of(rt, alloc, tables, errors) {
+        Some(tables) => complete_by(alloc, rt, tables, line, input, output, errors),
+        None => 2,
+    }
+}
+
+// Does what is asked for, by these tables.
+fn complete_by<
+    Rt: Files<File = File>
+        + Net<Listener = TcpListener, Stream = TcpStream>
+        + SystemClock
+        + Eprint
+        + Threads
+        + Wait
+        + Clone
+        + Drop
+        + Send
+        + Sync
+        + 'static,
+    R: Read,
+    W: Write,
+    E: Write,
+>(
+    alloc: Global,
+    rt: &Rt,
+    tables: Tables,
+    line: Line<'_>,
+    input: &mut Source<R>,
+    output: &mut Sink<W>,
+    errors: &mut Sink<E>,
+) -> u8
+    requires reads { input.old.faults < 2 ^ 64 - 1 }
+    requires writes { output.old.faults < 2 ^ 64 - 1 }
+    ensures { Does (helpers_by tables) line.entry input.old input.new output.old output.new result
+        errors.old errors.new }
+{
     match line {
         Line::Run {
             journal,
             save,
             keep,
             sync,
-        } => run_words(rt, alloc, journal, save, keep, sync, input, output, errors),
+        } => run_words(
+            rt, alloc, tables, journal, save, keep, sync, input, output, errors,
+        ),
         Line::Serve {
             journal,
             save,
@@ -84,6 +126,7 @@ pub fn complete<
         } => serve_lines(
             rt,
             alloc,
+            tables,
             journal,
             save,
             keep,
@@ -102,10 +145,14 @@ pub fn complete<
             output,
             errors,
         ),
-        Line::Audit { file } => audit_line(rt, alloc, file, output, errors),
-        Line::Verify { length, file } => verify_line(rt, alloc, length, file, output, errors),
-        Line::Explain { length, file } => { explain_line(rt, alloc, length, file, output, errors) }
-        Line::Tell { file } => tell_line(rt, alloc, file, output, errors),
+        Line::Audit { file } => audit_line(rt, alloc, &tables, file, output, errors),
+        Line::Verify { length, file } => verify_line(
+            rt, alloc, &tables, length, file, output, errors,
+        ),
+        Line::Explain { length, file } => {
+            explain_line(rt, alloc, &tables, length, file, output, errors)
+        }
+        Line::Tell { file } => tell_line(rt, alloc, &tables, file, output, errors),
     }
 }
 
@@ -113,6 +160,7 @@ pub fn complete<
 fn run_words<Rt: Files<File = File>, R: Read, W: Write, E: Write>(
     rt: &Rt,
     alloc: Global,
+    tables: Tables,
     journal: usize,
     save: Option<&str>,
     keep: Option<&str>,
@@ -123,7 +171,7 @@ fn run_words<Rt: Files<File = File>, R: Read, W: Write, E: Write>(
 ) -> u8
     requires reads { input.old.faults < 2 ^ 64 - 1 }
     requires writes { output.old.faults < 2 ^ 64 - 1 }
-    ensures { RunsWords journal (option_map (λ s. s.now) save.entry)
+    ensures { RunsWords (helpers_by tables) journal (option_map (λ s. s.now) save.entry)
         (option_map (λ s. s.now) keep.entry) input.old input.new output.old output.new result
         errors.old errors.new }
 {
@@ -133,9 +181,11 @@ fn run_words<Rt: Files<File = File>, R: Read, W: Write, E: Write>(
                 path,
                 is_synced: sync,
             };
-            keep_line(rt, alloc, journal, save, keep, input, output, errors)
+            keep_line(
+                rt, alloc, tables, journal, save, keep, input, output, errors,
+            )
         }
-        None => run_line(rt, alloc, journal, save, input, output, errors),
+        None => run_line(rt, alloc, tables, journal, save, input, output, errors),
     }
 }
 
@@ -143,6 +193,7 @@ fn run_words<Rt: Files<File = File>, R: Read, W: Write, E: Write>(
 fn run_line<Rt: Files, R: Read, W: Write, E: Write>(
     rt: &Rt,
     alloc: Global,
+    tables: Tables,
     journal: usize,
     save: Option<&str>,
     input: &mut Source<R>,
@@ -151,12 +202,13 @@ fn run_line<Rt: Files, R: Read, W: Write, E: Write>(
 ) -> u8
     requires reads { input.old.faults < 2 ^ 64 - 1 }
     requires writes { output.old.faults < 2 ^ 64 - 1 }
-    ensures { EndsBy (RunsLine journal (option_map (λ s. s.now) save.entry) input.old input.new output.old
+    ensures { EndsBy (RunsLine (helpers_by tables) journal (option_map (λ s. s.now) save.entry) input.old input.new output.old
         output.new) result errors.old errors.new }
 {
     match saving_in(rt, alloc, save) {
         Ok(mut saving) => {
-            let status = run_on(alloc, journal, input, output, &mut saving.file, errors);
+            let saved = &mut saving.file;
+            let status = run_on(alloc, tables, journal, input, output, saved, errors);
             settle(rt, save, saving, status, errors)
         }
         Err(failure) => ended(Err(failure), errors),
@@ -181,6 +233,7 @@ fn serve_line<
 >(
     rt: &Rt,
     alloc: Global,
+    tables: Tables,
     journal: usize,
     save: Option<&str>,
     audience: Audience<'_>,
@@ -189,14 +242,14 @@ fn serve_line<
     output: &mut Sink<W>,
     errors: &mut Sink<E>,
 ) -> u8
-    ensures { EndsBy (ServesLine journal (option_map (λ s. s.now) save.entry)
+    ensures { EndsBy (ServesLine (helpers_by tables) journal (option_map (λ s. s.now) save.entry)
         (map (λ w. w.now) partners.now) output.old output.new) result errors.old errors.new }
 {
     match saving_in(rt, alloc, save) {
         Ok(mut saving) => {
             let saved = &mut saving.file;
             let status = serve_words(
-                rt, alloc, journal, audience, service, partners, output, saved, errors,
+                rt, alloc, tables, journal, audience, service, partners, output, saved, errors,
             );
             settle(rt, save, saving, status, errors)
         }
@@ -222,6 +275,7 @@ fn serve_lines<
 >(
     rt: &Rt,
     alloc: Global,
+    tables: Tables,
     journal: usize,
     save: Option<&str>,
     keep: Option<&str>,
@@ -232,7 +286,7 @@ fn serve_lines<
     output: &mut Sink<W>,
     errors: &mut Sink<E>,
 ) -> u8
-    ensures { ServesLines journal (option_map (λ s. s.now) save.entry)
+    ensures { ServesLines (helpers_by tables) journal (option_map (λ s. s.now) save.entry)
         (option_map (λ s. s.now) keep.entry) (map (λ w. w.now) partners.now) output.old output.new
         result errors.old errors.new }
 {
@@ -243,11 +297,11 @@ fn serve_lines<
                 is_synced: sync,
             };
             serve_kept_line(
-                rt, alloc, journal, save, keep, audience, service, partners, output, errors,
+                rt, alloc, tables, journal, save, keep, audience, service, partners, output, errors,
             )
         }
         None => serve_line(
-            rt, alloc, journal, save, audience, service, partners, output, errors,
+            rt, alloc, tables, journal, save, audience, service, partners, output, errors,
         ),
     }
 }
@@ -270,6 +324,7 @@ fn serve_kept_line<
 >(
     rt: &Rt,
     alloc: Global,
+    tables: Tables,
     journal: usize,
     save: Option<&str>,
     keep: KeepIn<'_>,
@@ -279,14 +334,15 @@ fn serve_kept_line<
     output: &mut Sink<W>,
     errors: &mut Sink<E>,
 ) -> u8
-    ensures { EndsBy (ServesKeptLine journal (option_map (λ s. s.now) save.entry)
+    ensures { EndsBy (ServesKeptLine (helpers_by tables) journal (option_map (λ s. s.now) save.entry)
         (map (λ w. w.now) partners.now) output.old output.new) result errors.old errors.new }
 {
     match saving_in(rt, alloc, save) {
         Ok(mut saving) => {
             let saved = &mut saving.file;
             let status = serve_kept_words(
-                rt, alloc, journal, keep, audience, service, partners, output, saved, errors,
+                rt, alloc, tables, journal, keep, audience, service, partners, output, saved,
+                errors,
             );
             settle(rt, save, saving, status, errors)
         }
@@ -298,14 +354,15 @@ fn serve_kept_line<
 fn audit_line<Rt: Files, W: Write, E: Write>(
     rt: &Rt,
     alloc: Global,
+    tables: &Tables,
     file: &str,
     output: &mut Sink<W>,
     errors: &mut Sink<E>,
 ) -> u8
-    ensures { EndsBy (AuditsLine output.old output.new) result errors.old errors.new }
+    ensures { EndsBy (AuditsLine (helpers_by tables.now) output.old output.new) result errors.old errors.new }
 {
     match fs::open(rt, file) {
-        Ok(file) => audit_on(alloc, &mut Source::new(file), output, errors),
+        Ok(file) => audit_on(alloc, tables, &mut Source::new(file), output, errors),
         Err(_) => ended(Err(Failure::Read), errors),
     }
 }
@@ -314,14 +371,15 @@ fn audit_line<Rt: Files, W: Write, E: Write>(
 fn tell_line<Rt: Files, W: Write, E: Write>(
     rt: &Rt,
     alloc: Global,
+    tables: &Tables,
     file: &str,
     output: &mut Sink<W>,
     errors: &mut Sink<E>,
 ) -> u8
-    ensures { EndsBy (TellsLine output.old output.new) result errors.old errors.new }
+    ensures { EndsBy (TellsLine (helpers_by tables.now) output.old output.new) result errors.old errors.new }
 {
     match fs::open(rt, file) {
-        Ok(file) => tell_on(alloc, &mut Source::new(file), output, errors),
+        Ok(file) => tell_on(alloc, tables, &mut Source::new(file), output, errors),
         Err(_) => ended(Err(Failure::Read), errors),
     }
 }
@@ -330,15 +388,23 @@ fn tell_line<Rt: Files, W: Write, E: Write>(
 fn verify_line<Rt: Files, W: Write, E: Write>(
     rt: &Rt,
     alloc: Global,
+    tables: &Tables,
     length: Length,
     file: &str,
     output: &mut Sink<W>,
     errors: &mut Sink<E>,
 ) -> u8
-    ensures { EndsBy (VerifiesLine length output.old output.new) result errors.old errors.new }
+    ensures { EndsBy (VerifiesLine (helpers_by tables.now) length output.old output.new) result errors.old errors.new }
 {
     match fs::open(rt, file) {
-        Ok(file) => verify_on(alloc, length, &mut Source::new(file), output, errors),
+        Ok(file) => verify_on(
+            alloc,
+            tables,
+            length,
+            &mut Source::new(file),
+            output,
+            errors,
+        ),
         Err(_) => ended(Err(Failure::Read), errors),
     }
 }
@@ -347,16 +413,18 @@ fn verify_line<Rt: Files, W: Write, E: Write>(
 fn explain_line<Rt: Files, W: Write, E: Write>(
     rt: &Rt,
     alloc: Global,
+    tables: &Tables,
     length: Length,
     file: &str,
     output: &mut Sink<W>,
     errors: &mut Sink<E>,
 ) -> u8
-    ensures { ExplainsLine length file.now output.old output.new result errors.old errors.new }
+    ensures { ExplainsLine (helpers_by tables.now) length file.now output.old output.new result errors.old errors.new }
 {
     match fs::open(rt, file) {
         Ok(opened) => explain_on(
             alloc,
+            tables,
             length,
             file,
             &mut Source::new(opened),

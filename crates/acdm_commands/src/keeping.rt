@@ -3,15 +3,17 @@ ghost use Rattle.std.specs.Prelude.{◌-◌, ◌^◌, ◌<◌, ◌≡◌, [], If
 ghost use Rattle.acdm_commands.specs.Completed.{KeepsLine};
 ghost use Rattle.acdm_commands.specs.Keeping.{GoesOn, KeepsTo, ServesKept};
 ghost use Rattle.acdm_failures.specs.Failures.{EndsBy};
-ghost use Rattle.acdm_judging.specs.Helpers.{helpers as known};
+ghost use Rattle.acdm_tables.specs.Helpers.{helpers_by};
 
-use crate::saving::{save, saving_in, settle};
+use crate::saving::{buffer_for, save, saving_in, settle};
+use crate::standard::is_standard;
 use acdm_board::Desk;
 use acdm_failures::{Failure, ended};
-use acdm_judging::{Finding, KnownHelpers};
+use acdm_judging::Finding;
 use acdm_keeping::{Keeper, Kept, Synced, open};
 use acdm_restoring::{RestoreError, restore};
 use acdm_sessions::{Sink, Source, run};
+use acdm_tables::{KnownHelpers, Tables};
 use bpf_helpers::Helpers;
 use std::alloc::Global;
 use std::fs::{File, Files};
@@ -39,6 +41,7 @@ pub(crate) struct KeepIn<'a> {
 pub(crate) fn keep_line<Rt: Files<File = File>, R: Read, W: Write, E: Write>(
     rt: &Rt,
     alloc: Global,
+    tables: Tables,
     journal: usize,
     saved: Option<&str>,
     keep: KeepIn<'_>,
@@ -47,12 +50,21 @@ pub(crate) fn keep_line<Rt: Files<File = File>, R: Read, W: Write, E: Write>(
     errors: &mut Sink<E>,
 ) -> u8
     requires reads { input.old.faults < 2 ^ 64 - 1 }
-    ensures { EndsBy (KeepsLine journal (option_map (λ s. s.now) saved.entry) input.old input.new)
+    ensures { EndsBy (KeepsLine (helpers_by tables) journal (option_map (λ s. s.now) saved.entry) input.old input.new)
         result errors.old errors.new }
 {
     match saving_in(rt, alloc, saved) {
         Ok(mut saving) => {
-            let served = run_kept(rt, alloc, journal, keep, input, output, &mut saving.file);
+            let served = run_kept(
+                rt,
+                alloc,
+                tables,
+                journal,
+                keep,
+                input,
+                output,
+                &mut saving.file,
+            );
             let status = ended(served, errors);
             settle(rt, saved, saving, status, errors)
         }
@@ -60,10 +72,20 @@ pub(crate) fn keep_line<Rt: Files<File = File>, R: Read, W: Write, E: Write>(
     }
 }
 
+/// Opens the file in which a journal is kept. `Keep` where it can't be opened, or where it is that of a
+/// standard stream; `InUse` where somebody else keeps a journal there.
+pub(crate) fn open_kept<Rt: Files<File = File>>(rt: &Rt, path: &str) -> Result<File, Failure> {
+    if is_standard(rt, path) {
+        return Err(Failure::Keep);
+    }
+    open(rt, path)
+}
+
 // Opens the file, and answers.
 fn run_kept<Rt: Files<File = File>, R: Read, W: Write, F: Write + Drop>(
     rt: &Rt,
     alloc: Global,
+    tables: Tables,
     journal: usize,
     keep: KeepIn<'_>,
     input: &mut Source<R>,
@@ -71,10 +93,10 @@ fn run_kept<Rt: Files<File = File>, R: Read, W: Write, F: Write + Drop>(
     saved: &mut Option<Sink<F>>,
 ) -> Result<u8, Failure>
     requires reads { input.old.faults < 2 ^ 64 - 1 }
-    ensures { KeepsTo known journal input.old input.new saved.old saved.new result }
+    ensures { KeepsTo (helpers_by tables) journal input.old input.new saved.old saved.new result }
 {
-    let file = open(rt, keep.path)?;
-    let helpers = KnownHelpers::new(alloc);
+    let file = open_kept(rt, keep.path)?;
+    let helpers = KnownHelpers::new(alloc, tables);
     let is_synced = keep.is_synced;
     keep_with(
         alloc, helpers, journal, file, is_synced, input, output, saved,
@@ -95,6 +117,7 @@ fn keep_with<H: Helpers + Drop, R: Read, W: Write, F: Write + Drop>(
     requires reads { input.old.faults < 2 ^ 64 - 1 }
     ensures { KeepsTo (H.entries helpers) journal input.old input.new saved.old saved.new result }
 {
+    let mut buffer = buffer_for(alloc, saved)?;
     let mut desk = Desk::new(alloc, helpers, journal)?;
     if let Some(finding) = go_on(alloc, &file, &mut desk)? {
         return match finding.tell(output) {
@@ -109,7 +132,7 @@ fn keep_with<H: Helpers + Drop, R: Read, W: Write, F: Write + Drop>(
         input,
         output,
     )?;
-    save(alloc, &mut desk, saved)?;
+    save(&mut buffer, &mut desk, saved)?;
     Ok(0)
 }
 

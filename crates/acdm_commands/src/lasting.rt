@@ -178,6 +178,13 @@ impl Standing for Tally {
         room
     }
 
+    fn has(&self, count: usize) -> bool {
+        match count.checked_sub(1) {
+            Some(last) => self.moment(last).is_some(),
+            None => true,
+        }
+    }
+
     fn room(&self) -> usize {
         self.row.len()
     }

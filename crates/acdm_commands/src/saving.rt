@@ -1,13 +1,15 @@
 //! The saving of a desk's journal, as text.
 ghost use Rattle.std.specs.Prelude.{◌≡◌, ◌≤◌, false, IfOk, IfErr, OnOk, Some, option_map};
 ghost use Rattle.acdm_board.specs.Desk.{row_of};
+ghost use Rattle.acdm_failures.specs.declared.failure.Failure.TheVariants.{Memory};
 ghost use Rattle.acdm_commands.specs.Completed.{FailsToMake, IsUnwritten, Settles};
 ghost use Rattle.acdm_commands.specs.Served.{FailsToSave, IsSaved};
 ghost use Rattle.acdm_journal.specs.Whole.{Saves};
 
+use crate::standard::is_standard;
 use acdm_board::Desk;
 use acdm_failures::Failure;
-use acdm_journal::write_entry;
+use acdm_journal::{MOST_KEPT, write_entry_by};
 use acdm_row::Row;
 use acdm_sessions::Sink;
 use bpf_helpers::Helpers;
@@ -71,7 +73,8 @@ fn create<Rt: Files>(rt: &Rt, path: &str, names: &Option<Names>) -> io::Result<R
 }
 
 /// Makes the file that a journal is to be saved in by this path, if there is one, and leaves the one
-/// that is there. `Save` where it can't be made, `Memory` where that was refused.
+/// that is there. `Save` where it can't be made, or where the one that is there is that of a standard
+/// stream; `Memory` where that was refused.
 pub(crate) fn saving_in<Rt: Files>(
     rt: &Rt,
     alloc: Global,
@@ -86,6 +89,9 @@ pub(crate) fn saving_in<Rt: Files>(
             names: None,
         });
     };
+    if is_standard(rt, path) {
+        return Err(Failure::Save);
+    }
     let Ok(names) = names_of(rt, alloc, path) else {
         return Err(Failure::Memory);
     };
@@ -153,10 +159,27 @@ pub(crate) fn settle<Rt: Files, E: Write>(
     Failure::Save.complain(errors)
 }
 
-/// Writes the journal of a desk, one line for each entry, to a writer if there is one, and flushes
-/// it. `Save` where that failed, `Memory` where it was refused.
-pub(crate) fn save<H: Helpers + Drop, F: Write + Drop>(
+/// A buffer for `save` to write lines by, with room for the longest, where there is a writer. `Memory`
+/// where that was refused.
+pub(crate) fn buffer_for<F: Write + Drop>(
     alloc: Global,
+    saved: &Option<Sink<F>>,
+) -> Result<Vec<u8>, Failure>
+    ensures fails { IfErr result (λ e. e ≡ Memory) }
+{
+    if saved.is_none() {
+        return Ok(Vec::new(alloc));
+    }
+    match Vec::with_capacity(alloc, MOST_KEPT) {
+        Ok(buffer) => Ok(buffer),
+        Err(_) => Err(Failure::Memory),
+    }
+}
+
+/// Writes the journal of a desk, one line for each entry, to a writer if there is one, by way of a
+/// buffer, and flushes it. `Save` where that failed, `Memory` where it was refused.
+pub(crate) fn save<H: Helpers + Drop, F: Write + Drop>(
+    buffer: &mut Vec<u8>,
     desk: &mut Desk<H>,
     saved: &mut Option<Sink<F>>,
 ) -> Result<(), Failure>
@@ -169,12 +192,12 @@ pub(crate) fn save<H: Helpers + Drop, F: Write + Drop>(
     let Ok(row) = Arc::try_clone(desk.row()) else {
         return Err(Failure::Memory);
     };
-    write_journal(alloc, desk, &row, writer)
+    write_journal(buffer, desk, &row, writer)
 }
 
 // Writes all entries, the oldest first, as they stand in the desk's row.
 fn write_journal<H: Helpers + Drop, F: Write>(
-    alloc: Global,
+    buffer: &mut Vec<u8>,
     desk: &mut Desk<H>,
     row: &Row,
     writer: &mut Sink<F>,
@@ -190,7 +213,7 @@ fn write_journal<H: Helpers + Drop, F: Write>(
         let Some(entry) = desk.entry(row, number) else {
             unreachable!();
         };
-        write_entry(alloc, entry, writer)?;
+        write_entry_by(buffer, entry, writer)?;
         number += 1;
     }
     if writer.flush().is_err() {

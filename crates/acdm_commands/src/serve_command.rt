@@ -3,22 +3,22 @@ ghost use Rattle.std.specs.Prelude.{◌≡◌, ◌≤◌, IfOk, IfErr, Some, map
 ghost use Rattle.acdm_commands.specs.Partners.{FailsToOpen, ServesNamedTo, ServesPartnersTo};
 ghost use Rattle.acdm_commands.specs.Partners.{ServesWordsTo, role_in};
 ghost use Rattle.acdm_failures.specs.Failures.{EndsBy};
-ghost use Rattle.acdm_judging.specs.Helpers.{helpers as known};
+ghost use Rattle.acdm_tables.specs.Helpers.{helpers_by};
 ghost use Rattle.acdm_sessions.specs.Sessions.{new_session};
 
 use crate::addresses::{Partner, listen};
 use crate::lasting::{FileKeeper, Service, serve_again};
 use crate::partners::serve_on;
-use crate::saving::save;
+use crate::saving::{buffer_for, save};
 use acdm_board::Desk;
 use acdm_displays::{Displays, Form};
 use acdm_failures::{Failure, ended};
-use acdm_judging::KnownHelpers;
 use acdm_keeping::Opening;
 use acdm_milestones::Role;
 use acdm_partners::{Control, Terms};
 use acdm_row::Row;
 use acdm_sessions::{Clock, Sink};
+use acdm_tables::{KnownHelpers, Tables};
 use bpf_helpers::Helpers;
 use std::alloc::Global;
 use std::io::{Eprint, Write};
@@ -61,6 +61,7 @@ pub(crate) fn serve_words<
 >(
     rt: &Rt,
     alloc: Global,
+    tables: Tables,
     journal: usize,
     audience: Audience<'_>,
     service: Service<'_>,
@@ -69,10 +70,10 @@ pub(crate) fn serve_words<
     saved: &mut Option<Sink<F>>,
     errors: &mut Sink<E>,
 ) -> u8
-    ensures { EndsBy (ServesWordsTo known journal (map (λ w. w.now) words.now) writer.old writer.new
+    ensures { EndsBy (ServesWordsTo (helpers_by tables) journal (map (λ w. w.now) words.now) writer.old writer.new
         saved.old saved.new) result errors.old errors.new }
 {
-    let helpers = KnownHelpers::new(alloc);
+    let helpers = KnownHelpers::new(alloc, tables);
     ended(
         serve_with(
             rt, alloc, helpers, journal, audience, service, words, writer, saved,
@@ -361,8 +362,9 @@ fn serve_once<
         (map (λ p. new_session p.0 (C.gives p.2)) partners.items) writer.old writer.new saved.old
         saved.new result }
 {
+    let mut buffer = buffer_for(alloc, saved)?;
     let mut closed = serve_on(rt, alloc, partners, desk, writer)?;
-    save(alloc, &mut closed.desk, saved)
+    save(&mut buffer, &mut closed.desk, saved)
 }
 
 // Serves partners by these terms, whose replies wait for the keeper, if there is one, and saves what they
@@ -392,8 +394,9 @@ fn serve_lasting<
         (map (λ p. new_session p.0 (C.gives p.2)) partners.items) writer.old writer.new saved.old
         saved.new result }
 {
+    let mut buffer = buffer_for(alloc, saved)?;
     let mut lasted = serve_again(
         rt, alloc, partners, terms, control, closing, keeper, desk, writer,
     )?;
-    save(alloc, &mut lasted.desk, saved)
+    save(&mut buffer, &mut lasted.desk, saved)
 }

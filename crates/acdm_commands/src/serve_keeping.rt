@@ -4,20 +4,20 @@ ghost use Rattle.acdm_board.specs.Desk.{row_of};
 ghost use Rattle.acdm_commands.specs.Keeping.{ServesKeptAt, ServesKeptTo, ServesKeptWords};
 ghost use Rattle.acdm_commands.specs.Partners.{FailsToTell, ServesPartners};
 ghost use Rattle.acdm_failures.specs.Failures.{EndsBy};
-ghost use Rattle.acdm_judging.specs.Helpers.{helpers as known};
+ghost use Rattle.acdm_tables.specs.Helpers.{helpers_by};
 ghost use Rattle.acdm_sessions.specs.Sessions.{new_session};
 
-use crate::keeping::{KeepIn, go_on};
+use crate::keeping::{KeepIn, go_on, open_kept};
 use crate::lasting::{FileKeeper, Service, serve_again};
-use crate::saving::save;
+use crate::saving::{buffer_for, save};
 use crate::serve_command::{Audience, close_all, opened};
 use acdm_board::Desk;
 use acdm_failures::{Failure, ServeError, ended};
-use acdm_judging::KnownHelpers;
-use acdm_keeping::{Keeper, Opening, SharedKeeper, Synced, open};
+use acdm_keeping::{Keeper, Opening, SharedKeeper, Synced};
 use acdm_milestones::Role;
 use acdm_partners::{Control, Terms};
 use acdm_sessions::{Clock, Closed, Sink};
+use acdm_tables::{KnownHelpers, Tables};
 use bpf_helpers::Helpers;
 use std::alloc::Global;
 use std::fs::{File, Files};
@@ -97,6 +97,7 @@ fn serve_shared<
         (map (λ p. new_session p.0 (C.gives p.2)) partners.items) writer.old writer.new saved.old
         saved.new result }
 {
+    let mut buffer = buffer_for(alloc, saved)?;
     let closing = Arc::new(alloc, AtomicBool::new(false))?;
     let shared: FileKeeper<J> = SharedKeeper::new(keeper, desk.row(), &closing)?;
     let served = desk_after(
@@ -108,7 +109,7 @@ fn serve_shared<
         Err(error) => return Err(Failure::from(error)),
     };
     match kept {
-        Ok(_keeper) => save(alloc, &mut after, saved),
+        Ok(_keeper) => save(&mut buffer, &mut after, saved),
         Err(_) => Err(Failure::Keep),
     }
 }
@@ -238,6 +239,7 @@ fn serve_kept<
 >(
     rt: &Rt,
     alloc: Global,
+    tables: Tables,
     journal: usize,
     keep: KeepIn<'_>,
     audience: Audience<'_>,
@@ -246,11 +248,11 @@ fn serve_kept<
     writer: &mut Sink<W>,
     saved: &mut Option<Sink<F>>,
 ) -> Result<u8, Failure>
-    ensures { ServesKeptTo known journal (map (λ w. w.now) words.now) writer.old writer.new
+    ensures { ServesKeptTo (helpers_by tables) journal (map (λ w. w.now) words.now) writer.old writer.new
         saved.old saved.new result }
 {
-    let file = open(rt, keep.path)?;
-    let helpers = KnownHelpers::new(alloc);
+    let file = open_kept(rt, keep.path)?;
+    let helpers = KnownHelpers::new(alloc, tables);
     serve_kept_with(
         rt,
         alloc,
@@ -291,6 +293,7 @@ pub(crate) fn serve_kept_words<
 >(
     rt: &Rt,
     alloc: Global,
+    tables: Tables,
     journal: usize,
     keep: KeepIn<'_>,
     audience: Audience<'_>,
@@ -300,11 +303,11 @@ pub(crate) fn serve_kept_words<
     saved: &mut Option<Sink<F>>,
     errors: &mut Sink<E>,
 ) -> u8
-    ensures { EndsBy (ServesKeptTo known journal (map (λ w. w.now) words.now) writer.old writer.new
+    ensures { EndsBy (ServesKeptTo (helpers_by tables) journal (map (λ w. w.now) words.now) writer.old writer.new
         saved.old saved.new) result errors.old errors.new }
 {
     let served = serve_kept(
-        rt, alloc, journal, keep, audience, service, words, writer, saved,
+        rt, alloc, tables, journal, keep, audience, service, words, writer, saved,
     );
     ended(served, errors)
 }

@@ -2,25 +2,26 @@
 ghost use Rattle.std.specs.Prelude.{◌-◌, ◌^◌, ◌<◌, IfOk, IfErr};
 ghost use Rattle.acdm_commands.specs.Served.{RunsTo, ServesDesk, Stops};
 ghost use Rattle.acdm_failures.specs.Failures.{EndsBy};
-ghost use Rattle.acdm_judging.specs.Helpers.{helpers as known};
+ghost use Rattle.acdm_tables.specs.Helpers.{helpers_by};
 
-use crate::saving::save;
+use crate::saving::{buffer_for, save};
 use acdm_board::Desk;
 use acdm_failures::{Failure, ended};
-use acdm_judging::KnownHelpers;
 use acdm_sessions::{Sink, Source, run};
+use acdm_tables::{KnownHelpers, Tables};
 use bpf_helpers::Helpers;
 use std::alloc::Global;
 use std::io::{Read, Write};
 
 /// Answers the lines of a reader on a writer, with room for so many entries in the journal. Local
-/// programs may call the known helpers. Where the input was read to its end, the journal is written
+/// programs may call the known helpers by these tables. Where the input was read to its end, the journal is written
 /// as text to the writer that it is to be saved by, if there is one.
 ///
 /// The status is 0 where the input was read to its end and the journal was saved, else 2, with a
 /// line on the errors' writer.
 pub fn run_on<R: Read, W: Write, F: Write + Drop, E: Write>(
     alloc: Global,
+    tables: Tables,
     journal: usize,
     reader: &mut Source<R>,
     writer: &mut Sink<W>,
@@ -29,10 +30,10 @@ pub fn run_on<R: Read, W: Write, F: Write + Drop, E: Write>(
 ) -> u8
     requires reads { reader.old.faults < 2 ^ 64 - 1 }
     requires writes { writer.old.faults < 2 ^ 64 - 1 }
-    ensures { EndsBy (RunsTo known journal reader.old reader.new writer.old writer.new saved.old
+    ensures { EndsBy (RunsTo (helpers_by tables) journal reader.old reader.new writer.old writer.new saved.old
         saved.new) result errors.old errors.new }
 {
-    let helpers = KnownHelpers::new(alloc);
+    let helpers = KnownHelpers::new(alloc, tables);
     ended(
         serve_with(alloc, helpers, journal, reader, writer, saved),
         errors,
@@ -53,8 +54,9 @@ fn serve_with<H: Helpers + Drop, R: Read, W: Write, F: Write + Drop>(
     ensures { RunsTo (H.entries helpers) journal reader.old reader.new writer.old writer.new
         saved.old saved.new result }
 {
+    let mut buffer = buffer_for(alloc, saved)?;
     let mut desk = serve_desk(alloc, helpers, journal, reader, writer)?;
-    save(alloc, &mut desk, saved)?;
+    save(&mut buffer, &mut desk, saved)?;
     Ok(0)
 }
 

@@ -6,7 +6,7 @@ use Rattle.bpf_explain.specs.Told.{Tells, is_accepted}
 use Rattle.bpf_helpers.specs.Promise.{Promise}
 use Rattle.bpf_regstate.specs.declared.length.Length.{Length}
 use Rattle.acdm_lines.specs.Counted.{SinkView, SourceView, faults_after}
-use Rattle.acdm_judging.specs.Gave.{GaveBytes}
+use Rattle.acdm_judging.specs.Gave.{GaveBytes, most_bytes}
 use Rattle.acdm_failures.specs.declared.failure.Failure.{Failure}
 use Rattle.acdm_failures.specs.declared.failure.Failure.TheVariants.{Read, Write, Memory}
 use Rattle.acdm_failures.specs.Failures.{Complains, failure_text}
@@ -32,7 +32,7 @@ TellsBytes sigs long bytes (Err failure) = ⊥
 abbrev pub Explains : {R : Type 0} → List (ℕ × Promise) → Length → SourceView R → SourceView R
     → Result ℕ Failure → Type 0
 Explains sigs long read read_after work =
-    ((bytes : List ℕ) × GaveBytes read read_after bytes × TellsBytes sigs long bytes work)
+    ((bytes : List ℕ) × GaveBytes most_bytes read read_after bytes × TellsBytes sigs long bytes work)
     ⊎ (work ≡ Err Memory)
 
 -- what is said of the file of a path that can't be read: the line of that failure, and one that names the

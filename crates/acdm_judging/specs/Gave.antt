@@ -1,4 +1,4 @@
--- What was read of a file with the bytes of a program.
+-- What was read of a file, of which no more bytes are of use than so many.
 use Rattle.std.specs.Prelude.{ℕ, ◌≡◌, ◌<◌, ◌⊎◌, true, List, ◌++◌, length}
 use Rattle.acdm_lines.specs.Counted.{SourceView, faults_after}
 use Rattle.acdm_judging.specs.declared.bytes.BytesError.{BytesError}
@@ -8,10 +8,10 @@ use Rattle.acdm_judging.specs.declared.bytes.BytesError.TheVariants.{Read, Memor
 abbrev pub most_bytes : ℕ
 most_bytes = 32768
 
--- a reader that did not fail gave these bytes, to its end or until they were more than any program has
-pub record GaveBytes {R : Type 0} (old new : SourceView R) (bytes : List ℕ) : Type 0 where
+-- a reader that did not fail gave these bytes, to its end or until they were more than so many
+pub record GaveBytes {R : Type 0} (most : ℕ) (old new : SourceView R) (bytes : List ℕ) : Type 0 where
   pub gave : new.log ≡ old.log ++ bytes
-  pub enough : (new.ended ≡ true) ⊎ (most_bytes < length bytes)
+  pub enough : (new.ended ≡ true) ⊎ (most < length bytes)
   pub well : new.faults ≡ old.faults
 
 -- why a reader gave none: an error of it is one fault more

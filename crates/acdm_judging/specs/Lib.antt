@@ -1,6 +1,5 @@
 pub mod Explained
 pub mod Findings
 pub mod Gave
-pub mod Helpers
 pub mod Verdicts
 pub use Rattle.acdm_failures.specs.Failures

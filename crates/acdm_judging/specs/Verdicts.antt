@@ -10,7 +10,7 @@ use Rattle.acdm_lines.specs.declared.run_error.RunError.TheVariants as errors
 use Rattle.bpf_regstate.specs.declared.length.Length.{Length}
 use Rattle.bpf_verifier.specs.Reading.{IsReading}
 use Rattle.acdm_wire.specs.Writes.{Wrote, WroteInPart}
-use Rattle.acdm_judging.specs.Gave.{GaveBytes}
+use Rattle.acdm_judging.specs.Gave.{GaveBytes, most_bytes}
 use Rattle.acdm_judging.specs.declared.verifying.Verdict.{Verdict}
 use Rattle.acdm_judging.specs.declared.verifying.Verdict.TheVariants.{Accepted, Refused}
 use Rattle.acdm_failures.specs.declared.failure.Failure.{Failure}
@@ -42,7 +42,7 @@ verdict_text (Refused code slot) =
 pub record Judged {R : Type 0} (sigs : List (ℕ × Promise)) (long : Length)
     (read read_after : SourceView R) (verdict : Verdict) : Type 0 where
   pub bytes : List ℕ
-  pub gave : GaveBytes read read_after bytes
+  pub gave : GaveBytes most_bytes read read_after bytes
   pub is : IsVerdict sigs long bytes verdict
 
 -- what comes of judging them; an error of the reader is one fault more

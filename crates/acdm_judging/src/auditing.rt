@@ -2,12 +2,12 @@
 ghost use Rattle.std.specs.Prelude.{◌≡◌, ◌-◌, ◌^◌, ◌<◌};
 ghost use Rattle.acdm_failures.specs.Failures.{EndsBy};
 ghost use Rattle.acdm_judging.specs.Findings.{Audited, Finds, Tells, finding_text, status_of};
-ghost use Rattle.acdm_judging.specs.Helpers.{helpers};
+ghost use Rattle.acdm_tables.specs.Helpers.{helpers_by};
 
-use crate::helpers::known_sigs;
 use acdm_failures::{Failure, ended};
 use acdm_journal::{Clause, Fault, audit};
 use acdm_lines::{Sink, Source};
+use acdm_tables::{Tables, known_sigs};
 use acdm_wire::{Text, write_out};
 use std::alloc::Global;
 use std::io::{Read, Write};
@@ -77,31 +77,36 @@ fn faulty(entry: u64, clause: Clause) -> Text
     text
 }
 
-/// Judges the journal that a reader gives, with the known helpers, and tells what was found: `legal
-/// N` where it has N entries, which are those of a legal history, else `entry N CODE` with the
+/// Judges the journal that a reader gives, with the known helpers by these tables, and tells what was
+/// found: `legal N` where it has N entries, which are those of a legal history, else `entry N CODE` with the
 /// number of the first faulty entry, from 0, and that of the first clause that it breaks.
 ///
 /// The status is 0 for a legal journal, 1 for another, and 2 where nothing was found or it could not
 /// be written, with a line on the errors' writer.
 pub fn audit_on<R: Read, W: Write, E: Write>(
     alloc: Global,
+    tables: &Tables,
     reader: &mut Source<R>,
     writer: &mut Sink<W>,
     errors: &mut Sink<E>,
 ) -> u8
     requires reads { reader.old.faults < 2 ^ 64 - 1 }
-    ensures { EndsBy (Audited helpers reader.old reader.new writer.old writer.new) result
+    ensures { EndsBy (Audited (helpers_by tables.now) reader.old reader.new writer.old writer.new) result
         errors.old errors.new }
 {
-    ended(judge(alloc, reader, writer), errors)
+    ended(judge(alloc, tables, reader, writer), errors)
 }
 
 // What is found in the journal that a reader gives.
-fn finding_in<R: Read>(alloc: Global, reader: &mut Source<R>) -> Result<Finding, Failure>
+fn finding_in<R: Read>(
+    alloc: Global,
+    tables: &Tables,
+    reader: &mut Source<R>,
+) -> Result<Finding, Failure>
     requires reads { reader.old.faults < 2 ^ 64 - 1 }
-    ensures { Finds helpers reader.old reader.new result }
+    ensures { Finds (helpers_by tables.now) reader.old reader.new result }
 {
-    let sigs = known_sigs(alloc)?;
+    let sigs = known_sigs(alloc, tables)?;
     match audit(alloc, reader, &sigs) {
         Ok(entries) => Ok(Finding::Legal(entries)),
         Err(Fault::Faulty { entry, clause }) => Ok(Finding::Faulty { entry, clause }),
@@ -113,13 +118,14 @@ fn finding_in<R: Read>(alloc: Global, reader: &mut Source<R>) -> Result<Finding,
 // Writes what is found, and answers the status.
 fn judge<R: Read, W: Write>(
     alloc: Global,
+    tables: &Tables,
     reader: &mut Source<R>,
     writer: &mut Sink<W>,
 ) -> Result<u8, Failure>
     requires reads { reader.old.faults < 2 ^ 64 - 1 }
-    ensures { Audited helpers reader.old reader.new writer.old writer.new result }
+    ensures { Audited (helpers_by tables.now) reader.old reader.new writer.old writer.new result }
 {
-    let finding = finding_in(alloc, reader)?;
+    let finding = finding_in(alloc, tables, reader)?;
     match finding.tell(writer) {
         Ok(status) => Ok(status),
         Err(_) => Err(Failure::Write),

@@ -1,4 +1,4 @@
-//! What is read of a file with the bytes of a program.
+//! What is read of a file.
 ghost use Rattle.std.specs.Prelude.{IfOk, IfErr};
 ghost use Rattle.acdm_judging.specs.Gave.{FailsToGive, GaveBytes};
 
@@ -7,30 +7,31 @@ use std::alloc::Global;
 use std::io::{self, ErrorKind, Read};
 
 // No program has more bytes, so a longer file is refused by what was read of it.
-const MOST_BYTES: usize = 32_768;
+pub(crate) const MOST_BYTES: usize = 32_768;
 
 const PIECE: usize = 4_096;
 
-/// Why the bytes of a program can't be had.
+/// Why the bytes of a file can't be had.
 #[derive(Drop)]
-pub(crate) enum BytesError {
+pub enum BytesError {
     /// The reader failed.
     Read(io::Error),
     /// Memory was refused.
     Memory,
 }
 
-/// The bytes that a reader gives, to its end or until they are more than any program has.
-pub(crate) fn bytes_of<R: Read>(
+/// The bytes that a reader gives, to its end or until they are more than so many.
+pub fn bytes_of<R: Read>(
     alloc: Global,
     reader: &mut Source<R>,
+    most: usize,
 ) -> Result<Vec<u8>, BytesError>
-    ensures gave { IfOk result (λ bytes. GaveBytes reader.old reader.new bytes.items) }
+    ensures gave { IfOk result (λ bytes. GaveBytes most reader.old reader.new bytes.items) }
     ensures fails { IfErr result (FailsToGive reader.old reader.new) }
 {
     let mut bytes = Vec::new(alloc);
     let mut piece = [0; PIECE];
-    while bytes.len() <= MOST_BYTES {
+    while bytes.len() <= most {
         match reader.read(&mut piece) {
             Ok(0) => return Ok(bytes),
             Ok(count) => {

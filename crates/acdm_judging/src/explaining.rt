@@ -3,12 +3,12 @@ ghost use Rattle.std.specs.Prelude.{◌≡◌, ◌⊎◌, ℕ, List, IfOk};
 ghost use Rattle.acdm_failures.specs.Failures.{EndsBy};
 ghost use Rattle.acdm_judging.specs.Explained.{Explains, FailsToRead, TellsBytes, TellsUnread};
 ghost use Rattle.acdm_judging.specs.Explained.{status_of, unread_text};
-ghost use Rattle.acdm_judging.specs.Helpers.{helpers};
+ghost use Rattle.acdm_tables.specs.Helpers.{helpers_by};
 
-use crate::bytes::{BytesError, bytes_of};
-use crate::helpers::known_sigs;
+use crate::bytes::{BytesError, MOST_BYTES, bytes_of};
 use acdm_failures::{Failure, ended};
 use acdm_lines::{Sink, Source};
+use acdm_tables::{Tables, known_sigs};
 use acdm_wire::write_out;
 use bpf_explain::{Told, read};
 use bpf_regstate::Length;
@@ -16,29 +16,33 @@ use std::alloc::Global;
 use std::io::{self, Read, Write};
 
 /// Lists the program that the bytes of the file encode, with what is known before each slot, and
-/// its first fault where it may not run with the known helpers beside records of this length; or
-/// tells what is wrong with the bytes.
+/// its first fault where it may not run with the known helpers by these tables beside records of this
+/// length; or tells what is wrong with the bytes.
 ///
 /// The status is 0 for a program that is accepted and 1 for one that is refused, else 2, with a
 /// line on the errors' writer, and one more where the file can't be read.
 pub fn explain_on<R: Read, W: Write, E: Write>(
     alloc: Global,
+    tables: &Tables,
     length: Length,
     file: &str,
     reader: &mut Source<R>,
     writer: &mut Sink<W>,
     errors: &mut Sink<E>,
 ) -> u8
-    ensures { EndsBy (Explains helpers length reader.old reader.new) result errors.old errors.new
+    ensures { EndsBy (Explains (helpers_by tables.now) length reader.old reader.new) result errors.old errors.new
         ⊎ FailsToRead file.now reader.old reader.new writer.old writer.new result errors.old
         errors.new }
 {
-    let bytes = match bytes_of(alloc, reader) {
+    let bytes = match bytes_of(alloc, reader, MOST_BYTES) {
         Ok(bytes) => bytes,
         Err(BytesError::Read(error)) => return unread(alloc, file, &error, errors),
         Err(BytesError::Memory) => return ended(Err(Failure::Memory), errors),
     };
-    ended(tell(alloc, length, bytes.as_slice(), writer), errors)
+    ended(
+        tell(alloc, tables, length, bytes.as_slice(), writer),
+        errors,
+    )
 }
 
 /// Says that the file can't be read, as `verify` does, and then which file it is, and why; no more
@@ -77,13 +81,14 @@ fn status_of(told: &Told) -> u8
 
 fn tell<W: Write>(
     alloc: Global,
+    tables: &Tables,
     length: Length,
     bytes: &[u8],
     writer: &mut Sink<W>,
 ) -> Result<u8, Failure>
-    ensures { TellsBytes helpers length bytes.now result }
+    ensures { TellsBytes (helpers_by tables.now) length bytes.now result }
 {
-    let sigs = known_sigs(alloc)?;
+    let sigs = known_sigs(alloc, tables)?;
     let told = read(alloc, bytes, &sigs, length)?;
     let written = told.write(bytes, &sigs, writer);
     if written.is_err() || writer.flush().is_err() {

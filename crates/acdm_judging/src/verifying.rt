@@ -2,15 +2,15 @@
 ghost use Rattle.std.specs.Prelude.{◌≡◌, ◌++◌, [], ◌∷◌, codes, length, IfOk, IfErr, OnOk};
 ghost use Rattle.std.specs.Fmt.{decimal};
 ghost use Rattle.acdm_failures.specs.Failures.{EndsBy};
-ghost use Rattle.acdm_judging.specs.Helpers.{helpers};
+ghost use Rattle.acdm_tables.specs.Helpers.{helpers_by};
 ghost use Rattle.acdm_judging.specs.Verdicts.{IsVerdict, Judges, Verifies, slots_text, status_of};
 ghost use Rattle.acdm_judging.specs.Verdicts.{verdict_text};
 ghost use Rattle.acdm_failures.specs.declared.failure.Failure.TheVariants.{Memory};
 
-use crate::bytes::{BytesError, bytes_of};
-use crate::helpers::known_sigs;
+use crate::bytes::{BytesError, MOST_BYTES, bytes_of};
 use acdm_failures::{Failure, ended};
 use acdm_lines::{Sink, Source};
+use acdm_tables::{Tables, known_sigs};
 use acdm_wire::write_out;
 use bpf_decode::{Program, line};
 use bpf_helpers::Sigs;
@@ -41,33 +41,35 @@ impl Verdict {
 }
 
 /// Lists the program that a reader's bytes encode, one line for each slot, and then its slots, if
-/// it may run with the known helpers beside records of this length; else tells its first fault.
+/// it may run with the known helpers by these tables beside records of this length; else tells its first fault.
 ///
 /// The status is 0 for a program that is accepted and 1 for one that is refused, else 2, with a
 /// line on the errors' writer.
 pub fn verify_on<R: Read, W: Write, E: Write>(
     alloc: Global,
+    tables: &Tables,
     length: Length,
     reader: &mut Source<R>,
     writer: &mut Sink<W>,
     errors: &mut Sink<E>,
 ) -> u8
-    ensures { EndsBy (Verifies helpers length reader.old reader.new writer.old writer.new) result
+    ensures { EndsBy (Verifies (helpers_by tables.now) length reader.old reader.new writer.old writer.new) result
         errors.old errors.new }
 {
-    ended(judge(alloc, length, reader, writer), errors)
+    ended(judge(alloc, tables, length, reader, writer), errors)
 }
 
 // Writes the verdict, and answers the status.
 fn judge<R: Read, W: Write>(
     alloc: Global,
+    tables: &Tables,
     length: Length,
     reader: &mut Source<R>,
     writer: &mut Sink<W>,
 ) -> Result<u8, Failure>
-    ensures { Verifies helpers length reader.old reader.new writer.old writer.new result }
+    ensures { Verifies (helpers_by tables.now) length reader.old reader.new writer.old writer.new result }
 {
-    let verdict = verdict_of(alloc, length, reader)?;
+    let verdict = verdict_of(alloc, tables, length, reader)?;
     let text = text_of(alloc, &verdict)?;
     match write_out(writer, text.as_slice()) {
         Ok(()) => Ok(verdict.status()),
@@ -78,17 +80,18 @@ fn judge<R: Read, W: Write>(
 // The verdict on the bytes that a reader gives.
 fn verdict_of<R: Read>(
     alloc: Global,
+    tables: &Tables,
     length: Length,
     reader: &mut Source<R>,
 ) -> Result<Verdict, Failure>
-    ensures { Judges helpers length reader.old reader.new result }
+    ensures { Judges (helpers_by tables.now) length reader.old reader.new result }
 {
-    let bytes = match bytes_of(alloc, reader) {
+    let bytes = match bytes_of(alloc, reader, MOST_BYTES) {
         Ok(bytes) => bytes,
         Err(BytesError::Read(_)) => return Err(Failure::Read),
         Err(BytesError::Memory) => return Err(Failure::Memory),
     };
-    let sigs = known_sigs(alloc)?;
+    let sigs = known_sigs(alloc, tables)?;
     verdict_on(alloc, bytes.as_slice(), &sigs, length)
 }
 

@@ -2,7 +2,7 @@
 ghost use Rattle.std.specs.Prelude.{◌≡◌, ◌<◌, ◌-◌, ◌^◌, [], length, Ok};
 ghost use Rattle.acdm_failures.specs.Failures.{EndsBy};
 ghost use Rattle.acdm_feed.specs.Knowing.{Knows};
-ghost use Rattle.acdm_judging.specs.Helpers.{helpers};
+ghost use Rattle.acdm_tables.specs.Helpers.{helpers_by};
 ghost use Rattle.acdm_lines.specs.Lines.{weight};
 ghost use Rattle.acdm_step.specs.Commands.{History};
 ghost use Rattle.acdm_step.specs.History.{IsLegal, replay};
@@ -13,8 +13,9 @@ ghost use Rattle.acdm_lines.specs.Counted.{SinkView};
 use crate::judged::{Judged, tell_line};
 use acdm_failures::{Failure, ended};
 use acdm_journal::{AuditError, Clause, MOST_KEPT};
-use acdm_judging::{Finding, known_sigs};
+use acdm_judging::Finding;
 use acdm_lines::{Ending, Lines, RunError, Sink, Source};
+use acdm_tables::{Tables, known_sigs};
 use acdm_wire::write_out;
 use bpf_helpers::Sigs;
 use std::alloc::Global;
@@ -148,23 +149,24 @@ fn tell_rest<W: Write>(text: &[u8], writer: &mut Sink<W>) -> Failure
     }
 }
 
-/// Tells the feed of the journal that a reader gives, with the known helpers: a line of JSON for each
-/// entry, as displays are sent it. Where an entry is faulty, the lines of those before it, and then
+/// Tells the feed of the journal that a reader gives, with the known helpers by these tables: a line of
+/// JSON for each entry, as displays are sent it. Where an entry is faulty, the lines of those before it, and then
 /// `entry N CODE`, as an audit tells it.
 ///
 /// The status is 0 for a legal journal, 1 for another, and 2 where it could not be read or written to
 /// its end, with a line on the errors' writer.
 pub fn tell_on<R: Read, W: Write, E: Write>(
     alloc: Global,
+    tables: &Tables,
     reader: &mut Source<R>,
     writer: &mut Sink<W>,
     errors: &mut Sink<E>,
 ) -> u8
     requires reads { reader.old.faults < 2 ^ 64 - 1 }
-    ensures { EndsBy (Told helpers reader.old reader.new writer.old writer.new) result errors.old
+    ensures { EndsBy (Told (helpers_by tables.now) reader.old reader.new writer.old writer.new) result errors.old
         errors.new }
 {
-    ended(tell(alloc, reader, writer), errors)
+    ended(tell(alloc, tables, reader, writer), errors)
 }
 
 // Tells the feed, by the board and the lines that a reading begins with, and what was found.
@@ -196,13 +198,14 @@ fn tell_from<R: Read, W: Write>(
 // Tells the feed, and what was found.
 fn tell<R: Read, W: Write>(
     alloc: Global,
+    tables: &Tables,
     reader: &mut Source<R>,
     writer: &mut Sink<W>,
 ) -> Result<u8, Failure>
     requires reads { reader.old.faults < 2 ^ 64 - 1 }
-    ensures { Told helpers reader.old reader.new writer.old writer.new result }
+    ensures { Told (helpers_by tables.now) reader.old reader.new writer.old writer.new result }
 {
-    let Ok(sigs) = known_sigs(alloc) else {
+    let Ok(sigs) = known_sigs(alloc, tables) else {
         return Err(Failure::Memory);
     };
     let Ok(mut judged) = Judged::new(alloc, &sigs) else {

@@ -1,12 +1,12 @@
 //! What command lines ask for.
-use acdm_command_line::{Line, parse};
+use acdm_command_line::{Line, Order, parse};
 use bpf_regstate::Length;
 use std::alloc::Global;
 
 // Whether these words ask for this.
 fn asks_for(alloc: Global, words: &[&str], wanted: &Line<'_>) -> bool {
     match parse(alloc, words) {
-        Ok(line) => line == *wanted,
+        Ok(order) => order.line == *wanted && order.tables.is_none(),
         Err(_) => false,
     }
 }
@@ -119,7 +119,12 @@ fn asks_to_keep(
     wanted_watch: Option<&str>,
 ) -> bool {
     match parse(alloc, words) {
-        Ok(Line::Serve { save, watch, .. }) => save == wanted_save && watch == wanted_watch,
+        Ok(
+            Order {
+                line: Line::Serve { save, watch, .. },
+                ..
+            },
+        ) => save == wanted_save && watch == wanted_watch,
         _ => false,
     }
 }
@@ -182,18 +187,21 @@ fn a_journal_is_kept_where_it_is_said(rt: HostRuntime) {
 fn asks_to_serve(alloc: Global, words: &[&str], wanted: usize, words_wanted: &[&str]) -> bool {
     match parse(alloc, words) {
         Ok(
-            Line::Serve {
-                journal,
-                save,
-                keep: None,
-                sync: false,
-                watch,
-                changes,
-                web,
-                again: false,
-                control: None,
-                pace: None,
-                partners,
+            Order {
+                line: Line::Serve {
+                    journal,
+                    save,
+                    keep: None,
+                    sync: false,
+                    watch,
+                    changes,
+                    web,
+                    again: false,
+                    control: None,
+                    pace: None,
+                    partners,
+                },
+                ..
             },
         ) => {
             journal == wanted
@@ -229,7 +237,12 @@ fn a_board_is_watched_where_it_is_said(rt: HostRuntime) {
 // Whether these words ask to serve with a journal that is kept in this file.
 fn asks_to_serve_from(alloc: Global, words: &[&str], file: &str, is_synced: bool) -> bool {
     match parse(alloc, words) {
-        Ok(Line::Serve { keep, sync, .. }) => keep == Some(file) && sync == is_synced,
+        Ok(
+            Order {
+                line: Line::Serve { keep, sync, .. },
+                ..
+            },
+        ) => keep == Some(file) && sync == is_synced,
         _ => false,
     }
 }
@@ -255,7 +268,12 @@ fn partners_make_a_journal_that_is_kept_where_it_is_said(rt: HostRuntime) {
 // Whether these words ask for a page for browsers at an address.
 fn asks_for_page(alloc: Global, words: &[&str], address: &str) -> bool {
     match parse(alloc, words) {
-        Ok(Line::Serve { web, .. }) => web == Some(address),
+        Ok(
+            Order {
+                line: Line::Serve { web, .. },
+                ..
+            },
+        ) => web == Some(address),
         _ => false,
     }
 }

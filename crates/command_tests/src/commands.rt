@@ -4,6 +4,7 @@ mod displays;
 mod explain;
 mod files;
 mod serve;
+mod tables;
 mod tell;
 mod unreliable;
 
@@ -11,6 +12,7 @@ use acdm_board::Desk;
 use acdm_commands::{complete, run_on, verify_on};
 use acdm_failures::Failure;
 use acdm_sessions::{Sink, Source, run};
+use acdm_tables::Tables;
 use bpf_helpers::{Bank, Helpers};
 use bpf_regstate::Length;
 use std::alloc::Global;
@@ -52,6 +54,11 @@ impl Write for Broken {
     }
 }
 
+// The tables that are built in.
+pub(crate) fn built_in(rt: &impl Abort, alloc: Global) -> Tables {
+    Tables::built_in(alloc).expect(rt, "tables")
+}
+
 // A run from this reader to this writer, with room for ten entries, ends with this status and
 // complaint.
 fn run_ends<R: Read + Drop, W: Write + Drop>(
@@ -66,6 +73,7 @@ fn run_ends<R: Read + Drop, W: Write + Drop>(
     let mut writer = Sink::new(writer);
     let status = run_on(
         alloc,
+        built_in(rt, alloc),
         10,
         &mut reader,
         &mut writer,
@@ -272,7 +280,7 @@ const SUMMED_TARGET: &str =
 "#;
 
 // Its local alerts are the taxi time from stand 12, as helper 2 says it.
-const TAXI_TIME: &str =
+pub(crate) const TAXI_TIME: &str =
     r#"1 29000580 APT {"cmd":"load","milestone":9,"kind":"alert","program":"69113c000000000057010000ff01000085000000020000009500000000000000"}
 1 29000580 APT {"cmd":"schedule","flight":7,"callsign":"DLH7","type":"A320","reg":"DAIBC","dest":"EDDM","sobt":"2025-02-20T10:00:00Z","mttt":40,"exit":5,"exot":10,"stand":12}
 2 29000580 NM {"cmd":"report","flight":7,"milestone":1,"time":"2025-02-20T10:00:00Z","callsign":"DLH7","type":"A320","reg":"DAIBC","dest":"EDDM"}
@@ -314,7 +322,15 @@ fn is_judged_beside(
     let mut reader = Source::new(bytes);
     let mut written = Sink::new(Vec::new(alloc));
     let mut errors = Sink::new(Vec::new(alloc));
-    let ended = verify_on(alloc, length, &mut reader, &mut written, &mut errors);
+    let tables = built_in(rt, alloc);
+    let ended = verify_on(
+        alloc,
+        &tables,
+        length,
+        &mut reader,
+        &mut written,
+        &mut errors,
+    );
     assert!(rt; ended == status, "{text}");
     assert!(rt;
         written.into_inner().as_slice() == text.as_bytes(),
@@ -483,7 +499,16 @@ fn verify_fails<R: Read + Drop, W: Write + Drop>(
     let mut errors = Sink::new(Vec::new(alloc));
     let mut reader = Source::new(reader);
     let mut writer = Sink::new(writer);
-    let status = verify_on(alloc, Length::L128, &mut reader, &mut writer, &mut errors);
+    let tables = built_in(rt, alloc);
+    let length = Length::L128;
+    let status = verify_on(
+        alloc,
+        &tables,
+        length,
+        &mut reader,
+        &mut writer,
+        &mut errors,
+    );
     assert!(rt; status == 2);
     assert!(rt; errors.into_inner().as_slice() == complaint.as_bytes());
 }

@@ -1,5 +1,5 @@
 //! Partners that come and go: the words for them, and the reader over their connections.
-use acdm_command_line::{Line, parse};
+use acdm_command_line::{Line, Order, parse};
 use acdm_partners::{Arrivals, WholeLines};
 use std::alloc::Global;
 use std::io::Read;
@@ -83,10 +83,13 @@ fn asks_to_serve(
 ) -> bool {
     match parse(alloc, words) {
         Ok(
-            Line::Serve {
-                again,
-                control,
-                pace,
+            Order {
+                line: Line::Serve {
+                    again,
+                    control,
+                    pace,
+                    ..
+                },
                 ..
             },
         ) => again == wanted_again && control == wanted_control && pace == wanted_pace,

@@ -1,4 +1,5 @@
 //! Journals that are saved, and the audit of them.
+use crate::commands::built_in;
 use acdm_commands::{audit_on, run_on};
 use acdm_sessions::{Sink, Source};
 use std::alloc::Global;
@@ -43,7 +44,8 @@ fn audited(rt: &impl Abort, alloc: Global, parts: &[&str]) -> (u8, Vec<u8>, bool
     let mut reader = Source::new(journal.as_bytes());
     let mut output = Sink::new(Vec::new(alloc));
     let mut errors = Sink::new(Vec::new(alloc));
-    let ended = audit_on(alloc, &mut reader, &mut output, &mut errors);
+    let tables = built_in(rt, alloc);
+    let ended = audit_on(alloc, &tables, &mut reader, &mut output, &mut errors);
     let is_quiet = errors.into_inner().is_empty();
     (ended, output.into_inner(), is_quiet)
 }
@@ -55,12 +57,21 @@ fn audits_to(rt: &impl Abort, alloc: Global, parts: &[&str], status: u8, told: &
 }
 
 // The status of a run over the lines, and what it saved.
-fn day_saved(alloc: Global) -> (u8, Vec<u8>) {
+fn day_saved(rt: &impl Abort, alloc: Global) -> (u8, Vec<u8>) {
     let mut reader = Source::new(LINES.as_bytes());
     let mut writer = Sink::new(Vec::new(alloc));
     let mut saved = Some(Sink::new(Vec::new(alloc)));
     let mut errors = Sink::new(Vec::new(alloc));
-    let status = run_on(alloc, 10, &mut reader, &mut writer, &mut saved, &mut errors);
+    let tables = built_in(rt, alloc);
+    let status = run_on(
+        alloc,
+        tables,
+        10,
+        &mut reader,
+        &mut writer,
+        &mut saved,
+        &mut errors,
+    );
     match saved {
         Some(file) => (status, file.into_inner()),
         None => (status, Vec::new(alloc)),
@@ -71,7 +82,7 @@ fn day_saved(alloc: Global) -> (u8, Vec<u8>) {
 fn a_day_is_saved_as_text(rt: HostRuntime) {
     let alloc = rt.alloc();
     let expected = joined(&rt, alloc, &[LOADED, ENTERED, REPORTED, LISTED]);
-    let (status, saved) = day_saved(alloc);
+    let (status, saved) = day_saved(&rt, alloc);
     assert!(rt; status == 0);
     assert!(rt; saved.as_slice() == expected.as_bytes());
     audits_to(&rt, alloc, &[expected.as_str()], 0, "legal 5\n");
@@ -422,7 +433,8 @@ fn audit_fails<R: Read + Drop, W: Write + Drop>(
     let mut errors = Sink::new(Vec::new(alloc));
     let mut reader = Source::new(reader);
     let mut writer = Sink::new(writer);
-    let status = audit_on(alloc, &mut reader, &mut writer, &mut errors);
+    let tables = built_in(rt, alloc);
+    let status = audit_on(alloc, &tables, &mut reader, &mut writer, &mut errors);
     assert!(rt; status == 2);
     assert!(rt; errors.into_inner().as_slice() == complaint.as_bytes());
 }
@@ -433,7 +445,16 @@ fn saving_fails(rt: &impl Abort, alloc: Global, complaint: &str) {
     let mut writer = Sink::new(Vec::new(alloc));
     let mut errors = Sink::new(Vec::new(alloc));
     let mut file = Some(Sink::new(Broken));
-    let status = run_on(alloc, 10, &mut reader, &mut writer, &mut file, &mut errors);
+    let tables = built_in(rt, alloc);
+    let status = run_on(
+        alloc,
+        tables,
+        10,
+        &mut reader,
+        &mut writer,
+        &mut file,
+        &mut errors,
+    );
     assert!(rt; status == 2);
     assert!(rt; errors.into_inner().as_slice() == complaint.as_bytes());
 }

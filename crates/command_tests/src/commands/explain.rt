@@ -1,5 +1,5 @@
 //! What `explain` tells of files, and its statuses.
-use crate::commands::{Broken, Short, completes};
+use crate::commands::{Broken, Short, built_in, completes};
 use acdm_commands::{explain_on, verify_on};
 use acdm_sessions::{Sink, Source};
 use bpf_regstate::Length;
@@ -19,8 +19,10 @@ fn explain_ends<R: Read + Drop, W: Write + Drop>(
     let mut reader = Source::new(reader);
     let mut writer = Sink::new(writer);
     let file = "rules/slot.bin";
+    let tables = built_in(rt, alloc);
     let status = explain_on(
         alloc,
+        &tables,
         Length::L128,
         file,
         &mut reader,
@@ -75,11 +77,20 @@ fn both_end_with(rt: &impl Abort, alloc: Global, bytes: &[u8], line: &str) {
     let mut text = Sink::new(Vec::new(alloc));
     let mut errors = Sink::new(Vec::new(alloc));
     let mut reader = Source::new(bytes);
-    let wanted = verify_on(alloc, Length::L128, &mut reader, &mut verdict, &mut errors);
+    let wanted = verify_on(
+        alloc,
+        &built_in(rt, alloc),
+        Length::L128,
+        &mut reader,
+        &mut verdict,
+        &mut errors,
+    );
     let mut reader = Source::new(bytes);
     let file = "rules/slot.bin";
+    let tables = built_in(rt, alloc);
     let status = explain_on(
         alloc,
+        &tables,
         Length::L128,
         file,
         &mut reader,

@@ -1,4 +1,5 @@
 //! What `tell` tells of journals.
+use crate::commands::built_in;
 use acdm_sessions::{Sink, Source};
 use acdm_telling::tell_on;
 use std::alloc::Global;
@@ -22,8 +23,10 @@ fn tells(rt: &impl Abort, alloc: Global, journal: &str, status: u8, parts: &[&st
     }
     let mut output = Sink::new(Vec::new(alloc));
     let mut errors = Sink::new(Vec::new(alloc));
+    let tables = built_in(rt, alloc);
     let ended = tell_on(
         alloc,
+        &tables,
         &mut Source::new(journal.as_bytes()),
         &mut output,
         &mut errors,

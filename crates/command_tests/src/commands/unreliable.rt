@@ -1,5 +1,5 @@
 //! Commands over readers and writers that fail, at each place in turn.
-use crate::commands::{FLIGHT_PLAN, SCHEDULE};
+use crate::commands::{FLIGHT_PLAN, SCHEDULE, built_in};
 use acdm_commands::{audit_on, run_on, verify_on};
 use acdm_sessions::{Sink, Source};
 use bpf_regstate::Length;
@@ -57,7 +57,7 @@ static RUNS: [RunRow; 14] = [
 ];
 
 // What came of a run over this text, and what was saved.
-fn run_over(alloc: Global, text: &[u8], row: &RunRow) -> (Came, Vec<u8>) {
+fn run_over(rt: &impl Abort, alloc: Global, text: &[u8], row: &RunRow) -> (Came, Vec<u8>) {
     let (reads, writes, saves, fault, ..) = *row;
     let mut reader = Source::new(Faulty {
         text,
@@ -67,7 +67,16 @@ fn run_over(alloc: Global, text: &[u8], row: &RunRow) -> (Came, Vec<u8>) {
     let mut writer = Sink::new(Narrow::new(alloc, 2, writes, fault));
     let mut saved = Some(Sink::new(Narrow::new(alloc, 20, saves, fault)));
     let mut errors = Sink::new(Vec::new(alloc));
-    let status = run_on(alloc, 10, &mut reader, &mut writer, &mut saved, &mut errors);
+    let tables = built_in(rt, alloc);
+    let status = run_on(
+        alloc,
+        tables,
+        10,
+        &mut reader,
+        &mut writer,
+        &mut saved,
+        &mut errors,
+    );
     let came = Came {
         status,
         written: writer.into_inner().taken,
@@ -81,7 +90,7 @@ fn run_over(alloc: Global, text: &[u8], row: &RunRow) -> (Came, Vec<u8>) {
 
 fn runs_so(rt: &impl Abort, alloc: Global, text: &[u8], row: &RunRow) {
     let (reads, _, saves, _, status, replies, bytes, complaint) = *row;
-    let (came, saved) = run_over(alloc, text, row);
+    let (came, saved) = run_over(rt, alloc, text, row);
     is_so(rt, &came, status, replies.as_bytes(), complaint, reads);
     assert!(rt;
         saved.as_slice() == &ENTRIES[..bytes.min(ENTRIES.len())],
@@ -134,7 +143,13 @@ static VERDICTS: [FileRow; 7] = [
 ];
 
 // What came of `audit`, or of `verify`, of these bytes.
-fn file_judged(alloc: Global, bytes: &[u8], row: &FileRow, is_audit: bool) -> Came {
+fn file_judged(
+    rt: &impl Abort,
+    alloc: Global,
+    bytes: &[u8],
+    row: &FileRow,
+    is_audit: bool,
+) -> Came {
     let (left, writes, fault, ..) = *row;
     let mut reader = Source::new(Faulty {
         text: bytes,
@@ -143,10 +158,18 @@ fn file_judged(alloc: Global, bytes: &[u8], row: &FileRow, is_audit: bool) -> Ca
     });
     let mut writer = Sink::new(Narrow::new(alloc, 3, writes, fault));
     let mut errors = Sink::new(Vec::new(alloc));
+    let tables = built_in(rt, alloc);
     let status = if is_audit {
-        audit_on(alloc, &mut reader, &mut writer, &mut errors)
+        audit_on(alloc, &tables, &mut reader, &mut writer, &mut errors)
     } else {
-        verify_on(alloc, Length::L128, &mut reader, &mut writer, &mut errors)
+        verify_on(
+            alloc,
+            &tables,
+            Length::L128,
+            &mut reader,
+            &mut writer,
+            &mut errors,
+        )
     };
     Came {
         status,
@@ -157,7 +180,7 @@ fn file_judged(alloc: Global, bytes: &[u8], row: &FileRow, is_audit: bool) -> Ca
 
 fn judged_so(rt: &impl Abort, alloc: Global, bytes: &[u8], row: &FileRow, is_audit: bool) {
     let (left, _, _, status, written, complaint) = *row;
-    let came = file_judged(alloc, bytes, row, is_audit);
+    let came = file_judged(rt, alloc, bytes, row, is_audit);
     is_so(rt, &came, status, written.as_bytes(), complaint, left);
     drop(came);
 }

@@ -1,6 +1,6 @@
 use Rattle.std.proofs.Common.{Err, inl, inr, refl, ap}
 use Rattle.acdm_failures.specs.declared.failure.Failure.TheVariants.{Read}
-use Rattle.acdm_judging.specs.Helpers.{helpers}
+use Rattle.acdm_tables.specs.Helpers.{helpers_by}
 use Rattle.acdm_commands.specs.Completed.{read_from}
 use Rattle.acdm_commands.proofs.Files.{audited_any}
 use Rattle.acdm_commands.proofs.commands.audit_line.Goals as goal
@@ -20,7 +20,7 @@ returns-in-Ok g c =
           ap (λ s. s.faults) c.new.ensures,
           ap (λ s. s.ended) c.new.ensures,
         ),
-        audited_any helpers file later _ _ e.work e.comes,
+        audited_any (helpers_by c.args.tables.now) file later _ _ e.work e.comes,
       );
       ends = e.ends;
     }

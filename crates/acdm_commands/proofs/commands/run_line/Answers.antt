@@ -5,7 +5,7 @@ use Rattle.acdm_commands.proofs.commands.run_line.Goals as goal
 pub returns-in-Ok : goal.returns-in-Ok
 returns-in-Ok g c =
     let path = option_map (λ s. s.now) c.args.save in
-    ran_line c.args.journal path c.in-Ok.saving.file c.run_on-status.new.saved _ _ _ _ _ _ _ _ _ c.in-Ok.ensures.made
+    ran_line _ c.args.journal path c.in-Ok.saving.file c.run_on-status.new.saved _ _ _ _ _ _ _ _ _ c.in-Ok.ensures.made
     c.run_on-status.ensures c.settle.ensures
 
 pub returns-in-Err : goal.returns-in-Err

@@ -5,7 +5,7 @@ use Rattle.acdm_commands.proofs.commands.serve_line.Goals as goal
 pub returns-in-Ok : goal.returns-in-Ok
 returns-in-Ok g c =
     let path = option_map (λ s. s.now) c.args.save in
-    served_line c.args.journal path _ c.in-Ok.saving.file c.serve_words-status.new.saved _ _ _ _ _ _ _ c.in-Ok.ensures.made
+    served_line _ c.args.journal path _ c.in-Ok.saving.file c.serve_words-status.new.saved _ _ _ _ _ _ _ c.in-Ok.ensures.made
     c.serve_words-status.ensures c.settle.ensures
 
 pub returns-in-Err : goal.returns-in-Err

@@ -1,6 +1,6 @@
 use Rattle.std.proofs.Common.{Err, inl, inr, refl, ap}
 use Rattle.acdm_failures.specs.declared.failure.Failure.TheVariants.{Read}
-use Rattle.acdm_judging.specs.Helpers.{helpers}
+use Rattle.acdm_tables.specs.Helpers.{helpers_by}
 use Rattle.acdm_commands.specs.Completed.{read_from}
 use Rattle.acdm_commands.proofs.Files.{verified_any}
 use Rattle.acdm_commands.proofs.commands.verify_line.Goals as goal
@@ -20,7 +20,7 @@ returns-in-Ok g c =
           ap (λ s. s.faults) c.new.ensures,
           ap (λ s. s.ended) c.new.ensures,
         ),
-        verified_any helpers file later _ _ _ e.work e.comes,
+        verified_any (helpers_by c.args.tables.now) file later _ _ _ e.work e.comes,
       );
       ends = e.ends;
     }

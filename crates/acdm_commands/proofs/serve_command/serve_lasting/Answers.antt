@@ -16,5 +16,5 @@ returns g c =
 
 pub returns-in_err-lasted : goal.returns-in_err-lasted
 returns-in_err-lasted g c =
-    let p = err_from_is_err_and c.from_residual.result c.from_residual.ensures.1 in
+    let p = err_from_is_err_and c.from_residual-in_err-lasted.result c.from_residual-in_err-lasted.ensures.1 in
     rw (p.1, p.2) (inl (unserved c.args.writer.now c.serve_again.new.writer _ c.in_err-lasted.ensures.fails))

@@ -16,5 +16,5 @@ returns g c =
 
 pub returns-in_err-closed : goal.returns-in_err-closed
 returns-in_err-closed g c =
-    let p = err_from_is_err_and c.from_residual.result c.from_residual.ensures.1 in
+    let p = err_from_is_err_and c.from_residual-in_err-closed.result c.from_residual-in_err-closed.ensures.1 in
     rw (p.1, p.2) (inl (unserved c.args.writer.now c.serve_on.new.writer _ c.in_err-closed.ensures.fails))

@@ -1,4 +1,4 @@
-use Rattle.std.proofs.Common.{◌≡◌, ◌++◌, ◌-◌, length}
+use Rattle.std.proofs.Common.{◌≡◌, ◌++◌, ◌+◌, ◌-◌, length}
 use Rattle.acdm_judging.proofs.bytes.bytes_of.Given as goal
 
 abbrev pub invariant-loop-piece : goal.invariant-loop-piece
@@ -8,4 +8,4 @@ invariant-loop-piece g l = record {
 }
 
 abbrev pub decreases-loop-piece : goal.decreases-loop-piece
-decreases-loop-piece g l = 32769 - length l.bytes.items
+decreases-loop-piece g l = l.most + 1 - length l.bytes.items
