@@ -5,8 +5,8 @@
 
 A partner that comes back 100 times in the middle of lines while 63 others work; two connections at one address; probes
 before the day and during it; an absent partner; partners that never read, which are let go after 30 seconds or when the
-board closes; `status` and `close`; a bounded pace; SIGTERM and Ctrl-C through the script `acdm`, which says when a journal is
-nearly full; and, with none of these words, sessions whose connections are closed as they end. The last line is `N cases, M failed`; status 1 where one failed.
+board closes; `status` and `close`; a bounded pace; SIGTERM and Ctrl-C through the script `acdm`; a journal that is
+nearly full, which is told; and, with none of these words, sessions whose connections are closed as they end. The last line is `N cases, M failed`; status 1 where one failed.
 """
 
 import pathlib
@@ -24,6 +24,7 @@ from cases import ALERTS, PLAN, SCHEDULE, TOP, Cases, ran, words
 
 SHOW = '{"cmd":"show","flight":7}'
 ROLES = ["NM", "ATC", "APT", "AO", "GH", "DIC"]
+MOMENT = r"\d{4}-\d\d-\d\dT\d\d:\d\d:\d\dZ"
 # What runs the program by the script at the top, whether it was proved by that or by the gate.
 BY_SCRIPT = """
 import importlib.machinery, importlib.util, pathlib, sys
@@ -345,19 +346,23 @@ def by_script(cases, program, number):
 
 
 def nearly_full(cases, program):
-    """The script says when 80 and 95 per cent of the journal are used, each once."""
-    command = [sys.executable, "-c", BY_SCRIPT, str(TOP / "acdm"), str(program)]
-    board = Board(command, ["--control", "PORT", "--journal", "20"], ["APT"])
-    airport = board.connect(1)
-    told = lambda: [it.split()[1] for it in board.said if "entries of the journal" in it]
-    entries = 0
-    for number, wanted in ((15, []), (16, ["16"]), (18, ["16"]), (19, ["16", "19"]), (20, ["16", "19"])):
-        while entries < number:
-            entries += airport.asks(ALERTS) != ""
-        time.sleep(6 if wanted == told() else 0)
-        cases.expect(f"{number} of 20 entries", board.waits_for(lambda wanted=wanted: told() == wanted), board.said)
-    airport.close()
-    cases.expect("it ends as ever", board.ended() == (0, ["session 1 20 end", "closed 20"]))
+    """The board says when 80 and 95 per cent of the journal's room are used, each once and at once."""
+    for words in (["--again", "--control", "PORT"], ["--pace", "600"]):
+        board = Board([program], [*words, "--journal", "20"], ["APT"])
+        airport = board.connect(1)
+        told = lambda board=board: [it.split()[:5] for it in board.said if it.startswith("room ")]
+        first, second = ["room", "80", "16", "of", "20"], ["room", "95", "19", "of", "20"]
+        entries = 0
+        for number, wanted in ((15, []), (16, [first]), (18, [first]), (19, [first, second]), (20, [first, second])):
+            while entries < number:
+                entries += airport.asks(ALERTS) != ""
+            time.sleep(0.2 if wanted == told() else 0)
+            cases.expect(f"{number} of 20 entries, {words[0]}", board.waits_for(lambda wanted=wanted: told() == wanted), board.said)
+        told_at = [it.split()[5] for it in board.said if it.startswith("room ")]
+        cases.expect("and tells the moment", all(re.fullmatch(MOMENT, it) for it in told_at), told_at)
+        airport.close()
+        ended = board.close()[1:] if "--control" in words else board.ended()
+        cases.expect("it ends as ever", ended == (0, ["session 1 20 end", "closed 20"]), ended)
 
 
 def main():

@@ -32,7 +32,7 @@ HERE = pathlib.Path(__file__).resolve().parent
 NAME = "calls"
 PARTS = ("marks", "programs", "boards", "streams", "sessions")
 STANDS_ON = (
-    "acdm_sessions acdm_judging acdm_wire acdm_watch acdm_journal acdm_lines acdm_board acdm_row acdm_step acdm_milestones acdm_record "
+    "acdm_sessions acdm_tables acdm_judging acdm_wire acdm_watch acdm_journal acdm_lines acdm_board acdm_row acdm_step acdm_milestones acdm_record "
     "bpf_explain bpf_machine bpf_verifier bpf_regstate bpf_helpers bpf_decode"
 ).split()
 OF_KIT = "hex once_cell".split()

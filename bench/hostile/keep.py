@@ -6,8 +6,8 @@
 `run --keep FILE` over a stream, killed at N moments by chance and begun again each time: every reply that was read has its entry in
 FILE, FILE is a legal journal with the rest of a line at most behind it, and the numbers go on. Then a file system that takes no
 more after so many bytes, at many places; journals with each kind of fault, cut lines, another that has the file, too little room;
-and `--save`, which leaves what was there until all of it is on the disk. The last line is `N cases, M failed`; status 1 where one
-failed.
+`--save`, which leaves what was there until all of it is on the disk; and files that are standard streams too, in which nothing is
+saved or kept. The last line is `N cases, M failed`; status 1 where one failed.
 """
 
 import pathlib
@@ -189,6 +189,32 @@ def saved(cases, program, room):
     cases.expect("a full disk", done[0] == 2 and done[2] == "acdm: save failed\n" and file.read_text() == old, done)
 
 
+def onto_streams(cases, program, room):
+    """A journal is neither saved nor kept in a file that is also a standard stream, by whatever name; nothing is answered, and it stays."""
+    file, hard, soft = room / "stream", room / "hard", room / "soft"
+    for option, told in (("--save", "acdm: save failed\n"), ("--keep", "acdm: keep failed\n")):
+        for stream in ("stdin", "stdout", "stderr"):
+            for path in (file, hard, soft):
+                for it in (file, hard, soft):
+                    it.unlink(missing_ok=True)
+                file.write_text(text(DAY))
+                hard.hardlink_to(file)
+                soft.symlink_to(file)
+                with open(file, "r" if stream == "stdin" else "a", encoding="utf-8") as opened:
+                    how = {"stdin": subprocess.DEVNULL, "stdout": subprocess.PIPE, "stderr": subprocess.PIPE, stream: opened}
+                    done = subprocess.run([str(program), "run", option, str(path)], text=True, check=False, **how)
+                name = f"{option} {path.name}, which is {stream}"
+                said = (done.returncode, done.stdout or "", told if stream == "stderr" else done.stderr)
+                cases.expect(name, said == (2, "", told), said)
+                left = file.read_text()
+                cases.expect(f"{name}, stays", left == text(DAY) + (told if stream == "stderr" else ""), left)
+                cases.expect(f"{name}, nothing beside", sorted(it.name for it in room.glob("*.part")) == [])
+    null = {"stdin": subprocess.DEVNULL, "stdout": subprocess.DEVNULL, "stderr": subprocess.DEVNULL}
+    cases.expect("a device", subprocess.run([str(program), "run", "--save", "/dev/null"], check=False, **null).returncode == 0)
+    done = came(ran(program, ["run", "--save", "/dev/stdout"], text(DAY).encode()))
+    cases.expect("a pipe", done[0] == 0 and done[1].endswith(text(DAY_JOURNAL)), done)
+
+
 def main():
     parser = words(__doc__)
     parser.add_argument("--kills", type=int, default=200, help="how often it is killed")
@@ -197,7 +223,7 @@ def main():
     cases = Cases()
     with tempfile.TemporaryDirectory(prefix="acdm-keep-") as folder:
         room = pathlib.Path(folder)
-        for part in (gone_on, faulty, in_use, saved, full_disk):
+        for part in (gone_on, faulty, in_use, saved, onto_streams, full_disk):
             part(cases, given.program, room)
         kills(cases, given.program, room, given.kills, given.seed)
     return cases.end()

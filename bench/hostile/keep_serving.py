@@ -6,7 +6,7 @@
 `serve --keep FILE` under 8 partners, killed at N moments by chance, a quarter of them with `--sync`, and begun again each time with
 the same words: every reply that a partner read has its entry in FILE, FILE is a legal journal with the rest of a line at most behind
 it, and the numbers go on. Then a file system that takes no more after so many bytes: no reply without its entry, the board closes by
-itself, with status 2 and its line; journals with each kind of fault, another that has the file, too little room; and `--watch` beside
+itself, with status 2 and its line; journals with each kind of fault, another that has the file, too little room, a journal that is nearly full; and `--watch` beside
 it, which sends the same text. The last line is `N cases, M failed`; status 1 where one failed.
 """
 
@@ -205,6 +205,21 @@ def watched(cases, program, room):
     cases.expect("and so is what is saved", (room / "saved").read_bytes() == file.read_bytes())
 
 
+def nearly_full(cases, program, room):
+    """A board that goes on beyond 80 or 95 per cent of its room says so at once, of both the higher one."""
+    for begun, percent in ((15, None), (16, "80"), (18, "80"), (19, "95"), (20, "95")):
+        file = room / f"full-{begun}"
+        file.write_text("".join(f"{it} 1 29000580 APT 0 0 tick\n" for it in range(begun)))
+        board = Board(program, file, ["--journal", "20"], roles=["APT"])
+        (stream,) = board.connect()
+        talk(stream, ["nothing"], [])
+        time.sleep(0.2)
+        stream.close()
+        _, _, errors = board.end()
+        told = [it.split()[:5] for it in errors.splitlines()]
+        cases.expect(f"{begun} of 20 entries", told == ([["room", percent, str(begun), "of", "20"]] if percent else []), told)
+
+
 def main():
     parser = words(__doc__)
     parser.add_argument("--kills", type=int, default=200, help="how often it is killed")
@@ -213,7 +228,7 @@ def main():
     cases = Cases()
     with tempfile.TemporaryDirectory(prefix="acdm-keep-") as folder:
         room = pathlib.Path(folder)
-        for part in (faulty, in_use, watched, full_disk):
+        for part in (faulty, in_use, watched, nearly_full, full_disk):
             part(cases, given.program, room)
         kills(cases, given.program, room, given.kills, given.seed)
     return cases.end()

@@ -4,8 +4,8 @@
     python3 bench/hostile/process.py [--program PATH]
 
 Closed standard streams, in all combinations, for each command; words that are no text; SIGSTOP and SIGCONT while it waits for
-lines, partners, files and displays; a full disk, and readers that went away. The last line is `N cases, M failed`; status 1 where
-one failed.
+lines, partners, files and displays; a full disk, and readers that went away; an airport's own tables, and files of
+them that are wrong. The last line is `N cases, M failed`; status 1 where one failed.
 """
 
 import itertools
@@ -20,7 +20,7 @@ import tempfile
 import threading
 import time
 
-from cases import ALERTS, DAY, DAY_JOURNAL, DAY_REPLIES, LISTING, TAXI, Cases, ran, text, words
+from cases import ALERTS, DAY, DAY_JOURNAL, DAY_REPLIES, LISTING, TAXI, TOP, Cases, ran, text, words
 
 PATIENCE = 30
 READ, WRITE, SAVE = (f"acdm: {word} failed\n" for word in ("read", "write", "save"))
@@ -279,6 +279,67 @@ def gone_reader(cases, program):
         cases.expect(f"{command}, its reader gone", done.returncode == 2, done)
 
 
+# Stand 12 is 5 minutes away: the bits 0 and 2.
+OWN = "[turn_round]\nother = 75\ntypes = {A320 = 40}\n[[taxi]]\nfrom = 0\nminutes = 7\n[[taxi]]\nfrom = 12\nminutes = 5\n"
+OWN_REPLIES = [*DAY_REPLIES[:4], "alerts 4 7:LOC00,LOC02"]
+OWN_JOURNAL = [it.replace(" 0 1 10 report", " 0 1 5 report") for it in DAY_JOURNAL]
+NO_ORDER = "the steps do not begin at stand 0 or do not rise"
+
+
+def own_tables(cases, program, room):
+    """The airport's own tables: each command works by them, and a journal is judged by those of its board."""
+    tables, day = room.folder / "tables.toml", text(DAY).encode()
+    tables.write_text(OWN)
+    done = came(ran(program, ["run", "--tables", tables, "--save", room.saved], day))
+    cases.expect("run --tables", done == (0, text(OWN_REPLIES), ""), done)
+    cases.expect("run --tables --save", room.saved.read_text() == text(OWN_JOURNAL), room.saved.read_text())
+    shipped = ["--tables", TOP / "examples" / "tables.toml"]
+    for command, told in (
+        (["audit", "--tables", tables, room.saved], (0, "legal 5\n", "")),
+        (["audit", room.saved], (1, "entry 3 404\n", "")),
+        (["audit", "--tables", tables, room.journal], (1, "entry 3 404\n", "")),
+        (["audit", *shipped, room.journal], (0, "legal 5\n", "")),
+        (["verify", "--tables", tables, room.code], (0, LISTING, "")),
+        (["run", *shipped], (0, text(DAY_REPLIES), "")),
+    ):
+        done = came(ran(program, command, day))
+        cases.expect(f"{command}", done == told, done)
+    feed = came(ran(program, ["tell", "--tables", tables, room.saved]))
+    cases.expect("tell --tables", feed[0] == 0 and feed[1].count("\n") == 5 and '"answers":[5]' in feed[1], feed)
+    explained = came(ran(program, ["explain", "--tables", tables, room.code]))
+    cases.expect("explain --tables", explained == came(ran(program, ["explain", room.code])), explained)
+
+
+def wrong_tables(cases, program, room):
+    """A file of tables that is wrong is told by its line or its key, before anything else is done."""
+    tables, kept = room.folder / "tables.toml", room.folder / "kept"
+    for given, told in (
+        ("[turn_round]\nother 60\n", "line 2: not TOML"),
+        ("turn_round.other = 60\n[[taxi]]\nfrom = 0\nminutes = \xe4\n", "line 4: not TOML"),
+        ("[turnround]\n", "turnround: no such key"),
+        ("[turn_round.types]\nA320 = 1441\n", "turn_round.types.A320: not minutes from 1 to 1440"),
+        ("[turn_round.types]\nA320NEO = 45\n", "turn_round.types.A320NEO: not a type of 1 to 4 printable characters"),
+        ("taxi = [{from = 0, minutes = 61}]\n", "taxi[1].minutes: not minutes from 1 to 60"),
+        ("taxi = [{from = 1, minutes = 5}]\n", f"taxi: {NO_ORDER}"),
+        ("[turn_round.types]\n" + text(f"{k:04} = 5" for k in range(1_001)), "turn_round.types.1000: more than 1000"),
+        ("#" * 1_000_001, "more than 1000000 bytes"),
+    ):
+        tables.write_text(given, encoding="latin-1")
+        room.saved.unlink(missing_ok=True)
+        for command in (
+            ["run", "--save", room.saved, "--keep", kept], ["serve", "--save", room.saved, "--keep", kept, "APT=127.0.0.1:0"],
+            ["audit", "/no/such/file"], ["tell", room.journal], ["verify", room.code], ["explain", room.code],
+        ):  # fmt: skip
+            done = came(ran(program, [command[0], "--tables", tables, *command[1:]], text(DAY).encode()))
+            cases.expect(f"{command[0]}, {told}", done == (2, "", f"acdm: {tables}: {told}\n"), done)
+            cases.expect(f"{command[0]}, {told}, its files", not room.saved.exists() and not kept.exists())
+    for path, told in (("/no/such/file", "No such file or directory (os error 2)"), (room.folder, "Is a directory (os error 21)")):
+        done = came(ran(program, ["run", "--tables", path], text(DAY).encode()))
+        cases.expect(f"tables of {path}", done == (2, "", f"{READ}acdm: {path}: {told}\n"), done)
+    done = came(ran(program, ["run", "--tables", "/dev/zero"]))
+    cases.expect("tables without an end", done == (2, "", "acdm: /dev/zero: more than 1000000 bytes\n"), done)
+
+
 def main():
     given = words(__doc__).parse_args()
     cases, program = Cases(), given.program.resolve()
@@ -292,6 +353,8 @@ def main():
         stopped_serve(cases, program, room)
         full_disk(cases, program, room)
         gone_reader(cases, program)
+        own_tables(cases, program, room)
+        wrong_tables(cases, program, room)
     return cases.end()
 
 

@@ -2,12 +2,15 @@
    - REFUSE_AT: the request for memory of this number, from 1; REFUSE_FROM: all from this number on;
    - REFUSE_MARKED: requests count only between a write of `+` alone to standard error and one of `-` alone; neither is written;
    - REFUSE_THREAD: the thread of this number, from 1;
-   - REFUSE_TOLD: a descriptor, to which a byte is written for each that was refused. */
+   - REFUSE_TOLD: a descriptor, to which a byte is written for each that was refused;
+   - REFUSE_COUNTED: a descriptor, to which the number of requests for memory is written in digits at the end. */
 #define _GNU_SOURCE
 #include <dlfcn.h>
 #include <errno.h>
 #include <pthread.h>
+#include <stdio.h>
 #include <stdlib.h>
+#include <sys/syscall.h>
 #include <unistd.h>
 
 void *__libc_malloc(size_t), *__libc_calloc(size_t, size_t), *__libc_realloc(void *, size_t), *__libc_memalign(size_t, size_t);
@@ -28,6 +31,12 @@ __attribute__((constructor)) static void begin(void) {
     thread = number_in("REFUSE_THREAD");
     if (getenv("REFUSE_MARKED")) marked = 1, counts = 0;
     asked = 0;
+}
+
+void _exit(int status) {
+    char digits[24];
+    if (getenv("REFUSE_COUNTED") && __write(number_in("REFUSE_COUNTED"), digits, snprintf(digits, sizeof digits, "%lu", asked)) < 0) told = -1;
+    for (;;) syscall(SYS_exit_group, status);
 }
 
 static void tell(void) {

@@ -3,11 +3,12 @@
 
     python3 bench/hostile/refused.py [--program PATH] [--stride N] [WHAT ..]
 
-WHAT is `run`, `again`, `starved`, `files`, `serve` or `threads`, all by default. `run`: a stream of all commands with programs loaded; the replies and
+WHAT is `run`, `again`, `starved`, `files`, `serve`, `threads` or `counted`, all by default. `run`: a stream of all commands with programs loaded; the replies and
 the saved journal are those of a stream that never had the lines answered `bad 501`, by the model in bench/model. `again`: a line
 answered so is sent again, and then all is as without a refusal. `starved`: each request from one on is refused. `files`: `audit`, `verify`
 and `explain`. `serve`: two partners and a display. `threads`: three partners and a display, and in turn each
-thread can't be started. `--stride` takes every N-th request for memory alone. What refuses is refuse.c, preloaded, so threads and the C
+thread can't be started. `counted`: how often memory is asked for is counted, where nothing is refused: a journal of many
+entries is saved with as many requests as one of one entry. `--stride` takes every N-th request for memory alone. What refuses is refuse.c, preloaded, so threads and the C
 library are refused memory too. The last line is `N cases, M failed`; status 1 where one failed.
 """
 
@@ -113,6 +114,18 @@ class Refusing:
         command = ["cc", "-O2", "-shared", "-fPIC", "-o", self.shim, HERE / "refuse.c"]
         subprocess.run(command, check=True)
 
+    def counted(self, arguments, given):
+        """How often a run to its end asks for memory, where nothing is refused."""
+        reading, writing = os.pipe()
+        env = {"LD_PRELOAD": str(self.shim), "REFUSE_COUNTED": str(writing), "PATH": os.environ["PATH"]} | self.words
+        try:
+            command = [str(self.program), *map(str, arguments)]
+            subprocess.run(command, input=given.encode(), env=env, pass_fds=(writing,), stdout=subprocess.DEVNULL, check=True)
+        finally:
+            os.close(writing)
+        with open(reading, "rb") as told:
+            return int(told.read() or -1)
+
     @contextlib.contextmanager
     def started(self, arguments, number, which="REFUSE_AT", **how):
         """The process, with a word that says at its end whether a request was refused."""
@@ -214,6 +227,23 @@ class Scenes:
             else:
                 self.ends_for_memory(name, came, told, entries)
             return process.was_refused()
+
+    def counted(self, _number):
+        """A journal is saved by as many requests for memory as one entry is, but for one for each program that is loaded."""
+        tick = at(29_000_700, 1, "APT", '{"cmd":"tick"}')
+        loads = sum(entry.split(" ")[6] == "load" for entry in owed(self.lines)[1].splitlines())
+        for option in ("--save",):
+            one = self.more_for(option, [tick])
+            for name, lines, more in (("ticks", [tick] * 1000, 0), ("all commands", self.lines, loads)):
+                found = self.more_for(option, lines)
+                self.cases.expect(f"{option}, {name}", found == one + more, (one, found, more))
+        return False
+
+    def more_for(self, option, lines):
+        """How many requests more a run over lines makes where the journal goes into a file."""
+        words, given = ["run", "--journal", 1000], text(lines)
+        self.saved.unlink(missing_ok=True)
+        return self.refusing.counted([*words, option, self.saved], given) - self.refusing.counted(words, given)
 
     def sent(self, name, process):
         """Sends line by line, and again what was answered `bad 501`; the answers but for these."""
@@ -437,7 +467,7 @@ def main():
     with tempfile.TemporaryDirectory(prefix="acdm-") as folder:
         scenes = Scenes(cases, Refusing(given.program.resolve(), folder), folder, given.stride)
         scenes.give_files()
-        for what in given.what or ("run", "again", "starved", "files", "serve", "threads"):
+        for what in given.what or ("run", "again", "starved", "files", "serve", "threads", "counted"):
             scenes.each(getattr(scenes, what))
     return cases.end()
 
