@@ -4,7 +4,6 @@ pub mod RowLemmas
 pub mod SlotLemmas
 pub mod DecoderLemmas
 pub mod WholeLemmas
-pub mod EncoderLemmas
 pub mod ListingLemmas
 pub mod ReadLemmas
 pub mod OnceLemmas

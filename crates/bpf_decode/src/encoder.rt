@@ -1,15 +1,17 @@
 //! From a program to its bytes.
 
-ghost use Rattle.std.specs.Prelude.{◌≡◌, ◌+◌, ◌<◌, ◌++◌, IfOk, OnOk};
+ghost use Rattle.std.specs.Prelude.{◌≡◌, ◌+◌, ◌≤◌, ◌<◌, ◌++◌, length, IfOk};
 ghost use Rattle.bpf_decode.specs.Encoding.{Encodes, encoding_of, slot_of, tail_of, number_of};
 ghost use Rattle.bpf_decode.specs.Encoding.{sign_of, class_of, jump_number_of, jump_class_of};
 ghost use Rattle.bpf_decode.specs.Encoding.{size_number_of, part_number_of, order_opcode_of};
+ghost use Rattle.bpf_decode.specs.Slots.{slot_bytes};
 ghost use Rattle.bpf_decode.specs.Words.{part_bits, count_of};
 
 use crate::fault::NoMemory;
 use crate::insn::Insn;
 use crate::op::{Bytes, Code, Condition, Op, Operand, Order, Part, Register, Size, Width};
 use crate::program::Program;
+use arrayvec::ArrayVec;
 use std::alloc::Global;
 
 /// The bytes that encode the program, eight for each slot: there is one such list of bytes.
@@ -19,22 +21,37 @@ pub fn encode(alloc: Global, program: &Program) -> Result<Vec<u8>, NoMemory>
     let ops = program.ops();
     let mut bytes = Vec::with_capacity(alloc, 8 * ops.len())?;
     for op in ops {
-        push_slots(&mut bytes, *op)?;
+        bytes.extend_from_slice(encode_op(*op).as_slice())?;
     }
     Ok(bytes)
 }
 
-/// Adds the slots of an instruction; those of a tail are its wide load's.
-fn push_slots(bytes: &mut Vec<u8>, op: Op) -> Result<(), NoMemory>
-    ensures { OnOk result (bytes.new.items ≡ bytes.old.items ++ encoding_of op) }
+/// The bytes that encode an instruction: the eight of its slot, of a wide load those of both its slots
+/// (RFC 9669, section 3). A tail is the second slot of the wide load before it, and has none of its own.
+pub fn encode_op(op: Op) -> ArrayVec<u8, 16>
+    ensures { result.items ≡ encoding_of op }
 {
+    let mut bytes = ArrayVec::new();
     match op {
-        Op::Tail => Ok(()),
+        Op::Tail => {}
         Op::Wide { dst, value } => {
-            bytes.extend_from_slice(&wide_insn(dst, value).to_bytes())?;
-            bytes.extend_from_slice(&tail_insn(value).to_bytes())
+            push_slot(&mut bytes, wide_insn(dst, value));
+            push_slot(&mut bytes, tail_insn(value));
         }
-        _ => bytes.extend_from_slice(&insn_of(op).to_bytes()),
+        _ => push_slot(&mut bytes, insn_of(op)),
+    }
+    bytes
+}
+
+/// Adds a slot.
+fn push_slot(bytes: &mut ArrayVec<u8, 16>, slot: Insn)
+    requires room { length bytes.old.items ≤ 8 }
+    requires dst { slot.dst < 16 }
+    requires src { slot.src < 16 }
+    ensures { bytes.new.items ≡ bytes.old.items ++ slot_bytes slot }
+{
+    if bytes.try_extend_from_slice(&slot.to_bytes()).is_err() {
+        unreachable!();
     }
 }
 

@@ -13,7 +13,7 @@ pub mod program;
 mod row;
 
 pub use decoder::decode;
-pub use encoder::encode;
+pub use encoder::{encode, encode_op};
 pub use fault::{DecodeError, Fault, NoMemory};
 pub use insn::Insn;
 pub use listing::line;
