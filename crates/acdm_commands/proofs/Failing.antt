@@ -46,6 +46,7 @@ unopened words failures.Watch p = tt
 unopened words failures.Memory p = tt
 unopened words failures.Read (front, word, more, split, all, fails) = absurd fails
 unopened words failures.Write (front, word, more, split, all, fails) = absurd fails
+unopened words failures.Untold (front, word, more, split, all, fails) = absurd fails
 unopened words failures.Save (front, word, more, split, all, fails) = absurd fails
 unopened words (failures.Accept n) (front, word, more, split, all, fails) = absurd fails
 unopened words failures.Control p = tt

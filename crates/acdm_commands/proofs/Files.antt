@@ -1,10 +1,10 @@
 -- What is done with files, whatever they are.
 use Rattle.std.proofs.Common.{◌≡◌, ◌⊎◌, ℕ, List, Option, Some, None, Result, Ok, Err, option_map}
-use Rattle.std.proofs.Common.{arith, inl, inr, refl, sym, subst, ◌∙◌}
+use Rattle.std.proofs.Common.{inl, inr, sym, subst}
 use Rattle.bpf_helpers.specs.Promise.{Promise}
 use Rattle.bpf_regstate.specs.declared.length.Length.{Length}
 use Rattle.acdm_step.specs.Commands.{History}
-use Rattle.acdm_failures.specs.Failures.{Complains, Ends, EndsBy, failure_text}
+use Rattle.acdm_failures.specs.Failures.{Ends, EndsBy}
 use Rattle.acdm_failures.specs.declared.failure.Failure.{Failure}
 use Rattle.acdm_failures.specs.declared.failure.Failure.TheVariants as failures
 use Rattle.acdm_judging.specs.Explained.{Explains, FailsToRead}
@@ -21,8 +21,8 @@ use Rattle.acdm_commands.specs.Completed.{KeepsLine, Places, RunsLine, ServesKep
 use Rattle.acdm_commands.specs.Completed.{written_to}
 use Rattle.acdm_board.specs.Desk.{DeskView}
 use Rattle.acdm_commands.specs.Keeping.{KeepsTo, ServesKeptTo}
-use Rattle.acdm_commands.specs.Served.{FailsToSave, IsSaved, Runs, RunsTo}
-use Rattle.acdm_commands.specs.Partners.{ServesNamed, ServesWords, ServesWordsTo}
+use Rattle.acdm_commands.specs.Served.{FailsToSave, IsSaved, Runs, RunsTo, empty_desk}
+use Rattle.acdm_commands.specs.Partners.{SavesSo, ServesNamed, ServesWords, ServesWordsTo, Telling}
 
 -- ---- files that are read
 
@@ -49,6 +49,7 @@ module _ {F : Type 0} (sigs : List (ℕ × Promise)) (file later : SourceView F)
   }
   audited_any old new (Err failures.Read) p = p
   audited_any old new (Err failures.Memory) p = p
+  audited_any old new (Err failures.Untold) p = absurd p
   audited_any old new (Err failures.Save) p = absurd p
   audited_any old new (Err (failures.Role n)) p = absurd p
   audited_any old new (Err (failures.Address n)) p = absurd p
@@ -88,6 +89,7 @@ module _ {F : Type 0} (sigs : List (ℕ × Promise)) (file later : SourceView F)
   }
   told_any old new (Err failures.Write) p = p
   told_any old new (Err failures.Memory) p = p
+  told_any old new (Err failures.Untold) p = absurd p
   told_any old new (Err failures.Save) p = absurd p
   told_any old new (Err (failures.Role n)) p = absurd p
   told_any old new (Err (failures.Address n)) p = absurd p
@@ -125,6 +127,7 @@ module _ {F : Type 0} (sigs : List (ℕ × Promise)) (file later : SourceView F)
   }
   verified_any long old new (Err failures.Read) p = p
   verified_any long old new (Err failures.Memory) p = p
+  verified_any long old new (Err failures.Untold) p = absurd p
   verified_any long old new (Err failures.Save) p = absurd p
   verified_any long old new (Err (failures.Role n)) p = absurd p
   verified_any long old new (Err (failures.Address n)) p = absurd p
@@ -180,6 +183,7 @@ fails_any (Some file) (Some later) failures.Save p = p
 fails_any (Some file) (Some later) failures.Memory p = p
 fails_any (Some file) (Some later) failures.Read p = absurd p
 fails_any (Some file) (Some later) failures.Write p = absurd p
+fails_any (Some file) (Some later) failures.Untold p = absurd p
 fails_any (Some file) (Some later) (failures.Role n) p = absurd p
 fails_any (Some file) (Some later) (failures.Address n) p = absurd p
 fails_any (Some file) (Some later) (failures.Accept n) p = absurd p
@@ -191,42 +195,20 @@ fails_any (Some file) (Some later) failures.Keep p = absurd p
 fails_any (Some file) (Some later) failures.InUse p = absurd p
 fails_any (Some file) (Some later) failures.Room p = absurd p
 
--- where the status is 0, a command's work was done, and nothing was told
-done_whole : {E : Type 0} (Comes : Result ℕ Failure → Type 0) (work : Result ℕ Failure) (status : ℕ)
-    (errors mid : SinkView E) → status ≡ 0 → Ends work status errors mid → Comes work
-    → Comes (Ok 0) × (mid ≡ errors)
-done_whole Comes (Ok given) status errors mid zero ends comes =
-    (subst (λ n. Comes (Ok n)) (sym ends.0 ∙ zero) comes, ends.1)
-done_whole Comes (Err failure) status errors mid zero ends comes =
-    absurd (omega (arith, zero, ends.0))
-
--- a command that ends so ends so too where its file takes its place, or can't
-pub settled : {E : Type 0} (path : Option (List ℕ)) (Comes : Result ℕ Failure → Type 0)
-    (status given : ℕ) (errors mid last : SinkView E) → EndsBy Comes status errors mid
-    → Settles path status mid last given → EndsBy (Places path Comes) given errors last
-settled path Comes status given errors mid last e (inl same) = record {
-  work = e.work;
-  comes = inl e.comes;
-  ends = subst (λ n. Ends e.work n errors last) (sym same.0)
-      (subst (λ s. Ends e.work status errors s) (sym same.1) e.ends);
-}
-settled path Comes status given errors mid last e (inr failed) =
-    let whole = done_whole Comes e.work status errors mid failed.1 e.ends e.comes in
-    record {
-      work = Err failures.Save;
-      comes = inr (failed.0, whole.0, refl);
-      ends = (
-        failed.2,
-        subst (λ s. Complains s last (failure_text failures.Save)) whole.1 failed.3,
-      );
-    }
+-- a command whose work came so, and whose file took its place, or could not
+pub settled : (path : Option (List ℕ)) (Comes : Result ℕ Failure → Type 0)
+    (work given : Result ℕ Failure) → Comes work → Settles path work given → Places path Comes given
+settled path Comes work given comes (inl same) = inl (subst Comes (sym same) comes)
+settled path Comes work given comes (inr failed) =
+    inr (failed.0, (work, failed.1, comes), failed.2)
 
 -- what comes of a file that takes its place stands whatever is known of the work
 pub placed_any : (path : Option (List ℕ)) (Comes Known : Result ℕ Failure → Type 0)
     → ((work : Result ℕ Failure) → Comes work → Known work) → (work : Result ℕ Failure)
     → Places path Comes work → Places path Known work
 placed_any path Comes Known knows work (inl p) = inl (knows work p)
-placed_any path Comes Known knows work (inr p) = inr (p.0, knows (Ok 0) p.1, p.2)
+placed_any path Comes Known knows work (inr (has, (done, is, comes), failed)) =
+    inr (has, (done, is, knows done comes), failed)
 
 -- nothing was written to a file, whatever it is
 pub unwritten_any : {F : Type 0} (path : Option (List ℕ)) (file : Option (SinkView F))
@@ -260,30 +242,42 @@ runs_any sigs capacity read read_after old new file later (Err failure) (inr p) 
     (λ J. FailsToSave (option_map written_to file) (option_map written_to later) failure)
     (λ J. fails_any file later failure) p)
 
-served_as : {W : Type 0} (sigs : List (ℕ × Promise)) (capacity : ℕ) (words : List (List ℕ))
-    (old new : SinkView W) (Kept Known : History → Type 0) → ((J : History) → Kept J → Known J)
-    → ServesWords sigs capacity words old new Kept → ServesWords sigs capacity words old new Known
-served_as sigs capacity words old new Kept Known knows p =
-    let named = p.serves in
+named_as : {W : Type 0} (opening : DeskView) (words : List (List ℕ)) (old new : SinkView W)
+    (said : Telling) (Kept Known : History → Type 0) → ((J : History) → Kept J → Known J)
+    → ServesNamed opening words old new said Kept → ServesNamed opening words old new said Known
+named_as opening words old new said Kept Known knows named =
     let all = named.partners in
     record {
-      cells = p.cells;
-      serves = record {
-        roles = named.roles;
-        named = named.named;
-        partners = record {
-          closed = all.closed;
-          sessions = all.sessions;
-          sum = all.sum;
-          begins = all.begins;
-          ended = all.ended;
-          served = all.served;
-          shown = all.shown;
-          kept = knows all.closed.history all.kept;
-          tells = all.tells;
-        };
+      roles = named.roles;
+      named = named.named;
+      partners = record {
+        closed = all.closed;
+        sessions = all.sessions;
+        sum = all.sum;
+        begins = all.begins;
+        ended = all.ended;
+        served = all.served;
+        shown = all.shown;
+        kept = knows all.closed.history all.kept;
+        tells = all.tells;
       };
     }
+
+served_as : {W : Type 0} (sigs : List (ℕ × Promise)) (capacity : ℕ) (words : List (List ℕ))
+    (old new : SinkView W) (said : Telling) (Kept Known : History → Type 0)
+    → ((J : History) → Kept J → Known J) → ServesWords sigs capacity words old new said Kept
+    → ServesWords sigs capacity words old new said Known
+served_as sigs capacity words old new said Kept Known knows p = record {
+  cells = p.cells;
+  serves = named_as (empty_desk sigs capacity p.cells) words old new said Kept Known knows p.serves;
+}
+
+saves_any : {F : Type 0} (said : Telling) (J : History) (file later : Option (SinkView F))
+    (failure : Failure) → SavesSo {T = Unit {0}} said J file later (Err failure)
+    → SavesSo {T = Unit {0}} said J (option_map written_to file) (option_map written_to later)
+    (Err failure)
+saves_any said J file later failure (inl p) = inl (fails_any file later failure p)
+saves_any said J file later failure (inr p) = inr (p.0, p.1, saved_any J file later p.2)
 
 pub served_any : {W F : Type 0} (sigs : List (ℕ × Promise)) (capacity : ℕ) (words : List (List ℕ))
     (old new : SinkView W) (file later : Option (SinkView F)) (work : Result ℕ Failure)
@@ -291,30 +285,33 @@ pub served_any : {W F : Type 0} (sigs : List (ℕ × Promise)) (capacity : ℕ) 
     → ServesWordsTo sigs capacity words old new (option_map written_to file)
     (option_map written_to later) work
 served_any sigs capacity words old new file later (Ok status) p = (
-  served_as sigs capacity words old new (λ J. IsSaved J file later)
+  served_as sigs capacity words old new (Ok tt) (λ J. IsSaved J file later)
       (λ J. IsSaved J (option_map written_to file) (option_map written_to later))
       (λ J. saved_any J file later) p.0,
   p.1,
 )
 served_any sigs capacity words old new file later (Err failure) (inl p) = inl p
-served_any sigs capacity words old new file later (Err failure) (inr p) =
-    inr (served_as sigs capacity words old new (λ J. FailsToSave file later failure)
-    (λ J. FailsToSave (option_map written_to file) (option_map written_to later) failure)
-    (λ J. fails_any file later failure) p)
+served_any sigs capacity words old new file later (Err failure) (inr (said, p)) =
+    inr (
+      said,
+      served_as sigs capacity words old new said
+          (λ J. SavesSo {T = Unit {0}} said J file later (Err failure))
+          (λ J. SavesSo {T = Unit {0}} said J (option_map written_to file) (option_map written_to later)
+          (Err failure))
+          (λ J. saves_any said J file later failure) p,
+    )
 
 -- `run` with a file that takes its place
 pub ran_line : {R W F E : Type 0} (sigs : List (ℕ × Promise)) (journal : ℕ) (path : Option (List ℕ)) (file later : Option (SinkView F))
-    (input input_after : SourceView R) (output output_after : SinkView W) (status given : ℕ)
-    (errors mid last : SinkView E) → IsUnwritten path file
-    → EndsBy (RunsTo sigs journal input input_after output output_after file later) status errors mid
-    → Settles path status mid last given
-    → EndsBy (RunsLine sigs journal path input input_after output output_after) given errors last
-ran_line sigs journal path file later input input_after output output_after status given errors mid last made
-    ran settles =
-    let e = settled path (RunsTo sigs journal input input_after output output_after file later) status
-    given errors mid last ran settles in
+    (input input_after : SourceView R) (output output_after : SinkView W) (work given : Result ℕ Failure)
+    (status : ℕ) (errors last : SinkView E) → IsUnwritten path file
+    → RunsTo sigs journal input input_after output output_after file later work
+    → Settles path work given → Ends given status errors last
+    → EndsBy (RunsLine sigs journal path input input_after output output_after) status errors last
+ran_line sigs journal path file later input input_after output output_after work given status errors last made
+    ran settles ends =
     record {
-      work = e.work;
+      work = given;
       comes = inl (
         option_map written_to file,
         option_map written_to later,
@@ -322,24 +319,24 @@ ran_line sigs journal path file later input input_after output output_after stat
         placed_any path (RunsTo sigs journal input input_after output output_after file later)
             (RunsTo sigs journal input input_after output output_after (option_map written_to file)
             (option_map written_to later))
-            (runs_any sigs journal input input_after output output_after file later) e.work e.comes,
+            (runs_any sigs journal input input_after output output_after file later) given
+            (settled path (RunsTo sigs journal input input_after output output_after file later) work
+            given ran settles),
       );
-      ends = e.ends;
+      ends = ends;
     }
 
 -- `serve`, the same
 pub served_line : {W F E : Type 0} (sigs : List (ℕ × Promise)) (journal : ℕ) (path : Option (List ℕ)) (partners : List (List ℕ))
-    (file later : Option (SinkView F)) (output output_after : SinkView W) (status given : ℕ)
-    (errors mid last : SinkView E) → IsUnwritten path file
-    → EndsBy (ServesWordsTo sigs journal partners output output_after file later) status errors mid
-    → Settles path status mid last given
-    → EndsBy (ServesLine sigs journal path partners output output_after) given errors last
-served_line sigs journal path partners file later output output_after status given errors mid last made served
-    settles =
-    let e = settled path (ServesWordsTo sigs journal partners output output_after file later) status
-    given errors mid last served settles in
+    (file later : Option (SinkView F)) (output output_after : SinkView W) (work given : Result ℕ Failure)
+    (status : ℕ) (errors last : SinkView E) → IsUnwritten path file
+    → ServesWordsTo sigs journal partners output output_after file later work
+    → Settles path work given → Ends given status errors last
+    → EndsBy (ServesLine sigs journal path partners output output_after) status errors last
+served_line sigs journal path partners file later output output_after work given status errors last made served
+    settles ends =
     record {
-      work = e.work;
+      work = given;
       comes = inl (
         option_map written_to file,
         option_map written_to later,
@@ -347,9 +344,11 @@ served_line sigs journal path partners file later output output_after status giv
         placed_any path (ServesWordsTo sigs journal partners output output_after file later)
             (ServesWordsTo sigs journal partners output output_after (option_map written_to file)
             (option_map written_to later))
-            (served_any sigs journal partners output output_after file later) e.work e.comes,
+            (served_any sigs journal partners output output_after file later) given
+            (settled path (ServesWordsTo sigs journal partners output output_after file later) work given
+            served settles),
       );
-      ends = e.ends;
+      ends = ends;
     }
 
 keeps_any : {R F : Type 0} (sigs : List (ℕ × Promise)) (journal : ℕ) (input input_after : SourceView R)
@@ -373,17 +372,15 @@ keeps_any sigs journal input input_after file later (Err failure) p = tt
 
 -- `run --keep`, the same
 pub kept_line : {R F E : Type 0} (sigs : List (ℕ × Promise)) (journal : ℕ) (path : Option (List ℕ))
-    (file later : Option (SinkView F)) (input input_after : SourceView R) (work : Result ℕ Failure)
-    (status given : ℕ) (errors mid last : SinkView E) → IsUnwritten path file
-    → KeepsTo sigs journal input input_after file later work → Ends work status errors mid
-    → Settles path status mid last given
-    → EndsBy (KeepsLine sigs journal path input input_after) given errors last
-kept_line sigs journal path file later input input_after work status given errors mid last made keeps ends
-    settles =
-    let e = settled path (KeepsTo sigs journal input input_after file later) status given errors mid
-    last (record { work = work; comes = keeps; ends = ends }) settles in
+    (file later : Option (SinkView F)) (input input_after : SourceView R) (work given : Result ℕ Failure)
+    (status : ℕ) (errors last : SinkView E) → IsUnwritten path file
+    → KeepsTo sigs journal input input_after file later work
+    → Settles path work given → Ends given status errors last
+    → EndsBy (KeepsLine sigs journal path input input_after) status errors last
+kept_line sigs journal path file later input input_after work given status errors last made keeps settles
+    ends =
     record {
-      work = e.work;
+      work = given;
       comes = inl (
         option_map written_to file,
         option_map written_to later,
@@ -391,30 +388,10 @@ kept_line sigs journal path file later input input_after work status given error
         placed_any path (KeepsTo sigs journal input input_after file later)
             (KeepsTo sigs journal input input_after (option_map written_to file)
             (option_map written_to later))
-            (keeps_any sigs journal input input_after file later) e.work e.comes,
+            (keeps_any sigs journal input input_after file later) given
+            (settled path (KeepsTo sigs journal input input_after file later) work given keeps settles),
       );
-      ends = e.ends;
-    }
-
-named_as : {W : Type 0} (opening : DeskView) (words : List (List ℕ)) (old new : SinkView W)
-    (Kept Known : History → Type 0) → ((J : History) → Kept J → Known J)
-    → ServesNamed opening words old new Kept → ServesNamed opening words old new Known
-named_as opening words old new Kept Known knows named =
-    let all = named.partners in
-    record {
-      roles = named.roles;
-      named = named.named;
-      partners = record {
-        closed = all.closed;
-        sessions = all.sessions;
-        sum = all.sum;
-        begins = all.begins;
-        ended = all.ended;
-        served = all.served;
-        shown = all.shown;
-        kept = knows all.closed.history all.kept;
-        tells = all.tells;
-      };
+      ends = ends;
     }
 
 serves_kept_any : {W F : Type 0} (sigs : List (ℕ × Promise)) (capacity : ℕ) (words : List (List ℕ)) (old new : SinkView W)
@@ -427,7 +404,7 @@ serves_kept_any sigs capacity words old new file later (Ok status) (inl p) = inl
     opening = p.0.opening;
     room = p.0.room;
     helpers = p.0.helpers;
-    serves = named_as p.0.opening words old new (λ J. IsSaved J file later)
+    serves = named_as p.0.opening words old new (Ok tt) (λ J. IsSaved J file later)
         (λ J. IsSaved J (option_map written_to file) (option_map written_to later))
         (λ J. saved_any J file later) p.0.serves;
   },
@@ -439,16 +416,14 @@ serves_kept_any sigs capacity words old new file later (Err failure) p = tt
 -- `serve --keep`, the same
 pub served_kept_line : {W F E : Type 0} (sigs : List (ℕ × Promise)) (journal : ℕ) (path : Option (List ℕ))
     (partners : List (List ℕ)) (file later : Option (SinkView F)) (output output_after : SinkView W)
-    (status given : ℕ) (errors mid last : SinkView E) → IsUnwritten path file
-    → EndsBy (ServesKeptTo sigs journal partners output output_after file later) status errors mid
-    → Settles path status mid last given
-    → EndsBy (ServesKeptLine sigs journal path partners output output_after) given errors last
-served_kept_line sigs journal path partners file later output output_after status given errors mid last made
-    served settles =
-    let e = settled path (ServesKeptTo sigs journal partners output output_after file later) status
-    given errors mid last served settles in
+    (work given : Result ℕ Failure) (status : ℕ) (errors last : SinkView E) → IsUnwritten path file
+    → ServesKeptTo sigs journal partners output output_after file later work
+    → Settles path work given → Ends given status errors last
+    → EndsBy (ServesKeptLine sigs journal path partners output output_after) status errors last
+served_kept_line sigs journal path partners file later output output_after work given status errors last made
+    served settles ends =
     record {
-      work = e.work;
+      work = given;
       comes = inl (
         option_map written_to file,
         option_map written_to later,
@@ -456,7 +431,9 @@ served_kept_line sigs journal path partners file later output output_after statu
         placed_any path (ServesKeptTo sigs journal partners output output_after file later)
             (ServesKeptTo sigs journal partners output output_after (option_map written_to file)
             (option_map written_to later))
-            (serves_kept_any sigs journal partners output output_after file later) e.work e.comes,
+            (serves_kept_any sigs journal partners output output_after file later) given
+            (settled path (ServesKeptTo sigs journal partners output output_after file later) work given
+            served settles),
       );
-      ends = e.ends;
+      ends = ends;
     }

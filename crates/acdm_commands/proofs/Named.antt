@@ -58,6 +58,7 @@ module _ {P : Type 0} (role : P → Role) where
       (front, word, more, split, all, (fails.0 ∙ count, fails.1))
   named_as words front more word n failures.Read split all count fails = absurd fails
   named_as words front more word n failures.Write split all count fails = absurd fails
+  named_as words front more word n failures.Untold split all count fails = absurd fails
   named_as words front more word n failures.Save split all count fails = absurd fails
   named_as words front more word n failures.Memory split all count fails = tt
   named_as words front more word n (failures.Accept k) split all count fails = absurd fails

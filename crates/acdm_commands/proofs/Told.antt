@@ -1,6 +1,6 @@
 -- What is told of listeners and of sessions, one after the other.
 use Rattle.std.proofs.Common.{◌≡◌, ℕ, suc, ◌+◌, List, [], ◌∷◌, ◌++◌, length, map, refl, sym, ap}
-use Rattle.std.proofs.Common.{Bool, Option, Some, Result, Ok, Err, IfErr, OnOk, inl, inr}
+use Rattle.std.proofs.Common.{Bool, false, Option, Some, Result, Ok, Err, OnOk, inl, inr}
 use Rattle.std.proofs.Common.{◌∙◌, append_assoc, append-nil, arith, subst, length-append}
 use Rattle.std.specs.Prelude.{sum_by}
 use Rattle.std.specs.List.{All, flat_map, sum}
@@ -9,8 +9,8 @@ use Rattle.std.proofs.lemmas.List.Sums.{sum-map}
 use Rattle.std.proofs.lemmas.List.{map-append}
 use Rattle.acdm_milestones.specs.declared.role.Role.{Role}
 use Rattle.acdm_lines.specs.Counted.{SinkView}
-use Rattle.acdm_wire.specs.Writes.{Wrote}
-use Rattle.acdm_wire.proofs.Writing.{wrote-both}
+use Rattle.acdm_wire.specs.Writes.{Writes, Wrote}
+use Rattle.acdm_wire.proofs.Writing.{wrote-both, writes-both}
 use Rattle.acdm_board.specs.Desk.{DeskView, row_of}
 use Rattle.acdm_sessions.specs.Passes.{BeginsWith, IsShown}
 use Rattle.acdm_sessions.specs.Sessions.{HaveEnded, HaveServed, SessionLeft, SessionStart, new_session}
@@ -18,9 +18,10 @@ use Rattle.acdm_sessions.specs.Sessions.{session_end}
 use Rattle.acdm_sessions.specs.declared.session.End.{End}
 use Rattle.acdm_commands.specs.Minutes.{is_minute}
 use Rattle.acdm_commands.specs.Partners.{ServesNamed, ServesNamedTo, ServesPartners, ServesPartnersTo}
-use Rattle.acdm_commands.specs.Partners.{SessionTold, TellsPartners}
+use Rattle.acdm_commands.specs.Partners.{Announces, SavesSo, SessionTold, Telling, TellsPartners}
+use Rattle.acdm_commands.specs.Partners.{closed_text}
 use Rattle.acdm_commands.specs.Partners.{listen_text, listens_text, role_in, session_text, told_text}
-use Rattle.acdm_commands.specs.Served.{FailsToSave, IsSaved}
+use Rattle.acdm_commands.specs.Served.{IsSaved}
 use Rattle.acdm_failures.specs.declared.failure.Failure.{Failure}
 use Rattle.acdm_step.specs.Commands.{History}
 
@@ -87,11 +88,13 @@ pub serves_partners : {W X : Type 0} (xs : List X) (number calls : X → ℕ) (r
     → BeginsWith desk.history closed.history
     → All (λ x. IsShown (length desk.history) closed (number x) (role x) (calls x) (torn x)
     (left x).pass) xs
+    → (said : Telling)
     → TellsPartners roles (flat_map (λ x. session_text (number x) (calls x) (end x) (torn x)) xs)
-    (length closed.history) old new
-    → (Kept : History → Type 0) → Kept closed.history → ServesPartners desk roles starts old new Kept
+    (length closed.history) old new said
+    → (Kept : History → Type 0) → Kept closed.history
+    → ServesPartners desk roles starts old new said Kept
 serves_partners {X = X} xs number calls role end torn left desk closed roles starts old new sums ended
-    served begins shown tells Kept kept =
+    served begins shown said tells Kept kept =
     record {
       closed = closed;
       sessions = map told xs;
@@ -102,7 +105,7 @@ serves_partners {X = X} xs number calls role end torn left desk closed roles sta
       shown = All-map (λ (t : SessionTold). IsShown (length desk.history) closed t.end.number t.end.role
           t.end.calls t.torn t.left.pass) told xs shown;
       kept = kept;
-      tells = subst (λ t. TellsPartners roles t (length closed.history) old new)
+      tells = subst (λ t. TellsPartners roles t (length closed.history) old new said)
           (told_texts told xs) tells;
     }
   where
@@ -118,27 +121,42 @@ map_map : {X Y Z : Type 0} (g : Y → Z) (f : X → Y) (xs : List X)
 map_map g f [] = refl
 map_map g f (x ∷ xs) = ap (λ ys. g (f x) ∷ ys) (map_map g f xs)
 
+-- the lines of listeners were written, and it was told how partners ended, or that failed
+pub told_partners : {W : Type 0} (roles : List Role) (sessions : List ℕ) (entries : ℕ)
+    (old mid new : SinkView W) (said : Telling) → Announces roles old mid
+    → Writes mid new (sessions ++ closed_text entries) said → OnOk said (new.waits ≡ false)
+    → TellsPartners roles sessions entries old new said
+told_partners roles sessions entries old mid new said a wrote flushed = record {
+  listeners = a.listeners;
+  roles_are = a.roles_are;
+  wrote = writes-both old mid new (listens_text 1 a.listeners) (sessions ++ closed_text entries) said
+      a.wrote wrote;
+  flushed = flushed;
+}
+
 -- partners were served, and what they made was saved or not
 pub comes_served : {W F T : Type 0} (desk : DeskView) (roles : List Role) (starts : List SessionStart)
-    (old new : SinkView W) (saved later : Option (SinkView F)) (J : History) (result : Result T Failure)
-    → ((Kept : History → Type 0) → Kept J → ServesPartners desk roles starts old new Kept)
-    → OnOk result (IsSaved J saved later) → IfErr result (FailsToSave saved later)
+    (old new : SinkView W) (saved later : Option (SinkView F)) (J : History) (said : Telling)
+    (result : Result T Failure)
+    → ((Kept : History → Type 0) → Kept J → ServesPartners desk roles starts old new said Kept)
+    → SavesSo said J saved later result
     → ServesPartnersTo desk roles starts old new saved later result
-comes_served desk roles starts old new saved later J (Ok x) served kept fails =
-    served (λ K. IsSaved K saved later) kept
-comes_served desk roles starts old new saved later J (Err failure) served kept fails =
-    inr (served (λ K. FailsToSave saved later failure) fails)
+comes_served desk roles starts old new saved later J said (Ok x) served kept =
+    subst (λ t. ServesPartners desk roles starts old new t (λ K. IsSaved K saved later)) kept.0
+    (served (λ K. IsSaved K saved later) kept.1)
+comes_served desk roles starts old new saved later J said (Err failure) served kept =
+    inr (said, served (λ K. SavesSo {T = Unit {0}} said K saved later (Err failure)) kept)
 
 module _ {W P : Type 0} (ps : List P) (role : P → Role) (desk : DeskView) (words : List (List ℕ))
     (old new : SinkView W) (named : map role_in words ≡ map (λ p. Some (role p)) ps) where
   -- the partners that words name were served
-  pub serves_named : (Kept : History → Type 0)
-      → ServesPartners desk (map role ps) (map (λ p. new_session (role p) is_minute) ps) old new Kept
-      → ServesNamed desk words old new Kept
-  serves_named Kept served = record {
+  pub serves_named : (said : Telling) (Kept : History → Type 0)
+      → ServesPartners desk (map role ps) (map (λ p. new_session (role p) is_minute) ps) old new said Kept
+      → ServesNamed desk words old new said Kept
+  serves_named said Kept served = record {
     roles = map role ps;
     named = named ∙ map_map Some role ps;
-    partners = subst (λ starts. ServesPartners desk (map role ps) starts old new Kept)
+    partners = subst (λ starts. ServesPartners desk (map role ps) starts old new said Kept)
         (map_map (λ r. new_session r is_minute) role ps) served;
   }
 
@@ -146,7 +164,7 @@ module _ {W P : Type 0} (ps : List P) (role : P → Role) (desk : DeskView) (wor
       → ServesPartnersTo desk (map role ps) (map (λ p. new_session (role p) is_minute) ps) old new
       saved later result
       → ServesNamedTo desk words old new saved later result
-  comes_named saved later (Ok x) served = serves_named (λ J. IsSaved J saved later) served
+  comes_named saved later (Ok x) served = serves_named (Ok tt) (λ J. IsSaved J saved later) served
   comes_named saved later (Err failure) (inl p) = inl (inr p)
-  comes_named saved later (Err failure) (inr served) =
-      inr (serves_named (λ J. FailsToSave saved later failure) served)
+  comes_named saved later (Err failure) (inr (said, served)) =
+      inr (said, serves_named said (λ J. SavesSo {T = Unit {0}} said J saved later (Err failure)) served)

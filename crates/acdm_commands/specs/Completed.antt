@@ -6,9 +6,9 @@ use Rattle.bpf_regstate.specs.declared.length.Length.{Length}
 use Rattle.acdm_command_line.specs.declared.command_line.Line.{Line}
 use Rattle.acdm_command_line.specs.declared.command_line.Line.TheVariants.{Audit, Explain, Run, Serve}
 use Rattle.acdm_command_line.specs.declared.command_line.Line.TheVariants.{Tell, Verify}
-use Rattle.acdm_failures.specs.Failures.{Complains, EndsBy, failure_text}
+use Rattle.acdm_failures.specs.Failures.{EndsBy}
 use Rattle.acdm_failures.specs.declared.failure.Failure.{Failure}
-use Rattle.acdm_failures.specs.declared.failure.Failure.TheVariants.{Memory, Read, Save}
+use Rattle.acdm_failures.specs.declared.failure.Failure.TheVariants.{Memory, Read, Save, Untold}
 use Rattle.acdm_judging.specs.Explained.{Explains, TellsUnread}
 use Rattle.acdm_judging.specs.Findings.{Audited}
 use Rattle.acdm_judging.specs.Verdicts.{Verifies}
@@ -61,18 +61,22 @@ abbrev pub HasPath : Option (List ℕ) → Type 0
 HasPath (Some path) = Unit {0}
 HasPath None = ⊥
 
--- A command's work came so, and its file took the place of the one of its path; or all was done and
--- written beside that, and it could not take its place, so what was there stays.
-abbrev pub Places : Option (List ℕ) → (Result ℕ Failure → Type 0) → Result ℕ Failure → Type 0
-Places path Comes work = Comes work ⊎ (HasPath path × Comes (Ok 0) × (work ≡ Err Save))
+-- a command's work was done, and the journal written, whether it could be told how it ended or not
+abbrev pub IsDone : Result ℕ Failure → Type 0
+IsDone (Ok status) = status ≡ 0
+IsDone (Err Untold) = Unit {0}
+IsDone (Err failure) = ⊥
 
--- the status of a command's work is the command's, or the work was done and its file could not be put
--- in its place, which is told
-abbrev pub Settles : {E : Type 0} → Option (List ℕ) → ℕ → SinkView E → SinkView E → ℕ → Type 0
-Settles path status errors errors_after given =
-    ((given ≡ status) × (errors_after ≡ errors))
-    ⊎ (HasPath path × (status ≡ 0) × (given ≡ 2)
-    × Complains errors errors_after (failure_text Save))
+-- A command's work came so, and its file took the place of the one of its path where all was done; or all
+-- was done and written beside that, and it could not take its place, so what was there stays.
+abbrev pub Places : Option (List ℕ) → (Result ℕ Failure → Type 0) → Result ℕ Failure → Type 0
+Places path Comes work =
+    Comes work
+    ⊎ (HasPath path × ((done : Result ℕ Failure) × IsDone done × Comes done) × (work ≡ Err Save))
+
+-- the work of a command is given as it came, or it was done and its file could not be put in its place
+abbrev pub Settles : Option (List ℕ) → Result ℕ Failure → Result ℕ Failure → Type 0
+Settles path work given = (given ≡ work) ⊎ (HasPath path × IsDone work × (given ≡ Err Save))
 
 -- it was not made, and this is why
 abbrev pub IsNotMade : Option (List ℕ) → Result ℕ Failure → Type 0

@@ -10,9 +10,10 @@ use Rattle.acdm_sessions.specs.Run.{ServesAll}
 use Rattle.acdm_failures.specs.declared.failure.Failure.TheVariants.{Keep}
 use Rattle.acdm_milestones.specs.declared.role.Role.{Role}
 use Rattle.acdm_sessions.specs.Sessions.{SessionStart}
-use Rattle.acdm_commands.specs.Partners.{FailsToServe, FailsToServeAll, ServesNamed, ServesPartners}
+use Rattle.acdm_commands.specs.Partners.{FailsServed, FailsToServe, FailsToServeAll, ServesNamed}
+use Rattle.acdm_commands.specs.Partners.{ServesPartners, Telling}
 use Rattle.acdm_step.specs.Commands.{History}
-use Rattle.acdm_commands.specs.Served.{FailsToSave, IsSaved}
+use Rattle.acdm_commands.specs.Served.{IsSaved}
 
 -- A desk that had no entry has those of a kept journal, and the rest of it is as it was; or something is
 -- to be told of the journal, with the status 1.
@@ -49,19 +50,20 @@ KeepsTo sigs capacity read read_after saved saved_after (Err failure) = Unit {0}
 -- ---- `serve`
 
 -- Why partners were not served by a desk that is kept, or not to their end, or what they made was not kept
--- or saved. That it was not kept is told only once they were served.
+-- or saved, or not told. That it was not kept is told only once they were served.
 abbrev pub FailsToServeKept : {W F : Type 0} → DeskView → List Role → List SessionStart → SinkView W
     → SinkView W → Option (SinkView F) → Option (SinkView F) → Failure → Type 0
 FailsToServeKept desk roles starts written written_after saved saved_after failure =
     FailsToServeAll written written_after failure
-    ⊎ ((failure ≡ Keep) × ServesPartners desk roles starts written written_after (λ J. Unit {0}))
-    ⊎ ServesPartners desk roles starts written written_after (λ J. FailsToSave saved saved_after failure)
+    ⊎ ((failure ≡ Keep)
+    × ((told : Telling) × ServesPartners desk roles starts written written_after told (λ J. Unit {0})))
+    ⊎ FailsServed (ServesPartners desk roles starts written written_after) saved saved_after failure
 
 -- what comes of serving partners by a desk that is kept
 abbrev pub ServesKeptAt : {W F T : Type 0} → DeskView → List Role → List SessionStart → SinkView W
     → SinkView W → Option (SinkView F) → Option (SinkView F) → Result T Failure → Type 0
 ServesKeptAt desk roles starts written written_after saved saved_after (Ok x) =
-    ServesPartners desk roles starts written written_after (λ J. IsSaved J saved saved_after)
+    ServesPartners desk roles starts written written_after (Ok tt) (λ J. IsSaved J saved saved_after)
 ServesKeptAt desk roles starts written written_after saved saved_after (Err failure) =
     FailsToServeKept desk roles starts written written_after saved saved_after failure
 
@@ -69,26 +71,27 @@ ServesKeptAt desk roles starts written written_after saved saved_after (Err fail
 abbrev pub ServesKeptWords : {W F T : Type 0} → DeskView → List (List ℕ) → SinkView W → SinkView W
     → Option (SinkView F) → Option (SinkView F) → Result T Failure → Type 0
 ServesKeptWords desk words written written_after saved saved_after (Ok x) =
-    ServesNamed desk words written written_after (λ J. IsSaved J saved saved_after)
+    ServesNamed desk words written written_after (Ok tt) (λ J. IsSaved J saved saved_after)
 ServesKeptWords desk words written written_after saved saved_after (Err failure) =
     FailsToServe words written written_after failure
-    ⊎ ((failure ≡ Keep) × ServesNamed desk words written written_after (λ J. Unit {0}))
-    ⊎ ServesNamed desk words written written_after (λ J. FailsToSave saved saved_after failure)
+    ⊎ ((failure ≡ Keep)
+    × ((told : Telling) × ServesNamed desk words written written_after told (λ J. Unit {0})))
+    ⊎ FailsServed (ServesNamed desk words written written_after) saved saved_after failure
 
 -- That desk had room for so many entries, and went on from a kept journal.
 pub record ServesFrom {W : Type 0} (sigs : List (ℕ × Promise)) (capacity : ℕ) (words : List (List ℕ))
-    (written written_after : SinkView W) (Kept : History → Type 0) : Type 0 where
+    (written written_after : SinkView W) (told : Telling) (Kept : History → Type 0) : Type 0 where
   pub opening : DeskView
   pub room : opening.capacity ≡ capacity
   pub helpers : opening.sigs ≡ sigs
-  pub serves : ServesNamed opening words written written_after Kept
+  pub serves : ServesNamed opening words written written_after told Kept
 
 -- What comes of it: all was done, with the status 0; or the kept journal is not legal, with the status 1;
 -- or something failed.
 abbrev pub ServesKeptTo : {W F : Type 0} → List (ℕ × Promise) → ℕ → List (List ℕ) → SinkView W
     → SinkView W → Option (SinkView F) → Option (SinkView F) → Result ℕ Failure → Type 0
 ServesKeptTo sigs capacity words written written_after saved saved_after (Ok status) =
-    (ServesFrom sigs capacity words written written_after (λ J. IsSaved J saved saved_after)
+    (ServesFrom sigs capacity words written written_after (Ok tt) (λ J. IsSaved J saved saved_after)
     × (status ≡ 0))
     ⊎ (status ≡ 1)
 ServesKeptTo sigs capacity words written written_after saved saved_after (Err failure) = Unit {0}

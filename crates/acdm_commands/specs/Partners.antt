@@ -1,5 +1,5 @@
 -- What `serve` does for its partners and tells of them, from its words on.
-use Rattle.std.specs.Prelude.{ℕ, ◌+◌, ◌≡◌, ◌⊎◌, ◌==◌, Bool, true, false, nat_lt}
+use Rattle.std.specs.Prelude.{ℕ, ◌+◌, ◌≡◌, ◌≢◌, ◌⊎◌, ◌==◌, Bool, true, false, nat_lt, OnOk}
 use Rattle.std.specs.Prelude.{if◌then◌else◌, List, []}
 use Rattle.std.specs.Prelude.{◌∷◌, ◌++◌, codes, length, map, sum_by, Option, Some, None, Result, Ok, Err}
 use Rattle.std.specs.Prelude.{IsSome}
@@ -14,7 +14,8 @@ use Rattle.acdm_failures.specs.declared.failure.Failure.TheVariants as failures
 use Rattle.acdm_failures.specs.declared.failure.ServeError.{ServeError}
 use Rattle.acdm_failures.specs.declared.failure.ServeError.TheVariants as serve_errors
 use Rattle.acdm_lines.specs.Counted.{SinkView, faults_after}
-use Rattle.acdm_wire.specs.Writes.{Wrote}
+use Rattle.acdm_lines.specs.declared.run_error.RunError.{RunError}
+use Rattle.acdm_wire.specs.Writes.{Writes, Wrote}
 use Rattle.acdm_sessions.specs.Passes.{BeginsWith, IsShown}
 use Rattle.acdm_sessions.specs.Sessions.{HaveEnded, HaveServed, SessionEnd, SessionLeft, SessionStart}
 use Rattle.acdm_sessions.specs.Sessions.{new_session}
@@ -128,24 +129,28 @@ abbrev pub IsOfAccepting : ServeError → Type 0
 IsOfAccepting serve_errors.Write = ⊥
 IsOfAccepting error = Unit {0}
 
--- the lines of listeners of these roles, in order, the lines of sessions and the last line were written,
--- and no byte of them waits for a flush
+-- how it went to tell how partners ended
+abbrev pub Telling : Type 0
+Telling = Result (Unit {0}) RunError
+
+-- The lines of listeners of these roles, in order, the lines of sessions and the last line were written,
+-- and no byte of them waits for a flush; or the writer failed once more after some of the first of them.
 pub record TellsPartners {W : Type 0} (roles : List Role) (sessions : List ℕ) (entries : ℕ)
-    (written written_after : SinkView W) : Type 0 where
+    (written written_after : SinkView W) (told : Telling) : Type 0 where
   pub listeners : List (Role × List ℕ)
   pub roles_are : map (λ p. p.0) listeners ≡ roles
-  pub wrote : Wrote written written_after
-      (listens_text 1 listeners ++ (sessions ++ closed_text entries))
-  pub flushed : written_after.waits ≡ false
+  pub wrote : Writes written written_after
+      (listens_text 1 listeners ++ (sessions ++ closed_text entries)) told
+  pub flushed : OnOk told (written_after.waits ≡ false)
 
 -- ---- what was done
 
 -- Partners of these roles, in order, were served by a desk, from these starts. What their sessions left
--- is told of the history that the desk was closed with, which begins with the one it had, and so much is
--- known of what was kept of it.
+-- is told of the history that the desk was closed with, which begins with the one it had, or could not be
+-- told; and so much is known of what was kept of it.
 pub record ServesPartners {W : Type 0} (desk : DeskView) (roles : List Role)
-    (starts : List SessionStart) (written written_after : SinkView W) (Kept : History → Type 0)
-    : Type 0 where
+    (starts : List SessionStart) (written written_after : SinkView W) (told : Telling)
+    (Kept : History → Type 0) : Type 0 where
   pub closed : DeskView
   pub sessions : List SessionTold
   pub sum : length closed.history
@@ -157,23 +162,23 @@ pub record ServesPartners {W : Type 0} (desk : DeskView) (roles : List Role)
       t.torn t.left.pass) sessions
   pub kept : Kept closed.history
   pub tells : TellsPartners roles (flat_map told_text sessions) (length closed.history) written
-      written_after
+      written_after told
 
 -- The partners that the words name, in order, were served so by a desk, on new connections, each with a
 -- clock that may give any minute.
 pub record ServesNamed {W : Type 0} (desk : DeskView) (words : List (List ℕ))
-    (written written_after : SinkView W) (Kept : History → Type 0) : Type 0 where
+    (written written_after : SinkView W) (told : Telling) (Kept : History → Type 0) : Type 0 where
   pub roles : List Role
   pub named : map role_in words ≡ map Some roles
   pub partners : ServesPartners desk roles (map (λ role. new_session role is_minute) roles) written
-      written_after Kept
+      written_after told Kept
 
 -- that desk was empty at first, with room for so many entries
 pub record ServesWords {W : Type 0} (sigs : List (ℕ × Promise)) (capacity : ℕ)
-    (words : List (List ℕ)) (written written_after : SinkView W) (Kept : History → Type 0)
-    : Type 0 where
+    (words : List (List ℕ)) (written written_after : SinkView W) (told : Telling)
+    (Kept : History → Type 0) : Type 0 where
   pub cells : List ℕ
-  pub serves : ServesNamed (empty_desk sigs capacity cells) words written written_after Kept
+  pub serves : ServesNamed (empty_desk sigs capacity cells) words written written_after told Kept
 
 -- why no partner was accepted: of the words, one names no role, or its address or that of displays or of
 -- the control is none or can't be listened at; or memory was refused
@@ -185,7 +190,7 @@ FailsToOpen words failures.Control = Unit {0}
 FailsToOpen words failures.Memory = Unit {0}
 FailsToOpen words failure = ⊥
 
--- why partners were not served to their end, or that could not be told
+-- why partners were not served to their end
 abbrev pub FailsToServeAll : {W : Type 0} → SinkView W → SinkView W → Failure → Type 0
 FailsToServeAll written written_after failures.Write =
     written_after.faults ≡ faults_after true written.faults
@@ -197,33 +202,46 @@ abbrev pub FailsToServe : {W : Type 0} → List (List ℕ) → SinkView W → Si
 FailsToServe words written written_after failure =
     FailsToOpen words failure ⊎ FailsToServeAll written written_after failure
 
--- What comes of serving partners: all was done; or they were not served to their end, or that could not
--- be told; or both, and what the desk was closed with was not saved.
+-- What was saved of a history, where it was told so how its partners ended.
+abbrev pub SavesSo : {F T : Type 0} → Telling → History → Option (SinkView F) → Option (SinkView F)
+    → Result T Failure → Type 0
+SavesSo told J saved saved_after (Ok x) = (told ≡ Ok tt) × IsSaved J saved saved_after
+SavesSo told J saved saved_after (Err failure) =
+    FailsToSave saved saved_after failure
+    ⊎ ((failure ≡ failures.Untold) × (told ≢ Ok tt) × IsSaved J saved saved_after)
+
+-- Partners were served so, and what the desk was closed with was not saved; or it was, and it could not be
+-- told how they ended.
+abbrev pub FailsServed : {F : Type 0} → (Telling → (History → Type 0) → Type 0) → Option (SinkView F)
+    → Option (SinkView F) → Failure → Type 0
+FailsServed Served saved saved_after failure =
+    (told : Telling) × Served told (λ J. SavesSo {T = Unit {0}} told J saved saved_after (Err failure))
+
+-- What comes of serving partners: all was done; or they were not served to their end; or they were, and
+-- that was not saved, or not told.
 abbrev pub ServesPartnersTo : {W F T : Type 0} → DeskView → List Role → List SessionStart → SinkView W
     → SinkView W → Option (SinkView F) → Option (SinkView F) → Result T Failure → Type 0
 ServesPartnersTo desk roles starts written written_after saved saved_after (Ok x) =
-    ServesPartners desk roles starts written written_after (λ J. IsSaved J saved saved_after)
+    ServesPartners desk roles starts written written_after (Ok tt) (λ J. IsSaved J saved saved_after)
 ServesPartnersTo desk roles starts written written_after saved saved_after (Err failure) =
     FailsToServeAll written written_after failure
-    ⊎ ServesPartners desk roles starts written written_after
-    (λ J. FailsToSave saved saved_after failure)
+    ⊎ FailsServed (ServesPartners desk roles starts written written_after) saved saved_after failure
 
 -- the same of the partners that words name, or none was accepted
 abbrev pub ServesNamedTo : {W F T : Type 0} → DeskView → List (List ℕ) → SinkView W → SinkView W
     → Option (SinkView F) → Option (SinkView F) → Result T Failure → Type 0
 ServesNamedTo desk words written written_after saved saved_after (Ok x) =
-    ServesNamed desk words written written_after (λ J. IsSaved J saved saved_after)
+    ServesNamed desk words written written_after (Ok tt) (λ J. IsSaved J saved saved_after)
 ServesNamedTo desk words written written_after saved saved_after (Err failure) =
     FailsToServe words written written_after failure
-    ⊎ ServesNamed desk words written written_after (λ J. FailsToSave saved saved_after failure)
+    ⊎ FailsServed (ServesNamed desk words written written_after) saved saved_after failure
 
 -- what comes of the words: all was done, with the status 0, or what kept it from that, as before
 abbrev pub ServesWordsTo : {W F : Type 0} → List (ℕ × Promise) → ℕ → List (List ℕ) → SinkView W
     → SinkView W → Option (SinkView F) → Option (SinkView F) → Result ℕ Failure → Type 0
 ServesWordsTo sigs capacity words written written_after saved saved_after (Ok status) =
-    ServesWords sigs capacity words written written_after (λ J. IsSaved J saved saved_after)
+    ServesWords sigs capacity words written written_after (Ok tt) (λ J. IsSaved J saved saved_after)
     × (status ≡ 0)
 ServesWordsTo sigs capacity words written written_after saved saved_after (Err failure) =
     FailsToServe words written written_after failure
-    ⊎ ServesWords sigs capacity words written written_after
-    (λ J. FailsToSave saved saved_after failure)
+    ⊎ FailsServed (ServesWords sigs capacity words written written_after) saved saved_after failure

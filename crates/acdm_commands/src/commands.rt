@@ -10,8 +10,8 @@ use crate::keeping::{KeepIn, keep_line};
 use crate::lasting::Service;
 use crate::saving::{saving_in, settle};
 use crate::serve_command::{Audience, serve_words};
-use crate::serve_keeping::serve_kept_words;
-use crate::serving::run_on;
+use crate::serve_keeping::serve_kept;
+use crate::serving::run_by;
 use crate::tables::tables_of;
 use acdm_command_line::{Line, Order, asked};
 use acdm_failures::{Failure, ended};
@@ -208,8 +208,8 @@ fn run_line<Rt: Files, R: Read, W: Write, E: Write>(
     match saving_in(rt, alloc, save) {
         Ok(mut saving) => {
             let saved = &mut saving.file;
-            let status = run_on(alloc, tables, journal, input, output, saved, errors);
-            settle(rt, save, saving, status, errors)
+            let work = run_by(alloc, tables, journal, input, output, saved);
+            ended(settle(rt, save, saving, work), errors)
         }
         Err(failure) => ended(Err(failure), errors),
     }
@@ -248,10 +248,10 @@ fn serve_line<
     match saving_in(rt, alloc, save) {
         Ok(mut saving) => {
             let saved = &mut saving.file;
-            let status = serve_words(
-                rt, alloc, tables, journal, audience, service, partners, output, saved, errors,
+            let work = serve_words(
+                rt, alloc, tables, journal, audience, service, partners, output, saved,
             );
-            settle(rt, save, saving, status, errors)
+            ended(settle(rt, save, saving, work), errors)
         }
         Err(failure) => ended(Err(failure), errors),
     }
@@ -340,11 +340,10 @@ fn serve_kept_line<
     match saving_in(rt, alloc, save) {
         Ok(mut saving) => {
             let saved = &mut saving.file;
-            let status = serve_kept_words(
+            let work = serve_kept(
                 rt, alloc, tables, journal, keep, audience, service, partners, output, saved,
-                errors,
             );
-            settle(rt, save, saving, status, errors)
+            ended(settle(rt, save, saving, work), errors)
         }
         Err(failure) => ended(Err(failure), errors),
     }

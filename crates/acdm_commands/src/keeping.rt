@@ -65,8 +65,7 @@ pub(crate) fn keep_line<Rt: Files<File = File>, R: Read, W: Write, E: Write>(
                 output,
                 &mut saving.file,
             );
-            let status = ended(served, errors);
-            settle(rt, saved, saving, status, errors)
+            ended(settle(rt, saved, saving, served), errors)
         }
         Err(failure) => ended(Err(failure), errors),
     }

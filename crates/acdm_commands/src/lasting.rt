@@ -9,7 +9,7 @@ ghost use Rattle.acdm_sessions.specs.Passes.{BeginsWith, IsShown, made_since};
 ghost use Rattle.acdm_sessions.specs.Sessions.{HaveEnded, HaveServed, new_session, session_end};
 ghost use Rattle.acdm_sessions.specs.Sessions.{session_left, session_start};
 
-use crate::partners::{REPLIES_HELD, announce, served_by, tell};
+use crate::partners::{REPLIES_HELD, Served, announce, served_by, tell};
 use acdm_board::Desk;
 use acdm_failures::{Failure, ServeError};
 use acdm_keeping::{Opening, Replies as Behind, SharedKeeper, Synced};
@@ -384,8 +384,8 @@ fn served_while<
 /// At the control address the board can be closed, as by the word: all sessions end then. Replies wait
 /// for the keeper, if there is one.
 ///
-/// `Accept` where a listener has no address or can't be asked; `Write` where the writer failed, which may
-/// be after the sessions; `Memory` where it was refused before they began, or no thread could be made.
+/// `Accept` where a listener has no address or can't be asked; `Write` where the writer failed before the
+/// sessions; `Memory` where it was refused before they began, or no thread could be made.
 pub(crate) fn serve_again<
     'r,
     J: Opening + Send + Sync,
@@ -403,7 +403,7 @@ pub(crate) fn serve_again<
     keeper: Option<&'r FileKeeper<J>>,
     desk: Desk<H>,
     writer: &mut Sink<W>,
-) -> Result<Closed<H, Reading<'r, Rt>, Writing<'r, J, Rt>, C>, ServeError>
+) -> Result<Served<H, Reading<'r, Rt>, Writing<'r, J, Rt>, C>, ServeError>
     requires few { vec_len partners ≤ 64 }
     ensures sum { IfOk result (λ c. length c.desk.history
         ≡ length desk.history + sum_by (λ e. e.calls) c.sessions.items) }
@@ -419,7 +419,7 @@ pub(crate) fn serve_again<
         ≡ made_since (length desk.history) c.desk.history e.number) c.sessions.items) }
     ensures tells { IfOk result (λ c. TellsPartners (map (λ p. p.0) partners.items)
         (flat_map (λ e. session_text e.number e.calls e.end e.torn) c.sessions.items)
-        (length c.desk.history) writer.old writer.new) }
+        (length c.desk.history) writer.old writer.new c.told) }
     ensures fails { IfErr result (FailsToTell writer.old writer.new) }
 {
     let mut addresses = Addresses::new(alloc);
@@ -435,8 +435,11 @@ pub(crate) fn serve_again<
         closing,
         terms.again,
     )?;
-    match tell(&closed, writer) {
-        Ok(()) => Ok(closed),
-        Err(_) => Err(ServeError::Write),
-    }
+    let told = tell(&closed, writer);
+    let Closed { desk, sessions } = closed;
+    Ok(Served {
+        desk,
+        sessions,
+        told,
+    })
 }

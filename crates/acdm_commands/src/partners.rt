@@ -72,13 +72,24 @@ impl Gate for Connections {
     }
 }
 
+/// What partners who were served leave.
+#[derive(Drop)]
+pub struct Served<H: Helpers + Drop, R: Read + Drop, S: Write + Drop, C: Drop> {
+    /// The desk, with the entries that their sessions made.
+    pub desk: Desk<H>,
+    /// Their sessions, in the order of their numbers.
+    pub sessions: Vec<Ended<R, S, C>>,
+    /// How it went to tell how they ended.
+    pub told: Result<(), RunError>,
+}
+
 /// Accepts one partner on each listener, in order, serves all at once against one desk, and tells
 /// on the writer what it does: `listen K ROLE ADDR` for each listener, K from 1, then, once all
 /// partners are gone, `session K CALLS END` for each session and `closed N` with the number of
-/// entries.
+/// entries. Where the writer fails then, that is told beside what they leave.
 ///
 /// `Accept` where a listener has no address or a partner can't be accepted; `Write` where the
-/// writer failed, which may be after the sessions; `Memory` where it was refused before they began.
+/// writer failed before; `Memory` where it was refused before they began.
 pub fn serve_on<
     Rt: Threads + Wait + Sync,
     H: Helpers + Drop + Send,
@@ -90,7 +101,7 @@ pub fn serve_on<
     partners: Vec<(Role, TcpListener, C)>,
     desk: Desk<H>,
     writer: &mut Sink<W>,
-) -> Result<Closed<H, TcpStream, ReplyWriter, C>, ServeError>
+) -> Result<Served<H, TcpStream, ReplyWriter, C>, ServeError>
     requires few { vec_len partners ≤ 64 }
     ensures sum { IfOk result (λ c. length c.desk.history
         ≡ length desk.history + sum_by (λ e. e.calls) c.sessions.items) }
@@ -109,7 +120,7 @@ pub fn serve_on<
         ≡ made_since (length desk.history) c.desk.history e.number) c.sessions.items) }
     ensures tells { IfOk result (λ c. TellsPartners (map (λ p. p.0) partners.items)
         (flat_map (λ e. session_text e.number e.calls e.end e.torn) c.sessions.items)
-        (length c.desk.history) writer.old writer.new) }
+        (length c.desk.history) writer.old writer.new c.told) }
     ensures fails { IfErr result (FailsToTell writer.old writer.new) }
 {
     let mut connections = Connections {
@@ -117,10 +128,13 @@ pub fn serve_on<
     };
     let sessions = arrived(alloc, partners, &mut connections, writer)?;
     let closed = served_by(rt, alloc, desk, sessions, &connections)?;
-    match tell(&closed, writer) {
-        Ok(()) => Ok(closed),
-        Err(_) => Err(ServeError::Write),
-    }
+    let told = tell(&closed, writer);
+    let Closed { desk, sessions } = closed;
+    Ok(Served {
+        desk,
+        sessions,
+        told,
+    })
 }
 
 // Tells of the listeners, and accepts a partner on each.

@@ -1,8 +1,9 @@
 //! The saving of a desk's journal, as text.
-ghost use Rattle.std.specs.Prelude.{◌≡◌, ◌≤◌, false, IfOk, IfErr, OnOk, Some, option_map};
+ghost use Rattle.std.specs.Prelude.{◌≡◌, ◌≤◌, true, false, IfOk, IfErr, OnOk, Some, option_map};
 ghost use Rattle.acdm_board.specs.Desk.{row_of};
 ghost use Rattle.acdm_failures.specs.declared.failure.Failure.TheVariants.{Memory};
-ghost use Rattle.acdm_commands.specs.Completed.{FailsToMake, IsUnwritten, Settles};
+ghost use Rattle.acdm_commands.specs.Completed.{FailsToMake, IsDone, IsUnwritten, Settles};
+ghost use Rattle.acdm_commands.specs.Partners.{SavesSo};
 ghost use Rattle.acdm_commands.specs.Served.{FailsToSave, IsSaved};
 ghost use Rattle.acdm_journal.specs.Whole.{Saves};
 
@@ -11,7 +12,7 @@ use acdm_board::Desk;
 use acdm_failures::Failure;
 use acdm_journal::{MOST_KEPT, write_entry_by};
 use acdm_row::Row;
-use acdm_sessions::Sink;
+use acdm_sessions::{RunError, Sink};
 use bpf_helpers::Helpers;
 use std::alloc::{AllocError, Global};
 use std::fs::{self, Files, OpenFile};
@@ -128,35 +129,42 @@ fn put_in_place<Rt: Files>(
     settle_folder(rt, names.whole.as_str())
 }
 
-/// Puts the file of a command that ended with this status in its place, where the status is 0; else
-/// what was there stays. The status is 2 where that failed, with a line on the errors' writer.
-pub(crate) fn settle<Rt: Files, E: Write>(
+// Whether a command's work was done, and the journal written.
+fn is_done(work: Result<u8, Failure>) -> bool
+    ensures { result ≡ true → IsDone work }
+{
+    matches!(work, Ok(0) | Err(Failure::Untold))
+}
+
+/// Puts the file of a command whose work came so in its place, where its journal was written; else what
+/// was there stays. `Save` where that failed.
+pub(crate) fn settle<Rt: Files>(
     rt: &Rt,
     path: Option<&str>,
     saving: Saving<Rt::File>,
-    status: u8,
-    errors: &mut Sink<E>,
-) -> u8
-    ensures { Settles (option_map (λ p. p.now) path.entry) status errors.old errors.new result }
+    work: Result<u8, Failure>,
+) -> Result<u8, Failure>
+    ensures { Settles (option_map (λ p. p.now) path.entry) work result }
 {
     if path.is_none() {
-        return status;
+        return work;
     }
     let Saving { file, names } = saving;
     let Some(names) = names else {
-        return status;
+        return work;
     };
     let Some(file) = file else {
-        return status;
+        return work;
     };
-    if status == 0 && put_in_place(rt, file, &names).is_ok() {
-        return status;
+    if !is_done(work) {
+        let _ = fs::remove_file(rt, names.part.as_str());
+        return work;
+    }
+    if put_in_place(rt, file, &names).is_ok() {
+        return work;
     }
     let _ = fs::remove_file(rt, names.part.as_str());
-    if status != 0 {
-        return status;
-    }
-    Failure::Save.complain(errors)
+    Err(Failure::Save)
 }
 
 /// A buffer for `save` to write lines by, with room for the longest, where there is a writer. `Memory`
@@ -193,6 +201,26 @@ pub(crate) fn save<H: Helpers + Drop, F: Write + Drop>(
         return Err(Failure::Memory);
     };
     write_journal(buffer, desk, &row, writer)
+}
+
+/// Saves what partners made, as `save`. `Untold` where that was done, and it could not be told how they
+/// ended.
+pub(crate) fn save_served<H: Helpers + Drop, F: Write + Drop>(
+    buffer: &mut Vec<u8>,
+    desk: &mut Desk<H>,
+    told: Result<(), RunError>,
+    saved: &mut Option<Sink<F>>,
+) -> Result<(), Failure>
+    ensures { SavesSo told desk.old.history saved.old saved.new result }
+{
+    match save(buffer, desk, saved) {
+        Ok(()) => {}
+        Err(failure) => return Err(failure),
+    }
+    match told {
+        Ok(()) => Ok(()),
+        Err(_) => Err(Failure::Untold),
+    }
 }
 
 // Writes all entries, the oldest first, as they stand in the desk's row.

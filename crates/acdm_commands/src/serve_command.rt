@@ -2,17 +2,16 @@
 ghost use Rattle.std.specs.Prelude.{◌≡◌, ◌≤◌, IfOk, IfErr, Some, map, vec_len};
 ghost use Rattle.acdm_commands.specs.Partners.{FailsToOpen, ServesNamedTo, ServesPartnersTo};
 ghost use Rattle.acdm_commands.specs.Partners.{ServesWordsTo, role_in};
-ghost use Rattle.acdm_failures.specs.Failures.{EndsBy};
 ghost use Rattle.acdm_tables.specs.Helpers.{helpers_by};
 ghost use Rattle.acdm_sessions.specs.Sessions.{new_session};
 
 use crate::addresses::{Partner, listen};
 use crate::lasting::{FileKeeper, Service, serve_again};
 use crate::partners::serve_on;
-use crate::saving::{buffer_for, save};
+use crate::saving::{buffer_for, save_served};
 use acdm_board::Desk;
 use acdm_displays::{Displays, Form};
-use acdm_failures::{Failure, ended};
+use acdm_failures::Failure;
 use acdm_keeping::Opening;
 use acdm_milestones::Role;
 use acdm_partners::{Control, Terms};
@@ -40,10 +39,10 @@ pub(crate) struct Audience<'a> {
 
 /// Serves a partner for each word `ROLE=ADDR`, at most 64, all at once, with room for so many
 /// entries in the journal, and tells on the writer what it does. Displays are sent meanwhile what
-/// they have an address for. When all partners are gone, the journal is written as text to the writer that it is to be saved by, if there is one.
+/// they have an address for. When all partners are gone, the journal is written as text to the writer that
+/// it is to be saved by, if there is one, whether it could be told how they ended or not.
 ///
-/// The status is 0 where all was told and the journal was saved, else 2, with a line on the errors'
-/// writer.
+/// The status is 0 where all was told and the journal was saved.
 pub(crate) fn serve_words<
     Rt: Net<Listener = TcpListener, Stream = TcpStream>
         + SystemClock
@@ -57,7 +56,6 @@ pub(crate) fn serve_words<
         + 'static,
     W: Write,
     F: Write + Drop,
-    E: Write,
 >(
     rt: &Rt,
     alloc: Global,
@@ -68,17 +66,13 @@ pub(crate) fn serve_words<
     words: &[&str],
     writer: &mut Sink<W>,
     saved: &mut Option<Sink<F>>,
-    errors: &mut Sink<E>,
-) -> u8
-    ensures { EndsBy (ServesWordsTo (helpers_by tables) journal (map (λ w. w.now) words.now) writer.old writer.new
-        saved.old saved.new) result errors.old errors.new }
+) -> Result<u8, Failure>
+    ensures { ServesWordsTo (helpers_by tables) journal (map (λ w. w.now) words.now) writer.old writer.new
+        saved.old saved.new result }
 {
     let helpers = KnownHelpers::new(alloc, tables);
-    ended(
-        serve_with(
-            rt, alloc, helpers, journal, audience, service, words, writer, saved,
-        ),
-        errors,
+    serve_with(
+        rt, alloc, helpers, journal, audience, service, words, writer, saved,
     )
 }
 
@@ -363,8 +357,9 @@ fn serve_once<
         saved.new result }
 {
     let mut buffer = buffer_for(alloc, saved)?;
-    let mut closed = serve_on(rt, alloc, partners, desk, writer)?;
-    save(&mut buffer, &mut closed.desk, saved)
+    let mut served = serve_on(rt, alloc, partners, desk, writer)?;
+    let told = served.told;
+    save_served(&mut buffer, &mut served.desk, told, saved)
 }
 
 // Serves partners by these terms, whose replies wait for the keeper, if there is one, and saves what they
@@ -395,8 +390,9 @@ fn serve_lasting<
         saved.new result }
 {
     let mut buffer = buffer_for(alloc, saved)?;
-    let mut lasted = serve_again(
+    let mut served = serve_again(
         rt, alloc, partners, terms, control, closing, keeper, desk, writer,
     )?;
-    save(&mut buffer, &mut lasted.desk, saved)
+    let told = served.told;
+    save_served(&mut buffer, &mut served.desk, told, saved)
 }

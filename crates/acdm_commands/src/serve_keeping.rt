@@ -3,20 +3,20 @@ ghost use Rattle.std.specs.Prelude.{◌≡◌, ◌≤◌, [], IfErr, IfOk, lengt
 ghost use Rattle.acdm_board.specs.Desk.{row_of};
 ghost use Rattle.acdm_commands.specs.Keeping.{ServesKeptAt, ServesKeptTo, ServesKeptWords};
 ghost use Rattle.acdm_commands.specs.Partners.{FailsToTell, ServesPartners};
-ghost use Rattle.acdm_failures.specs.Failures.{EndsBy};
 ghost use Rattle.acdm_tables.specs.Helpers.{helpers_by};
 ghost use Rattle.acdm_sessions.specs.Sessions.{new_session};
 
 use crate::keeping::{KeepIn, go_on, open_kept};
 use crate::lasting::{FileKeeper, Service, serve_again};
-use crate::saving::{buffer_for, save};
+use crate::partners::Served;
+use crate::saving::{buffer_for, save_served};
 use crate::serve_command::{Audience, close_all, opened};
 use acdm_board::Desk;
-use acdm_failures::{Failure, ServeError, ended};
+use acdm_failures::{Failure, ServeError};
 use acdm_keeping::{Keeper, Opening, SharedKeeper, Synced};
 use acdm_milestones::Role;
 use acdm_partners::{Control, Terms};
-use acdm_sessions::{Clock, Closed, Sink};
+use acdm_sessions::{Clock, RunError, Sink};
 use acdm_tables::{KnownHelpers, Tables};
 use bpf_helpers::Helpers;
 use std::alloc::Global;
@@ -30,7 +30,7 @@ use std::thread::Threads;
 use std::time::Clock as SystemClock;
 
 // Serves partners by these terms, whose replies wait for the keeper, and answers the desk once they are
-// gone.
+// gone, and how it went to tell how they ended.
 fn desk_after<
     J: Opening + Send + Sync,
     Rt: SystemClock + Eprint + Threads + Wait + Clone + Drop + Send + Sync + 'static,
@@ -47,14 +47,18 @@ fn desk_after<
     closing: Arc<AtomicBool>,
     keeper: &FileKeeper<J>,
     writer: &mut Sink<W>,
-) -> Result<Desk<H>, ServeError>
+) -> Result<(Desk<H>, Result<(), RunError>), ServeError>
     requires few { vec_len partners ≤ 64 }
     ensures serves { IfOk result (λ after. ServesPartners desk (map (λ p. p.0) partners.items)
-        (map (λ p. new_session p.0 (C.gives p.2)) partners.items) writer.old writer.new
-        (λ J. J ≡ after.history)) }
+        (map (λ p. new_session p.0 (C.gives p.2)) partners.items) writer.old writer.new after.1
+        (λ J. J ≡ after.0.history)) }
     ensures fails { IfErr result (FailsToTell writer.old writer.new) }
 {
-    let Closed { desk, sessions } = serve_again(
+    let Served {
+        desk,
+        sessions,
+        told,
+    } = serve_again(
         rt,
         alloc,
         partners,
@@ -66,7 +70,7 @@ fn desk_after<
         writer,
     )?;
     drop(sessions);
-    Ok(desk)
+    Ok((desk, told))
 }
 
 // Shares the keeper among the partners, keeps what is left in the end, and saves what they made.
@@ -104,12 +108,12 @@ fn serve_shared<
         rt, alloc, partners, desk, terms, control, closing, &shared, writer,
     );
     let kept = shared.into_keeper();
-    let mut after = match served {
-        Ok(after) => after,
+    let (mut after, told) = match served {
+        Ok(left) => left,
         Err(error) => return Err(Failure::from(error)),
     };
     match kept {
-        Ok(_keeper) => save(&mut buffer, &mut after, saved),
+        Ok(_keeper) => save_served(&mut buffer, &mut after, told, saved),
         Err(_) => Err(Failure::Keep),
     }
 }
@@ -221,8 +225,13 @@ fn serve_kept_with<
     Ok(0)
 }
 
-// Opens the file, and serves.
-fn serve_kept<
+/// Serves a partner for each word `ROLE=ADDR`, as `serve_words`, by a desk that goes on from the journal
+/// in a file, in which it is kept: a reply is sent once its entry stands there. Each partner is served
+/// from the moment on that it connects.
+///
+/// The status is 0 where all was told and the journal was kept and saved; 1 where what the file has is
+/// no legal journal, which is told as an audit tells it, and nobody is served.
+pub(crate) fn serve_kept<
     Rt: Net<Listener = TcpListener, Stream = TcpStream>
         + SystemClock
         + Eprint
@@ -266,48 +275,4 @@ fn serve_kept<
         writer,
         saved,
     )
-}
-
-/// Serves a partner for each word `ROLE=ADDR`, as `serve_words`, by a desk that goes on from the journal
-/// in a file, in which it is kept: a reply is sent once its entry stands there. Each partner is served
-/// from the moment on that it connects.
-///
-/// The status is 0 where all was told and the journal was kept and saved; 1 where what the file has is
-/// no legal journal, which is told as an audit tells it, and nobody is served; else 2, with a line on the
-/// errors' writer.
-pub(crate) fn serve_kept_words<
-    Rt: Net<Listener = TcpListener, Stream = TcpStream>
-        + SystemClock
-        + Eprint
-        + Threads
-        + Wait
-        + Files<File = File>
-        + Clone
-        + Drop
-        + Send
-        + Sync
-        + 'static,
-    W: Write,
-    F: Write + Drop,
-    E: Write,
->(
-    rt: &Rt,
-    alloc: Global,
-    tables: Tables,
-    journal: usize,
-    keep: KeepIn<'_>,
-    audience: Audience<'_>,
-    service: Service<'_>,
-    words: &[&str],
-    writer: &mut Sink<W>,
-    saved: &mut Option<Sink<F>>,
-    errors: &mut Sink<E>,
-) -> u8
-    ensures { EndsBy (ServesKeptTo (helpers_by tables) journal (map (λ w. w.now) words.now) writer.old writer.new
-        saved.old saved.new) result errors.old errors.new }
-{
-    let served = serve_kept(
-        rt, alloc, tables, journal, keep, audience, service, words, writer, saved,
-    );
-    ended(served, errors)
 }

@@ -33,11 +33,28 @@ pub fn run_on<R: Read, W: Write, F: Write + Drop, E: Write>(
     ensures { EndsBy (RunsTo (helpers_by tables) journal reader.old reader.new writer.old writer.new saved.old
         saved.new) result errors.old errors.new }
 {
-    let helpers = KnownHelpers::new(alloc, tables);
     ended(
-        serve_with(alloc, helpers, journal, reader, writer, saved),
+        run_by(alloc, tables, journal, reader, writer, saved),
         errors,
     )
+}
+
+/// The same, and what keeps it from its work is answered.
+pub(crate) fn run_by<R: Read, W: Write, F: Write + Drop>(
+    alloc: Global,
+    tables: Tables,
+    journal: usize,
+    reader: &mut Source<R>,
+    writer: &mut Sink<W>,
+    saved: &mut Option<Sink<F>>,
+) -> Result<u8, Failure>
+    requires reads { reader.old.faults < 2 ^ 64 - 1 }
+    requires writes { writer.old.faults < 2 ^ 64 - 1 }
+    ensures { RunsTo (helpers_by tables) journal reader.old reader.new writer.old writer.new saved.old
+        saved.new result }
+{
+    let helpers = KnownHelpers::new(alloc, tables);
+    serve_with(alloc, helpers, journal, reader, writer, saved)
 }
 
 // Serves a desk, and saves its journal.

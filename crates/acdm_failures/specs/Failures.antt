@@ -11,7 +11,7 @@ use Rattle.acdm_wire.specs.Writes.{Wrote, WroteInPart}
 use Rattle.acdm_failures.specs.declared.failure.Failure.{Failure}
 use Rattle.acdm_failures.specs.declared.failure.Failure.TheVariants.{Read, Write, Save, Memory, Accept}
 use Rattle.acdm_failures.specs.declared.failure.Failure.TheVariants.{Role, Address, Watch, Control, Word, Stream}
-use Rattle.acdm_failures.specs.declared.failure.Failure.TheVariants.{Keep, InUse, Room}
+use Rattle.acdm_failures.specs.declared.failure.Failure.TheVariants.{Keep, InUse, Room, Untold}
 use Rattle.acdm_failures.specs.declared.failure.ServeError.{ServeError}
 use Rattle.acdm_failures.specs.declared.failure.ServeError.TheVariants as serve_errors
 
@@ -33,6 +33,7 @@ failure_of_serve serve_errors.Memory = Memory
 abbrev pub failure_text : Failure → List ℕ
 failure_text Read = codes "acdm: read failed" ++ 10 ∷ []
 failure_text Write = codes "acdm: write failed" ++ 10 ∷ []
+failure_text Untold = codes "acdm: write failed" ++ 10 ∷ []
 failure_text Save = codes "acdm: save failed" ++ 10 ∷ []
 failure_text Memory = codes "acdm: no memory" ++ 10 ∷ []
 failure_text (Role number) = codes "acdm: role " ++ decimal number ++ 10 ∷ []

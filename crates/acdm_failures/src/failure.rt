@@ -16,6 +16,8 @@ pub enum Failure {
     Read,
     /// Its output can't be written.
     Write,
+    /// All was done, and how it ended can't be written.
+    Untold,
     /// The journal can't be saved.
     Save,
     /// Memory was refused.
@@ -83,7 +85,7 @@ impl Failure {
     {
         match self {
             Failure::Read => line(b"acdm: read failed"),
-            Failure::Write => line(b"acdm: write failed"),
+            Failure::Write | Failure::Untold => line(b"acdm: write failed"),
             Failure::Save => line(b"acdm: save failed"),
             Failure::Memory => line(b"acdm: no memory"),
             Failure::Role(number) => numbered(b"acdm: role ", number),

@@ -3,14 +3,15 @@ use Rattle.std.proofs.Common.{◌≡◌, ◌≢◌, ℕ, ◌+◌, ◌-◌, ◌^�
 use Rattle.std.proofs.Common.{List, [], ◌∷◌, ◌++◌}
 use Rattle.std.proofs.Common.{length, Err, refl, sym, ap, subst, ◌∙◌, arith}
 use Rattle.std.proofs.Common.{append_assoc}
-use Rattle.std.proofs.Common.{append-nil, inl, inr, leb-true, leb-false}
+use Rattle.std.proofs.Common.{length-append, append-nil, inl, inr, leb-true, leb-false}
 use Rattle.std.proofs.lemmas.List.{take_all, length-take-le}
 use Rattle.bpf_helpers.specs.Promise.{Promise}
 use Rattle.acdm_lines.specs.declared.lines.Lines.{Lines}
 use Rattle.acdm_lines.specs.declared.run_error.RunError.{RunError}
 use Rattle.acdm_lines.specs.Counted.{SourceView, faults_after}
-use Rattle.acdm_lines.specs.Lines.{kept}
-use Rattle.acdm_lines.specs.NextLine.{TakesLine, TakesRest, TakesPart, FailsOrEndless}
+use Rattle.acdm_lines.specs.Lines.{IsLine, kept, most_held}
+use Rattle.acdm_lines.proofs.Feeds.{IsLine-append, NoneOrFirst, none_or_first}
+use Rattle.acdm_lines.specs.NextLine.{TakesLine, TakesNone, TakesPart, FailsOrEndless, ReadsSoon}
 use Rattle.acdm_lines.proofs.Reading.{kept-empty, kept-some, faults-more, logged-more, gave-more}
 use Rattle.acdm_step.specs.declared.entry.Entry.{Entry}
 use Rattle.acdm_step.specs.Commands.{History}
@@ -22,7 +23,7 @@ use Rattle.acdm_journal.specs.Text.{line_of, stated_in, history_text}
 use Rattle.acdm_journal.specs.Ranges.{IsStated}
 use Rattle.acdm_journal.specs.Audit.{States, StatesNext, Continues, Breaks}
 use Rattle.acdm_journal.specs.Whole.{AreReadable, BreaksNext, at_line, at_end}
-use Rattle.acdm_journal.specs.Whole.{FirstFault}
+use Rattle.acdm_journal.specs.Whole.{FirstFault, FoundFaulty}
 use Rattle.acdm_journal.specs.Whole.{GaveLegal, GaveFaulty, GaveUnended, Audits, JudgesEntry}
 use Rattle.acdm_journal.specs.declared.auditing.Fault.{Fault}
 use Rattle.acdm_journal.specs.declared.auditing.Fault.TheVariants as faults
@@ -83,6 +84,20 @@ module _ (sigs : List (ℕ × Promise)) (J : History) (line : List ℕ) where
     command = t.command;
     replays = t.replays;
   }
+
+-- a line that is too long breaks the first clause, whatever stands behind it
+module _ (sigs : List (ℕ × Promise)) (J : History) (part later : List ℕ) (line : IsLine part)
+    (long : MOST_KEPT ≤ length part) where
+  breaks-long : NoneOrFirst later → BreaksNext sigs J (part ++ later) clauses.Unreadable
+  breaks-long (inl none) =
+      let sum : length (part ++ later) ≡ length part + length later = length-append part later in
+      at_end (IsLine-append part later line none) (omega arith) refl
+  breaks-long (inr first) =
+      let sum : length (part ++ first.0) ≡ length part + length first.0 =
+      length-append part first.0 in
+      at_line (part ++ first.0) first.1 (IsLine-append part first.0 line first.2)
+      (ap (λ l. part ++ l) first.3 ∙ sym (append_assoc part first.0 (10 ∷ first.1)))
+      (λ short s. absurd (omega (arith, short, sum, long)))
 
 -- ---- what was judged so far, and one line more
 
@@ -191,45 +206,61 @@ module _ {R : Type 0} (sigs : List (ℕ × Promise)) (r0 r1 r2 : SourceView R)
       breaks = breaks;
     }
 
+    -- no more was read behind the entries than is kept of a line and one read gives
+    few : ReadsSoon MOST_KEPT r1 r2 l1 → (more : List ℕ) → r2.log ≡ r1.log ++ more
+        → length (l1.window ++ more) ≤ MOST_KEPT + most_held
+    few soon more e =
+        let read : length r2.log ≡ length r1.log + length more =
+        ap length e ∙ length-append r1.log more in
+        let sum : length (l1.window ++ more) ≡ length l1.window + length more =
+        length-append l1.window more in
+        omega (arith, soon)
+
     -- the line breaks a clause
-    faulty-line : (clause : Clause) → TakesLine MOST_KEPT r1 r2 l1 l2
+    pub faulty-line : (clause : Clause) → (t : TakesLine MOST_KEPT r1 r2 l1 l2)
         → Breaks sigs so_far.front l2.line clause
-        → GaveFaulty sigs r0.log r2.log r2.ended entry clause
+        → (g : GaveFaulty sigs r0.log r2.log r2.ended entry clause)
+        × (g.first.rest ≡ l1.window ++ t.text)
+    unfolding fault_in
     faulty-line clause t h =
         let breaks : Breaks sigs so_far.front t.line clause =
         breaks-line sigs so_far.front t.line clause
         (subst (λ l. Breaks sigs so_far.front l clause) t.bytes_are h) in
-        let text : List ℕ = judged ++ (l1.window ++ t.text) in
-        record {
-          text = text;
-          gave = logged_with t.text t.gave;
-          first = fault_in text (l1.window ++ t.text) clause refl
-              (at_line t.line l2.window t.is_line t.split breaks);
-          stays = inr (λ later.
-              fault_in (text ++ later) ((l1.window ++ t.text) ++ later) clause
-              (append_assoc judged (l1.window ++ t.text) later)
-              (at_line t.line (l2.window ++ later) t.is_line
-              (ap (λ l. l ++ later) t.split ∙ append_assoc t.line (10 ∷ l2.window) later)
-              breaks));
-        }
+        let text : List ℕ = judged ++ (l1.window ++ t.text) in (
+          record {
+            text = text;
+            gave = logged_with t.text t.gave;
+            first = fault_in text (l1.window ++ t.text) clause refl
+                (at_line t.line l2.window t.is_line t.split breaks);
+            stays = inr (λ later.
+                fault_in (text ++ later) ((l1.window ++ t.text) ++ later) clause
+                (append_assoc judged (l1.window ++ t.text) later)
+                (at_line t.line (l2.window ++ later) t.is_line
+                (ap (λ l. l ++ later) t.split ∙ append_assoc t.line (10 ∷ l2.window) later)
+                breaks));
+          },
+          refl,
+        )
 
     -- the line is not taken
     pub faulty : (after : Board) (e : Fault) (line : List ℕ)
-        → TakesLine MOST_KEPT r1 r2 l1 l2 → r2.faults ≡ r0.faults → line ≡ l2.line
-        → JudgesEntry {T = Unit {0}} sigs so_far.front entry line after (Err e)
+        → TakesLine MOST_KEPT r1 r2 l1 l2 → ReadsSoon MOST_KEPT r1 r2 l1 → r2.faults ≡ r0.faults
+        → line ≡ l2.line → JudgesEntry {T = Unit {0}} sigs so_far.front entry line after (Err e)
         → Audits sigs r0 r2 (Err e)
-    faulty after (faults.Faulty number clause) line t well is h =
+    faulty after (faults.Faulty number clause) line t soon well is h =
         let breaks : Breaks sigs so_far.front l2.line clause =
-        subst (λ l. Breaks sigs so_far.front l clause) is h.1 in (
-          subst (λ n. GaveFaulty sigs r0.log r2.log r2.ended n clause)
-              (sym h.0) (faulty-line clause t breaks),
+        subst (λ l. Breaks sigs so_far.front l clause) is h.1 in
+        let gave = faulty-line clause t breaks in
+        let bound : length gave.0.first.rest ≤ MOST_KEPT + most_held =
+        subst (λ l. length l ≤ MOST_KEPT + most_held) (sym gave.1) (few soon t.text t.gave) in (
+          subst (λ n. FoundFaulty sigs r0.log r2.log r2.ended n clause) (sym h.0) (gave.0, bound),
           well,
         )
-    faulty after faults.Read line t well is h = absurd h
-    faulty after faults.Memory line t well is h = well
+    faulty after faults.Read line t soon well is h = absurd h
+    faulty after faults.Memory line t soon well is h = well
 
     -- the text has ended
-    pub ends : TakesRest MOST_KEPT r1 r2 l1 l2 → length l2.line ≡ 0
+    pub ends : TakesNone MOST_KEPT r1 r2 l1 l2 → length l2.line ≡ 0
         → GaveLegal sigs r0.log r2.log r2.ended entry
     unfolding judged
     ends t empty =
@@ -241,25 +272,46 @@ module _ {R : Type 0} (sigs : List (ℕ × Promise)) (r0 r1 r2 : SourceView R)
           gave = logged_with t.text t.gave
               ∙ ap (λ l. r0.log ++ l) (ap (λ l. history_text so_far.front ++ l) none
               ∙ append-nil (history_text so_far.front));
-          at_end = t.ended;
+          at_end = ended_where t.why none;
           is = record { legal = so_far.legal; readable = so_far.readable; text_is = refl };
           count_is = so_far.count;
         }
+      where
+        ended_where : {rest : List ℕ} → (r2.ended ≡ true) ⊎ (MOST_KEPT ≤ length rest) → rest ≡ []
+            → r2.ended ≡ true
+        ended_where (inl ended) none = ended
+        ended_where {rest} (inr long) none =
+            let empty : length rest ≡ 0 = ap length none in
+            absurd (omega (arith, long))
 
-    -- the text has ended with the rest of a line
-    pub faulty-rest : TakesRest MOST_KEPT r1 r2 l1 l2 → 0 < length l2.line
-        → GaveFaulty sigs r0.log r2.log r2.ended entry clauses.Unreadable
-    faulty-rest t some =
+    -- the text has ended with the rest of a line, or a line is too long
+    pub faulty-rest : TakesNone MOST_KEPT r1 r2 l1 l2 → ReadsSoon MOST_KEPT r1 r2 l1
+        → 0 < length l2.line → FoundFaulty sigs r0.log r2.log r2.ended entry clauses.Unreadable
+    unfolding fault_in
+    faulty-rest t soon some =
         let rest : List ℕ = l1.window ++ t.text in
         let there : 0 < length rest =
-        kept-some LONGEST_LINE rest (subst (λ l. 0 < length l) t.bytes_are some) in
-        record {
-          text = judged ++ rest;
-          gave = logged_with t.text t.gave;
-          first = fault_in (judged ++ rest) rest clauses.Unreadable refl
-              (at_end t.is_line there refl);
-          stays = inl t.ended;
-        }
+        kept-some LONGEST_LINE rest (subst (λ l. 0 < length l) t.bytes_are some) in (
+          record {
+            text = judged ++ rest;
+            gave = logged_with t.text t.gave;
+            first = fault_in (judged ++ rest) rest clauses.Unreadable refl
+                (at_end t.is_line there refl);
+            stays = stays t.why;
+          },
+          few soon t.text t.gave,
+        )
+      where
+        stays : (r2.ended ≡ true) ⊎ (MOST_KEPT ≤ length (l1.window ++ t.text)) → (r2.ended ≡ true)
+            ⊎ ((later : List ℕ)
+            → FirstFault sigs ((judged ++ (l1.window ++ t.text)) ++ later) entry clauses.Unreadable)
+        stays (inl ended) = inl ended
+        stays (inr long) =
+            inr (λ later.
+            fault_in ((judged ++ (l1.window ++ t.text)) ++ later) ((l1.window ++ t.text) ++ later)
+            clauses.Unreadable (append_assoc judged (l1.window ++ t.text) later)
+            (breaks-long sigs so_far.front (l1.window ++ t.text) later t.is_line long
+            (none_or_first later)))
 
     -- no line more could be read
     pub unended : (error : RunError) → TakesPart MOST_KEPT r1 r2 l1 l2 error

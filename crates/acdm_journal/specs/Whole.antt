@@ -1,15 +1,14 @@
 -- What an audit says of a whole text (this project's profile).
-use Rattle.std.specs.Prelude.{ℕ, ◌<◌, ◌≤◌, ◌≡◌, ◌⊎◌, List, [], ◌∷◌, ◌++◌, length, Bool, true}
+use Rattle.std.specs.Prelude.{ℕ, ◌+◌, ◌<◌, ◌≤◌, ◌≡◌, ◌⊎◌, List, [], ◌∷◌, ◌++◌, length, Bool, true}
+use Rattle.std.specs.Prelude.{false}
 use Rattle.std.specs.Prelude.{Result, Ok, Err}
 use Rattle.std.specs.List.{AllByRecursion}
 use Rattle.bpf_helpers.specs.Promise.{Promise}
 use Rattle.acdm_lines.specs.Counted.{SourceView}
-use Rattle.acdm_lines.specs.Lines.{IsLine}
-use Rattle.acdm_lines.specs.declared.lines.Ending.{Ending}
-use Rattle.acdm_lines.specs.declared.lines.Ending.TheVariants.{LineFeed, Input}
+use Rattle.acdm_lines.specs.Lines.{IsLine, most_held}
 use Rattle.acdm_lines.specs.declared.lines.Lines.{Lines}
 use Rattle.acdm_lines.specs.declared.run_error.RunError.TheVariants.{Read}
-use Rattle.acdm_lines.specs.NextLine.{TakesLine, TakesRest, TakesPart, FailsOrEndless}
+use Rattle.acdm_lines.specs.NextLine.{TakesLine, TakesNone, TakesPart, FailsOrEndless}
 use Rattle.acdm_step.specs.declared.entry.Entry.{Entry}
 use Rattle.acdm_step.specs.Commands.{History}
 use Rattle.acdm_step.specs.History.{Board, IsLegal}
@@ -83,6 +82,13 @@ pub record GaveFaulty (sigs : List (ℕ × Promise)) (log log_after : List ℕ) 
   pub stays : (ended ≡ true)
       ⊎ ((later : List ℕ) → FirstFault sigs (text ++ later) entry clause)
 
+-- A fault was found, and behind the text of the entries before it no more was read than is kept of a
+-- line and one read gives.
+abbrev pub FoundFaulty : List (ℕ × Promise) → List ℕ → List ℕ → Bool → ℕ → Clause → Type 0
+FoundFaulty sigs log log_after ended entry clause =
+    (g : GaveFaulty sigs log log_after ended entry clause)
+    × (length g.first.rest ≤ MOST_KEPT + most_held)
+
 -- No more could be read: the reader gave the text of a legal history and a part of a line, and then
 -- failed or was endless.
 pub record GaveUnended (sigs : List (ℕ × Promise)) (log log_after : List ℕ)
@@ -101,7 +107,7 @@ abbrev pub Audits : {R : Type 0} → List (ℕ × Promise) → SourceView R → 
 Audits sigs old new (Ok n) =
     GaveLegal sigs old.log new.log new.ended n × (new.faults ≡ old.faults)
 Audits sigs old new (Err (faults.Faulty entry clause)) =
-    GaveFaulty sigs old.log new.log new.ended entry clause × (new.faults ≡ old.faults)
+    FoundFaulty sigs old.log new.log new.ended entry clause × (new.faults ≡ old.faults)
 Audits sigs old new (Err faults.Read) =
     GaveUnended sigs old.log new.log old.faults new.faults
 Audits sigs old new (Err faults.Memory) = new.faults ≡ old.faults
@@ -125,9 +131,9 @@ pub record GaveOf (bytes log log_after : List ℕ) (ended : Bool) : Type 0 where
 
 -- what comes of looking for the next line
 abbrev pub TakesNext : {R : Type 0} → SourceView R → SourceView R → Lines MOST_KEPT
-    → Lines MOST_KEPT → Result Ending Fault → Type 0
-TakesNext old new before after (Ok LineFeed) = TakesLine MOST_KEPT old new before after
-TakesNext old new before after (Ok Input) = TakesRest MOST_KEPT old new before after
+    → Lines MOST_KEPT → Result Bool Fault → Type 0
+TakesNext old new before after (Ok true) = TakesLine MOST_KEPT old new before after
+TakesNext old new before after (Ok false) = TakesNone MOST_KEPT old new before after
 TakesNext old new before after (Err e) =
     TakesPart MOST_KEPT old new before after Read × (e ≡ faults.Read)
 

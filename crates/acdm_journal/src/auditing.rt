@@ -1,13 +1,14 @@
 //! The audit of a whole journal, line by line.
-ghost use Rattle.std.specs.Prelude.{◌≡◌, ◌<◌, ◌-◌, ◌^◌, [], length};
+ghost use Rattle.std.specs.Prelude.{◌≡◌, ◌<◌, ◌-◌, ◌^◌, true, [], length, Ok};
 ghost use Rattle.acdm_lines.specs.Lines.{weight};
+ghost use Rattle.acdm_lines.specs.NextLine.{ReadsSoon};
 ghost use Rattle.acdm_step.specs.Commands.{History};
 ghost use Rattle.acdm_step.specs.History.{IsLegal, replay};
 ghost use Rattle.acdm_journal.specs.Whole.{Audits, JudgesEntry, TakesNext};
 
 use crate::judge::{AuditError, Clause, judge_line};
 use crate::reading::LONGEST_LINE;
-use acdm_lines::{Ending, Lines, Source};
+use acdm_lines::{Lines, Source};
 use acdm_step::Core;
 use bpf_helpers::Sigs;
 use std::alloc::Global;
@@ -28,15 +29,16 @@ pub enum Fault {
     Memory,
 }
 
-// Takes the next line.
-fn next_line<R: Read>(lines: &mut Lines<MOST_KEPT>, reader: &mut Source<R>) -> Result<Ending, Fault>
+// Takes the next line, and says whether a line feed ended it.
+fn next_line<R: Read>(lines: &mut Lines<MOST_KEPT>, reader: &mut Source<R>) -> Result<bool, Fault>
     ensures takes { TakesNext reader.old reader.new lines.old lines.new result }
-    ensures progress { result ≡ Ok Ending.LineFeed →
+    ensures progress { result ≡ Ok true →
         weight lines.new.reads_left lines.new.window
         < weight lines.old.reads_left lines.old.window }
+    ensures soon { ReadsSoon MOST_KEPT reader.old reader.new lines.old }
 {
-    match lines.next(reader) {
-        Ok(ending) => Ok(ending),
+    match lines.next_within(reader) {
+        Ok(is_line) => Ok(is_line),
         Err(_) => Err(Fault::Read),
     }
 }
@@ -78,7 +80,7 @@ fn audit_lines<R: Read>(
     ensures first { reader.new.first ≡ reader.old.first }
 {
     let mut entry = 0;
-    while let Ending::LineFeed = next_line(lines, reader)? {
+    while next_line(lines, reader)? {
         judge_entry(alloc, core, sigs, entry, lines.line.as_slice())?;
         entry += 1;
     }
@@ -96,7 +98,8 @@ fn audit_lines<R: Read>(
 /// legal history.
 ///
 /// `Faulty` with the first entry that is none, from 0, and the first clause that it breaks; a last
-/// line without a line feed is not readable. `Read` where the reader failed, or where 2^40 reads
+/// line without a line feed is not readable, and neither is one of 200,001 bytes, behind which no more
+/// is read. `Read` where the reader failed, or where 2^40 reads
 /// did not reach its end; `Memory` where there was no room for the board, for a line, or for what
 /// an entry asks for. At no time is more kept than 65,536 bytes that were read, 200,001 of a line,
 /// what it states, and the board after the entries before it.

@@ -20,7 +20,7 @@ use crate::writing::write_whole;
 use acdm_lines::Sink;
 use acdm_milestones::Milestone;
 use acdm_step::{Command, Deice, Entry, FlightCommand, Load, Plan, Report, Schedule, Verdict};
-use bpf_decode::encode;
+use bpf_decode::{Op, Program, encode_op};
 use bpf_regstate::Length;
 use itoa::Buffer;
 use std::alloc::{AllocError, Global};
@@ -125,20 +125,11 @@ fn push_report(text: &mut Appended, report: &Report) -> Result<(), AllocError>
     push_plan(text, plan)
 }
 
-// Adds a space and bytes in hexadecimal.
-fn push_bytes(text: &mut Appended, bytes: &[u8]) -> Result<(), AllocError>
-    ensures before { text.new.before ≡ text.old.before }
-    ensures adds { OnOk result (text.new.added ≡ text.old.added ++ 32 ∷ encode_lower bytes.now) }
-    ensures ranges { AllByRecursion IsByte bytes.now }
-{
-    text.push(b" ")?;
-    push_digits(text, bytes)
-}
-
 // Adds the two digits of each byte.
 fn push_digits(text: &mut Appended, bytes: &[u8]) -> Result<(), AllocError>
     ensures before { text.new.before ≡ text.old.before }
     ensures adds { OnOk result (text.new.added ≡ text.old.added ++ encode_lower bytes.now) }
+    ensures ranges { AllByRecursion IsByte bytes.now }
 {
     let mut rest = bytes;
     while let Some((byte, more)) = rest.split_first() {
@@ -160,7 +151,33 @@ fn push_byte(text: &mut Appended, byte: u8) -> Result<(), AllocError>
     text.push(&digits)
 }
 
-fn push_load(alloc: Global, text: &mut Appended, load: &Load) -> Result<(), AllocError>
+// Adds the digits of the bytes that encode these instructions.
+fn push_ops(text: &mut Appended, ops: &[Op]) -> Result<(), AllocError>
+    ensures before { text.new.before ≡ text.old.before }
+    ensures adds { OnOk result (text.new.added ≡ text.old.added ++ encode_lower (encoding ops.now)) }
+    ensures ranges { OnOk result (AllByRecursion IsByte (encoding ops.now)) }
+{
+    let mut rest = ops;
+    while let Some((op, more)) = rest.split_first() {
+        push_digits(text, encode_op(*op).as_slice())?;
+        rest = more;
+    }
+    Ok(())
+}
+
+// Adds a space and the bytes of a program in hexadecimal.
+fn push_program(text: &mut Appended, program: &Program) -> Result<(), AllocError>
+    ensures before { text.new.before ≡ text.old.before }
+    ensures adds { OnOk result (text.new.added
+        ≡ text.old.added ++ 32 ∷ encode_lower (encoding program.now)) }
+    ensures bytes { OnOk result (AllByRecursion IsByte (encoding program.now)) }
+    ensures program { OnOk result (IsProgram program.now) }
+{
+    text.push(b" ")?;
+    push_ops(text, program.ops())
+}
+
+fn push_load(text: &mut Appended, load: &Load) -> Result<(), AllocError>
     ensures before { text.new.before ≡ text.old.before }
     ensures adds { OnOk result (text.new.added ≡ text.old.added ++ spaced (
         load_words load.now.milestone load.now.kind (encoding load.now.program.ops)
@@ -168,11 +185,10 @@ fn push_load(alloc: Global, text: &mut Appended, load: &Load) -> Result<(), Allo
     ensures bytes { OnOk result (AllByRecursion IsByte (encoding load.now.program.ops)) }
     ensures program { OnOk result (IsProgram load.now.program.ops) }
 {
-    let bytes = encode(alloc, load.program.program())?;
     push_word(text, b"load")?;
     push_milestone(text, load.milestone)?;
     push_word(text, load.kind.name().as_bytes())?;
-    push_bytes(text, bytes.as_slice())?;
+    push_program(text, load.program.program())?;
     push_length(text, load.program.record_length())
 }
 
@@ -200,7 +216,7 @@ fn push_deice(text: &mut Appended, deice: &Deice) -> Result<(), AllocError>
     push_number(text, u64::from(deice.time))
 }
 
-fn push_command(alloc: Global, text: &mut Appended, command: &Command) -> Result<(), AllocError>
+fn push_command(text: &mut Appended, command: &Command) -> Result<(), AllocError>
     ensures before { text.new.before ≡ text.old.before }
     ensures adds { OnOk result (text.new.added
         ≡ text.old.added ++ spaced (command_words command.now)) }
@@ -211,7 +227,7 @@ fn push_command(alloc: Global, text: &mut Appended, command: &Command) -> Result
         Command::Flight(FlightCommand::Schedule(schedule)) => push_schedule(text, schedule),
         Command::Flight(FlightCommand::Report(report)) => push_report(text, report),
         Command::Flight(FlightCommand::Deice(deice)) => push_deice(text, deice),
-        Command::Load(load) => push_load(alloc, text, load),
+        Command::Load(load) => push_load(text, load),
         Command::Unload(unload) => {
             push_word(text, b"unload")?;
             push_milestone(text, unload.milestone)?;
@@ -257,7 +273,7 @@ fn push_head(text: &mut Appended, entry: &Entry) -> Result<(), AllocError>
 }
 
 // Adds the text of an entry where nothing was added yet.
-fn push_line(alloc: Global, text: &mut Appended, entry: &Entry) -> Result<(), AllocError>
+fn push_line(text: &mut Appended, entry: &Entry) -> Result<(), AllocError>
     requires none { text.old.added ≡ [] }
     ensures before { text.new.before ≡ text.old.before }
     ensures adds { OnOk result (text.new.added ≡ entry_text entry.now) }
@@ -267,7 +283,7 @@ fn push_line(alloc: Global, text: &mut Appended, entry: &Entry) -> Result<(), Al
     text.push(digits.format(entry.number).as_bytes())?;
     push_head(text, entry)?;
     push_answers(text, entry.answers.as_slice())?;
-    push_command(alloc, text, &entry.command)?;
+    push_command(text, &entry.command)?;
     text.push(b"\n")?;
     Ok(())
 }
@@ -275,7 +291,7 @@ fn push_line(alloc: Global, text: &mut Appended, entry: &Entry) -> Result<(), Al
 /// Adds the text of an entry: `N SESSION MINUTE ROLE OUT K A1 .. AK COMMAND` and a line feed, with
 /// OUT 0 or the number of the refusal and K the count of the answers that its programs used (this
 /// project's profile). It is written where the text has room, so no memory is asked for where that is
-/// enough, but for the bytes of a program that is loaded.
+/// enough.
 ///
 /// `Err` only where memory was refused; nothing has changed then.
 pub fn push_entry(text: &mut Vec<u8>, entry: &Entry) -> Result<(), AllocError>
@@ -286,7 +302,7 @@ pub fn push_entry(text: &mut Vec<u8>, entry: &Entry) -> Result<(), AllocError>
 {
     let alloc = *text.allocator();
     let mut line = Appended::new(mem::replace(text, Vec::new(alloc)));
-    match push_line(alloc, &mut line, entry) {
+    match push_line(&mut line, entry) {
         Ok(()) => {
             *text = line.whole();
             Ok(())
@@ -319,8 +335,7 @@ pub fn write_entry<W: Write>(
 }
 
 /// Writes the text of an entry by way of a buffer, whatever that holds. Where the buffer has room for
-/// it no memory is asked for, but for the bytes of a program that is loaded: `MOST_KEPT` bytes are
-/// room for each line that an audit reads.
+/// it no memory is asked for: `MOST_KEPT` bytes are room for each line that an audit reads.
 ///
 /// It answers what `write_entry` does.
 pub fn write_entry_by<W: Write>(

@@ -5,7 +5,7 @@ use Rattle.bpf_helpers.specs.Promise.{Promise}
 use Rattle.acdm_lines.specs.Counted.{SinkView, SourceView}
 use Rattle.acdm_lines.specs.declared.run_error.RunError.TheVariants as errors
 use Rattle.acdm_journal.specs.Audit.{clause_code}
-use Rattle.acdm_journal.specs.Whole.{GaveLegal, GaveFaulty, GaveUnended}
+use Rattle.acdm_journal.specs.Whole.{GaveLegal, FoundFaulty, GaveUnended}
 use Rattle.acdm_wire.specs.Writes.{Wrote, WroteInPart}
 use Rattle.acdm_judging.specs.declared.auditing.Finding.{Finding}
 use Rattle.acdm_judging.specs.declared.auditing.Finding.TheVariants.{Legal, Faulty}
@@ -17,7 +17,7 @@ abbrev pub Finds : {R : Type 0} → List (ℕ × Promise) → SourceView R → S
     → Result Finding Failure → Type 0
 Finds sigs old new (Ok (Legal n)) = GaveLegal sigs old.log new.log new.ended n
 Finds sigs old new (Ok (Faulty entry clause)) =
-    GaveFaulty sigs old.log new.log new.ended entry clause
+    FoundFaulty sigs old.log new.log new.ended entry clause
 Finds sigs old new (Err Read) = GaveUnended sigs old.log new.log old.faults new.faults
 Finds sigs old new (Err Memory) = Unit {0}
 Finds sigs old new (Err failure) = ⊥

@@ -1,7 +1,7 @@
 //! One line after another.
-ghost use Rattle.std.specs.Prelude.{◌≡◌, ℕ, ◌<◌, true, false, List, [], ◌∷◌, ◌++◌, IfOk};
-ghost use Rattle.acdm_lines.specs.Lines.{IsLine, kept, weight};
-ghost use Rattle.acdm_lines.specs.NextLine.{Takes};
+ghost use Rattle.std.specs.Prelude.{◌≡◌, ℕ, ◌<◌, ◌≤◌, true, false, List, [], ◌∷◌, ◌++◌, length, Some, IfOk};
+ghost use Rattle.acdm_lines.specs.Lines.{IsLine, kept, most_held, weight};
+ghost use Rattle.acdm_lines.specs.NextLine.{Advances, ReadsSoon, Takes, TakesWithin};
 
 use crate::line::Line;
 use crate::run_error::RunError;
@@ -51,6 +51,7 @@ impl<const MOST: usize> Lines<MOST> {
         ensures all { result ≡ false → IsLine self.old.window × (self.new.window ≡ [])
             × (self.new.line ≡ kept MOST (self.old.line ++ self.old.window)) }
         ensures reads { self.new.reads_left ≡ self.old.reads_left }
+        ensures fits { length self.old.window ≤ most_held }
     {
         match self.window.line_feed() {
             Some(end) => {
@@ -66,23 +67,69 @@ impl<const MOST: usize> Lines<MOST> {
         }
     }
 
-    /// Takes the next line, and says what ended it. It reads only where no whole line is held.
-    pub fn next<R: Read>(&mut self, reader: &mut Source<R>) -> Result<Ending, RunError>
-        ensures takes { Takes MOST reader.old reader.new self.old self.new result }
-        ensures progress { result ≡ Ok Ending.LineFeed → weight self.new.reads_left self.new.window
+    // Whether a line is too long already, where that is asked for.
+    fn is_long(&self, is_bounded: bool) -> bool
+        ensures long { result ≡ true → (is_bounded ≡ true) × (length self.now.line ≡ MOST) }
+        ensures short { result ≡ false → is_bounded ≡ true → length self.now.line < MOST }
+    {
+        is_bounded && self.line.is_full()
+    }
+
+    // Takes the next line, and says what ended it. Where that is asked for, none is taken that is too long:
+    // so many bytes were read as are kept of one, and no line feed.
+    fn advance<R: Read>(
+        &mut self,
+        reader: &mut Source<R>,
+        is_bounded: bool,
+    ) -> Result<Option<Ending>, RunError>
+        ensures takes { Advances MOST is_bounded reader.old reader.new self.old self.new result }
+        ensures progress { result ≡ Ok (Some Ending.LineFeed) → weight self.new.reads_left self.new.window
             < weight self.old.reads_left self.old.window }
+        ensures soon { is_bounded ≡ true → ReadsSoon MOST reader.old reader.new self.old }
     {
         self.line.clear();
         while !self.take_held() {
+            if self.is_long(is_bounded) {
+                return Ok(None);
+            }
             if self.reads_left == 0 {
                 return Err(RunError::Read);
             }
             self.reads_left -= 1;
             self.window.fill(reader)?;
             if self.window.as_slice().is_empty() {
-                return Ok(Ending::Input);
+                return Ok(Some(Ending::Input));
             }
         }
-        Ok(Ending::LineFeed)
+        Ok(Some(Ending::LineFeed))
+    }
+
+    /// Takes the next line, and says what ended it. It reads only where no whole line is held.
+    pub fn next<R: Read>(&mut self, reader: &mut Source<R>) -> Result<Ending, RunError>
+        ensures takes { Takes MOST reader.old reader.new self.old self.new result }
+        ensures progress { result ≡ Ok Ending.LineFeed → weight self.new.reads_left self.new.window
+            < weight self.old.reads_left self.old.window }
+    {
+        match self.advance(reader, false) {
+            Ok(Some(ending)) => Ok(ending),
+            Ok(None) => unreachable!(),
+            Err(error) => Err(error),
+        }
+    }
+
+    /// Takes the next line as `next` does, and says whether a line feed ended it. Else the input has
+    /// ended, or `MOST` bytes of a line were read, and no line feed among them: behind that many bytes
+    /// it reads no more.
+    pub fn next_within<R: Read>(&mut self, reader: &mut Source<R>) -> Result<bool, RunError>
+        ensures takes { TakesWithin MOST reader.old reader.new self.old self.new result }
+        ensures progress { result ≡ Ok true → weight self.new.reads_left self.new.window
+            < weight self.old.reads_left self.old.window }
+        ensures soon { ReadsSoon MOST reader.old reader.new self.old }
+    {
+        match self.advance(reader, true) {
+            Ok(Some(Ending::LineFeed)) => Ok(true),
+            Ok(_) => Ok(false),
+            Err(error) => Err(error),
+        }
     }
 }

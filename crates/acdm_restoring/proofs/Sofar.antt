@@ -10,12 +10,11 @@ use Rattle.acdm_lines.proofs.Reading.{logged-more}
 use Rattle.acdm_step.specs.declared.entry.Entry.{Entry}
 use Rattle.acdm_step.specs.History.{replay}
 use Rattle.acdm_board.specs.Desk.{DeskView, with_entry}
-use Rattle.acdm_journal.specs.declared.auditing.Fault.TheVariants as faults
 use Rattle.acdm_journal.specs.declared.auditing.TheConstants.{MOST_KEPT}
 use Rattle.acdm_journal.specs.Text.{line_of, stated_in, history_text}
 use Rattle.acdm_journal.specs.Audit.{Breaks, Continues}
 use Rattle.acdm_journal.specs.Whole.{AreReadable, GaveFaulty, GaveUnended}
-use Rattle.acdm_journal.proofs.Sofar.{Sofar, sofar-entry, faulty, unended}
+use Rattle.acdm_journal.proofs.Sofar.{Sofar, sofar-entry, faulty-line, unended}
 use Rattle.acdm_restoring.specs.declared.restoring.RestoreError.{RestoreError}
 use Rattle.acdm_restoring.specs.declared.restoring.RestoreError.TheVariants as errors
 use Rattle.acdm_restoring.specs.Restored.{Restores, RestoresLine, TakesEntry}
@@ -122,11 +121,13 @@ module _ {R : Type 0} (r0 r1 r2 : SourceView R) (l1 l2 : Lines MOST_KEPT) (d0 d1
     pub not_taken : (d2 : DeskView) (e : RestoreError)
         → RestoresLine {T = Unit {0}} d1 d2 line (Err e) → Restores {R = R} d0 d2 r0 r2 (Err e)
     not_taken d2 (errors.Faulty entry clause) h =
-        let found = faulty d1.sigs r0 r1 r2 l1 l2 (length d1.history)
-        (replay d1.sigs d1.history) g.sofar (replay d1.sigs d1.history)
-        (faults.Faulty entry clause) line t (t.well ∙ g.well) is
-        (h.0.0, subst (λ J. Breaks d1.sigs J line clause) (sym g.front) h.0.1) in (
-          subst (λ s. GaveFaulty s r0.log r2.log r2.ended entry clause) same_sigs found.0,
+        let breaks : Breaks d1.sigs g.sofar.front l2.line clause =
+        subst (λ l. Breaks d1.sigs g.sofar.front l clause) is
+        (subst (λ J. Breaks d1.sigs J line clause) (sym g.front) h.0.1) in
+        let found = faulty-line d1.sigs r0 r1 r2 l1 l2 (length d1.history)
+        (replay d1.sigs d1.history) g.sofar clause t breaks in (
+          subst (λ s. GaveFaulty s r0.log r2.log r2.ended entry clause) same_sigs
+              (subst (λ n. GaveFaulty d1.sigs r0.log r2.log r2.ended n clause) (sym h.0.0) found.0),
           t.well ∙ g.well,
         )
     not_taken d2 errors.Full h =

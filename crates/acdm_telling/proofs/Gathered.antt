@@ -8,7 +8,7 @@ use Rattle.acdm_lines.specs.declared.lines.Lines.{Lines}
 use Rattle.acdm_lines.specs.declared.run_error.RunError.{RunError}
 use Rattle.acdm_lines.specs.declared.run_error.RunError.TheVariants as errors
 use Rattle.acdm_lines.specs.Counted.{SinkView, SourceView}
-use Rattle.acdm_lines.specs.NextLine.{TakesLine, TakesRest, TakesPart}
+use Rattle.acdm_lines.specs.NextLine.{ReadsSoon, TakesLine, TakesNone, TakesPart}
 use Rattle.acdm_lines.proofs.Reading.{kept-empty, logged-more}
 use Rattle.acdm_step.specs.declared.entry.Entry.{Entry}
 use Rattle.acdm_step.specs.Commands.{History}
@@ -250,12 +250,12 @@ module _ {R W : Type 0} (sigs : List (ℕ × Promise)) (r0 r1 r2 : SourceView R)
           }
 
       -- the line is faulty
-      pub found_fault : (finding : Finding) (later : List ℕ) (w2 : SinkView W)
-          → FindsFault sigs g.sofar.front line judged finding later w0 w2
+      pub found_fault : ReadsSoon MOST_KEPT r1 r2 l1 → (finding : Finding) (later : List ℕ)
+          (w2 : SinkView W) → FindsFault sigs g.sofar.front line judged finding later w0 w2
           → Gathered sigs finding later r0 r2 w0 w2
-      found_fault finding later w2 f =
+      found_fault soon finding later w2 f =
           let faulty_line = faulty sigs r0 r1 r2 l1 l2 judged.entries judged.core g.sofar judged.core
-          (faults.Faulty judged.entries f.clause) line t (t.well ∙ g.well) is (refl, f.breaks) in
+          (faults.Faulty judged.entries f.clause) line t soon (t.well ∙ g.well) is (refl, f.breaks) in
           subst (λ x. Gathered sigs x later r0 r2 w0 w2) (sym f.finding_is) (record {
             finds = faulty_line.0;
             history = g.sofar.front;
@@ -266,7 +266,7 @@ module _ {R W : Type 0} (sigs : List (ℕ × Promise)) (r0 r1 r2 : SourceView R)
             gathers = f.gathers;
           })
 
-    module _ (t : TakesRest MOST_KEPT r1 r2 l1 l2) where
+    module _ (t : TakesNone MOST_KEPT r1 r2 l1 l2) where
       -- the text has ended
       pub ends_well : length l2.line ≡ 0 → Gathered sigs (Legal judged.entries) text r0 r2 w0 w1
       ends_well empty = record {
@@ -280,11 +280,11 @@ module _ {R W : Type 0} (sigs : List (ℕ × Promise)) (r0 r1 r2 : SourceView R)
         gathers = g.gathers;
       }
 
-      -- the text has ended with the rest of a line
-      pub ends_faulty : 0 < length l2.line
+      -- the text has ended with the rest of a line, or a line is too long
+      pub ends_faulty : ReadsSoon MOST_KEPT r1 r2 l1 → 0 < length l2.line
           → Gathered sigs (Faulty judged.entries clauses.Unreadable) text r0 r2 w0 w1
-      ends_faulty some = record {
-        finds = faulty-rest sigs r0 r1 r2 l1 l2 judged.entries judged.core g.sofar t some;
+      ends_faulty soon some = record {
+        finds = faulty-rest sigs r0 r1 r2 l1 l2 judged.entries judged.core g.sofar t soon some;
         history = g.sofar.front;
         rest = l1.window ++ t.text;
         gives = gives t.text t.gave;
@@ -371,6 +371,7 @@ module _ {R W : Type 0} (sigs : List (ℕ × Promise)) (text : List ℕ) (read r
     told = written g.history text first old g.gathers new w;
   }
   told_rest failures.Write g w = failed g.history text first old g.gathers sigs new g.gives.legal w
+  told_rest failures.Untold g w = absurd w
   told_rest failures.Save g w = absurd w
   told_rest failures.Memory g w = absurd w
   told_rest (failures.Role n) g w = absurd w

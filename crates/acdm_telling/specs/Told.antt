@@ -1,14 +1,12 @@
 -- What is told of a saved journal (this project's profile).
-use Rattle.std.specs.Prelude.{ℕ, ◌≡◌, ◌⊎◌, false, List, [], ◌∷◌, ◌++◌, length, Option, Some, None}
+use Rattle.std.specs.Prelude.{ℕ, ◌≡◌, ◌⊎◌, Bool, true, false, List, [], ◌∷◌, ◌++◌, length, Option, Some, None}
 use Rattle.std.specs.Prelude.{Result, Ok, Err}
 use Rattle.bpf_helpers.specs.Promise.{Promise}
 use Rattle.acdm_lines.specs.Counted.{SinkView, SourceView}
-use Rattle.acdm_lines.specs.declared.lines.Ending.{Ending}
-use Rattle.acdm_lines.specs.declared.lines.Ending.TheVariants.{LineFeed, Input}
 use Rattle.acdm_lines.specs.declared.lines.Lines.{Lines}
 use Rattle.acdm_lines.specs.declared.run_error.RunError.{RunError}
 use Rattle.acdm_lines.specs.declared.run_error.RunError.TheVariants as errors
-use Rattle.acdm_lines.specs.NextLine.{TakesLine, TakesRest, TakesPart}
+use Rattle.acdm_lines.specs.NextLine.{TakesLine, TakesNone, TakesPart}
 use Rattle.acdm_step.specs.Commands.{History}
 use Rattle.acdm_step.specs.History.{IsLegal}
 use Rattle.acdm_journal.specs.declared.auditing.TheConstants.{MOST_KEPT}
@@ -196,8 +194,8 @@ TellsRest text old new failure = ⊥
 
 -- what comes of looking for the next line
 abbrev pub TakesNext : {R : Type 0} → SourceView R → SourceView R → Lines MOST_KEPT
-    → Lines MOST_KEPT → Result Ending Stop → Type 0
-TakesNext old new before after (Ok LineFeed) = TakesLine MOST_KEPT old new before after
-TakesNext old new before after (Ok Input) = TakesRest MOST_KEPT old new before after
+    → Lines MOST_KEPT → Result Bool Stop → Type 0
+TakesNext old new before after (Ok true) = TakesLine MOST_KEPT old new before after
+TakesNext old new before after (Ok false) = TakesNone MOST_KEPT old new before after
 TakesNext old new before after (Err e) =
     TakesPart MOST_KEPT old new before after errors.Read × (e ≡ stops.Read)

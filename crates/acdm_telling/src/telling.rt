@@ -1,9 +1,10 @@
 //! The command `tell`, over the reader and the writers that it is handed.
-ghost use Rattle.std.specs.Prelude.{◌≡◌, ◌<◌, ◌-◌, ◌^◌, [], length, Ok};
+ghost use Rattle.std.specs.Prelude.{◌≡◌, ◌<◌, ◌-◌, ◌^◌, true, [], length, Ok};
 ghost use Rattle.acdm_failures.specs.Failures.{EndsBy};
 ghost use Rattle.acdm_feed.specs.Knowing.{Knows};
 ghost use Rattle.acdm_tables.specs.Helpers.{helpers_by};
 ghost use Rattle.acdm_lines.specs.Lines.{weight};
+ghost use Rattle.acdm_lines.specs.NextLine.{ReadsSoon};
 ghost use Rattle.acdm_step.specs.Commands.{History};
 ghost use Rattle.acdm_step.specs.History.{IsLegal, replay};
 ghost use Rattle.acdm_telling.specs.Told.{Gathering, Gathers, GathersLine, Told, WritesMany};
@@ -14,7 +15,7 @@ use crate::judged::{Judged, tell_line};
 use acdm_failures::{Failure, ended};
 use acdm_journal::{AuditError, Clause, MOST_KEPT};
 use acdm_judging::Finding;
-use acdm_lines::{Ending, Lines, RunError, Sink, Source};
+use acdm_lines::{Lines, RunError, Sink, Source};
 use acdm_tables::{Tables, known_sigs};
 use acdm_wire::write_out;
 use bpf_helpers::Sigs;
@@ -35,15 +36,16 @@ pub enum Stop {
     Memory,
 }
 
-// Takes the next line.
-fn next_line<R: Read>(lines: &mut Lines<MOST_KEPT>, reader: &mut Source<R>) -> Result<Ending, Stop>
+// Takes the next line, and says whether a line feed ended it.
+fn next_line<R: Read>(lines: &mut Lines<MOST_KEPT>, reader: &mut Source<R>) -> Result<bool, Stop>
     ensures takes { TakesNext reader.old reader.new lines.old lines.new result }
-    ensures progress { result ≡ Ok Ending.LineFeed →
+    ensures progress { result ≡ Ok true →
         weight lines.new.reads_left lines.new.window
         < weight lines.old.reads_left lines.old.window }
+    ensures soon { ReadsSoon MOST_KEPT reader.old reader.new lines.old }
 {
-    match lines.next(reader) {
-        Ok(ending) => Ok(ending),
+    match lines.next_within(reader) {
+        Ok(is_line) => Ok(is_line),
         Err(_) => Err(Stop::Read),
     }
 }
@@ -109,7 +111,7 @@ fn gather<R: Read, W: Write>(
     requires text { text.old.items ≡ [] }
     ensures { Gathering sigs.now text.new.items reader.old reader.new writer.old writer.new result }
 {
-    while let Ending::LineFeed = next_line(lines, reader)? {
+    while next_line(lines, reader)? {
         match gather_line(alloc, sigs, judged, lines.line.as_slice(), text, writer) {
             Ok(None) => {}
             Ok(Some(finding)) => return Ok(finding),

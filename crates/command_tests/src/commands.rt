@@ -96,9 +96,10 @@ fn a_run_ends_with_its_status(rt: HostRuntime) {
 }
 
 // Each failure, and the line that tells it.
-static FAILURES: [(Failure, &str); 11] = [
+static FAILURES: [(Failure, &str); 12] = [
     (Failure::Read, "acdm: read failed\n"),
     (Failure::Write, "acdm: write failed\n"),
+    (Failure::Untold, "acdm: write failed\n"),
     (Failure::Save, "acdm: save failed\n"),
     (Failure::Memory, "acdm: no memory\n"),
     (Failure::Role(1), "acdm: role 1\n"),

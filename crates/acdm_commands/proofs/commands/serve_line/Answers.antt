@@ -5,12 +5,12 @@ use Rattle.acdm_commands.proofs.commands.serve_line.Goals as goal
 pub returns-in-Ok : goal.returns-in-Ok
 returns-in-Ok g c =
     let path = option_map (λ s. s.now) c.args.save in
-    served_line _ c.args.journal path _ c.in-Ok.saving.file c.serve_words-status.new.saved _ _ _ _ _ _ _ c.in-Ok.ensures.made
-    c.serve_words-status.ensures c.settle.ensures
+    served_line _ c.args.journal path _ c.in-Ok.saving.file c.serve_words-work.new.saved _ _ _ _ _ _ _
+    c.in-Ok.ensures.made c.serve_words-work.ensures c.settle.ensures c.ended.ensures
 
 pub returns-in-Err : goal.returns-in-Err
 returns-in-Err g c = record {
   work = Err c.in-Err.failure;
   comes = inr (c.in-Err.ensures.fails, refl);
-  ends = c.ended.ensures;
+  ends = c.ended-in-Err.ensures;
 }

@@ -9,4 +9,5 @@ returns-clause-serves g c =
     let closed = c.in_ok-desk.field-0 in
     serves_partners closed.sessions.items (λ e. e.number) (λ e. e.calls) (λ e. e.role) (λ e. e.end)
     (λ e. e.torn) (λ e. session_left e.end e.reader e.writer e.pass) _ closed.desk _ _ _ _ done.sum
-    done.sessions done.served done.begins done.shown done.tells (λ J. J ≡ closed.desk.history) refl
+    done.sessions done.served done.begins done.shown closed.told done.tells
+    (λ J. J ≡ closed.desk.history) refl

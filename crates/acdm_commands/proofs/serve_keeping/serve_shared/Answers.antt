@@ -11,4 +11,4 @@ returns-in-Err g c =
 pub returns-in-Ok-kept : goal.returns-in-Ok-kept
 returns-in-Ok-kept g c =
     comes_kept c.args.desk _ _ c.args.writer.now c.desk_after-served.new.writer _ _
-    c.in-Ok.after.history c.save.result c.in-Ok.ensures.serves c.save.ensures.saves c.save.ensures.fails
+    c.in-Ok.left.0.history c.in-Ok.left.1 c.save_served.result c.in-Ok.ensures.serves c.save_served.ensures

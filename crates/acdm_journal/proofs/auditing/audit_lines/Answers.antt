@@ -1,7 +1,6 @@
 use Rattle.std.proofs.Common.{◌<◌, ◌≢◌, Ok, length, refl, sym, ap, ◌∙◌, arith}
 use Rattle.std.proofs.lemmas.Bool.{eqb-true, eqb-false}
 use Rattle.std.proofs.lemmas.Result.{err_from_is_err_and}
-use Rattle.acdm_lines.proofs.Reading.{input-from_not_line_feed}
 use Rattle.acdm_step.specs.History.{Board}
 use Rattle.acdm_journal.proofs.Sofar.{sofar-begins, sofar-line, faulty, ends, faulty-rest, unended}
 use Rattle.acdm_journal.proofs.auditing.audit_lines.Goals as goal
@@ -29,7 +28,7 @@ returns-in_err-next_line g c =
 
 pub returns-in_err-judge_entry : goal.returns-in_err-judge_entry
 returns-in_err-judge_entry g c =
-    let t = rw c.in-LineFeed.is at c.in_ok-next_line.ensures.takes in
+    let t = rw c.if-branch.true at c.in_ok-next_line.ensures.takes in
     let so_far = c.loop-core.invariant.sofar in
     let judged = c.in_err-judge_entry.ensures.judges so_far.front so_far.legal so_far.count
     so_far.replays in
@@ -38,19 +37,18 @@ returns-in_err-judge_entry g c =
     rw (p.1, p.2) (record {
       audits = faulty c.args.sigs.now c.args.reader.now c.loop-core.reader
           c.next_line.new.reader c.loop-core.lines c.next_line.new.lines c.loop-core.entry
-          c.loop-core.core so_far c.judge_entry.new.core _ _ t (t.well
-          ∙ c.loop-core.invariant.well)
-          c.as_slice.ensures judged;
+          c.loop-core.core so_far c.judge_entry.new.core _ _ t c.in_ok-next_line.ensures.soon
+          (t.well ∙ c.loop-core.invariant.well) c.as_slice.ensures judged;
       first = t.same ∙ c.loop-core.invariant.same;
     })
 
 pub loop-core-preserved : goal.loop-core-preserved
 loop-core-preserved g c =
-    let t = rw c.in-LineFeed.is at c.in_ok-next_line.ensures.takes in
+    let t = rw c.if-branch.true at c.in_ok-next_line.ensures.takes in
     let so_far = c.loop-core.invariant.sofar in
     let judged = c.in_ok-judge_entry.ensures.judges so_far.front so_far.legal so_far.count
     so_far.replays in
-    let lighter = c.in_ok-next_line.ensures.progress (ap Ok c.in-LineFeed.is) in
+    let lighter = c.in_ok-next_line.ensures.progress (ap Ok c.if-branch.true) in
     record {
       sofar = sofar-line c.args.sigs.now c.args.reader.now c.loop-core.reader
           c.next_line.new.reader c.loop-core.lines c.next_line.new.lines c.loop-core.entry
@@ -63,8 +61,7 @@ loop-core-preserved g c =
 
 pub returns-then-is_empty : goal.returns-then-is_empty
 returns-then-is_empty g c =
-    let ended = input-from_not_line_feed _ c.in_default.not-LineFeed in
-    let t = rw ended at c.in_ok-next_line.ensures.takes in
+    let t = rw c.if-branch.false at c.in_ok-next_line.ensures.takes in
     let empty = eqb-true _ _ (sym c.is_empty.ensures ∙ c.if-is_empty.true) in
     record {
       audits = (
@@ -79,8 +76,7 @@ returns-then-is_empty g c =
 
 pub returns : goal.returns
 returns g c =
-    let ended = input-from_not_line_feed _ c.in_default.not-LineFeed in
-    let t = rw ended at c.in_ok-next_line.ensures.takes in
+    let t = rw c.if-branch.false at c.in_ok-next_line.ensures.takes in
     let more : length c.next_line.new.lines.line ≢ 0 =
     λ none. eqb-false (length c.as_slice-2.result.now) 0
     (sym c.is_empty.ensures ∙ c.if-is_empty.false) (ap length c.as_slice-2.ensures ∙ none) in
@@ -89,7 +85,7 @@ returns g c =
       audits = (
         faulty-rest c.args.sigs.now c.args.reader.now c.loop-core.reader
             c.next_line.new.reader c.loop-core.lines c.next_line.new.lines c.loop-core.entry
-            c.loop-core.core c.loop-core.invariant.sofar t some,
+            c.loop-core.core c.loop-core.invariant.sofar t c.in_ok-next_line.ensures.soon some,
         t.well ∙ c.loop-core.invariant.well,
       );
       first = t.same ∙ c.loop-core.invariant.same;

@@ -1,6 +1,5 @@
-use Rattle.std.proofs.Common.{◌≡◌, List, ℕ, refl, subst}
+use Rattle.std.proofs.Common.{List, refl}
 use Rattle.bpf_decode.specs.declared.op.Op.{Op}
-use Rattle.bpf_decode.specs.Encoding.{Encodes}
 use Rattle.acdm_journal.proofs.Refusals.{none_accepted}
 use Rattle.acdm_journal.proofs.judge.program_of.Goals as goal
 

@@ -1,6 +1,5 @@
 use Rattle.std.proofs.Common.{◌<◌, ◌≢◌, Ok, length, sym, ap, ◌∙◌, arith}
 use Rattle.std.proofs.lemmas.Bool.{eqb-true, eqb-false}
-use Rattle.acdm_lines.proofs.Reading.{input-from_not_line_feed}
 use Rattle.acdm_telling.proofs.Gathered.{begins, ends_faulty, ends_well, found_fault, goes_on, stopped}
 use Rattle.acdm_telling.proofs.telling.gather.Goals as goal
 
@@ -15,11 +14,11 @@ loop-judged-init g c = record {
 
 pub loop-judged-preserved : goal.loop-judged-preserved
 loop-judged-preserved g c =
-    let t = rw c.in-LineFeed.is at c.in_ok-next_line.ensures.takes in
+    let t = rw c.if-branch.true at c.in_ok-next_line.ensures.takes in
     let going = c.loop-judged.invariant.going in
     let e = rw c.in-Ok-None.field-0-is at c.in-Ok-None.ensures.gathers going.sofar.front
     c.args.writer.now going.sofar.legal going.sofar.count going.sofar.replays going.knows going.gathers in
-    let lighter = c.in_ok-next_line.ensures.progress (ap Ok c.in-LineFeed.is) in
+    let lighter = c.in_ok-next_line.ensures.progress (ap Ok c.if-branch.true) in
     let counted = e.told.counted in
     record {
       going = goes_on c.args.sigs.now c.args.reader.now c.loop-judged.reader c.next_line.new.reader
@@ -32,19 +31,18 @@ loop-judged-preserved g c =
 
 pub returns-in-Ok-Some : goal.returns-in-Ok-Some
 returns-in-Ok-Some g c =
-    let t = rw c.in-LineFeed.is at c.in_ok-next_line.ensures.takes in
+    let t = rw c.if-branch.true at c.in_ok-next_line.ensures.takes in
     let going = c.loop-judged.invariant.going in
     found_fault c.args.sigs.now c.args.reader.now c.loop-judged.reader c.next_line.new.reader
     c.loop-judged.lines c.next_line.new.lines c.loop-judged.judged c.loop-judged.text.items
-    c.args.writer.now c.loop-judged.writer going t _ c.as_slice.ensures c.in-Ok-Some.finding
+    c.args.writer.now c.loop-judged.writer going t _ c.as_slice.ensures c.in_ok-next_line.ensures.soon c.in-Ok-Some.finding
     c.gather_line.new.text.items c.gather_line.new.writer
     (rw c.in-Ok-Some.field-0-is at c.in-Ok-Some.ensures.gathers going.sofar.front c.args.writer.now
     going.sofar.legal going.sofar.count going.sofar.replays going.knows going.gathers)
 
 pub returns-then-is_empty : goal.returns-then-is_empty
 returns-then-is_empty g c =
-    let ended = input-from_not_line_feed _ c.in_default.not-LineFeed in
-    let t = rw ended at c.in_ok-next_line.ensures.takes in
+    let t = rw c.if-branch.false at c.in_ok-next_line.ensures.takes in
     let empty = eqb-true _ _ (sym c.is_empty.ensures ∙ c.if-is_empty.true) in
     ends_well c.args.sigs.now c.args.reader.now c.loop-judged.reader c.next_line.new.reader
     c.loop-judged.lines c.next_line.new.lines c.loop-judged.judged c.loop-judged.text.items
@@ -53,15 +51,14 @@ returns-then-is_empty g c =
 
 pub returns : goal.returns
 returns g c =
-    let ended = input-from_not_line_feed _ c.in_default.not-LineFeed in
-    let t = rw ended at c.in_ok-next_line.ensures.takes in
+    let t = rw c.if-branch.false at c.in_ok-next_line.ensures.takes in
     let more : length c.next_line.new.lines.line ≢ 0 =
     λ none. eqb-false (length c.as_slice-2.result.now) 0
     (sym c.is_empty.ensures ∙ c.if-is_empty.false) (ap length c.as_slice-2.ensures ∙ none) in
     let some : 0 < length c.next_line.new.lines.line = omega arith in
     ends_faulty c.args.sigs.now c.args.reader.now c.loop-judged.reader c.next_line.new.reader
     c.loop-judged.lines c.next_line.new.lines c.loop-judged.judged c.loop-judged.text.items
-    c.args.writer.now c.loop-judged.writer c.loop-judged.invariant.going t some
+    c.args.writer.now c.loop-judged.writer c.loop-judged.invariant.going t c.in_ok-next_line.ensures.soon some
 
 pub returns-in-Err : goal.returns-in-Err
 returns-in-Err g c =

@@ -1,0 +1,5 @@
+use Rattle.acdm_judging.proofs.auditing.finding_in.Goals as goal
+
+pub returns-in-Err-Faulty : goal.returns-in-Err-Faulty
+returns-in-Err-Faulty g c =
+    (rw (c.in-Err-Faulty.field-0-is, c.in_ok-sigs.ensures) at c.in-Err-Faulty.ensures.audits).0
