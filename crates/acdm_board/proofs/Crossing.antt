@@ -4,7 +4,7 @@ use denote.Param.Send.{IsSend, sendable, view_send}
 use denote.Param.SendFields.{as_row_send, declared_send}
 use Rattle.std.proofs.Crossing.{crosses}
 use Rattle.acdm_step.proofs.state.Core.TheSendSync as core
-use Rattle.acdm_row.proofs.Crossing.{journal_send, pass_send, row_send, row_sync}
+use Rattle.acdm_row.proofs.Crossing.{publisher_send, pass_send, row_send, row_sync}
 use Rattle.bpf_helpers.specs.declared.helpers.Helpers as helpers
 use Rattle.acdm_board.specs.contracts.book.Book as book
 use Rattle.acdm_board.specs.contracts.passes.Passes as passes
@@ -12,7 +12,7 @@ use Rattle.acdm_board.specs.contracts.desk.Desk as desk
 use Rattle.acdm_board.specs.contracts.desk.Desk.TheInside as inside
 
 book_send : IsSend book.the_row
-book_send = search (journal_send, core.the_send, sendable, crosses) depth 20
+book_send = search (publisher_send, core.the_send, sendable, crosses) depth 20
 
 passes_send : IsSend passes.the_row
 passes_send = search (pass_send, row_send, row_sync, sendable, crosses) depth 20

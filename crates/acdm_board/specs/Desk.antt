@@ -9,7 +9,7 @@ use Rattle.acdm_step.specs.declared.entry.Entry.{Entry}
 use Rattle.acdm_step.specs.declared.outcome.Outcome.{Outcome}
 use Rattle.acdm_step.specs.Verdicts.{outcome_of, verdict_of}
 use Rattle.acdm_step.specs.History.{Board, IsLegal, is_checked, replay, after}
-use Rattle.acdm_row.specs.Views.{JournalView, PassView, RowView}
+use Rattle.acdm_row.specs.Views.{PublisherView, PassView, RowView}
 
 -- the entries, the newest first, how many there may be, the signatures of the helpers, and the
 -- names
@@ -32,7 +32,7 @@ pub record Keeps (core : Board) (entries : List Entry) (capacity : ℕ) : Type 0
 
 -- the core is the replay of the journal in the row, whose programs were checked against the core's
 -- signatures
-pub record IsBook (core : Board) (journal : JournalView) : Type 0 where
+pub record IsBook (core : Board) (journal : PublisherView) : Type 0 where
   pub keeps : Keeps core journal.entries (length journal.row.cells)
   pub sigs_are : journal.row.sigs ≡ core.slots.sigs
 

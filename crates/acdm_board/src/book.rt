@@ -12,7 +12,7 @@ ghost use Rattle.acdm_row.specs.Views.{IsSameCaller};
 ghost use Rattle.acdm_board.specs.Desk.{DeskView, Enters, Extends, row_of, with_entry};
 ghost use Rattle.acdm_board.specs.Desk.{is_foreign as has_other_sigs};
 
-use acdm_row::{Journal, Pass, Row};
+use acdm_row::{Pass, Publisher, Row};
 use acdm_step::{Answers, Command, Core, Entry, Outcome, Prepared};
 use bpf_helpers::{Helpers, Live, Sigs};
 use std::alloc::{AllocError, Global};
@@ -23,7 +23,7 @@ use std::sync::Arc;
 #[derive(Drop)]
 pub(crate) struct Book {
     core: Core,
-    journal: Journal,
+    journal: Publisher,
 }
 
 impl Model for Book {
@@ -80,7 +80,7 @@ impl Book {
         ensures capacity { IfOk result (λ book. book.capacity ≡ capacity) }
         ensures sigs { IfOk result (λ book. book.sigs ≡ sigs) }
     {
-        let journal = Journal::new(alloc, sigs.copy()?, capacity)?;
+        let journal = Publisher::new(alloc, sigs.copy()?, capacity)?;
         let core = Core::new(alloc, sigs)?;
         Ok(Book { core, journal })
     }

@@ -5,7 +5,7 @@ use Rattle.std.specs.Str.{bytes_eq}
 use Rattle.clap.proofs.OnLiterals.{clap_on_literals}
 use Rattle.clap.specs.Words.{Row, Text, all_of, first_of, is_simple, subcommand_of}
 use Rattle.bpf_regstate.specs.declared.length.Length.{Length}
-use Rattle.acdm_command_line.specs.declared.command_line.Line.{Line}
+use Rattle.acdm_command_line.specs.declared.command_line.Subcommand.{Subcommand}
 use Rattle.acdm_command_line.specs.CommandLine.{Answers, Asks, AsksNothing, AsksWith, AuditsFile}
 use Rattle.acdm_command_line.specs.CommandLine.{Explains, TellsFile}
 use Rattle.acdm_command_line.specs.CommandLine.{IsJournal, IsRight, Runs, Serves, Verifies}
@@ -66,19 +66,19 @@ none_asked found none (inr (inr (inr (inr (inl h))))) = none.explain h.0 h.1 h.2
 none_asked found none (inr (inr (inr (inr (inr h))))) = none.tell h.0 h.1
 
 -- words of which something is answered ask for it
-pub some_right : (words : List Text) (found : Option (Text × List Row)) (line : Option Line) (l : Line)
+pub some_right : (words : List Text) (found : Option (Text × List Row)) (line : Option Subcommand) (l : Subcommand)
     (tables : Option Text) → found ≡ subcommand_of program words → Answers found line → line ≡ Some l
     → tables ≡ tables_in found → AsksWith (subcommand_of program words) l tables
 some_right words found line l tables same answers is named = (
   subst (λ (o : Option (Text × List Row)). Asks o l) same
-      (subst (λ (it : Option Line). Answers found it) is answers),
+      (subst (λ (it : Option Subcommand). Answers found it) is answers),
   named ∙ ap tables_in same,
 )
 
 -- words of which nothing is answered are not right
-pub none_right : (words : List Text) (found : Option (Text × List Row)) (line : Option Line)
+pub none_right : (words : List Text) (found : Option (Text × List Row)) (line : Option Subcommand)
     → found ≡ subcommand_of program words → Answers found line → line ≡ None → IsRight words → ⊥
 none_right words found line same answers none right =
-    let nothing : Answers found None = subst (λ (l : Option Line). Answers found l) none answers in
+    let nothing : Answers found None = subst (λ (l : Option Subcommand). Answers found l) none answers in
     none_asked (subcommand_of program words)
     (subst (λ (o : Option (Text × List Row)). Answers o None) same nothing) right.asks

@@ -12,10 +12,10 @@ use Rattle.clap.specs.declared.error.kind.ErrorKind.{ErrorKind}
 use Rattle.clap.specs.declared.error.kind.ErrorKind.TheVariants.{OutOfMemory}
 use Rattle.bpf_regstate.specs.declared.length.Length.{Length}
 use Rattle.bpf_regstate.specs.declared.length.Length.TheVariants.{L128, L160}
-use Rattle.acdm_command_line.specs.declared.command_line.Line.{Line}
-use Rattle.acdm_command_line.specs.declared.command_line.Order.{Order}
-use Rattle.acdm_command_line.specs.declared.command_line.Line.TheVariants.{Run, Serve, Verify, Audit}
-use Rattle.acdm_command_line.specs.declared.command_line.Line.TheVariants.{Explain, Tell}
+use Rattle.acdm_command_line.specs.declared.command_line.Subcommand.{Subcommand}
+use Rattle.acdm_command_line.specs.declared.command_line.Invocation.{Invocation}
+use Rattle.acdm_command_line.specs.declared.command_line.Subcommand.TheVariants.{Run, Serve, Verify, Audit}
+use Rattle.acdm_command_line.specs.declared.command_line.Subcommand.TheVariants.{Explain, Tell}
 
 -- `--journal N`, 100000 where it is not given
 abbrev pub journal_rule : Rule
@@ -232,7 +232,7 @@ TellsFile found file = value_in (codes "tell") (codes "file") found ≡ Some fil
 
 -- it is `run` or `serve` with the journal, the files, the addresses and the partners that are named, or
 -- `verify`, `audit`, `explain` or `tell` of the file that is, with the length
-abbrev pub Asks : Option (Text × List Row) → Line → Type 0
+abbrev pub Asks : Option (Text × List Row) → Subcommand → Type 0
 Asks found (Run journal save keep sync) =
     (text : Text) × Runs found text × IsJournal text × (journal ≡ number_of text)
     × (option_map (λ s. s.now) save ≡ value_in (codes "run") (codes "save") found)
@@ -256,12 +256,13 @@ Asks found (Explain length file) = Explains found length file.now
 Asks found (Tell file) = TellsFile found file.now
 
 -- the words ask for this, with this file of tables
-abbrev pub AsksWith : Option (Text × List Row) → Line → Option Text → Type 0
-AsksWith found line tables = Asks found line × (tables ≡ tables_in found)
+abbrev pub AsksWith : Option (Text × List Row) → Subcommand → Option Text → Type 0
+AsksWith found subcommand tables = Asks found subcommand × (tables ≡ tables_in found)
 
-abbrev pub AsksFor : List Text → Order → Type 0
-AsksFor words order =
-    AsksWith (subcommand_of program words) order.line (option_map (λ s. s.now) order.tables)
+abbrev pub AsksFor : List Text → Invocation → Type 0
+AsksFor words invocation =
+    AsksWith (subcommand_of program words) invocation.subcommand
+    (option_map (λ s. s.now) invocation.tables)
 
 -- it is none of the six
 pub record AsksNothing (found : Option (Text × List Row)) : Type 0 where
@@ -272,8 +273,8 @@ pub record AsksNothing (found : Option (Text × List Row)) : Type 0 where
   pub explain : (length : Length) (file : Text) → Explains found length file → ⊥
   pub tell : (file : Text) → TellsFile found file → ⊥
 
-abbrev pub Answers : Option (Text × List Row) → Option Line → Type 0
-Answers found (Some line) = Asks found line
+abbrev pub Answers : Option (Text × List Row) → Option Subcommand → Type 0
+Answers found (Some subcommand) = Asks found subcommand
 Answers found None = AsksNothing found
 
 -- the journal of the subcommand of a name: the number that its text names, or none
@@ -285,12 +286,12 @@ AnswersJournal name found None = (text : Text)
     → value_in name (codes "journal") found ≡ Some text → IsJournal text → ⊥
 
 -- what `run` asks for, or that it asks for nothing; the same of `serve`
-abbrev pub AnswersRun : Option (Text × List Row) → Option Line → Type 0
-AnswersRun found (Some line) = Asks found line
+abbrev pub AnswersRun : Option (Text × List Row) → Option Subcommand → Type 0
+AnswersRun found (Some subcommand) = Asks found subcommand
 AnswersRun found None = (text : Text) → Runs found text → IsJournal text → ⊥
 
-abbrev pub AnswersServe : Option (Text × List Row) → Option Line → Type 0
-AnswersServe found (Some line) = Asks found line
+abbrev pub AnswersServe : Option (Text × List Row) → Option Subcommand → Type 0
+AnswersServe found (Some subcommand) = Asks found subcommand
 AnswersServe found None = (text : Text) → Serves found text → IsJournal text → ⊥
 
 -- the length and the file of the subcommand of a name, or none

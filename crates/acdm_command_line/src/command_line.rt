@@ -27,9 +27,9 @@ use std::io::Write;
 
 const MOST_ENTRIES: usize = 1_000_000;
 
-/// What the words of a command line ask for.
+/// What a command line asks for.
 #[derive(Debug, Drop, PartialEq, Eq)]
-pub enum Line<'a> {
+pub enum Subcommand<'a> {
     /// `run`, with room for so many entries in the journal, from 1 to 1,000,000, which is to be
     /// saved in this file, and kept in that one, from which it goes on; where `sync` is true, what is
     /// kept is synced to the disk.
@@ -77,10 +77,11 @@ pub enum Line<'a> {
     },
 }
 
-/// What the words of a command line ask for, and the file of the airport's tables, if it is named.
+/// What the words of a command line ask for: a subcommand, and the file of the airport's tables, if it is
+/// named.
 #[derive(Debug, Drop, PartialEq, Eq)]
-pub struct Order<'a> {
-    pub line: Line<'a>,
+pub struct Invocation<'a> {
+    pub subcommand: Subcommand<'a>,
     pub tables: Option<&'a str>,
 }
 
@@ -493,14 +494,14 @@ fn is_set(matches: &ArgMatches, name: &str, id: &str) -> bool
 }
 
 // What `run` asks for, if it was entered with such a journal.
-fn run_of<'a>(matches: &ArgMatches<'a>) -> Option<Line<'a>>
+fn run_of<'a>(matches: &ArgMatches<'a>) -> Option<Subcommand<'a>>
     ensures { AnswersRun (subcommand_rows_of matches.now) result }
 {
     let journal = journal_for(matches, "run")?;
     let save = value(matches, "run", "save");
     let keep = value(matches, "run", "keep");
     let sync = is_set(matches, "run", "sync");
-    Some(Line::Run {
+    Some(Subcommand::Run {
         journal,
         save,
         keep,
@@ -532,7 +533,10 @@ fn pace_for(matches: &ArgMatches) -> Option<Option<u32>>
 }
 
 // What `serve` asks for, if it was entered with such a journal.
-fn serve_of<'a>(alloc: Global, matches: &ArgMatches<'a>) -> Result<Option<Line<'a>>, AllocError>
+fn serve_of<'a>(
+    alloc: Global,
+    matches: &ArgMatches<'a>,
+) -> Result<Option<Subcommand<'a>>, AllocError>
     ensures { IfOk result (AnswersServe (subcommand_rows_of matches.now)) }
 {
     let Some(journal) = journal_for(matches, "serve") else {
@@ -550,7 +554,7 @@ fn serve_of<'a>(alloc: Global, matches: &ArgMatches<'a>) -> Result<Option<Line<'
         return Ok(None);
     };
     let partners = partners_of(alloc, matches)?;
-    Ok(Some(Line::Serve {
+    Ok(Some(Subcommand::Serve {
         journal,
         save,
         keep,
@@ -566,23 +570,26 @@ fn serve_of<'a>(alloc: Global, matches: &ArgMatches<'a>) -> Result<Option<Line<'
 }
 
 // What is asked for by the subcommand that was entered.
-fn line_of<'a>(alloc: Global, matches: &ArgMatches<'a>) -> Result<Option<Line<'a>>, AllocError>
+fn subcommand_in<'a>(
+    alloc: Global,
+    matches: &ArgMatches<'a>,
+) -> Result<Option<Subcommand<'a>>, AllocError>
     ensures { IfOk result (Answers (subcommand_rows_of matches.now)) }
 {
     if let Some((length, file)) = judged_by(matches, "verify") {
-        return Ok(Some(Line::Verify { length, file }));
+        return Ok(Some(Subcommand::Verify { length, file }));
     }
     if let Some(file) = value(matches, "audit", "file") {
-        return Ok(Some(Line::Audit { file }));
+        return Ok(Some(Subcommand::Audit { file }));
     }
     if let Some((length, file)) = judged_by(matches, "explain") {
-        return Ok(Some(Line::Explain { length, file }));
+        return Ok(Some(Subcommand::Explain { length, file }));
     }
     if let Some(file) = value(matches, "tell", "file") {
-        return Ok(Some(Line::Tell { file }));
+        return Ok(Some(Subcommand::Tell { file }));
     }
-    if let Some(line) = run_of(matches) {
-        return Ok(Some(line));
+    if let Some(run) = run_of(matches) {
+        return Ok(Some(run));
     }
     serve_of(alloc, matches)
 }
@@ -607,7 +614,7 @@ fn parse_by<'a>(
     alloc: Global,
     command: &mut Command<'a>,
     words: &'a [&'a str],
-) -> Result<Order<'a>, Error>
+) -> Result<Invocation<'a>, Error>
     requires shape { app_of command.old ≡ the_program }
     requires local { (fields_of command.old).has_globals ≡ false }
     ensures asks { IfOk result (AsksFor (map (λ w. w.now) words.entry.now)) }
@@ -616,8 +623,8 @@ fn parse_by<'a>(
 {
     let matches = command.try_get_matches_from_mut(words)?;
     let tables = tables_of(&matches);
-    if let Some(line) = line_of(alloc, &matches)? {
-        return Ok(Order { line, tables });
+    if let Some(subcommand) = subcommand_in(alloc, &matches)? {
+        return Ok(Invocation { subcommand, tables });
     }
     Err(command.error(ErrorKind::ValueValidation, reason(&matches))?)
 }
@@ -628,7 +635,7 @@ fn parse_by<'a>(
 /// and the other words are taken as they stand. Words that name no such command are refused by
 /// `clap`; a journal outside 1 to 1,000,000 is refused, a length that is neither 128 nor 160, and a
 /// pace that is no number from 1 to 4,294,967,295. A request for help counts as a refusal.
-pub fn parse<'a>(alloc: Global, words: &'a [&'a str]) -> Result<Order<'a>, Error>
+pub fn parse<'a>(alloc: Global, words: &'a [&'a str]) -> Result<Invocation<'a>, Error>
     ensures asks { IfOk result (AsksFor (map (λ w. w.now) words.entry.now)) }
     ensures refuses { IfErr result (λ error.
         Refuses (map (λ w. w.now) words.entry.now) (kind_of error)) }
@@ -644,13 +651,13 @@ pub fn asked<'a, E: Write>(
     alloc: Global,
     words: &'a [&'a str],
     errors: &mut E,
-) -> Result<Order<'a>, ErrorKind>
+) -> Result<Invocation<'a>, ErrorKind>
     ensures asks { IfOk result (AsksFor (map (λ w. w.now) words.entry.now)) }
     ensures refuses { IfErr result (Refuses (map (λ w. w.now) words.entry.now)) }
     ensures quiet { OnOk result (errors.new ≡ errors.old) }
 {
     match parse(alloc, words) {
-        Ok(order) => Ok(order),
+        Ok(invocation) => Ok(invocation),
         Err(error) => {
             let _ = write!(errors, "{error}");
             Err(error.kind())

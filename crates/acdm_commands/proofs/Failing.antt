@@ -21,15 +21,6 @@ pub untold : {W T : Type 0} (old new : SinkView W) (result : Result T ServeError
 untold old new (Ok x) p = p
 untold old new (Err error) p = untold_error old new error p
 
-pub on_ok : {T E A B : Type 0} (result : Result T E) → (A → B) → OnOk result A → OnOk result B
-on_ok (Ok x) f p = f p
-on_ok (Err e) f p = p
-
-pub if_err : {T E : Type 0} {P Q : E → Type 0} (result : Result T E) → ((e : E) → P e → Q e)
-    → IfErr result P → IfErr result Q
-if_err (Ok x) f p = p
-if_err (Err e) f p = f e p
-
 -- partners were not served to their end, or that could not be told
 pub unserved : {W : Type 0} (old new : SinkView W) (error : ServeError) → FailsToTell old new error
     → FailsToServeAll old new (failure_of_serve error)

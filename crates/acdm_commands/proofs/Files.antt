@@ -13,7 +13,7 @@ use Rattle.acdm_judging.specs.Gave.{GaveBytes, most_bytes}
 use Rattle.acdm_judging.specs.Verdicts.{Judged, Verifies}
 use Rattle.acdm_judging.specs.declared.auditing.Finding.{Finding}
 use Rattle.acdm_judging.specs.declared.auditing.Finding.TheVariants.{Legal, Faulty}
-use Rattle.acdm_judging.specs.declared.verifying.Verdict.{Verdict}
+use Rattle.acdm_judging.specs.declared.verifying.ProgramVerdict.{ProgramVerdict}
 use Rattle.acdm_lines.specs.Counted.{SinkView, SourceView}
 use Rattle.acdm_telling.specs.Told.{Gives, Told}
 use Rattle.acdm_commands.specs.Completed.{ExplainsLine, IsUnread, IsUnwritten, read_from}
@@ -106,7 +106,7 @@ module _ {F : Type 0} (sigs : List (ℕ × Promise)) (file later : SourceView F)
       → GaveBytes most (read_from file) (read_from later) bytes
   gave_any most bytes p = record { gave = p.gave; enough = p.enough; well = p.well }
 
-  judged_any : (long : Length) (verdict : Verdict) → Judged sigs long file later verdict
+  judged_any : (long : Length) (verdict : ProgramVerdict) → Judged sigs long file later verdict
       → Judged sigs long (read_from file) (read_from later) verdict
   judged_any long verdict p = record { bytes = p.bytes; gave = gave_any most_bytes p.bytes p.gave; is = p.is }
 

@@ -39,16 +39,6 @@ module _ {P : Type 0} (role : P → Role) where
       let rest : map role_in words ≡ roles_of ps = cc in
       (subst (λ o. IsSome o) first refl, all_name words ps rest)
 
-  -- one word more, and its partner
-  pub named_more : (front : List (List ℕ)) (ps : List P) (word : List ℕ) (p : P)
-      → map role_in front ≡ roles_of ps → role_in word ≡ Some (role p)
-      → map role_in (front ++ word ∷ []) ≡ roles_of (ps ++ p ∷ [])
-  named_more front ps word p same next =
-      map-append role_in front (word ∷ [])
-      ∙ ap (λ os. os ++ role_in word ∷ []) same
-      ∙ ap (λ o. roles_of ps ++ o ∷ []) next
-      ∙ sym (map-append (λ q. Some (role q)) ps (p ∷ []))
-
   named_as : (words front more : List (List ℕ)) (word : List ℕ) (n : ℕ) (failure : Failure)
       → words ≡ front ++ word ∷ more → AllByRecursion (λ w. IsSome (role_in w)) front
       → n ≡ length front + 1 → FailsToName n word failure → FailsToListen words failure

@@ -2,28 +2,28 @@
 use Rattle.std.specs.Prelude.{ℕ, ◌≡◌, ◌⊎◌, List, option_map}
 use Rattle.clap.specs.declared.error.kind.ErrorKind.{ErrorKind}
 use Rattle.acdm_command_line.specs.CommandLine.{AsksFor, Refuses}
-use Rattle.acdm_command_line.specs.declared.command_line.Order.{Order}
+use Rattle.acdm_command_line.specs.declared.command_line.Invocation.{Invocation}
 use Rattle.acdm_lines.specs.Counted.{SinkView, SourceView}
 use Rattle.acdm_tables.specs.Helpers.{TablesView, helpers_by}
 use Rattle.acdm_commands.specs.Completed.{Does}
 use Rattle.acdm_commands.specs.ByTables.{AreTables, RefusesTables}
 
--- the words ask for this line, and it was done with the helpers by these tables
+-- the words ask for this, and it was done with the helpers by these tables
 pub record DoesAsked {R W E : Type 0} (words : List (List ℕ)) (input input_after : SourceView R)
     (output output_after : SinkView W) (status : ℕ) (errors errors_after : SinkView E) : Type 0 where
-  pub order : Order
-  pub asks : AsksFor words order
+  pub invocation : Invocation
+  pub asks : AsksFor words invocation
   pub tables : TablesView
-  pub are : AreTables (option_map (λ s. s.now) order.tables) tables
-  pub done : Does (helpers_by tables) order.line input input_after output output_after status errors
+  pub are : AreTables (option_map (λ s. s.now) invocation.tables) tables
+  pub done : Does (helpers_by tables) invocation.subcommand input input_after output output_after status errors
       errors_after
 
 -- the words ask for a file of tables that gives none, which was told, and nothing was done
 pub record LacksTables {R W E : Type 0} (words : List (List ℕ)) (input input_after : SourceView R)
     (output output_after : SinkView W) (status : ℕ) (errors errors_after : SinkView E) : Type 0 where
-  pub order : Order
-  pub asks : AsksFor words order
-  pub refused : RefusesTables (option_map (λ s. s.now) order.tables) errors errors_after
+  pub invocation : Invocation
+  pub asks : AsksFor words invocation
+  pub refused : RefusesTables (option_map (λ s. s.now) invocation.tables) errors errors_after
   pub status_is : status ≡ 2
   pub unread : input_after ≡ input
   pub unwritten : output_after ≡ output

@@ -3,9 +3,9 @@ use Rattle.std.specs.Prelude.{ℕ, ◌≡◌, ◌⊎◌, ⊤, false, List, [], O
 use Rattle.std.specs.Prelude.{map, option_map}
 use Rattle.bpf_helpers.specs.Promise.{Promise}
 use Rattle.bpf_regstate.specs.declared.length.Length.{Length}
-use Rattle.acdm_command_line.specs.declared.command_line.Line.{Line}
-use Rattle.acdm_command_line.specs.declared.command_line.Line.TheVariants.{Audit, Explain, Run, Serve}
-use Rattle.acdm_command_line.specs.declared.command_line.Line.TheVariants.{Tell, Verify}
+use Rattle.acdm_command_line.specs.declared.command_line.Subcommand.{Subcommand}
+use Rattle.acdm_command_line.specs.declared.command_line.Subcommand.TheVariants.{Audit, Explain, Run, Serve}
+use Rattle.acdm_command_line.specs.declared.command_line.Subcommand.TheVariants.{Tell, Verify}
 use Rattle.acdm_failures.specs.Failures.{EndsBy}
 use Rattle.acdm_failures.specs.declared.failure.Failure.{Failure}
 use Rattle.acdm_failures.specs.declared.failure.Failure.TheVariants.{Memory, Read, Save, Untold}
@@ -172,7 +172,7 @@ ExplainsLine sigs long path output output_after status errors errors_after =
     ⊎ ((status ≡ 2) × (output_after ≡ output) × TellsUnread path errors errors_after)
 
 -- what is done for a line; none but `run` reads the input
-abbrev pub Does : {R W E : Type 0} → List (ℕ × Promise) → Line → SourceView R → SourceView R
+abbrev pub Does : {R W E : Type 0} → List (ℕ × Promise) → Subcommand → SourceView R → SourceView R
     → SinkView W → SinkView W → ℕ → SinkView E → SinkView E → Type 0
 Does sigs (Run journal save keep sync) input input_after output output_after status errors errors_after =
     RunsWords sigs journal (option_map (λ s. s.now) save) (option_map (λ s. s.now) keep) input input_after

@@ -6,6 +6,7 @@ ghost use Rattle.acdm_commands.specs.Completed.{ServesKeptLine, ServesLine, Serv
 ghost use Rattle.acdm_failures.specs.Failures.{EndsBy};
 ghost use Rattle.acdm_tables.specs.Helpers.{helpers_by};
 
+use crate::host::Host;
 use crate::keeping::{KeepIn, keep_line};
 use crate::lasting::Service;
 use crate::saving::{saving_in, settle};
@@ -13,7 +14,7 @@ use crate::serve_command::{Audience, serve_words};
 use crate::serve_keeping::serve_kept;
 use crate::serving::run_by;
 use crate::tables::tables_of;
-use acdm_command_line::{Line, Order, asked};
+use acdm_command_line::{Invocation, Subcommand, asked};
 use acdm_failures::{Failure, ended};
 use acdm_judging::{audit_on, explain_on, unread, verify_on};
 use acdm_sessions::{Sink, Source};
@@ -26,7 +27,7 @@ use std::io::{Eprint, Read, Write};
 use std::net::{Net, TcpListener, TcpStream};
 use std::sync::Wait;
 use std::thread::Threads;
-use std::time::Clock as SystemClock;
+use std::time::Clock;
 
 /// Does what the words ask for; the first is the program's name.
 ///
@@ -37,7 +38,7 @@ use std::time::Clock as SystemClock;
 pub fn complete<
     Rt: Files<File = File>
         + Net<Listener = TcpListener, Stream = TcpStream>
-        + SystemClock
+        + Clock
         + Eprint
         + Threads
         + Wait
@@ -62,48 +63,33 @@ pub fn complete<
     ensures { Completes (map (λ w. w.now) words.entry.now) input.old input.new output.old output.new
         result errors.old errors.new }
 {
-    let Order { line, tables } = match asked(alloc, words, errors) {
-        Ok(order) => order,
+    let Invocation { subcommand, tables } = match asked(alloc, words, errors) {
+        Ok(invocation) => invocation,
         Err(_) => return 2,
     };
     match tables_of(rt, alloc, tables, errors) {
-        Some(tables) => complete_by(alloc, rt, tables, line, input, output, errors),
+        Some(tables) => complete_by(alloc, rt, tables, subcommand, input, output, errors),
         None => 2,
     }
 }
 
 // Does what is asked for, by these tables.
-fn complete_by<
-    Rt: Files<File = File>
-        + Net<Listener = TcpListener, Stream = TcpStream>
-        + SystemClock
-        + Eprint
-        + Threads
-        + Wait
-        + Clone
-        + Drop
-        + Send
-        + Sync
-        + 'static,
-    R: Read,
-    W: Write,
-    E: Write,
->(
+fn complete_by<Rt: Host + Files<File = File>, R: Read, W: Write, E: Write>(
     alloc: Global,
     rt: &Rt,
     tables: Tables,
-    line: Line<'_>,
+    subcommand: Subcommand<'_>,
     input: &mut Source<R>,
     output: &mut Sink<W>,
     errors: &mut Sink<E>,
 ) -> u8
     requires reads { input.old.faults < 2 ^ 64 - 1 }
     requires writes { output.old.faults < 2 ^ 64 - 1 }
-    ensures { Does (helpers_by tables) line.entry input.old input.new output.old output.new result
+    ensures { Does (helpers_by tables) subcommand.entry input.old input.new output.old output.new result
         errors.old errors.new }
 {
-    match line {
-        Line::Run {
+    match subcommand {
+        Subcommand::Run {
             journal,
             save,
             keep,
@@ -111,7 +97,7 @@ fn complete_by<
         } => run_words(
             rt, alloc, tables, journal, save, keep, sync, input, output, errors,
         ),
-        Line::Serve {
+        Subcommand::Serve {
             journal,
             save,
             keep,
@@ -145,14 +131,14 @@ fn complete_by<
             output,
             errors,
         ),
-        Line::Audit { file } => audit_line(rt, alloc, &tables, file, output, errors),
-        Line::Verify { length, file } => verify_line(
+        Subcommand::Audit { file } => audit_line(rt, alloc, &tables, file, output, errors),
+        Subcommand::Verify { length, file } => verify_line(
             rt, alloc, &tables, length, file, output, errors,
         ),
-        Line::Explain { length, file } => {
+        Subcommand::Explain { length, file } => {
             explain_line(rt, alloc, &tables, length, file, output, errors)
         }
-        Line::Tell { file } => tell_line(rt, alloc, &tables, file, output, errors),
+        Subcommand::Tell { file } => tell_line(rt, alloc, &tables, file, output, errors),
     }
 }
 
@@ -216,21 +202,7 @@ fn run_line<Rt: Files, R: Read, W: Write, E: Write>(
 }
 
 // `serve`, with the file that the journal is to be saved in.
-fn serve_line<
-    Rt: Files
-        + Net<Listener = TcpListener, Stream = TcpStream>
-        + SystemClock
-        + Eprint
-        + Threads
-        + Wait
-        + Clone
-        + Drop
-        + Send
-        + Sync
-        + 'static,
-    W: Write,
-    E: Write,
->(
+fn serve_line<Rt: Host + Files, W: Write, E: Write>(
     rt: &Rt,
     alloc: Global,
     tables: Tables,
@@ -258,21 +230,7 @@ fn serve_line<
 }
 
 // `serve`, with the files that the journal is to be saved and kept in.
-fn serve_lines<
-    Rt: Files<File = File>
-        + Net<Listener = TcpListener, Stream = TcpStream>
-        + SystemClock
-        + Eprint
-        + Threads
-        + Wait
-        + Clone
-        + Drop
-        + Send
-        + Sync
-        + 'static,
-    W: Write,
-    E: Write,
->(
+fn serve_lines<Rt: Host + Files<File = File>, W: Write, E: Write>(
     rt: &Rt,
     alloc: Global,
     tables: Tables,
@@ -307,21 +265,7 @@ fn serve_lines<
 }
 
 // `serve` with a journal that is kept, with the file that it is to be saved in.
-fn serve_kept_line<
-    Rt: Files<File = File>
-        + Net<Listener = TcpListener, Stream = TcpStream>
-        + SystemClock
-        + Eprint
-        + Threads
-        + Wait
-        + Clone
-        + Drop
-        + Send
-        + Sync
-        + 'static,
-    W: Write,
-    E: Write,
->(
+fn serve_kept_line<Rt: Host + Files<File = File>, W: Write, E: Write>(
     rt: &Rt,
     alloc: Global,
     tables: Tables,

@@ -9,6 +9,7 @@ ghost use Rattle.acdm_sessions.specs.Passes.{BeginsWith, IsShown, made_since};
 ghost use Rattle.acdm_sessions.specs.Sessions.{HaveEnded, HaveServed, new_session, session_end};
 ghost use Rattle.acdm_sessions.specs.Sessions.{session_left, session_start};
 
+use crate::host::Host;
 use crate::partners::{REPLIES_HELD, Served, announce, served_by, tell};
 use acdm_board::Desk;
 use acdm_failures::{Failure, ServeError};
@@ -20,18 +21,17 @@ use acdm_partners::{
 };
 use acdm_row::Row;
 use acdm_sessions::{Clock, Closed, Gate, Session, Sink, Source};
-use acdm_wire::LONGEST_LINE;
+use acdm_wire::LONGEST_REQUEST;
 use bpf_helpers::Helpers;
 use std::alloc::{AllocError, Global};
 use std::io::{BufWriter, Eprint, Write};
 use std::net::{Net, TcpListener, TcpStream};
 use std::sync::atomic::AtomicBool;
 use std::sync::{Arc, Wait};
-use std::thread::Threads;
 use std::time::Clock as SystemClock;
 
 // One byte more than the longest line has, so that a longer one is told by what is kept of it.
-const MOST_KEPT: usize = LONGEST_LINE + 1;
+const MOST_KEPT: usize = LONGEST_REQUEST + 1;
 
 /// What the lines of a session come from: all its connections.
 pub(crate) type Reading<'r, Rt> = WholeLines<Arriving<'r, Rt>, Connection, MOST_KEPT>;
@@ -293,7 +293,7 @@ fn acceptor_of<Rt: Wait + SystemClock + Eprint + Clone + Drop>(
 }
 
 // Starts the thread that accepts partners and answers at the control address.
-fn receive<Rt: Threads + Wait + SystemClock + Eprint + Clone + Drop + Send + 'static>(
+fn receive<Rt: Host>(
     rt: &Rt,
     alloc: Global,
     doors: Vec<Door>,
@@ -341,7 +341,7 @@ fn opened<'r, J: Opening, Rt: Wait + SystemClock, C: Clock + Drop, W: Write>(
 fn served_while<
     'r,
     J: Opening + Send + Sync,
-    Rt: Threads + Wait + SystemClock + Eprint + Clone + Drop + Send + Sync + 'static,
+    Rt: Host,
     H: Helpers + Drop + Send,
     C: Clock + Drop + Send,
 >(
@@ -389,7 +389,7 @@ fn served_while<
 pub(crate) fn serve_again<
     'r,
     J: Opening + Send + Sync,
-    Rt: Threads + Wait + SystemClock + Eprint + Clone + Drop + Send + Sync + 'static,
+    Rt: Host,
     H: Helpers + Drop + Send,
     C: Clock + Drop + Send,
     W: Write,

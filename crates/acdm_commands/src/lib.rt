@@ -4,6 +4,7 @@
 
 mod addresses;
 mod commands;
+mod host;
 mod keeping;
 mod lasting;
 mod minutes;

@@ -18,7 +18,7 @@ use acdm_failures::ServeError;
 use acdm_headline::serve_sessions;
 use acdm_milestones::Role;
 use acdm_partners::{PATIENCE, Patient};
-use acdm_sessions::{Clock, Closed, End, Ended, Gate, RunError, Session, Sink, Source};
+use acdm_sessions::{Clock, Closed, End, EndedSession, Gate, RunError, Session, Sink, Source};
 use acdm_wire::{Text, write_out, write_whole};
 use bpf_helpers::Helpers;
 use std::alloc::Global;
@@ -78,7 +78,7 @@ pub struct Served<H: Helpers + Drop, R: Read + Drop, S: Write + Drop, C: Drop> {
     /// The desk, with the entries that their sessions made.
     pub desk: Desk<H>,
     /// Their sessions, in the order of their numbers.
-    pub sessions: Vec<Ended<R, S, C>>,
+    pub sessions: Vec<EndedSession<R, S, C>>,
     /// How it went to tell how they ended.
     pub told: Result<(), RunError>,
 }
@@ -355,7 +355,7 @@ fn closed_line(entries: u64) -> Text
 
 // Writes the line of each session.
 fn tell_sessions<R: Read + Drop, S: Write + Drop, C: Drop, W: Write>(
-    sessions: &[Ended<R, S, C>],
+    sessions: &[EndedSession<R, S, C>],
     writer: &mut Sink<W>,
 ) -> Result<(), RunError>
     ensures { Writes writer.old writer.new

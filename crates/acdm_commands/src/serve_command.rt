@@ -6,6 +6,7 @@ ghost use Rattle.acdm_tables.specs.Helpers.{helpers_by};
 ghost use Rattle.acdm_sessions.specs.Sessions.{new_session};
 
 use crate::addresses::{Partner, listen};
+use crate::host::Host;
 use crate::lasting::{FileKeeper, Service, serve_again};
 use crate::partners::serve_on;
 use crate::saving::{buffer_for, save_served};
@@ -20,7 +21,7 @@ use acdm_sessions::{Clock, Sink};
 use acdm_tables::{KnownHelpers, Tables};
 use bpf_helpers::Helpers;
 use std::alloc::Global;
-use std::io::{Eprint, Write};
+use std::io::Write;
 use std::marker::Brand;
 use std::net::{Net, TcpListener, TcpStream};
 use std::sync::atomic::AtomicBool;
@@ -43,20 +44,7 @@ pub(crate) struct Audience<'a> {
 /// it is to be saved by, if there is one, whether it could be told how they ended or not.
 ///
 /// The status is 0 where all was told and the journal was saved.
-pub(crate) fn serve_words<
-    Rt: Net<Listener = TcpListener, Stream = TcpStream>
-        + SystemClock
-        + Eprint
-        + Threads
-        + Wait
-        + Clone
-        + Drop
-        + Send
-        + Sync
-        + 'static,
-    W: Write,
-    F: Write + Drop,
->(
+pub(crate) fn serve_words<Rt: Host, W: Write, F: Write + Drop>(
     rt: &Rt,
     alloc: Global,
     tables: Tables,
@@ -77,21 +65,7 @@ pub(crate) fn serve_words<
 }
 
 // Makes a desk that is empty at first.
-fn serve_with<
-    Rt: Net<Listener = TcpListener, Stream = TcpStream>
-        + SystemClock
-        + Eprint
-        + Threads
-        + Wait
-        + Clone
-        + Drop
-        + Send
-        + Sync
-        + 'static,
-    H: Helpers + Drop + Send,
-    W: Write,
-    F: Write + Drop,
->(
+fn serve_with<Rt: Host, H: Helpers + Drop + Send, W: Write, F: Write + Drop>(
     rt: &Rt,
     alloc: Global,
     helpers: H,
@@ -111,21 +85,7 @@ fn serve_with<
 }
 
 // Serves a desk at the addresses of the words, and of displays.
-fn serve_at<
-    Rt: Net<Listener = TcpListener, Stream = TcpStream>
-        + SystemClock
-        + Eprint
-        + Threads
-        + Wait
-        + Clone
-        + Drop
-        + Send
-        + Sync
-        + 'static,
-    H: Helpers + Drop + Send,
-    W: Write,
-    F: Write + Drop,
->(
+fn serve_at<Rt: Host, H: Helpers + Drop + Send, W: Write, F: Write + Drop>(
     rt: &Rt,
     alloc: Global,
     desk: Desk<H>,
@@ -178,15 +138,7 @@ pub(crate) fn close_all<Rt: SystemClock + Threads>(rt: &Rt, outlets: Outlets) {
 }
 
 // Listens for displays of a row at an address, if there is one.
-fn add_outlet<
-    Rt: Net<Listener = TcpListener, Stream = TcpStream>
-        + SystemClock
-        + Threads
-        + Clone
-        + Drop
-        + Send
-        + 'static,
->(
+fn add_outlet<Rt: Host>(
     rt: &Rt,
     alloc: Global,
     row: &Arc<Row>,
@@ -201,15 +153,7 @@ fn add_outlet<
 }
 
 // Listens for all displays of a row.
-fn add_outlets<
-    Rt: Net<Listener = TcpListener, Stream = TcpStream>
-        + SystemClock
-        + Threads
-        + Clone
-        + Drop
-        + Send
-        + 'static,
->(
+fn add_outlets<Rt: Host>(
     rt: &Rt,
     alloc: Global,
     row: &Arc<Row>,
@@ -222,15 +166,12 @@ fn add_outlets<
 }
 
 // Listens for all displays of a row, or for none. The room for them is there before the first.
-fn outlets_of<
-    Rt: Net<Listener = TcpListener, Stream = TcpStream>
-        + SystemClock
-        + Threads
-        + Clone
-        + Drop
-        + Send
-        + 'static,
->(rt: &Rt, alloc: Global, row: &Arc<Row>, audience: Audience<'_>) -> Result<Outlets, Failure> {
+fn outlets_of<Rt: Host>(
+    rt: &Rt,
+    alloc: Global,
+    row: &Arc<Row>,
+    audience: Audience<'_>,
+) -> Result<Outlets, Failure> {
     let mut outlets = Outlets {
         open: Vec::with_capacity(alloc, 3)?,
     };
@@ -244,16 +185,7 @@ fn outlets_of<
 }
 
 /// Listens for partners, and for displays of a row.
-pub(crate) fn opened<
-    'r,
-    Rt: Net<Listener = TcpListener, Stream = TcpStream>
-        + SystemClock
-        + Threads
-        + Clone
-        + Drop
-        + Send
-        + 'static,
->(
+pub(crate) fn opened<'r, Rt: Host>(
     rt: &'r Rt,
     alloc: Global,
     row: &Arc<Row>,
@@ -274,13 +206,7 @@ pub(crate) fn opened<
 }
 
 // Serves the partners, and saves what they made.
-fn serve_all<
-    Rt: SystemClock + Eprint + Threads + Wait + Clone + Drop + Send + Sync + 'static,
-    H: Helpers + Drop + Send,
-    C: Clock + Drop + Send,
-    W: Write,
-    F: Write + Drop,
->(
+fn serve_all<Rt: Host, H: Helpers + Drop + Send, C: Clock + Drop + Send, W: Write, F: Write + Drop>(
     rt: &Rt,
     alloc: Global,
     partners: Vec<(Role, TcpListener, C)>,
@@ -309,7 +235,7 @@ fn serve_all<
 fn serve_unkept<
     'r,
     J: Opening + Send + Sync + 'r,
-    Rt: SystemClock + Eprint + Threads + Wait + Clone + Drop + Send + Sync + 'static,
+    Rt: Host,
     H: Helpers + Drop + Send,
     C: Clock + Drop + Send,
     W: Write,
@@ -367,7 +293,7 @@ fn serve_once<
 fn serve_lasting<
     'r,
     J: Opening + Send + Sync,
-    Rt: SystemClock + Eprint + Threads + Wait + Clone + Drop + Send + Sync + 'static,
+    Rt: Host,
     H: Helpers + Drop + Send,
     C: Clock + Drop + Send,
     W: Write,

@@ -6,6 +6,7 @@ ghost use Rattle.acdm_commands.specs.Partners.{FailsToTell, ServesPartners};
 ghost use Rattle.acdm_tables.specs.Helpers.{helpers_by};
 ghost use Rattle.acdm_sessions.specs.Sessions.{new_session};
 
+use crate::host::Host;
 use crate::keeping::{KeepIn, go_on, open_kept};
 use crate::lasting::{FileKeeper, Service, serve_again};
 use crate::partners::Served;
@@ -21,19 +22,17 @@ use acdm_tables::{KnownHelpers, Tables};
 use bpf_helpers::Helpers;
 use std::alloc::Global;
 use std::fs::{File, Files};
-use std::io::{Eprint, Write};
+use std::io::Write;
 use std::marker::Brand;
-use std::net::{Net, TcpListener, TcpStream};
+use std::net::TcpListener;
+use std::sync::Arc;
 use std::sync::atomic::AtomicBool;
-use std::sync::{Arc, Wait};
-use std::thread::Threads;
-use std::time::Clock as SystemClock;
 
 // Serves partners by these terms, whose replies wait for the keeper, and answers the desk once they are
 // gone, and how it went to tell how they ended.
 fn desk_after<
     J: Opening + Send + Sync,
-    Rt: SystemClock + Eprint + Threads + Wait + Clone + Drop + Send + Sync + 'static,
+    Rt: Host,
     H: Helpers + Drop + Send,
     C: Clock + Drop + Send,
     W: Write,
@@ -76,7 +75,7 @@ fn desk_after<
 // Shares the keeper among the partners, keeps what is left in the end, and saves what they made.
 fn serve_shared<
     J: Opening + Send + Sync,
-    Rt: SystemClock + Eprint + Threads + Wait + Clone + Drop + Send + Sync + 'static,
+    Rt: Host,
     H: Helpers + Drop + Send,
     C: Clock + Drop + Send,
     W: Write,
@@ -139,21 +138,7 @@ fn keeper_of<H: Helpers + Drop>(
 }
 
 // Serves a desk at the addresses of the words, and of displays. What its partners make is kept.
-fn serve_kept_at<
-    Rt: Net<Listener = TcpListener, Stream = TcpStream>
-        + SystemClock
-        + Eprint
-        + Threads
-        + Wait
-        + Clone
-        + Drop
-        + Send
-        + Sync
-        + 'static,
-    H: Helpers + Drop + Send,
-    W: Write,
-    F: Write + Drop,
->(
+fn serve_kept_at<Rt: Host, H: Helpers + Drop + Send, W: Write, F: Write + Drop>(
     rt: &Rt,
     alloc: Global,
     desk: Desk<H>,
@@ -181,21 +166,7 @@ fn serve_kept_at<
 }
 
 // Goes on from the file, serves, and saves the journal.
-fn serve_kept_with<
-    Rt: Net<Listener = TcpListener, Stream = TcpStream>
-        + SystemClock
-        + Eprint
-        + Threads
-        + Wait
-        + Clone
-        + Drop
-        + Send
-        + Sync
-        + 'static,
-    H: Helpers + Drop + Send,
-    W: Write,
-    F: Write + Drop,
->(
+fn serve_kept_with<Rt: Host, H: Helpers + Drop + Send, W: Write, F: Write + Drop>(
     rt: &Rt,
     alloc: Global,
     helpers: H,
@@ -231,21 +202,7 @@ fn serve_kept_with<
 ///
 /// The status is 0 where all was told and the journal was kept and saved; 1 where what the file has is
 /// no legal journal, which is told as an audit tells it, and nobody is served.
-pub(crate) fn serve_kept<
-    Rt: Net<Listener = TcpListener, Stream = TcpStream>
-        + SystemClock
-        + Eprint
-        + Threads
-        + Wait
-        + Files<File = File>
-        + Clone
-        + Drop
-        + Send
-        + Sync
-        + 'static,
-    W: Write,
-    F: Write + Drop,
->(
+pub(crate) fn serve_kept<Rt: Host + Files<File = File>, W: Write, F: Write + Drop>(
     rt: &Rt,
     alloc: Global,
     tables: Tables,

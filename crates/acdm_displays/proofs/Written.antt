@@ -45,16 +45,6 @@ nothing_saved seen start none =
       types = tt;
     })
 
-pub nothing_told : (n : ℕ) (seen : List Entry) (before : List ℕ) (known : Known) → seen ≡ []
-    → Knows [] known → TellsFrom known n seen (at_entry before n) before
-nothing_told n seen before known none k =
-    subst (λ l. TellsFrom known n l (at_entry before n) before) (sym none) (record {
-      knows = k;
-      from_is = refl;
-      front = ([], refl);
-      told = sym (append-nil before);
-    })
-
 -- no entry is told of those before the one that is told first
 pub none_from : (n : ℕ) (J : History) → length J ≤ n → feed_from n J ≡ []
 none_from n [] few = refl

@@ -1,4 +1,4 @@
-//! Displays, which are sent the entries of a row as text while it grows.
+//! Displays, which are sent the entries of a row as text while it grows, and browsers.
 #![tactic(auto)]
 
 mod asked;

@@ -66,13 +66,3 @@ one_tokens J e f accepted tick changes is =
     ap (flight_tokens (e ∷ J)) (sym is)
     ∙ sym (ap (λ b. cond b (flight_tokens (e ∷ J) (flight_of e.command)) []) changes)
     ∙ no_tick J e tick ∙ accepted_tokens J e accepted
-
-pub no_tokens : (J : History) (e : Entry) → is_accepted e.verdict ≡ true
-    → is_tick e.command ≡ false → changes_flight e.command ≡ false → [] ≡ changed_tokens J e
-no_tokens J e accepted tick none =
-    sym (ap (λ b. cond b (flight_tokens (e ∷ J) (flight_of e.command)) []) none)
-    ∙ no_tick J e tick ∙ accepted_tokens J e accepted
-
-pub refused_tokens : (J : History) (e : Entry) → is_accepted e.verdict ≡ false
-    → [] ≡ changed_tokens J e
-refused_tokens J e refused = sym (ap (λ b. cond b (changed_by J e) []) refused)

@@ -63,11 +63,6 @@ refused_flights J e none =
     ap (λ b. with_flight (flights J)
     (cond (b && creates e.command) (Some (flight_of e.command)) None)) none
 
-pub knows_refused : (J : History) (e : Entry) (known : Known) → is_accepted e.verdict ≡ false
-    → Knows J known → Knows (e ∷ J) known
-knows_refused J e known none =
-    same_words J e known (refused_flights J e none) (refused_record J e none)
-
 creates_nothing : (c : Command) → changes_flight c ≡ false → creates c ≡ false
 creates_nothing (commands.Flight c) h = absurd (cc)
 creates_nothing (commands.Load l) h = refl
@@ -93,15 +88,6 @@ neither_left false b h = refl
 neither_right : (a b : Bool) → (a || b) ≡ false → b ≡ false
 neither_right true b h = absurd (cc)
 neither_right false b h = h
-
-pub knows_other : (J : History) (e : Entry) (known : Known)
-    → (is_tick e.command || is_migrate e.command) ≡ false → changes_flight e.command ≡ false
-    → Knows J known → Knows (e ∷ J) known
-knows_other J e known all none =
-    same_words J e known (no_flight J e (creates_nothing e.command none))
-    (λ f. record_same e J f (of_none e f none)
-    (and_false (is_accepted e.verdict) _ (neither_left _ _ all))
-    (and_false (is_accepted e.verdict) _ (neither_right (is_tick e.command) _ all)))
 
 all_create_nothing : (c : Command) → (is_tick c || is_migrate c) ≡ true → creates c ≡ false
 all_create_nothing (commands.Flight c) h = absurd (cc)

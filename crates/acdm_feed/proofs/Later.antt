@@ -52,11 +52,3 @@ tells_one from number old new e known known_after text text_after took count add
           ∙ ap (λ n. start ++ (feed_from from J ++ more n)) (count ∙ sym (length-reverse old.seen))
           ∙ ap (λ K. start ++ feed_from from K) (sym (one_later old.seen new.seen e took));
     }
-
-pub tells_none : (from : ℕ) (old new : WatchView) (known : Known) (text : List ℕ) → new ≡ old
-    → Tells from old new known known text text
-tells_none from old new known text same =
-    subst (λ w. Tells from old w known known text text) (sym same) (record {
-      passes = passes_none old old known refl;
-      told = λ k before start is. is;
-    })

@@ -1,6 +1,6 @@
 -- Printable bytes are ASCII, so they are UTF-8.
 use Rattle.std.proofs.Common.{ℕ, zero, suc, List, [], ◌∷◌, ◌≡◌, true, ◌<◌, arith}
-use Rattle.acdm_record.specs.Bools.{and_left, and_right}
+use Rattle.std.specs.Cmp.{first_so, second_so}
 use Rattle.std.proofs.lemmas.Str.Ascii.{IsAscii-nil}
 use Rattle.std.specs.Prelude.{IsUtf8, IsAscii}
 use Rattle.std.proofs.lemmas.Str.{IsUtf8-from_ascii}
@@ -11,8 +11,8 @@ below b h = grind arith
 
 pub printable_ascii : (bytes : List ℕ) → is_text bytes ≡ true → IsAscii bytes
 printable_ascii [] h i = IsAscii-nil i
-printable_ascii (b ∷ bs) h zero = below b (and_left _ _ h)
-printable_ascii (b ∷ bs) h (suc i) = printable_ascii bs (and_right _ _ h) i
+printable_ascii (b ∷ bs) h zero = below b (first_so _ _ h)
+printable_ascii (b ∷ bs) h (suc i) = printable_ascii bs (second_so _ _ h) i
 
 pub printable_utf8 : (bytes : List ℕ) → is_text bytes ≡ true → IsUtf8 bytes
 printable_utf8 bytes h = IsUtf8-from_ascii bytes (printable_ascii bytes h)

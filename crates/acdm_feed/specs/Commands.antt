@@ -7,7 +7,7 @@ use Rattle.acdm_milestones.specs.Tables.{number}
 use Rattle.acdm_milestones.specs.Deicing.{deicing_name}
 use Rattle.acdm_slots.specs.Names.{kind_name}
 use Rattle.acdm_step.specs.Facts.{ScheduleFacts, ReportFacts}
-use Rattle.acdm_step.specs.declared.command.Plan.{Plan}
+use Rattle.acdm_step.specs.declared.command.FlightPlan.{FlightPlan}
 use Rattle.acdm_step.specs.declared.command.Load.{Load}
 use Rattle.acdm_step.specs.declared.command.Unload.{Unload}
 use Rattle.acdm_step.specs.declared.command.Deice.{Deice}
@@ -22,12 +22,12 @@ cmd_member name = text_member (codes "cmd") name
 abbrev pub flight_member : ℕ → List Token
 flight_member flight = number_member (codes "flight") flight
 
-abbrev pub plan_members : Plan → List Token
+abbrev pub plan_members : FlightPlan → List Token
 plan_members p =
     text_member (codes "callsign") p.callsign ++ (text_member (codes "type") p.aircraft
     ++ (text_member (codes "reg") p.registration ++ text_member (codes "dest") p.destination))
 
-abbrev pub plan_members_of : Option Plan → List Token
+abbrev pub plan_members_of : Option FlightPlan → List Token
 plan_members_of None = []
 plan_members_of (Some p) = plan_members p
 

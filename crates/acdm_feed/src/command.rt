@@ -7,11 +7,13 @@ ghost use Rattle.acdm_feed.specs.Commands.{schedule_members, unload_members};
 
 use crate::tokens::{push_number, push_printable, push_text, push_time};
 use acdm_milestones::Refusal;
-use acdm_step::{Command, Deice, FlightCommand, Load, Plan, Report, Schedule, Unload, Verdict};
+use acdm_step::{
+    Command, Deice, FlightCommand, FlightPlan, Load, Report, Schedule, Unload, Verdict,
+};
 use json::Writer;
 use std::alloc::AllocError;
 
-fn push_plan(line: &mut Writer, plan: &Plan) -> Result<(), AllocError>
+fn push_plan(line: &mut Writer, plan: &FlightPlan) -> Result<(), AllocError>
     ensures before { line.new.before ≡ line.old.before }
     ensures adds { OnOk result (line.new.tokens ≡ line.old.tokens ++ plan_members plan.now) }
 {

@@ -1,4 +1,5 @@
-//! The headline of this project, as the contract of one function.
+//! The headline of this project, as the contract of one function. It is a crate of its own so that a
+//! reader checks one file.
 #![tactic(auto)]
 
 mod headline;

@@ -10,7 +10,7 @@ use Rattle.std.proofs.lemmas.Fmt.{length-decimal-le}
 use Rattle.std.proofs.lemmas.List.{length-map}
 use Rattle.std.proofs.lemmas.Option.{cond_some}
 use Rattle.hex.specs.Hex.{encode_lower, encode_with}
-use Rattle.acdm_record.specs.Bools.{and_left, and_right}
+use Rattle.std.specs.Cmp.{first_so, second_so}
 use Rattle.acdm_milestones.specs.declared.role.Role.{Role}
 use Rattle.acdm_milestones.specs.declared.role.Role.TheVariants.{NetworkManager, AirTrafficControl}
 use Rattle.acdm_milestones.specs.declared.role.Role.TheVariants.{AirportOperator, AircraftOperator}
@@ -20,12 +20,12 @@ use Rattle.acdm_milestones.specs.Tables.{number}
 use Rattle.acdm_slots.specs.declared.kind.Kind as kinds
 use Rattle.acdm_slots.specs.declared.kind.Kind.TheVariants.{Tobt, Alert}
 use Rattle.acdm_step.specs.Facts.{ReportFacts}
-use Rattle.acdm_step.specs.declared.command.Plan.{Plan}
+use Rattle.acdm_step.specs.declared.command.FlightPlan.{FlightPlan}
 use Rattle.acdm_step.specs.declared.command.Command.{Command}
 use Rattle.acdm_step.specs.declared.command.Command.TheVariants as commands
 use Rattle.acdm_step.specs.declared.command.FlightCommand.TheVariants.{Schedule, Report, Deice}
 use Rattle.acdm_step.specs.Commands.{is_load}
-use Rattle.acdm_journal.specs.declared.reading.TheConstants.{LONGEST_LINE}
+use Rattle.acdm_journal.specs.declared.reading.TheConstants.{LONGEST_ENTRY}
 use Rattle.acdm_journal.specs.declared.stated.Stated.{Stated}
 use Rattle.acdm_journal.specs.Text.{plan_words, plan_words_of, time_words, load_words}
 use Rattle.acdm_journal.specs.Text.{command_words, asked_words, answer_words, head_words, line_of}
@@ -61,7 +61,7 @@ decimal_short n small = length-decimal-le 20 n (omega arith) (omega arith) small
 text_within : (most : ℕ) (t : List ℕ) → IsText most t → length t ≤ most
 text_within most t is =
     let test = (cond_some _ t t is).0 in
-    leb-true (length t) most (and_left _ _ (and_right _ _ test))
+    leb-true (length t) most (first_so _ _ (second_so _ _ test))
 
 role_short : (r : Role) → Short (role_name r)
 role_short NetworkManager = by_count (codes "NM") refl
@@ -105,7 +105,7 @@ numbers_short : (ns : List ℕ) → AllByRecursion IsWord ns → AllShort (map d
 numbers_short [] are = tt
 numbers_short (n ∷ ns) are = (decimal_short n are.0, numbers_short ns are.1)
 
-plan_short : (p : Plan) → IsPlan p → AllShort (plan_words p)
+plan_short : (p : FlightPlan) → IsPlan p → AllShort (plan_words p)
 plan_short p is =
     let callsign = text_within 8 p.callsign is.callsign in
     let aircraft = text_within 4 p.aircraft is.aircraft in
@@ -134,7 +134,7 @@ report_within r flight time plan = at r.plan plan
       ),
     )
 
-    at : (p : Option Plan) → IsPlanOf p → length (spaced (report_front r ++ plan_words_of p)) ≤ 231
+    at : (p : Option FlightPlan) → IsPlanOf p → length (spaced (report_front r ++ plan_words_of p)) ≤ 231
     at None is = omega (arith, spaced_within (report_front r) short)
     at (Some p) is =
         omega (
@@ -252,7 +252,7 @@ module _ (s : Stated) where
 
   -- a line whose command has so many bytes
   pub line_within : IsStated s → (n : ℕ) → length (spaced (asked_words s.asked)) ≤ n
-      → 21 * length s.answers + n ≤ 199000 → length (line_of s) ≤ LONGEST_LINE
+      → 21 * length s.answers + n ≤ 199000 → length (line_of s) ≤ LONGEST_ENTRY
   line_within is n asked few =
       let w = is.where_and_when in
       let number : length (decimal s.number) ≤ 20 = decimal_short s.number is.number in

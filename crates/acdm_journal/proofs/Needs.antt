@@ -12,9 +12,9 @@ use Rattle.acdm_step.specs.Commands.{History, is_load}
 use Rattle.acdm_step.specs.History.{needs_memory}
 use Rattle.acdm_journal.specs.declared.stated.Stated.{Stated}
 use Rattle.acdm_journal.specs.declared.stated.LoadLine.{LoadLine}
-use Rattle.acdm_journal.specs.declared.stated.Asked.{Asked}
-use Rattle.acdm_journal.specs.declared.stated.Asked.TheVariants.{Plain, Load}
-use Rattle.acdm_journal.specs.declared.reading.TheConstants.{LONGEST_LINE}
+use Rattle.acdm_journal.specs.declared.stated.StatedCommand.{StatedCommand}
+use Rattle.acdm_journal.specs.declared.stated.StatedCommand.TheVariants.{Plain, Load}
+use Rattle.acdm_journal.specs.declared.reading.TheConstants.{LONGEST_ENTRY}
 use Rattle.acdm_journal.specs.Text.{line_words, line_of, asked_words}
 use Rattle.acdm_journal.specs.Ranges.{IsStated, IsAsked}
 use Rattle.acdm_journal.specs.Audit.{IsCommandOf, StatesNext}
@@ -54,7 +54,7 @@ asked_load l =
     test_is _ _ _ (milestone_at-is l.milestone _) ∙ test_is _ _ _ (kind_at-is l.kind _)
     ∙ even l.program
 
-asked_load_line : (a : Asked) → is_load_line a ≡ true → asked_needs_memory (asked_words a) ≡ true
+asked_load_line : (a : StatedCommand) → is_load_line a ≡ true → asked_needs_memory (asked_words a) ≡ true
 asked_load_line (Plain c) h = absurd (cc)
 asked_load_line (Load l) h = asked_load l
 
@@ -76,13 +76,13 @@ stated_load s is h =
     (test_is _ _ _ (answers_at-is s.answers (asked_words s.asked) is.few_answers is.answers)
     ∙ asked_load_line s.asked h)
 
-is_short : (n : ℕ) → n ≤ LONGEST_LINE → nat_le n LONGEST_LINE ≡ true
+is_short : (n : ℕ) → n ≤ LONGEST_ENTRY → nat_le n LONGEST_ENTRY ≡ true
 is_short n h = grind (arith, nat_tests)
 
 both : (a b : Bool) → a ≡ true → b ≡ true → (a && b) ≡ true
 both a b p q = cc
 
-line_load : (s : Stated) → IsStated s → length (line_of s) ≤ LONGEST_LINE
+line_load : (s : Stated) → IsStated s → length (line_of s) ≤ LONGEST_ENTRY
     → is_load_line s.asked ≡ true → line_needs_memory (line_of s) ≡ true
 unfolding line_needs_memory
 line_load s is short h =
@@ -95,7 +95,7 @@ module _ (sigs : List (ℕ × Promise)) (J : History) (line : List ℕ) (s : Sta
   load_needs h =
       let states = next.states in
       inl (ap line_needs_memory states.line_is
-      ∙ line_load s states.is (subst (λ l. length l ≤ LONGEST_LINE) states.line_is states.short) h)
+      ∙ line_load s states.is (subst (λ l. length l ≤ LONGEST_ENTRY) states.line_is states.short) h)
 
   plain_needs : (p : Command) → s.asked ≡ Plain p → is_load p ≡ false
       → IsTrue (needs_memory sigs J s.role p) → JudgingNeedsMemory J line
@@ -107,7 +107,7 @@ module _ (sigs : List (ℕ × Promise)) (J : History) (line : List ℕ) (s : Sta
   plain_needs commands.Tick e plain needs = absurd (cc)
   plain_needs (commands.Show f) e plain needs = absurd (cc)
 
-  asked_needs : (a : Asked) (c : Command) → s.asked ≡ a → IsAsked a → IsCommandOf sigs a c
+  asked_needs : (a : StatedCommand) (c : Command) → s.asked ≡ a → IsAsked a → IsCommandOf sigs a c
       → IsTrue (needs_memory sigs J s.role c) → JudgingNeedsMemory J line
   asked_needs (Plain p) c e is of needs =
       plain_needs p e is.0 (subst (λ x. IsTrue (needs_memory sigs J s.role x)) of needs)

@@ -10,8 +10,8 @@ use Rattle.acdm_step.specs.Commands.{History, is_load}
 use Rattle.acdm_step.specs.Verdicts.{verdict_of}
 use Rattle.acdm_step.specs.History.{Board, IsLegal, IsChecked}
 use Rattle.acdm_journal.specs.declared.stated.Stated.{Stated}
-use Rattle.acdm_journal.specs.declared.stated.Asked.{Asked}
-use Rattle.acdm_journal.specs.declared.stated.Asked.TheVariants.{Plain, Load}
+use Rattle.acdm_journal.specs.declared.stated.StatedCommand.{StatedCommand}
+use Rattle.acdm_journal.specs.declared.stated.StatedCommand.TheVariants.{Plain, Load}
 use Rattle.acdm_journal.specs.declared.judge.Clause.TheVariants as clauses
 use Rattle.acdm_journal.specs.declared.judge.AuditError.{AuditError}
 use Rattle.acdm_journal.specs.declared.judge.AuditError.TheVariants.{Memory, Faulty}
@@ -19,13 +19,13 @@ use Rattle.acdm_journal.specs.Text.{line_of, stated_in, asked_in, outcome_code}
 use Rattle.acdm_journal.specs.Ranges.{IsStated, IsAsked}
 use Rattle.acdm_journal.specs.Audit.{IsCommandOf, States, StatesNext, Continues, Breaks, Judges}
 use Rattle.acdm_journal.specs.Audit.{Commands, Enters, JudgesCommand}
-use Rattle.acdm_journal.specs.declared.reading.TheConstants.{LONGEST_LINE}
+use Rattle.acdm_journal.specs.declared.reading.TheConstants.{LONGEST_ENTRY}
 
 plain_is : (c : Command) → is_load c ≡ false → asked_in c ≡ Plain c
 plain_is (commands.Load l) h = absurd (cc)
 plain_is _ h = refl
 
-asked_is : (sigs : List (ℕ × Promise)) (a : Asked) (c : Command) → IsAsked a → IsCommandOf sigs a c
+asked_is : (sigs : List (ℕ × Promise)) (a : StatedCommand) (c : Command) → IsAsked a → IsCommandOf sigs a c
     → asked_in c ≡ a
 asked_is sigs (Plain p) c is e = ap asked_in e ∙ plain_is p is.0
 asked_is sigs (Load l) c is e =
@@ -42,13 +42,13 @@ plain_checked : (sigs : List (ℕ × Promise)) (c : Command) → is_load c ≡ f
 plain_checked sigs (commands.Load l) h = absurd (cc)
 plain_checked sigs _ h = tt
 
-checked_is : (sigs : List (ℕ × Promise)) (a : Asked) (c : Command) → IsAsked a
+checked_is : (sigs : List (ℕ × Promise)) (a : StatedCommand) (c : Command) → IsAsked a
     → IsCommandOf sigs a c → IsChecked sigs c
 checked_is sigs (Plain p) c is e = subst (λ x. IsChecked sigs x) (sym e) (plain_checked sigs p is.0)
 checked_is sigs (Load l) c is e = subst (λ x. IsChecked sigs x) (sym e.3) (refl, e.2)
 
 module _ (sigs : List (ℕ × Promise)) (J : History) (line : List ℕ) (s : Stated)
-    (legal : IsLegal sigs J) (short : length line ≤ LONGEST_LINE)
+    (legal : IsLegal sigs J) (short : length line ≤ LONGEST_ENTRY)
     (states : States line s) where
   -- the number is another one
   pub misnumbered : s.number ≢ length J → Breaks sigs J line clauses.Number

@@ -11,7 +11,7 @@ use Rattle.hex.specs.Hex.{encode_lower, encode_with, lower_digits}
 use Rattle.acdm_lines.specs.Lines.{IsLine}
 use Rattle.acdm_lines.proofs.Feeds.{IsLine-append}
 use Rattle.acdm_record.proofs.Table.{all_at}
-use Rattle.acdm_record.specs.Bools.{and_left, and_right}
+use Rattle.std.specs.Cmp.{first_so, second_so}
 use Rattle.acdm_record.specs.Fields.{is_text, is_text_byte}
 use Rattle.acdm_milestones.specs.declared.role.Role.{Role}
 use Rattle.acdm_milestones.specs.declared.role.Role.TheVariants.{NetworkManager, AirTrafficControl}
@@ -20,12 +20,12 @@ use Rattle.acdm_milestones.specs.declared.role.Role.TheVariants.{GroundHandler, 
 use Rattle.acdm_milestones.specs.Tables.{number}
 use Rattle.acdm_slots.specs.declared.kind.Kind as kinds
 use Rattle.acdm_slots.specs.declared.kind.Kind.TheVariants.{Tobt, Alert}
-use Rattle.acdm_step.specs.declared.command.Plan.{Plan}
+use Rattle.acdm_step.specs.declared.command.FlightPlan.{FlightPlan}
 use Rattle.acdm_step.specs.declared.command.Command.TheVariants as commands
 use Rattle.acdm_step.specs.declared.command.FlightCommand.TheVariants.{Schedule, Report, Deice}
 use Rattle.acdm_journal.specs.declared.stated.Stated.{Stated}
-use Rattle.acdm_journal.specs.declared.stated.Asked.{Asked}
-use Rattle.acdm_journal.specs.declared.stated.Asked.TheVariants.{Plain, Load}
+use Rattle.acdm_journal.specs.declared.stated.StatedCommand.{StatedCommand}
+use Rattle.acdm_journal.specs.declared.stated.StatedCommand.TheVariants.{Plain, Load}
 use Rattle.acdm_journal.specs.Text.{plan_words, plan_words_of, asked_words, answer_words}
 use Rattle.acdm_journal.specs.Text.{head_words, line_words, line_of}
 use Rattle.acdm_journal.specs.Ranges.{IsText, IsPlan, IsPlanOf, IsWord, IsByte, IsAsked, IsStated}
@@ -48,18 +48,18 @@ use Rattle.acdm_journal.specs.Text.{length_words}
 
 by_test : (w : List ℕ) → list_all (λ b. nat_le 33 b) w ≡ true → Lacks w
 by_test [] h = tt
-by_test (b ∷ bs) h = (and_left _ _ h, by_test bs (and_right _ _ h))
+by_test (b ∷ bs) h = (first_so _ _ h, by_test bs (second_so _ _ h))
 
 printable_lacks : (t : List ℕ) → is_text t ≡ true → Lacks t
 printable_lacks [] h = tt
 printable_lacks (b ∷ bs) h =
-    let here : is_text_byte b ≡ true = and_left _ _ h in
-    (and_left _ _ here, printable_lacks bs (and_right _ _ h))
+    let here : is_text_byte b ≡ true = first_so _ _ h in
+    (first_so _ _ here, printable_lacks bs (second_so _ _ h))
 
 text_lacks : (most : ℕ) (t : List ℕ) → IsText most t → Lacks t
 text_lacks most t is =
     let test = (cond_some _ t t is).0 in
-    printable_lacks t (and_right _ _ (and_right _ _ test))
+    printable_lacks t (second_so _ _ (second_so _ _ test))
 
 role_lacks : (r : Role) → Lacks (role_name r)
 role_lacks NetworkManager = by_test (codes "NM") refl
@@ -107,7 +107,7 @@ pub each-append : {X : Type 0} (P : X → Type 0) (us vs : List X) → AllByRecu
 each-append P [] vs a b = b
 each-append P (u ∷ us) vs a b = (a.0, each-append P us vs a.1 b)
 
-plan_lacks : (p : Plan) → IsPlan p → AllLack (plan_words p)
+plan_lacks : (p : FlightPlan) → IsPlan p → AllLack (plan_words p)
 plan_lacks p is = (
   text_lacks 8 p.callsign is.callsign,
   (
@@ -116,11 +116,11 @@ plan_lacks p is = (
   ),
 )
 
-plan_of_lacks : (p : Option Plan) → IsPlanOf p → AllLack (plan_words_of p)
+plan_of_lacks : (p : Option FlightPlan) → IsPlanOf p → AllLack (plan_words_of p)
 plan_of_lacks None is = tt
 plan_of_lacks (Some p) is = plan_lacks p is
 
-asked_lacks : (a : Asked) → IsAsked a → AllLack (asked_words a)
+asked_lacks : (a : StatedCommand) → IsAsked a → AllLack (asked_words a)
 asked_lacks (Plain (commands.Flight (Schedule s))) is =
     let l = is.1 in (
       by_test (codes "schedule") refl,

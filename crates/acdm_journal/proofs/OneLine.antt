@@ -11,8 +11,8 @@ use Rattle.acdm_journal.specs.Ranges.{IsStated}
 use Rattle.acdm_journal.specs.Reading.{Words, ◌>>=◌, stated_at, alone, words_of, stated_of}
 use Rattle.acdm_journal.specs.Reading.{GivesLine}
 use Rattle.std.specs.Prelude.{IfOk}
-use Rattle.acdm_journal.specs.declared.stated.LineError.{LineError}
-use Rattle.acdm_journal.specs.declared.stated.LineError.TheVariants.{Memory, Unreadable}
+use Rattle.acdm_journal.specs.declared.stated.ReadError.{ReadError}
+use Rattle.acdm_journal.specs.declared.stated.ReadError.TheVariants.{Memory, Unreadable}
 use Rattle.acdm_journal.proofs.Parts.{bind_some, bind_is}
 use Rattle.acdm_journal.proofs.NoSpaces.{line_lacks}
 use Rattle.acdm_journal.proofs.ReadBack.{ReadsLine, stated_at-is, stated_at-back}
@@ -61,13 +61,13 @@ one_line s t p q e =
 pub no_line : (line : List ℕ) → stated_of line ≡ None → (s : Stated) → IsStated s → line ≢ line_of s
 no_line line none s is e = cc (sym none ∙ ap stated_of e ∙ stated_of-line s is)
 
-pub states : (line : List ℕ) (needs : Bool) (r : Result Stated LineError)
+pub states : (line : List ℕ) (needs : Bool) (r : Result Stated ReadError)
     → GivesLine needs r (stated_of line)
     → IfOk r (λ s. (line ≡ line_of s) × IsStated s)
 states line needs (Ok s) g = line-stated_of line s g
 states line needs (Err e) g = tt
 
-pub states_nothing : (line : List ℕ) (needs : Bool) (r : Result Stated LineError)
+pub states_nothing : (line : List ℕ) (needs : Bool) (r : Result Stated ReadError)
     → GivesLine needs r (stated_of line)
     → r ≡ Err Unreadable → (s : Stated) → IsStated s → line ≢ line_of s
 states_nothing line needs (Ok s) g e = absurd (cc)

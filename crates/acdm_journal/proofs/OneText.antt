@@ -23,7 +23,7 @@ use Rattle.acdm_journal.specs.Whole.{FirstFault}
 use Rattle.acdm_journal.proofs.NoSpaces.{line_is_line}
 use Rattle.acdm_journal.proofs.OneLine.{one_line}
 use Rattle.acdm_journal.proofs.OneVerdict.{one_command, breaks_none}
-use Rattle.acdm_journal.specs.declared.reading.TheConstants.{LONGEST_LINE}
+use Rattle.acdm_journal.specs.declared.reading.TheConstants.{LONGEST_ENTRY}
 
 -- ---- one clause
 
@@ -295,7 +295,7 @@ module _ (sigs : List (ℕ × Promise)) (J : History) (rest : List ℕ) where
         entry = g.entry;
         line_is = cut.0;
         is = g.readable.stated;
-        short = subst (λ l. length l ≤ LONGEST_LINE) (sym cut.0) g.readable.short;
+        short = subst (λ l. length l ≤ LONGEST_ENTRY) (sym cut.0) g.readable.short;
         legal = g.legal;
         command = g.readable.command;
         replays = refl;

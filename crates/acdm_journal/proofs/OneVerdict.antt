@@ -9,15 +9,15 @@ use Rattle.acdm_step.specs.Commands.{History, is_accepted}
 use Rattle.acdm_step.specs.Verdicts.{verdict_of}
 use Rattle.acdm_step.specs.History.{Board, IsAnswered}
 use Rattle.acdm_journal.specs.declared.stated.Stated.{Stated}
-use Rattle.acdm_journal.specs.declared.stated.Asked.{Asked}
-use Rattle.acdm_journal.specs.declared.stated.Asked.TheVariants.{Plain, Load}
+use Rattle.acdm_journal.specs.declared.stated.StatedCommand.{StatedCommand}
+use Rattle.acdm_journal.specs.declared.stated.StatedCommand.TheVariants.{Plain, Load}
 use Rattle.acdm_journal.specs.declared.judge.Clause.{Clause}
 use Rattle.acdm_journal.specs.declared.judge.Clause.TheVariants as clauses
 use Rattle.acdm_journal.specs.Text.{stated_in, outcome_code}
 use Rattle.acdm_journal.specs.Audit.{IsCommandOf, UsesAnswers, States, Continues, Breaks}
 use Rattle.acdm_journal.proofs.OneLine.{one_line}
 
-pub one_command : (sigs : List (ℕ × Promise)) (a : Asked) (c d : Command) → IsCommandOf sigs a c
+pub one_command : (sigs : List (ℕ × Promise)) (a : StatedCommand) (c d : Command) → IsCommandOf sigs a c
     → IsCommandOf sigs a d → c ≡ d
 one_command sigs (Plain p) c d e f = e ∙ sym f
 one_command sigs (Load l) c d e f =

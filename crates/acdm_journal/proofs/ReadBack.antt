@@ -13,7 +13,7 @@ use Rattle.acdm_milestones.specs.declared.milestone.Milestone.TheVariants as m
 use Rattle.acdm_milestones.specs.Tables.{number}
 use Rattle.acdm_step.specs.Facts.{ScheduleFacts, ReportFacts, has_its_plan, has_its_time}
 use Rattle.acdm_step.specs.declared.command.TheConstants.{MINUTES_OF_DAY}
-use Rattle.acdm_step.specs.declared.command.Plan.{Plan}
+use Rattle.acdm_step.specs.declared.command.FlightPlan.{FlightPlan}
 use Rattle.acdm_step.specs.declared.command.Command.{Command}
 use Rattle.acdm_step.specs.declared.command.Command.TheVariants as commands
 use Rattle.acdm_step.specs.declared.command.FlightCommand.TheVariants.{Schedule, Report, Deice}
@@ -21,8 +21,8 @@ use Rattle.acdm_step.specs.declared.command.Deice.{Deice as DeiceLine}
 use Rattle.acdm_step.specs.Commands.{is_load}
 use Rattle.acdm_journal.specs.declared.stated.Stated.{Stated}
 use Rattle.acdm_journal.specs.declared.stated.LoadLine.{LoadLine}
-use Rattle.acdm_journal.specs.declared.stated.Asked.{Asked}
-use Rattle.acdm_journal.specs.declared.stated.Asked.TheVariants.{Plain, Load}
+use Rattle.acdm_journal.specs.declared.stated.StatedCommand.{StatedCommand}
+use Rattle.acdm_journal.specs.declared.stated.StatedCommand.TheVariants.{Plain, Load}
 use Rattle.acdm_journal.specs.Text.{plan_words, plan_words_of, schedule_words, report_words}
 use Rattle.acdm_journal.specs.Text.{load_words, command_words, asked_words, answer_words}
 use Rattle.acdm_journal.specs.Text.{line_words, deice_words}
@@ -45,7 +45,7 @@ use Rattle.acdm_slots.specs.Names.{kind_name}
 
 -- ---- plans
 
-pub plan_at-is : (p : Plan) (ws : Words) → IsPlan p → plan_at (plan_words p ++ ws) ≡ Some (p, ws)
+pub plan_at-is : (p : FlightPlan) (ws : Words) → IsPlan p → plan_at (plan_words p ++ ws) ≡ Some (p, ws)
 unfolding plan_at
 plan_at-is p ws is =
     bind_is _ _ _ (text_at-is 8 p.callsign _ is.callsign)
@@ -53,11 +53,11 @@ plan_at-is p ws is =
     ∙ bind_is _ _ _ (text_at-is 8 p.registration _ is.registration)
     ∙ bind_is _ _ _ (text_at-is 4 p.destination ws is.destination)
 
-pub record ReadsPlan (ws : Words) (p : Plan) (left : Words) : Type 0 where
+pub record ReadsPlan (ws : Words) (p : FlightPlan) (left : Words) : Type 0 where
   pub words : ws ≡ plan_words p ++ left
   pub is : IsPlan p
 
-pub plan_at-back : (ws : Words) (p : Plan) (left : Words) → plan_at ws ≡ Some (p, left)
+pub plan_at-back : (ws : Words) (p : FlightPlan) (left : Words) → plan_at ws ≡ Some (p, left)
     → ReadsPlan ws p left
 unfolding plan_at
 plan_at-back ws p left h =
@@ -76,19 +76,19 @@ plan_at-back ws p left h =
     })
 
 -- a plan comes with the first milestone alone
-pub plan_for-is : (a : Milestone) (p : Option Plan) (ws : Words) → has_its_plan a p ≡ true
+pub plan_for-is : (a : Milestone) (p : Option FlightPlan) (ws : Words) → has_its_plan a p ≡ true
     → IsPlanOf p → plan_for a (plan_words_of p ++ ws) ≡ Some (p, ws)
 plan_for-is m.FlightPlanActivated (Some p) ws has is = bind_is _ _ _ (plan_at-is p ws is)
 plan_for-is m.FlightPlanActivated None ws has is = absurd (cc)
 plan_for-is _ None ws has is = refl
 plan_for-is _ (Some p) ws has is = absurd (cc)
 
-pub record ReadsPlanFor (a : Milestone) (ws : Words) (p : Option Plan) (left : Words) : Type 0 where
+pub record ReadsPlanFor (a : Milestone) (ws : Words) (p : Option FlightPlan) (left : Words) : Type 0 where
   pub words : ws ≡ plan_words_of p ++ left
   pub is : IsPlanOf p
   pub has : has_its_plan a p ≡ true
 
-pub plan_for-back : (a : Milestone) (ws : Words) (p : Option Plan) (left : Words)
+pub plan_for-back : (a : Milestone) (ws : Words) (p : Option FlightPlan) (left : Words)
     → plan_for a ws ≡ Some (p, left) → ReadsPlanFor a ws p left
 plan_for-back m.FlightPlanActivated ws p left h =
     let q = bind_some (plan_at ws) _ (p, left) h in
@@ -102,7 +102,7 @@ plan_for-back a ws p left h =
 -- ---- commands
 
 -- the words are those of what is asked for, and then others
-pub record ReadsAsked (ws : Words) (a : Asked) (left : Words) : Type 0 where
+pub record ReadsAsked (ws : Words) (a : StatedCommand) (left : Words) : Type 0 where
   pub words : ws ≡ asked_words a ++ left
   pub is : IsAsked a
 
@@ -125,7 +125,7 @@ schedule_at-is s is =
     ∙ bind_is _ _ _ (number_at-is 0 65535 s.stand [] (omega arith) (omega (arith, is.stand))
     (omega (arith, is.stand)))
 
-schedule_at-back : (ws : Words) (a : Asked) (left : Words) → schedule_at ws ≡ Some (a, left)
+schedule_at-back : (ws : Words) (a : StatedCommand) (left : Words) → schedule_at ws ≡ Some (a, left)
     → ReadsAsked (codes "schedule" ∷ ws) a left
 unfolding schedule_at
 schedule_at-back ws a left h =
@@ -194,7 +194,7 @@ report_at-is r is =
     ∙ bind_is _ _ _ (ap (plan_for r.milestone) (sym (append-nil (plan_words_of r.plan)))
     ∙ plan_for-is r.milestone r.plan [] k.plan_with_first is.plan)
 
-report_at-back : (ws : Words) (a : Asked) (left : Words) → report_at ws ≡ Some (a, left)
+report_at-back : (ws : Words) (a : StatedCommand) (left : Words) → report_at ws ≡ Some (a, left)
     → ReadsAsked (codes "report" ∷ ws) a left
 unfolding report_at
 report_at-back ws a left h =
@@ -235,7 +235,7 @@ deice_at-is d is =
     ∙ bind_is _ _ _ (number_at-is 0 most_minute d.time [] (omega arith) (omega (arith, is.2))
     (omega (arith, is.2)))
 
-deice_at-back : (ws : Words) (a : Asked) (left : Words) → deice_at ws ≡ Some (a, left)
+deice_at-back : (ws : Words) (a : StatedCommand) (left : Words) → deice_at ws ≡ Some (a, left)
     → ReadsAsked (codes "deice" ∷ ws) a left
 unfolding deice_at
 deice_at-back ws a left h =
@@ -261,7 +261,7 @@ load_at-is l is =
     ∙ bind_is _ _ _ (bytes_at-is l.program _ is)
     ∙ bind_is _ _ _ (length_at-is l.record_length)
 
-load_at-back : (ws : Words) (a : Asked) (left : Words) → load_at ws ≡ Some (a, left)
+load_at-back : (ws : Words) (a : StatedCommand) (left : Words) → load_at ws ≡ Some (a, left)
     → ReadsAsked (codes "load" ∷ ws) a left
 unfolding load_at
 load_at-back ws a left h =
@@ -280,7 +280,7 @@ load_at-back ws a left h =
       is = b.1;
     })
 
-unload_at-back : (ws : Words) (a : Asked) (left : Words) → unload_at ws ≡ Some (a, left)
+unload_at-back : (ws : Words) (a : StatedCommand) (left : Words) → unload_at ws ≡ Some (a, left)
     → ReadsAsked (codes "unload" ∷ ws) a left
 unfolding unload_at
 unload_at-back ws a left h =
@@ -293,7 +293,7 @@ unload_at-back ws a left h =
       is = (refl, tt);
     })
 
-show_at-back : (ws : Words) (a : Asked) (left : Words) → show_at ws ≡ Some (a, left)
+show_at-back : (ws : Words) (a : StatedCommand) (left : Words) → show_at ws ≡ Some (a, left)
     → ReadsAsked (codes "show" ∷ ws) a left
 unfolding show_at
 show_at-back ws a left h =
@@ -304,7 +304,7 @@ show_at-back ws a left h =
       is = (refl, (f.least, omega (arith, f.most)));
     })
 
-pub asked_at-is : (a : Asked) → IsAsked a → asked_at (asked_words a) ≡ Some (a, [])
+pub asked_at-is : (a : StatedCommand) → IsAsked a → asked_at (asked_words a) ≡ Some (a, [])
 unfolding asked_at command_named unload_at show_at
 asked_at-is (Plain (commands.Flight (Schedule s))) is = schedule_at-is s is.1
 asked_at-is (Plain (commands.Flight (Report r))) is = report_at-is r is.1
@@ -320,10 +320,10 @@ asked_at-is (Plain commands.Alerts) is = refl
 asked_at-is (Load l) is = load_at-is l is
 
 -- the words begin with this name, and what follows is read so
-begins : (read : Words → Option (Asked × Words)) (name : List ℕ)
-    → ((ws : Words) (a : Asked) (left : Words) → read ws ≡ Some (a, left)
+begins : (read : Words → Option (StatedCommand × Words)) (name : List ℕ)
+    → ((ws : Words) (a : StatedCommand) (left : Words) → read ws ≡ Some (a, left)
     → ReadsAsked (name ∷ ws) a left)
-    → (w : List ℕ) (ws : Words) (a : Asked) (left : Words) → bytes_eq w name ≡ true
+    → (w : List ℕ) (ws : Words) (a : StatedCommand) (left : Words) → bytes_eq w name ≡ true
     → read ws ≡ Some (a, left) → ReadsAsked (w ∷ ws) a left
 begins read name back w ws a left e h =
     let same = (bytes_eq-Decides w name).0 e in
@@ -331,14 +331,14 @@ begins read name back w ws a left e h =
     record { words = ap (λ x. x ∷ ws) same ∙ r.words; is = r.is }
 
 alone_named : (c : Command) → (is_load c ≡ false) × IsCommandLine c
-    → (ws : Words) (a : Asked) (left : Words)
-    → ◌≡◌ {A = Option (Asked × Words)} (Some (Plain c, ws)) (Some (a, left))
+    → (ws : Words) (a : StatedCommand) (left : Words)
+    → ◌≡◌ {A = Option (StatedCommand × Words)} (Some (Plain c, ws)) (Some (a, left))
     → (name : List ℕ) → command_words c ≡ name ∷ [] → ReadsAsked (name ∷ ws) a left
 alone_named c is ws a left h name e =
     given (ReadsAsked (name ∷ ws)) (Plain c) a ws left h
     (record { words = ap (λ (l : Words). l ++ ws) (sym e); is = is })
 
-pub command_named-back : (w : List ℕ) (ws : Words) (a : Asked) (left : Words)
+pub command_named-back : (w : List ℕ) (ws : Words) (a : StatedCommand) (left : Words)
     → command_named w ws ≡ Some (a, left) → ReadsAsked (w ∷ ws) a left
 unfolding command_named
 command_named-back w ws a left h =
@@ -377,7 +377,7 @@ command_named-back w ws a left h =
       ]
     ]
 
-pub asked_at-back : (ws : Words) (a : Asked) (left : Words) → asked_at ws ≡ Some (a, left)
+pub asked_at-back : (ws : Words) (a : StatedCommand) (left : Words) → asked_at ws ≡ Some (a, left)
     → ReadsAsked ws a left
 unfolding asked_at
 asked_at-back ws a left h =

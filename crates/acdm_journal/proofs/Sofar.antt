@@ -25,30 +25,30 @@ use Rattle.acdm_journal.specs.Audit.{States, StatesNext, Continues, Breaks}
 use Rattle.acdm_journal.specs.Whole.{AreReadable, BreaksNext, at_line, at_end}
 use Rattle.acdm_journal.specs.Whole.{FirstFault, FoundFaulty}
 use Rattle.acdm_journal.specs.Whole.{GaveLegal, GaveFaulty, GaveUnended, Audits, JudgesEntry}
-use Rattle.acdm_journal.specs.declared.auditing.Fault.{Fault}
-use Rattle.acdm_journal.specs.declared.auditing.Fault.TheVariants as faults
-use Rattle.acdm_journal.specs.declared.reading.TheConstants.{LONGEST_LINE}
+use Rattle.acdm_journal.specs.declared.auditing.JournalFault.{JournalFault}
+use Rattle.acdm_journal.specs.declared.auditing.JournalFault.TheVariants as faults
+use Rattle.acdm_journal.specs.declared.reading.TheConstants.{LONGEST_ENTRY}
 use Rattle.acdm_journal.specs.declared.auditing.TheConstants.{MOST_KEPT}
 
 -- ---- a line, and what is kept of it
 
-kept-short : (line : List ℕ) → length line ≤ LONGEST_LINE → kept MOST_KEPT line ≡ line
+kept-short : (line : List ℕ) → length line ≤ LONGEST_ENTRY → kept MOST_KEPT line ≡ line
 kept-short line short = take_all MOST_KEPT line (omega arith)
 
-short-kept : (line : List ℕ) → length (kept MOST_KEPT line) ≤ LONGEST_LINE
-    → length line ≤ LONGEST_LINE
+short-kept : (line : List ℕ) → length (kept MOST_KEPT line) ≤ LONGEST_ENTRY
+    → length line ≤ LONGEST_ENTRY
 short-kept line short =
-    elim (nat_le (length line) LONGEST_LINE) as
-    (λ v. nat_le (length line) LONGEST_LINE ≡ v → length line ≤ LONGEST_LINE) [
-      | true ↦ λ e. leb-true (length line) LONGEST_LINE e
+    elim (nat_le (length line) LONGEST_ENTRY) as
+    (λ v. nat_le (length line) LONGEST_ENTRY ≡ v → length line ≤ LONGEST_ENTRY) [
+      | true ↦ λ e. leb-true (length line) LONGEST_ENTRY e
       | false ↦ λ e.
-          let long : LONGEST_LINE < length line = leb-false (length line) LONGEST_LINE e in
+          let long : LONGEST_ENTRY < length line = leb-false (length line) LONGEST_ENTRY e in
           let cut : length (kept MOST_KEPT line) ≡ MOST_KEPT =
           length-take-le MOST_KEPT line (omega arith) in
           absurd (omega arith)
     ] refl
 
-kept-is : (line : List ℕ) → length (kept MOST_KEPT line) ≤ LONGEST_LINE → kept MOST_KEPT line ≡ line
+kept-is : (line : List ℕ) → length (kept MOST_KEPT line) ≤ LONGEST_ENTRY → kept MOST_KEPT line ≡ line
 kept-is line short = kept-short line (short-kept line short)
 
 module _ (sigs : List (ℕ × Promise)) (J : History) (line : List ℕ) where
@@ -66,7 +66,7 @@ module _ (sigs : List (ℕ × Promise)) (J : History) (line : List ℕ) where
   breaks-line : (clause : Clause) → Breaks sigs J (kept MOST_KEPT line) clause
       → Breaks sigs J line clause
   breaks-line clauses.Unreadable h =
-      λ short. subst (λ l. length l ≤ LONGEST_LINE → (s : Stated) → IsStated s → l ≢ line_of s)
+      λ short. subst (λ l. length l ≤ LONGEST_ENTRY → (s : Stated) → IsStated s → l ≢ line_of s)
       (kept-short line short) h short
   breaks-line clauses.Number h = (h.0, states-line h.0 h.1, h.2)
   breaks-line clauses.Program h = (h.0, next-line h.0 h.1, h.2)
@@ -178,7 +178,7 @@ module _ {R : Type 0} (sigs : List (ℕ × Promise)) (r0 r1 r2 : SourceView R)
               record {
                 stated = n.is;
                 command = n.command;
-                short = subst (λ l. length l ≤ LONGEST_LINE) n.line_is n.short;
+                short = subst (λ l. length l ≤ LONGEST_ENTRY) n.line_is n.short;
               },
             );
             count = omega arith;
@@ -243,7 +243,7 @@ module _ {R : Type 0} (sigs : List (ℕ × Promise)) (r0 r1 r2 : SourceView R)
         )
 
     -- the line is not taken
-    pub faulty : (after : Board) (e : Fault) (line : List ℕ)
+    pub faulty : (after : Board) (e : JournalFault) (line : List ℕ)
         → TakesLine MOST_KEPT r1 r2 l1 l2 → ReadsSoon MOST_KEPT r1 r2 l1 → r2.faults ≡ r0.faults
         → line ≡ l2.line → JudgesEntry {T = Unit {0}} sigs so_far.front entry line after (Err e)
         → Audits sigs r0 r2 (Err e)
@@ -265,7 +265,7 @@ module _ {R : Type 0} (sigs : List (ℕ × Promise)) (r0 r1 r2 : SourceView R)
     unfolding judged
     ends t empty =
         let none : l1.window ++ t.text ≡ [] =
-        kept-empty LONGEST_LINE (l1.window ++ t.text) (ap length (sym t.bytes_are) ∙ empty) in
+        kept-empty LONGEST_ENTRY (l1.window ++ t.text) (ap length (sym t.bytes_are) ∙ empty) in
         record {
           text = history_text so_far.front;
           history = so_far.front;
@@ -291,7 +291,7 @@ module _ {R : Type 0} (sigs : List (ℕ × Promise)) (r0 r1 r2 : SourceView R)
     faulty-rest t soon some =
         let rest : List ℕ = l1.window ++ t.text in
         let there : 0 < length rest =
-        kept-some LONGEST_LINE rest (subst (λ l. 0 < length l) t.bytes_are some) in (
+        kept-some LONGEST_ENTRY rest (subst (λ l. 0 < length l) t.bytes_are some) in (
           record {
             text = judged ++ rest;
             gave = logged_with t.text t.gave;

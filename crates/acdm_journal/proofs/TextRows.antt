@@ -16,14 +16,14 @@ use Rattle.bpf_regstate.specs.declared.length.Length.TheVariants.{L128, L160}
 use Rattle.std.specs.Prelude.{pos}
 use Rattle.hex.proofs.OnLiterals.{hex_on_literals}
 use Rattle.acdm_slots.specs.declared.kind.Kind.TheVariants.{Alert}
-use Rattle.acdm_step.specs.declared.command.Plan.{Plan}
+use Rattle.acdm_step.specs.declared.command.FlightPlan.{FlightPlan}
 use Rattle.acdm_step.specs.declared.command.Command.{Command}
 use Rattle.acdm_step.specs.declared.command.Command.TheVariants as commands
 use Rattle.acdm_step.specs.declared.command.FlightCommand.TheVariants.{Schedule, Report, Deice}
 use Rattle.acdm_step.specs.declared.entry.Verdict.{Verdict}
 use Rattle.acdm_step.specs.declared.entry.Verdict.TheVariants.{Accepted, Refused}
 use Rattle.acdm_step.specs.declared.entry.Entry.{Entry}
-use Rattle.acdm_journal.specs.declared.stated.Asked.TheVariants.{Plain, Load}
+use Rattle.acdm_journal.specs.declared.stated.StatedCommand.TheVariants.{Plain, Load}
 use Rattle.acdm_journal.specs.Text.{entry_text, history_text}
 use Rattle.acdm_journal.specs.Reading.{stated_of, stated_at, asked_at, answers_at, command_named}
 use Rattle.acdm_journal.specs.Reading.{schedule_at, report_at, load_at, unload_at, show_at, plan_at}
@@ -32,7 +32,7 @@ use Rattle.acdm_journal.specs.Reading.{natural_of, length_at, deice_at, deicing_
 use Rattle.hex.specs.Hex.{encode_with}
 use Rattle.std.specs.Fmt.{digits}
 
-the_plan : Plan
+the_plan : FlightPlan
 the_plan = record {
   callsign = codes "DLH7";
   aircraft = codes "A320";

@@ -22,8 +22,8 @@ use Rattle.acdm_step.specs.Prepared.{after_change}
 use Rattle.acdm_step.specs.declared.prepare.Prepared.{Prepared}
 use Rattle.acdm_step.specs.History.{Board, IsLegal, replay, after, left_by}
 use Rattle.acdm_journal.specs.declared.stated.Stated.{Stated}
-use Rattle.acdm_journal.specs.declared.stated.Asked.{Asked}
-use Rattle.acdm_journal.specs.declared.stated.Asked.TheVariants.{Plain, Load}
+use Rattle.acdm_journal.specs.declared.stated.StatedCommand.{StatedCommand}
+use Rattle.acdm_journal.specs.declared.stated.StatedCommand.TheVariants.{Plain, Load}
 use Rattle.acdm_journal.specs.declared.judge.PlannedEntry.{PlannedEntry}
 use Rattle.acdm_journal.specs.declared.judge.Clause.{Clause}
 use Rattle.acdm_journal.specs.declared.judge.Clause.TheVariants as clauses
@@ -31,7 +31,7 @@ use Rattle.acdm_journal.specs.declared.judge.AuditError.{AuditError}
 use Rattle.acdm_journal.specs.declared.judge.AuditError.TheVariants.{Memory, Faulty}
 use Rattle.acdm_journal.specs.Text.{line_of, stated_in, asked_in, outcome_code}
 use Rattle.acdm_journal.specs.Ranges.{IsStated}
-use Rattle.acdm_journal.specs.declared.reading.TheConstants.{LONGEST_LINE}
+use Rattle.acdm_journal.specs.declared.reading.TheConstants.{LONGEST_ENTRY}
 
 -- the numbers of the clauses, in the order of their tests
 abbrev pub clause_code : Clause → ℕ
@@ -43,7 +43,7 @@ clause_code clauses.Outcome = 405
 
 -- the command that is asked for; the program of a load is the one that its bytes encode, and no
 -- slot of it has a fault beside a record of the length that the load names
-abbrev pub IsCommandOf : List (ℕ × Promise) → Asked → Command → Type 0
+abbrev pub IsCommandOf : List (ℕ × Promise) → StatedCommand → Command → Type 0
 IsCommandOf sigs (Plain c) command = command ≡ c
 IsCommandOf sigs (Load l) command =
     (ops : List Op) × Encodes l.program ops × Accepts (bytes_in l.record_length) ops sigs
@@ -73,7 +73,7 @@ pub record PlansWith (sigs : List (ℕ × Promise)) (J : History) (role : Role) 
 pub record States (line : List ℕ) (s : Stated) : Type 0 where
   pub line_is : line ≡ line_of s
   pub is : IsStated s
-  pub short : length line ≤ LONGEST_LINE
+  pub short : length line ≤ LONGEST_ENTRY
 
 -- what a line states, numbered as the next entry
 pub record StatesNext (J : History) (line : List ℕ) (s : Stated) : Type 0 where
@@ -83,7 +83,7 @@ pub record StatesNext (J : History) (line : List ℕ) (s : Stated) : Type 0 wher
 -- The clause that a line breaks first, after a legal history. Whether its answers are right is
 -- judged by the outcome that the history gives.
 abbrev pub Breaks : List (ℕ × Promise) → History → List ℕ → Clause → Type 0
-Breaks sigs J line clauses.Unreadable = length line ≤ LONGEST_LINE → (s : Stated) → IsStated s
+Breaks sigs J line clauses.Unreadable = length line ≤ LONGEST_ENTRY → (s : Stated) → IsStated s
     → line ≢ line_of s
 Breaks sigs J line clauses.Number = (s : Stated) × States line s × (s.number ≢ length J)
 Breaks sigs J line clauses.Program =
@@ -102,7 +102,7 @@ pub record Continues (sigs : List (ℕ × Promise)) (J : History) (line : List �
   pub entry : Entry
   pub line_is : line ≡ line_of (stated_in entry)
   pub is : IsStated (stated_in entry)
-  pub short : length line ≤ LONGEST_LINE
+  pub short : length line ≤ LONGEST_ENTRY
   pub legal : IsLegal sigs (entry ∷ J)
   pub command : IsCommandOf sigs (asked_in entry.command) entry.command
   pub replays : board ≡ replay sigs (entry ∷ J)
@@ -141,7 +141,7 @@ lacks_answer (Refused Unanswered) = true
 lacks_answer _ = false
 
 -- what comes of reading the program of what is asked for
-abbrev pub Commands : List (ℕ × Promise) → Asked → Result Command AuditError → Type 0
+abbrev pub Commands : List (ℕ × Promise) → StatedCommand → Result Command AuditError → Type 0
 Commands sigs asked (Ok c) = IsCommandOf sigs asked c
 Commands sigs asked (Err Memory) = Unit {0}
 Commands sigs asked (Err (Faulty clause)) =

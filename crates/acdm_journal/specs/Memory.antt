@@ -6,9 +6,9 @@ use Rattle.std.specs.Str.{bytes_eq}
 use Rattle.acdm_step.specs.declared.command.Command.TheVariants.{Alerts, Migrate}
 use Rattle.acdm_step.specs.Commands.{History}
 use Rattle.acdm_journal.specs.declared.stated.Stated.{Stated}
-use Rattle.acdm_journal.specs.declared.stated.Asked.{Asked}
-use Rattle.acdm_journal.specs.declared.stated.Asked.TheVariants.{Plain, Load}
-use Rattle.acdm_journal.specs.declared.reading.TheConstants.{LONGEST_LINE}
+use Rattle.acdm_journal.specs.declared.stated.StatedCommand.{StatedCommand}
+use Rattle.acdm_journal.specs.declared.stated.StatedCommand.TheVariants.{Plain, Load}
+use Rattle.acdm_journal.specs.declared.reading.TheConstants.{LONGEST_ENTRY}
 use Rattle.acdm_journal.specs.Reading.{Words, word_at, words_of, number_at, role_at, kind_at}
 use Rattle.acdm_journal.specs.Reading.{milestone_at, answers_at, most_word, most_minute}
 use Rattle.acdm_journal.specs.Audit.{StatesNext}
@@ -64,10 +64,10 @@ stated_needs_memory ws = do
 
 -- reading a line that is not too long
 unfoldable pub line_needs_memory : List ℕ → Bool
-line_needs_memory line = nat_le (length line) LONGEST_LINE && stated_needs_memory (words_of line)
+line_needs_memory line = nat_le (length line) LONGEST_ENTRY && stated_needs_memory (words_of line)
 
 -- to load a program
-abbrev pub is_load_line : Asked → Bool
+abbrev pub is_load_line : StatedCommand → Bool
 is_load_line (Plain c) = false
 is_load_line (Load l) = true
 

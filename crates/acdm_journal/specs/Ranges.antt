@@ -6,7 +6,7 @@ use Rattle.acdm_record.specs.Texts.{text_from}
 use Rattle.bpf_decode.specs.Encoding.{IsProgram}
 use Rattle.acdm_step.specs.Facts.{IsSchedule, IsReport, ScheduleFacts, ReportFacts}
 use Rattle.acdm_step.specs.declared.command.TheConstants.{MINUTES_OF_DAY}
-use Rattle.acdm_step.specs.declared.command.Plan.{Plan}
+use Rattle.acdm_step.specs.declared.command.FlightPlan.{FlightPlan}
 use Rattle.acdm_step.specs.declared.command.Command.{Command}
 use Rattle.acdm_step.specs.declared.command.Command.TheVariants as commands
 use Rattle.acdm_step.specs.declared.command.FlightCommand.TheVariants.{Schedule, Report, Deice}
@@ -14,21 +14,21 @@ use Rattle.acdm_step.specs.declared.entry.Entry.{Entry}
 use Rattle.acdm_step.specs.Commands.{is_load}
 use Rattle.acdm_step.specs.History.{IsInRange}
 use Rattle.acdm_journal.specs.declared.stated.Stated.{Stated}
-use Rattle.acdm_journal.specs.declared.stated.Asked.{Asked}
-use Rattle.acdm_journal.specs.declared.stated.Asked.TheVariants.{Plain, Load}
+use Rattle.acdm_journal.specs.declared.stated.StatedCommand.{StatedCommand}
+use Rattle.acdm_journal.specs.declared.stated.StatedCommand.TheVariants.{Plain, Load}
 use Rattle.acdm_journal.specs.Text.{asked_in}
 
 -- a text of 1 to so many printable bytes
 abbrev pub IsText : ℕ → List ℕ → Type 0
 IsText most t = text_from most t ≡ Some t
 
-pub record IsPlan (p : Plan) : Type 0 where
+pub record IsPlan (p : FlightPlan) : Type 0 where
   pub callsign : IsText 8 p.callsign
   pub aircraft : IsText 4 p.aircraft
   pub registration : IsText 8 p.registration
   pub destination : IsText 4 p.destination
 
-abbrev pub IsPlanOf : Option Plan → Type 0
+abbrev pub IsPlanOf : Option FlightPlan → Type 0
 IsPlanOf None = Unit {0}
 IsPlanOf (Some p) = IsPlan p
 
@@ -68,7 +68,7 @@ IsCommandLine (commands.Flight (Deice d)) = (1 ≤ d.flight) × IsWord d.flight 
 IsCommandLine (commands.Show f) = (1 ≤ f) × IsWord f
 IsCommandLine _ = Unit {0}
 
-abbrev pub IsAsked : Asked → Type 0
+abbrev pub IsAsked : StatedCommand → Type 0
 IsAsked (Plain c) = (is_load c ≡ false) × IsCommandLine c
 IsAsked (Load l) = AllByRecursion IsByte l.program
 

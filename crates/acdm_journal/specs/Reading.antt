@@ -21,14 +21,14 @@ use Rattle.bpf_regstate.specs.declared.length.Length.{Length}
 use Rattle.bpf_regstate.specs.declared.length.Length.TheVariants.{L128, L160}
 use Rattle.acdm_slots.specs.declared.kind.Kind as kinds
 use Rattle.acdm_slots.specs.Names.{kind_named}
-use Rattle.acdm_step.specs.declared.command.Plan.{Plan}
+use Rattle.acdm_step.specs.declared.command.FlightPlan.{FlightPlan}
 use Rattle.acdm_step.specs.declared.command.Command.TheVariants as commands
 use Rattle.acdm_step.specs.declared.command.FlightCommand.TheVariants.{Schedule, Report, Deice}
 use Rattle.acdm_journal.specs.declared.stated.Stated.{Stated}
-use Rattle.acdm_journal.specs.declared.stated.Asked.{Asked}
-use Rattle.acdm_journal.specs.declared.stated.Asked.TheVariants.{Plain, Load}
-use Rattle.acdm_journal.specs.declared.stated.LineError.{LineError}
-use Rattle.acdm_journal.specs.declared.stated.LineError.TheVariants.{Memory, Unreadable}
+use Rattle.acdm_journal.specs.declared.stated.StatedCommand.{StatedCommand}
+use Rattle.acdm_journal.specs.declared.stated.StatedCommand.TheVariants.{Plain, Load}
+use Rattle.acdm_journal.specs.declared.stated.ReadError.{ReadError}
+use Rattle.acdm_journal.specs.declared.stated.ReadError.TheVariants.{Memory, Unreadable}
 use Rattle.acdm_step.specs.declared.command.TheConstants.{MINUTES_OF_DAY}
 
 -- one reading after another, where there is one
@@ -42,17 +42,17 @@ Words = List (List ℕ)
 
 -- What a function returned is what reading gives, with these words left, unless memory ran out,
 -- which it may only where it needs some.
-abbrev pub Gives : {X : Type 0} → Bool → Result X LineError → Words → Option (X × Words) → Type 0
+abbrev pub Gives : {X : Type 0} → Bool → Result X ReadError → Words → Option (X × Words) → Type 0
 Gives needs_memory (Ok x) left reading = reading ≡ Some (x, left)
 Gives needs_memory (Err Memory) left reading = needs_memory ≡ true
 Gives needs_memory (Err Unreadable) left reading = reading ≡ None
 
 -- what a function that needs no memory returned
-abbrev pub Reads : {X : Type 0} → Result X LineError → Words → Option (X × Words) → Type 0
+abbrev pub Reads : {X : Type 0} → Result X ReadError → Words → Option (X × Words) → Type 0
 Reads result left reading = Gives false result left reading
 
 -- the same of a value that is seen by view
-abbrev pub ReadsView : {X Y : Type 0} → (X → Y) → Result X LineError → Words → Option (Y × Words)
+abbrev pub ReadsView : {X Y : Type 0} → (X → Y) → Result X ReadError → Words → Option (Y × Words)
     → Type 0
 ReadsView view (Ok x) left reading = reading ≡ Some (view x, left)
 ReadsView view (Err Memory) left reading = ⊥
@@ -151,7 +151,7 @@ most_word = 2 ^ 64 - 1
 abbrev pub most_minute : ℕ
 most_minute = 2 ^ 32 - 1
 
-unfoldable pub plan_at : Words → Option (Plan × Words)
+unfoldable pub plan_at : Words → Option (FlightPlan × Words)
 plan_at ws = do
   c ← text_at 8 ws
   a ← text_at 4 c.1
@@ -160,7 +160,7 @@ plan_at ws = do
   Some (record { callsign = c.0; aircraft = a.0; registration = r.0; destination = d.0 }, d.1)
 
 -- a plan comes with the first milestone alone
-abbrev pub plan_for : Milestone → Words → Option (Option Plan × Words)
+abbrev pub plan_for : Milestone → Words → Option (Option FlightPlan × Words)
 plan_for FlightPlanActivated ws = plan_at ws >>= λ p. Some (Some p.0, p.1)
 plan_for _ ws = Some (None, ws)
 
@@ -170,7 +170,7 @@ least_time TwoHoursBeforeEobt = 0
 least_time TobtUpdate = 0
 least_time _ = 1
 
-unfoldable pub schedule_at : Words → Option (Asked × Words)
+unfoldable pub schedule_at : Words → Option (StatedCommand × Words)
 schedule_at ws = do
   flight ← number_at 1 most_word ws
   plan ← plan_at flight.1
@@ -192,7 +192,7 @@ schedule_at ws = do
     stand.1,
   )
 
-unfoldable pub report_at : Words → Option (Asked × Words)
+unfoldable pub report_at : Words → Option (StatedCommand × Words)
 report_at ws = do
   flight ← number_at 1 most_word ws
   milestone ← milestone_at flight.1
@@ -208,7 +208,7 @@ report_at ws = do
     plan.1,
   )
 
-unfoldable pub deice_at : Words → Option (Asked × Words)
+unfoldable pub deice_at : Words → Option (StatedCommand × Words)
 deice_at ws = do
   flight ← number_at 1 most_word ws
   which ← deicing_at flight.1
@@ -227,7 +227,7 @@ unfoldable pub length_at : Words → Option (Length × Words)
 length_at [] = Some (L128, [])
 length_at (w ∷ ws) = if bytes_eq w (codes "160") then Some (L160, ws) else None
 
-unfoldable pub load_at : Words → Option (Asked × Words)
+unfoldable pub load_at : Words → Option (StatedCommand × Words)
 load_at ws = do
   milestone ← milestone_at ws
   kind ← kind_at milestone.1
@@ -243,19 +243,19 @@ load_at ws = do
     record_length.1,
   )
 
-unfoldable pub unload_at : Words → Option (Asked × Words)
+unfoldable pub unload_at : Words → Option (StatedCommand × Words)
 unload_at ws = do
   milestone ← milestone_at ws
   kind ← kind_at milestone.1
   Some (Plain (commands.Unload record { milestone = milestone.0; kind = kind.0 }), kind.1)
 
-unfoldable pub show_at : Words → Option (Asked × Words)
+unfoldable pub show_at : Words → Option (StatedCommand × Words)
 show_at ws = do
   flight ← number_at 1 most_word ws
   Some (Plain (commands.Show flight.0), flight.1)
 
 -- the command of this name
-unfoldable pub command_named : List ℕ → Words → Option (Asked × Words)
+unfoldable pub command_named : List ℕ → Words → Option (StatedCommand × Words)
 command_named name ws =
     if bytes_eq name (codes "schedule") then schedule_at ws
     else (if bytes_eq name (codes "report") then report_at ws
@@ -267,7 +267,7 @@ command_named name ws =
     else (if bytes_eq name (codes "migrate") then Some (Plain commands.Migrate, ws)
     else (if bytes_eq name (codes "deice") then deice_at ws else None))))))))
 
-unfoldable pub asked_at : Words → Option (Asked × Words)
+unfoldable pub asked_at : Words → Option (StatedCommand × Words)
 asked_at ws = word_at ws >>= λ name. command_named name.0 name.1
 
 -- ---- lines
@@ -314,7 +314,7 @@ stated_of line = stated_at (words_of line) >>= alone
 
 -- What a function returned is the reading of a line, unless memory ran out, which it may only where
 -- it needs some.
-abbrev pub GivesLine : Bool → Result Stated LineError → Option Stated → Type 0
+abbrev pub GivesLine : Bool → Result Stated ReadError → Option Stated → Type 0
 GivesLine needs_memory (Ok s) r = r ≡ Some s
 GivesLine needs_memory (Err Memory) r = needs_memory ≡ true
 GivesLine needs_memory (Err Unreadable) r = r ≡ None

@@ -14,7 +14,7 @@ use Rattle.bpf_decode.specs.Encoding.{encoding}
 use Rattle.acdm_slots.specs.declared.kind.Kind as kinds
 use Rattle.acdm_slots.specs.Names.{kind_name}
 use Rattle.acdm_step.specs.Facts.{ScheduleFacts, ReportFacts}
-use Rattle.acdm_step.specs.declared.command.Plan.{Plan}
+use Rattle.acdm_step.specs.declared.command.FlightPlan.{FlightPlan}
 use Rattle.acdm_step.specs.declared.command.Command.{Command}
 use Rattle.acdm_step.specs.declared.command.Command.TheVariants as commands
 use Rattle.acdm_step.specs.declared.command.Deice.{Deice}
@@ -25,8 +25,8 @@ use Rattle.acdm_step.specs.declared.entry.Verdict.TheVariants.{Accepted, Refused
 use Rattle.acdm_step.specs.declared.entry.Entry.{Entry}
 use Rattle.acdm_step.specs.Commands.{History}
 use Rattle.acdm_journal.specs.declared.stated.Stated.{Stated}
-use Rattle.acdm_journal.specs.declared.stated.Asked.{Asked}
-use Rattle.acdm_journal.specs.declared.stated.Asked.TheVariants.{Plain, Load}
+use Rattle.acdm_journal.specs.declared.stated.StatedCommand.{StatedCommand}
+use Rattle.acdm_journal.specs.declared.stated.StatedCommand.TheVariants.{Plain, Load}
 
 -- ---- numbers
 
@@ -38,10 +38,10 @@ outcome_code (Refused x) = refusal_code x
 -- ---- the words of a command
 
 -- callsign, aircraft type, registration and destination
-abbrev pub plan_words : Plan → List (List ℕ)
+abbrev pub plan_words : FlightPlan → List (List ℕ)
 plan_words p = p.callsign ∷ p.aircraft ∷ p.registration ∷ p.destination ∷ []
 
-abbrev pub plan_words_of : Option Plan → List (List ℕ)
+abbrev pub plan_words_of : Option FlightPlan → List (List ℕ)
 plan_words_of None = []
 plan_words_of (Some p) = plan_words p
 
@@ -88,7 +88,7 @@ command_words commands.Alerts = codes "alerts" ∷ []
 
 -- ---- a line
 
-abbrev pub asked_words : Asked → List (List ℕ)
+abbrev pub asked_words : StatedCommand → List (List ℕ)
 asked_words (Plain c) = command_words c
 asked_words (Load l) = load_words l.milestone l.kind l.program l.record_length
 
@@ -112,7 +112,7 @@ line_of s = join_with_byte 32 (line_words s)
 -- ---- entries
 
 -- what is asked for, with a program as the bytes that encode it
-abbrev pub asked_in : Command → Asked
+abbrev pub asked_in : Command → StatedCommand
 asked_in (commands.Load l) =
     Load record {
       milestone = l.milestone;

@@ -7,7 +7,7 @@ ghost use Rattle.acdm_step.specs.History.{IsLegal, replay};
 ghost use Rattle.acdm_journal.specs.Whole.{Audits, JudgesEntry, TakesNext};
 
 use crate::judge::{AuditError, Clause, judge_line};
-use crate::reading::LONGEST_LINE;
+use crate::reading::LONGEST_ENTRY;
 use acdm_lines::{Lines, Source};
 use acdm_step::Core;
 use bpf_helpers::Sigs;
@@ -16,11 +16,11 @@ use std::io::Read;
 
 /// How many bytes are kept of a line: one more than the longest line has, so that a longer one is
 /// told by what is kept of it.
-pub const MOST_KEPT: usize = LONGEST_LINE + 1;
+pub const MOST_KEPT: usize = LONGEST_ENTRY + 1;
 
 /// Why a journal was not found to be legal.
 #[derive(Clone, Copy, Debug, PartialEq, Eq)]
-pub enum Fault {
+pub enum JournalFault {
     /// The first faulty entry, from 0, and the first clause that it breaks.
     Faulty { entry: u64, clause: Clause },
     /// The reader failed, or gave 2^40 reads and no end.
@@ -30,7 +30,10 @@ pub enum Fault {
 }
 
 // Takes the next line, and says whether a line feed ended it.
-fn next_line<R: Read>(lines: &mut Lines<MOST_KEPT>, reader: &mut Source<R>) -> Result<bool, Fault>
+fn next_line<R: Read>(
+    lines: &mut Lines<MOST_KEPT>,
+    reader: &mut Source<R>,
+) -> Result<bool, JournalFault>
     ensures takes { TakesNext reader.old reader.new lines.old lines.new result }
     ensures progress { result ≡ Ok true →
         weight lines.new.reads_left lines.new.window
@@ -39,7 +42,7 @@ fn next_line<R: Read>(lines: &mut Lines<MOST_KEPT>, reader: &mut Source<R>) -> R
 {
     match lines.next_within(reader) {
         Ok(is_line) => Ok(is_line),
-        Err(_) => Err(Fault::Read),
+        Err(_) => Err(JournalFault::Read),
     }
 }
 
@@ -50,7 +53,7 @@ fn judge_entry(
     sigs: &Sigs,
     entry: u64,
     line: &[u8],
-) -> Result<(), Fault>
+) -> Result<(), JournalFault>
     requires { core.old.slots.sigs ≡ sigs.now }
     ensures judges { (J : History) → IsLegal sigs.now J → length J ≡ entry →
         core.old ≡ replay sigs.now J → JudgesEntry sigs.now J entry line.now core.new result }
@@ -58,8 +61,8 @@ fn judge_entry(
 {
     match judge_line(alloc, core, sigs, entry, line) {
         Ok(()) => Ok(()),
-        Err(AuditError::Memory) => Err(Fault::Memory),
-        Err(AuditError::Faulty(clause)) => Err(Fault::Faulty { entry, clause }),
+        Err(AuditError::Memory) => Err(JournalFault::Memory),
+        Err(AuditError::Faulty(clause)) => Err(JournalFault::Faulty { entry, clause }),
     }
 }
 
@@ -71,7 +74,7 @@ fn audit_lines<R: Read>(
     sigs: &Sigs,
     core: &mut Core,
     lines: &mut Lines<MOST_KEPT>,
-) -> Result<u64, Fault>
+) -> Result<u64, JournalFault>
     requires reads { reader.old.faults < 2 ^ 64 - 1 }
     requires board { core.old ≡ replay sigs.now [] }
     requires window { lines.old.window ≡ [] }
@@ -87,7 +90,7 @@ fn audit_lines<R: Read>(
     if lines.line.as_slice().is_empty() {
         return Ok(entry);
     }
-    Err(Fault::Faulty {
+    Err(JournalFault::Faulty {
         entry,
         clause: Clause::Unreadable,
     })
@@ -103,19 +106,23 @@ fn audit_lines<R: Read>(
 /// did not reach its end; `Memory` where there was no room for the board, for a line, or for what
 /// an entry asks for. At no time is more kept than 65,536 bytes that were read, 200,001 of a line,
 /// what it states, and the board after the entries before it.
-pub fn audit<R: Read>(alloc: Global, reader: &mut Source<R>, sigs: &Sigs) -> Result<u64, Fault>
+pub fn audit<R: Read>(
+    alloc: Global,
+    reader: &mut Source<R>,
+    sigs: &Sigs,
+) -> Result<u64, JournalFault>
     requires reads { reader.old.faults < 2 ^ 64 - 1 }
     ensures audits { Audits sigs.now reader.old reader.new result }
     ensures first { reader.new.first ≡ reader.old.first }
 {
     let Ok(same) = sigs.copy() else {
-        return Err(Fault::Memory);
+        return Err(JournalFault::Memory);
     };
     let Ok(mut core) = Core::new(alloc, same) else {
-        return Err(Fault::Memory);
+        return Err(JournalFault::Memory);
     };
     let Ok(mut lines) = Lines::new(alloc) else {
-        return Err(Fault::Memory);
+        return Err(JournalFault::Memory);
     };
     audit_lines(alloc, reader, sigs, &mut core, &mut lines)
 }

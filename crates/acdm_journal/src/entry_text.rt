@@ -19,7 +19,9 @@ use crate::appended::Appended;
 use crate::writing::write_whole;
 use acdm_lines::Sink;
 use acdm_milestones::Milestone;
-use acdm_step::{Command, Deice, Entry, FlightCommand, Load, Plan, Report, Schedule, Verdict};
+use acdm_step::{
+    Command, Deice, Entry, FlightCommand, FlightPlan, Load, Report, Schedule, Verdict,
+};
 use bpf_decode::{Op, Program, encode_op};
 use bpf_regstate::Length;
 use itoa::Buffer;
@@ -69,7 +71,7 @@ fn push_milestone(text: &mut Appended, milestone: Milestone) -> Result<(), Alloc
     push_number(text, u64::from(milestone.number()))
 }
 
-fn push_plan(text: &mut Appended, plan: &Plan) -> Result<(), AllocError>
+fn push_plan(text: &mut Appended, plan: &FlightPlan) -> Result<(), AllocError>
     ensures before { text.new.before ≡ text.old.before }
     ensures adds { OnOk result (text.new.added ≡ text.old.added ++ spaced (plan_words plan.now)) }
     ensures ranges { OnOk result (IsPlan plan.now) }

@@ -11,7 +11,7 @@ ghost use Rattle.acdm_journal.specs.Memory.{JudgingNeedsMemory, is_load_line};
 
 use crate::entry_text::code_of;
 use crate::reading::read_line;
-use crate::stated::{Asked, LineError, LoadLine};
+use crate::stated::{LoadLine, ReadError, StatedCommand};
 use acdm_milestones::{Refusal, Role};
 use acdm_step::{Command, Core, Entry, Load, Prepared, Verdict};
 use bpf_helpers::{Logged, Sigs};
@@ -70,13 +70,13 @@ fn program_of(alloc: Global, load: &LoadLine, sigs: &Sigs) -> Result<Checked, Au
 }
 
 // The command that is asked for.
-fn command_of(alloc: Global, asked: Asked, sigs: &Sigs) -> Result<Command, AuditError>
+fn command_of(alloc: Global, asked: StatedCommand, sigs: &Sigs) -> Result<Command, AuditError>
     ensures gives { Commands sigs.now asked result }
     ensures memory { result ≡ Err AuditError.Memory → IsTrue (is_load_line asked) }
 {
     match asked {
-        Asked::Plain(command) => Ok(command),
-        Asked::Load(load) => {
+        StatedCommand::Plain(command) => Ok(command),
+        StatedCommand::Load(load) => {
             let program = match program_of(alloc, &load, sigs) {
                 Ok(program) => program,
                 Err(error) => return Err(error),
@@ -199,8 +199,8 @@ pub fn plan_line(
 {
     let stated = match read_line(alloc, line) {
         Ok(stated) => stated,
-        Err(LineError::Memory) => return Err(AuditError::Memory),
-        Err(LineError::Unreadable) => return Err(AuditError::Faulty(Clause::Unreadable)),
+        Err(ReadError::Memory) => return Err(AuditError::Memory),
+        Err(ReadError::Unreadable) => return Err(AuditError::Faulty(Clause::Unreadable)),
     };
     if stated.number != number {
         return Err(AuditError::Faulty(Clause::Number));

@@ -12,9 +12,9 @@ mod stated;
 mod words;
 mod writing;
 
-pub use auditing::{Fault, MOST_KEPT, audit};
+pub use auditing::{JournalFault, MOST_KEPT, audit};
 pub use entry_text::{WriteError, push_entry, write_entry, write_entry_by};
 pub use judge::{AuditError, Clause, PlannedEntry, judge_line, plan_line, plan_with};
 pub use reading::read_line;
-pub use stated::{Asked, LineError, LoadLine, ProgramBytes, Stated};
+pub use stated::{LoadLine, ProgramBytes, ReadError, Stated, StatedCommand};
 pub use writing::write_whole;

@@ -17,21 +17,21 @@ ghost use Rattle.acdm_journal.specs.declared.stated.Stated.{Stated};
 ghost use Rattle.acdm_journal.specs.Text.{line_of};
 ghost use Rattle.acdm_journal.specs.Ranges.{IsStated};
 
-use crate::stated::{Asked, LineError, LoadLine, ProgramBytes, Stated};
+use crate::stated::{LoadLine, ProgramBytes, ReadError, Stated, StatedCommand};
 use crate::words::Words;
 use acdm_milestones::{DeicingTime, Milestone, Role};
 use acdm_record::Text;
 use acdm_slots::Kind;
 use acdm_step::{
-    Answers, Command, Deice, FlightCommand, FlightNumber, MINUTES_OF_DAY, Plan, Report, Schedule,
-    Unload,
+    Answers, Command, Deice, FlightCommand, FlightNumber, FlightPlan, MINUTES_OF_DAY, Report,
+    Schedule, Unload,
 };
 use bpf_regstate::Length;
 use hex::FromHexError;
 use std::alloc::Global;
 
 /// How many bytes a line of the journal has at most (this project's profile).
-pub const LONGEST_LINE: usize = 200_000;
+pub const LONGEST_ENTRY: usize = 200_000;
 
 // A number without leading zeros.
 #[tactic(auto, unfolding(crate::specs::Reading::natural_of))]
@@ -56,97 +56,97 @@ fn natural_in(word: &[u8]) -> Option<u128>
 
 // A number within these bounds.
 #[tactic(auto, unfolding(crate::specs::Reading::number_at))]
-fn number_in(words: &mut Words<'_>, low: u64, high: u64) -> Result<u64, LineError>
+fn number_in(words: &mut Words<'_>, low: u64, high: u64) -> Result<u64, ReadError>
     ensures reads { Reads result words.new (number_at low high words.old) }
     ensures within { IfOk result (λ n. (low ≤ n) × (n ≤ high)) }
 {
     let word = words.next()?;
     let Some(number) = natural_in(word) else {
-        return Err(LineError::Unreadable);
+        return Err(ReadError::Unreadable);
     };
     if u128::from(low) <= number && number <= u128::from(high) {
         Ok(number as u64)
     } else {
-        Err(LineError::Unreadable)
+        Err(ReadError::Unreadable)
     }
 }
 
 // A text of 1 to N printable bytes.
 #[tactic(auto, unfolding(crate::specs::Reading::text_at))]
-fn text_in<const N: usize>(words: &mut Words<'_>) -> Result<Text<N>, LineError>
+fn text_in<const N: usize>(words: &mut Words<'_>) -> Result<Text<N>, ReadError>
     ensures { Reads result words.new (text_at N words.old) }
 {
     let word = words.next()?;
     let Some(text) = Text::from_bytes(word) else {
-        return Err(LineError::Unreadable);
+        return Err(ReadError::Unreadable);
     };
     Ok(text)
 }
 
 #[tactic(auto, unfolding(crate::specs::Reading::role_at))]
-fn role_in(words: &mut Words<'_>) -> Result<Role, LineError>
+fn role_in(words: &mut Words<'_>) -> Result<Role, ReadError>
     ensures { Reads result words.new (role_at words.old) }
 {
     let word = words.next()?;
     let Some(role) = Role::from_name(word) else {
-        return Err(LineError::Unreadable);
+        return Err(ReadError::Unreadable);
     };
     Ok(role)
 }
 
 #[tactic(auto, unfolding(crate::specs::Reading::kind_at))]
-fn kind_in(words: &mut Words<'_>) -> Result<Kind, LineError>
+fn kind_in(words: &mut Words<'_>) -> Result<Kind, ReadError>
     ensures { Reads result words.new (kind_at words.old) }
 {
     let word = words.next()?;
     let Some(kind) = Kind::from_name(word) else {
-        return Err(LineError::Unreadable);
+        return Err(ReadError::Unreadable);
     };
     Ok(kind)
 }
 
 #[tactic(auto, unfolding(crate::specs::Reading::milestone_at))]
-fn milestone_in(words: &mut Words<'_>) -> Result<Milestone, LineError>
+fn milestone_in(words: &mut Words<'_>) -> Result<Milestone, ReadError>
     ensures { Reads result words.new (milestone_at words.old) }
 {
     let number = number_in(words, 1, 16)?;
     let Some(milestone) = Milestone::from_number(number) else {
-        return Err(LineError::Unreadable);
+        return Err(ReadError::Unreadable);
     };
     Ok(milestone)
 }
 
 // The bytes of hexadecimal text in lower case.
 #[tactic(auto, unfolding(crate::specs::Reading::bytes_at, crate::specs::Memory::bytes_need_memory))]
-fn bytes_in(alloc: Global, words: &mut Words<'_>) -> Result<ProgramBytes, LineError>
+fn bytes_in(alloc: Global, words: &mut Words<'_>) -> Result<ProgramBytes, ReadError>
     ensures { Gives (bytes_need_memory words.old) result words.new
         (bytes_at words.old) }
 {
     let word = words.next()?;
     let bytes = match hex::decode(alloc, word) {
         Ok(bytes) => bytes,
-        Err(FromHexError::OutOfMemory) => return Err(LineError::Memory),
-        Err(_) => return Err(LineError::Unreadable),
+        Err(FromHexError::OutOfMemory) => return Err(ReadError::Memory),
+        Err(_) => return Err(ReadError::Unreadable),
     };
     let Ok(text) = hex::encode(alloc, bytes.as_slice()) else {
-        return Err(LineError::Memory);
+        return Err(ReadError::Memory);
     };
     if text.as_bytes() == word {
         Ok(ProgramBytes::from(bytes))
     } else {
-        Err(LineError::Unreadable)
+        Err(ReadError::Unreadable)
     }
 }
 
 #[tactic(auto, unfolding(crate::specs::Reading::plan_at))]
-fn plan_in(words: &mut Words<'_>) -> Result<Plan, LineError>
+fn plan_in(words: &mut Words<'_>) -> Result<FlightPlan, ReadError>
     ensures { Reads result words.new (plan_at words.old) }
 {
     let callsign = text_in(words)?;
     let aircraft = text_in(words)?;
     let registration = text_in(words)?;
     let destination = text_in(words)?;
-    Ok(Plan {
+    Ok(FlightPlan {
         callsign,
         aircraft,
         registration,
@@ -155,7 +155,7 @@ fn plan_in(words: &mut Words<'_>) -> Result<Plan, LineError>
 }
 
 // A plan comes with the first milestone alone.
-fn plan_of(words: &mut Words<'_>, milestone: Milestone) -> Result<Option<Plan>, LineError>
+fn plan_of(words: &mut Words<'_>, milestone: Milestone) -> Result<Option<FlightPlan>, ReadError>
     ensures reads { Reads result words.new (plan_for milestone words.old) }
     ensures with_first { IfOk result (λ p. IsTrue (has_its_plan milestone p)) }
 {
@@ -175,7 +175,7 @@ fn least_time_of(milestone: Milestone) -> u64
 }
 
 #[tactic(auto, unfolding(crate::specs::Reading::schedule_at))]
-fn schedule_in(words: &mut Words<'_>) -> Result<Asked, LineError>
+fn schedule_in(words: &mut Words<'_>) -> Result<StatedCommand, ReadError>
     ensures { Reads result words.new (schedule_at words.old) }
 {
     let flight = number_in(words, 1, u64::MAX)?;
@@ -185,7 +185,7 @@ fn schedule_in(words: &mut Words<'_>) -> Result<Asked, LineError>
     let exit = number_in(words, 0, 255)?;
     let exot = number_in(words, 0, MINUTES_OF_DAY)?;
     let stand = number_in(words, 0, 65_535)?;
-    Ok(Asked::Plain(Command::Flight(FlightCommand::Schedule(Schedule::new(
+    Ok(StatedCommand::Plain(Command::Flight(FlightCommand::Schedule(Schedule::new(
         flight,
         plan,
         sobt as u32,
@@ -197,7 +197,7 @@ fn schedule_in(words: &mut Words<'_>) -> Result<Asked, LineError>
 }
 
 // The time of a report.
-fn time_in(words: &mut Words<'_>, milestone: Milestone) -> Result<u32, LineError>
+fn time_in(words: &mut Words<'_>, milestone: Milestone) -> Result<u32, ReadError>
     ensures reads { Reads result words.new (number_at (least_time milestone) 4294967295 words.old) }
     ensures timed { IfOk result (λ t. IsTrue (has_its_time milestone t)) }
 {
@@ -206,37 +206,37 @@ fn time_in(words: &mut Words<'_>, milestone: Milestone) -> Result<u32, LineError
 }
 
 #[tactic(auto, unfolding(crate::specs::Reading::report_at))]
-fn report_in(words: &mut Words<'_>) -> Result<Asked, LineError>
+fn report_in(words: &mut Words<'_>) -> Result<StatedCommand, ReadError>
     ensures { Reads result words.new (report_at words.old) }
 {
     let flight = number_in(words, 1, u64::MAX)?;
     let milestone = milestone_in(words)?;
     let time = time_in(words, milestone)?;
     let plan = plan_of(words, milestone)?;
-    Ok(Asked::Plain(Command::Flight(FlightCommand::Report(Report::new(
+    Ok(StatedCommand::Plain(Command::Flight(FlightCommand::Report(Report::new(
         flight, milestone, time, plan,
     )))))
 }
 
 #[tactic(auto, unfolding(crate::specs::Reading::deicing_at))]
-fn deicing_in(words: &mut Words<'_>) -> Result<DeicingTime, LineError>
+fn deicing_in(words: &mut Words<'_>) -> Result<DeicingTime, ReadError>
     ensures { Reads result words.new (deicing_at words.old) }
 {
     let word = words.next()?;
     let Some(which) = DeicingTime::from_name(word) else {
-        return Err(LineError::Unreadable);
+        return Err(ReadError::Unreadable);
     };
     Ok(which)
 }
 
 #[tactic(auto, unfolding(crate::specs::Reading::deice_at))]
-fn deice_in(words: &mut Words<'_>) -> Result<Asked, LineError>
+fn deice_in(words: &mut Words<'_>) -> Result<StatedCommand, ReadError>
     ensures { Reads result words.new (deice_at words.old) }
 {
     let flight = number_in(words, 1, u64::MAX)?;
     let which = deicing_in(words)?;
     let time = number_in(words, 0, 4_294_967_295)?;
-    Ok(Asked::Plain(Command::Flight(FlightCommand::Deice(Deice {
+    Ok(StatedCommand::Plain(Command::Flight(FlightCommand::Deice(Deice {
         flight: FlightNumber::new(flight),
         which,
         time: time as u32,
@@ -245,7 +245,7 @@ fn deice_in(words: &mut Words<'_>) -> Result<Asked, LineError>
 
 // The length of records beside which a program was checked, 128 bytes where nothing is told.
 #[tactic(auto, unfolding(crate::specs::Reading::length_at))]
-fn length_in(words: &mut Words<'_>) -> Result<Length, LineError>
+fn length_in(words: &mut Words<'_>) -> Result<Length, ReadError>
     ensures { Reads result words.new (length_at words.old) }
 {
     if words.is_empty() {
@@ -255,12 +255,12 @@ fn length_in(words: &mut Words<'_>) -> Result<Length, LineError>
     if word == b"160".as_slice() {
         Ok(Length::L160)
     } else {
-        Err(LineError::Unreadable)
+        Err(ReadError::Unreadable)
     }
 }
 
 #[tactic(auto, unfolding(crate::specs::Reading::load_at, crate::specs::Memory::load_needs_memory))]
-fn load_in(alloc: Global, words: &mut Words<'_>) -> Result<Asked, LineError>
+fn load_in(alloc: Global, words: &mut Words<'_>) -> Result<StatedCommand, ReadError>
     ensures { Gives (load_needs_memory words.old) result words.new
         (load_at words.old) }
 {
@@ -268,7 +268,7 @@ fn load_in(alloc: Global, words: &mut Words<'_>) -> Result<Asked, LineError>
     let kind = kind_in(words)?;
     let program = bytes_in(alloc, words)?;
     let record_length = length_in(words)?;
-    Ok(Asked::Load(LoadLine {
+    Ok(StatedCommand::Load(LoadLine {
         milestone,
         kind,
         program,
@@ -277,25 +277,25 @@ fn load_in(alloc: Global, words: &mut Words<'_>) -> Result<Asked, LineError>
 }
 
 #[tactic(auto, unfolding(crate::specs::Reading::unload_at))]
-fn unload_in(words: &mut Words<'_>) -> Result<Asked, LineError>
+fn unload_in(words: &mut Words<'_>) -> Result<StatedCommand, ReadError>
     ensures { Reads result words.new (unload_at words.old) }
 {
     let milestone = milestone_in(words)?;
     let kind = kind_in(words)?;
-    Ok(Asked::Plain(Command::Unload(Unload { milestone, kind })))
+    Ok(StatedCommand::Plain(Command::Unload(Unload { milestone, kind })))
 }
 
 #[tactic(auto, unfolding(crate::specs::Reading::show_at))]
-fn show_in(words: &mut Words<'_>) -> Result<Asked, LineError>
+fn show_in(words: &mut Words<'_>) -> Result<StatedCommand, ReadError>
     ensures { Reads result words.new (show_at words.old) }
 {
     let flight = number_in(words, 1, u64::MAX)?;
-    Ok(Asked::Plain(Command::Show(FlightNumber::new(flight))))
+    Ok(StatedCommand::Plain(Command::Show(FlightNumber::new(flight))))
 }
 
 // The command of this name.
 #[tactic(auto, unfolding(crate::specs::Reading::command_named, crate::specs::Memory::command_needs_memory))]
-fn command_of(alloc: Global, name: &[u8], words: &mut Words<'_>) -> Result<Asked, LineError>
+fn command_of(alloc: Global, name: &[u8], words: &mut Words<'_>) -> Result<StatedCommand, ReadError>
     ensures { Gives (command_needs_memory name.now words.old) result words.new
         (command_named name.now words.old) }
 {
@@ -308,22 +308,22 @@ fn command_of(alloc: Global, name: &[u8], words: &mut Words<'_>) -> Result<Asked
     } else if name == b"unload".as_slice() {
         unload_in(words)
     } else if name == b"tick".as_slice() {
-        Ok(Asked::Plain(Command::Tick))
+        Ok(StatedCommand::Plain(Command::Tick))
     } else if name == b"show".as_slice() {
         show_in(words)
     } else if name == b"alerts".as_slice() {
-        Ok(Asked::Plain(Command::Alerts))
+        Ok(StatedCommand::Plain(Command::Alerts))
     } else if name == b"migrate".as_slice() {
-        Ok(Asked::Plain(Command::Migrate))
+        Ok(StatedCommand::Plain(Command::Migrate))
     } else if name == b"deice".as_slice() {
         deice_in(words)
     } else {
-        Err(LineError::Unreadable)
+        Err(ReadError::Unreadable)
     }
 }
 
 #[tactic(auto, unfolding(crate::specs::Reading::asked_at, crate::specs::Memory::asked_needs_memory))]
-fn asked_in(alloc: Global, words: &mut Words<'_>) -> Result<Asked, LineError>
+fn asked_in(alloc: Global, words: &mut Words<'_>) -> Result<StatedCommand, ReadError>
     ensures { Gives (asked_needs_memory words.old) result words.new
         (asked_at words.old) }
 {
@@ -333,7 +333,7 @@ fn asked_in(alloc: Global, words: &mut Words<'_>) -> Result<Asked, LineError>
 
 // How many answers there are, and then each.
 #[tactic(auto, unfolding(crate::specs::Reading::answers_at, crate::specs::Memory::answers_need_memory))]
-fn answers_in(alloc: Global, words: &mut Words<'_>) -> Result<Answers, LineError>
+fn answers_in(alloc: Global, words: &mut Words<'_>) -> Result<Answers, ReadError>
     ensures { Gives (answers_need_memory words.old) result words.new
         (answers_at words.old) }
 {
@@ -342,18 +342,18 @@ fn answers_in(alloc: Global, words: &mut Words<'_>) -> Result<Answers, LineError
     while left > 0 {
         let answer = number_in(words, 0, u64::MAX)?;
         if given.push(answer).is_err() {
-            return Err(LineError::Memory);
+            return Err(ReadError::Memory);
         }
         left -= 1;
     }
     match Answers::new(alloc, given) {
         Ok(answers) => Ok(answers),
-        Err(_) => Err(LineError::Memory),
+        Err(_) => Err(ReadError::Memory),
     }
 }
 
 #[tactic(auto, unfolding(crate::specs::Reading::stated_at, crate::specs::Memory::stated_needs_memory))]
-fn stated_in(alloc: Global, words: &mut Words<'_>) -> Result<Stated, LineError>
+fn stated_in(alloc: Global, words: &mut Words<'_>) -> Result<Stated, ReadError>
     ensures { Gives (stated_needs_memory words.old) result words.new
         (stated_at words.old) }
 {
@@ -377,7 +377,7 @@ fn stated_in(alloc: Global, words: &mut Words<'_>) -> Result<Stated, LineError>
 
 // The reading of a line that is not too long.
 #[tactic(auto, unfolding(crate::specs::Reading::stated_of))]
-fn stated_alone(alloc: Global, line: &[u8]) -> Result<Stated, LineError>
+fn stated_alone(alloc: Global, line: &[u8]) -> Result<Stated, ReadError>
     ensures { GivesLine (stated_needs_memory (words_of line.now)) result (stated_of line.now) }
 {
     let mut words = Words::of(line);
@@ -385,7 +385,7 @@ fn stated_alone(alloc: Global, line: &[u8]) -> Result<Stated, LineError>
     if words.is_empty() {
         Ok(stated)
     } else {
-        Err(LineError::Unreadable)
+        Err(ReadError::Unreadable)
     }
 }
 
@@ -397,15 +397,15 @@ fn stated_alone(alloc: Global, line: &[u8]) -> Result<Stated, LineError>
 /// it: only where the first answer is read, or the milestone and the kind of a load with an even
 /// number of digits.
 #[tactic(auto, unfolding(crate::specs::Memory::line_needs_memory))]
-pub fn read_line(alloc: Global, line: &[u8]) -> Result<Stated, LineError>
+pub fn read_line(alloc: Global, line: &[u8]) -> Result<Stated, ReadError>
     ensures states { IfOk result (λ s. (line.now ≡ line_of s) × IsStated s) }
-    ensures short { OnOk result (length line.now ≤ LONGEST_LINE) }
-    ensures nothing { result ≡ Err LineError.Unreadable → length line.now ≤ LONGEST_LINE →
+    ensures short { OnOk result (length line.now ≤ LONGEST_ENTRY) }
+    ensures nothing { result ≡ Err ReadError.Unreadable → length line.now ≤ LONGEST_ENTRY →
         (s : Stated) → IsStated s → line.now ≢ line_of s }
-    ensures memory { result ≡ Err LineError.Memory → IsTrue (line_needs_memory line.now) }
+    ensures memory { result ≡ Err ReadError.Memory → IsTrue (line_needs_memory line.now) }
 {
-    if line.len() > LONGEST_LINE {
-        return Err(LineError::Unreadable);
+    if line.len() > LONGEST_ENTRY {
+        return Err(ReadError::Unreadable);
     }
     stated_alone(alloc, line)
 }

@@ -50,7 +50,7 @@ pub struct LoadLine {
 
 /// What a line asks for, before the bytes of a program are read.
 #[derive(Drop)]
-pub enum Asked {
+pub enum StatedCommand {
     /// This command, which is no load.
     Plain(Command),
     /// To load a program.
@@ -73,12 +73,12 @@ pub struct Stated {
     /// The answers of helpers that its programs used.
     pub answers: Answers,
     /// What was asked for.
-    pub asked: Asked,
+    pub asked: StatedCommand,
 }
 
 /// Why a line states nothing.
 #[derive(Clone, Copy, Debug, PartialEq, Eq)]
-pub enum LineError {
+pub enum ReadError {
     /// There was no memory to read it.
     Memory,
     /// It is the line of no entry.

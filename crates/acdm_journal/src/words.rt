@@ -3,7 +3,7 @@ ghost use Rattle.std.specs.Prelude.{◌≡◌, ◌<◌, ℕ, List, [], ◌∷◌
 ghost use Rattle.std.specs.Prelude.{IfSome};
 ghost use Rattle.acdm_journal.specs.Reading.{ReadsView, is_space, words_of, word_at};
 
-use crate::stated::LineError;
+use crate::stated::ReadError;
 use std::marker::Model;
 
 /// The words that are not taken yet. Between two of them stands one space.
@@ -42,11 +42,11 @@ impl<'a> Words<'a> {
     }
 
     /// Takes the next word. `Unreadable` where there is none.
-    pub(crate) fn next(&mut self) -> Result<&'a [u8], LineError>
+    pub(crate) fn next(&mut self) -> Result<&'a [u8], ReadError>
         ensures { ReadsView (λ w. w.now) result self.new (word_at self.old) }
     {
         if self.ended {
-            return Err(LineError::Unreadable);
+            return Err(ReadError::Unreadable);
         }
         let rest = self.rest;
         match space_in(rest) {

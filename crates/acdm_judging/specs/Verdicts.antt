@@ -11,18 +11,18 @@ use Rattle.bpf_regstate.specs.declared.length.Length.{Length}
 use Rattle.bpf_verifier.specs.Reading.{IsReading}
 use Rattle.acdm_wire.specs.Writes.{Wrote, WroteInPart}
 use Rattle.acdm_judging.specs.Gave.{GaveBytes, most_bytes}
-use Rattle.acdm_judging.specs.declared.verifying.Verdict.{Verdict}
-use Rattle.acdm_judging.specs.declared.verifying.Verdict.TheVariants.{Accepted, Refused}
+use Rattle.acdm_judging.specs.declared.verifying.ProgramVerdict.{ProgramVerdict}
+use Rattle.acdm_judging.specs.declared.verifying.ProgramVerdict.TheVariants.{Accepted, Refused}
 use Rattle.acdm_failures.specs.declared.failure.Failure.{Failure}
 use Rattle.acdm_failures.specs.declared.failure.Failure.TheVariants.{Read, Write, Memory}
 
 -- the verdict is the one right reading of the bytes, beside records of this length
-abbrev pub IsVerdict : List (ℕ × Promise) → Length → List ℕ → Verdict → Type 0
+abbrev pub IsVerdict : List (ℕ × Promise) → Length → List ℕ → ProgramVerdict → Type 0
 IsVerdict sigs long bytes (Accepted v) = IsReading sigs long bytes (Ok v)
 IsVerdict sigs long bytes (Refused code slot) = IsReading sigs long bytes (Err (code, slot))
 
 -- the status of the command
-abbrev pub status_of : Verdict → ℕ
+abbrev pub status_of : ProgramVerdict → ℕ
 status_of (Accepted v) = 0
 status_of (Refused code slot) = 1
 
@@ -32,7 +32,7 @@ slots_text slot [] = []
 slots_text slot (op ∷ more) = line_text slot op ++ 10 ∷ slots_text (slot + 1) more
 
 -- how it is told: a line for each slot and `accepted SLOTS`, or `refused CODE SLOT`
-abbrev pub verdict_text : Verdict → List ℕ
+abbrev pub verdict_text : ProgramVerdict → List ℕ
 verdict_text (Accepted v) =
     slots_text 0 v.ops ++ codes "accepted " ++ decimal (length v.ops) ++ 10 ∷ []
 verdict_text (Refused code slot) =
@@ -40,14 +40,14 @@ verdict_text (Refused code slot) =
 
 -- the verdict on the bytes that a reader gave
 pub record Judged {R : Type 0} (sigs : List (ℕ × Promise)) (long : Length)
-    (read read_after : SourceView R) (verdict : Verdict) : Type 0 where
+    (read read_after : SourceView R) (verdict : ProgramVerdict) : Type 0 where
   pub bytes : List ℕ
   pub gave : GaveBytes most_bytes read read_after bytes
   pub is : IsVerdict sigs long bytes verdict
 
 -- what comes of judging them; an error of the reader is one fault more
 abbrev pub Judges : {R : Type 0} → List (ℕ × Promise) → Length → SourceView R → SourceView R
-    → Result Verdict Failure → Type 0
+    → Result ProgramVerdict Failure → Type 0
 Judges sigs long read read_after (Ok verdict) = Judged sigs long read read_after verdict
 Judges sigs long read read_after (Err Read) = read_after.faults ≡ faults_after true read.faults
 Judges sigs long read read_after (Err Memory) = Unit {0}
@@ -57,7 +57,7 @@ Judges sigs long read read_after (Err failure) = ⊥
 pub record TellsVerdict {R W : Type 0} (sigs : List (ℕ × Promise)) (long : Length)
     (read read_after : SourceView R) (written written_after : SinkView W) (status : ℕ)
     : Type 0 where
-  pub verdict : Verdict
+  pub verdict : ProgramVerdict
   pub judged : Judged sigs long read read_after verdict
   pub told : Wrote written written_after (verdict_text verdict)
   pub flushed : written_after.waits ≡ false
@@ -66,7 +66,7 @@ pub record TellsVerdict {R W : Type 0} (sigs : List (ℕ × Promise)) (long : Le
 -- the writer failed once more after a first part of its text
 pub record FailsToTellVerdict {R W : Type 0} (sigs : List (ℕ × Promise)) (long : Length)
     (read read_after : SourceView R) (written written_after : SinkView W) : Type 0 where
-  pub verdict : Verdict
+  pub verdict : ProgramVerdict
   pub judged : Judged sigs long read read_after verdict
   pub told : WroteInPart written written_after (verdict_text verdict) errors.Write
 

@@ -1,4 +1,5 @@
-//! The commands that judge what is in a file, a program or a journal.
+//! The commands that judge what is in a file, a program or a journal. It is a crate of its own so that
+//! it is proved while the sessions are, which `acdm_commands` waits for.
 #![tactic(auto)]
 
 mod auditing;
@@ -9,4 +10,4 @@ mod verifying;
 pub use auditing::{Finding, audit_on};
 pub use bytes::{BytesError, bytes_of};
 pub use explaining::{explain_on, unread};
-pub use verifying::{Verdict, verify_on};
+pub use verifying::{ProgramVerdict, verify_on};

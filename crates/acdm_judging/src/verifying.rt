@@ -21,21 +21,21 @@ use std::io::{self, Read, Write};
 
 /// What is told of the bytes of a program.
 #[derive(Drop)]
-pub enum Verdict {
+pub enum ProgramVerdict {
     /// They encode this program, which may run.
     Accepted(Checked),
     /// The number of their first fault, 301 to 315, and its slot, counted from 0.
     Refused { code: u16, slot: usize },
 }
 
-impl Verdict {
+impl ProgramVerdict {
     /// The status of the command.
     fn status(&self) -> u8
         ensures { result ≡ status_of self.now }
     {
         match self {
-            Verdict::Accepted(_) => 0,
-            Verdict::Refused { .. } => 1,
+            ProgramVerdict::Accepted(_) => 0,
+            ProgramVerdict::Refused { .. } => 1,
         }
     }
 }
@@ -83,7 +83,7 @@ fn verdict_of<R: Read>(
     tables: &Tables,
     length: Length,
     reader: &mut Source<R>,
-) -> Result<Verdict, Failure>
+) -> Result<ProgramVerdict, Failure>
     ensures { Judges (helpers_by tables.now) length reader.old reader.new result }
 {
     let bytes = match bytes_of(alloc, reader, MOST_BYTES) {
@@ -102,26 +102,26 @@ pub(crate) fn verdict_on(
     bytes: &[u8],
     sigs: &Sigs,
     length: Length,
-) -> Result<Verdict, Failure>
+) -> Result<ProgramVerdict, Failure>
     ensures verdict { IfOk result (IsVerdict sigs.now length bytes.now) }
     ensures memory { IfErr result (λ failure. failure ≡ Memory) }
 {
     match read_program(alloc, bytes, sigs, length) {
-        Ok(checked) => Ok(Verdict::Accepted(checked)),
-        Err(ProgramError::Refused { code, slot }) => Ok(Verdict::Refused { code, slot }),
+        Ok(checked) => Ok(ProgramVerdict::Accepted(checked)),
+        Err(ProgramError::Refused { code, slot }) => Ok(ProgramVerdict::Refused { code, slot }),
         Err(ProgramError::Memory) => Err(Failure::Memory),
     }
 }
 
 // How a verdict is told.
-fn text_of(alloc: Global, verdict: &Verdict) -> Result<Vec<u8>, Failure>
+fn text_of(alloc: Global, verdict: &ProgramVerdict) -> Result<Vec<u8>, Failure>
     ensures text { IfOk result (λ text. text.items ≡ verdict_text verdict.now) }
     ensures memory { IfErr result (λ failure. failure ≡ Memory) }
 {
     let mut text = Vec::new(alloc);
     let written = match verdict {
-        Verdict::Accepted(checked) => list(checked.program(), &mut text),
-        Verdict::Refused { code, slot } => writeln!(text, "refused {code} {slot}"),
+        ProgramVerdict::Accepted(checked) => list(checked.program(), &mut text),
+        ProgramVerdict::Refused { code, slot } => writeln!(text, "refused {code} {slot}"),
     };
     // A text in memory is written unless there is none.
     match written {

@@ -20,10 +20,6 @@ pub whole_lines-line : (line more : List ℕ) → IsLine line
 whole_lines-line [] more h = refl
 whole_lines-line (b ∷ bs) more h = rw (h.0, whole_lines-line bs more h.1) refl
 
--- nothing is held of a text that is not there
-pub leaves-none : Leaves [] []
-leaves-none = record { before = []; splits = λ more. refl }
-
 -- a line was taken of what was held and read
 leaves-read : (text held read line later : List ℕ) → Leaves text held → IsLine line
     → held ++ read ≡ line ++ 10 ∷ later → Leaves (text ++ read) later
@@ -98,10 +94,6 @@ tells-behind most old past text held more bytes later a b t given e =
     ∙ append_assoc (told_by most past) t.front (bytes ++ told most later)
     ∙ ap (λ x. told_by most past ++ x) (sym t.is ∙ sym (append-nil (told most more)))
     ∙ sym (flat_map-append (told most) past (more ∷ []))
-
--- a connection that has given nothing tells nothing
-pub tells-new : (most : ℕ) (texts : List (List ℕ)) → told_by most (texts ++ [] ∷ []) ≡ told_by most texts
-tells-new most texts = flat_map-append (told most) texts ([] ∷ []) ∙ append-nil (told_by most texts)
 
 -- ---- a line in parts
 

@@ -18,8 +18,8 @@ pub struct Connection {
     in_line: bool,
 }
 
-// Whether a call that failed so is made once more: nothing came in its time, or a signal came.
-fn is_passing(error: &io::Error) -> bool {
+/// Whether a call that failed so is made once more: nothing came in its time, or a signal came.
+pub(crate) fn is_passing(error: &io::Error) -> bool {
     error.kind() == ErrorKind::WouldBlock || error.kind() == ErrorKind::Interrupted
 }
 

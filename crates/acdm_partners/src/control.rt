@@ -1,8 +1,9 @@
 //! The control address: who connects there may ask for the state of the board, and have it close.
+use crate::connection::is_passing;
 use crate::doors::Door;
 use crate::stamp::moment_text;
 use std::alloc::{AllocError, Global};
-use std::io::{self, ErrorKind, Read, Write};
+use std::io::{Read, Write};
 use std::net::{Net, SocketAddr, TcpListener, TcpStream};
 
 /// How many may be connected there at once. One more is let go at once.
@@ -145,10 +146,6 @@ impl Caller {
     fn add(&mut self, byte: u8) -> bool {
         self.line.len() < LONGEST_LINE && self.line.push(byte).is_ok()
     }
-}
-
-fn is_passing(error: &io::Error) -> bool {
-    error.kind() == ErrorKind::WouldBlock || error.kind() == ErrorKind::Interrupted
 }
 
 impl Control {

@@ -1,5 +1,5 @@
 -- Bytes have no fault exactly where they are those of a record.
-use Rattle.std.proofs.Common.{◌≡◌, ℕ, zero, suc, ◌+◌, ◌-◌, ◌<◌, ◌≤◌, Bool, true, false, cond}
+use Rattle.std.proofs.Common.{◌≡◌, ℕ, zero, suc, ◌-◌, ◌≤◌, Bool, true, false, cond}
 use Rattle.std.proofs.Common.{not, ◌&&◌, ◌||◌, ◌==◌, List, [], ◌∷◌, ◌++◌, length, take, drop}
 use Rattle.std.proofs.Common.{replicate, Option, Some, None, refl, sym, ap, ◌∙◌, subst}
 use Rattle.std.proofs.Common.{arith, find, eqb-true, eq-eqb, lit≤}
@@ -22,7 +22,8 @@ use Rattle.acdm_record.specs.Fields.{is_allowed, IsRecord}
 use Rattle.acdm_record.specs.Faults.{AreOfRecord, is_filled, is_layout_of, has_fault, faults}
 use Rattle.acdm_record.specs.Faults.{first_fault, first_fault_in}
 use Rattle.acdm_record.proofs.Zeros.{number-past}
-use Rattle.acdm_record.specs.Bools.{and_left, and_right, both_true}
+use Rattle.std.specs.Cmp.{first_so, second_so}
+use Rattle.std.proofs.lemmas.Bool.{and_from}
 use Rattle.acdm_record.proofs.Places.{each_text_field, text_inside, text_length, text-padded}
 use Rattle.acdm_record.proofs.Places.{number_of-fields_of, text_of-fields_of}
 
@@ -35,8 +36,8 @@ some_none x h = absurd (cc)
 pub all_zero : (xs : List ℕ) → list_all (λ b. b == 0) xs ≡ true → xs ≡ replicate (length xs) 0
 all_zero [] h = refl
 all_zero (x ∷ xs) h =
-    let here : x ≡ 0 = grind (arith, and_left (x == 0) (list_all (λ b. b == 0) xs) h) in
-    let rest = all_zero xs (and_right (x == 0) (list_all (λ b. b == 0) xs) h) in
+    let here : x ≡ 0 = grind (arith, first_so (x == 0) (list_all (λ b. b == 0) xs) h) in
+    let rest = all_zero xs (second_so (x == 0) (list_all (λ b. b == 0) xs) h) in
     λ t. here t ∷ rest t
 
 zeros_pass : (n : ℕ) → list_all (λ b. b == 0) (replicate n 0) ≡ true
@@ -50,7 +51,7 @@ padded-filled w p e h =
     let k : ℕ = position_or_len (λ b. b == 0) p in
     let inside : k ≤ length p = prefix_len-le-length (λ b. not (b == 0)) p in
     let zeros = all_zero (drop k p)
-    (and_right (is_text (take k p)) (list_all (λ b. b == 0) (drop k p)) h) in
+    (second_so (is_text (take k p)) (list_all (λ b. b == 0) (drop k p)) h) in
     let behind : length (drop k p) ≡ w - length (take k p) = length-drop k p ∙ ap (λ n. n - k) e
     ∙ ap (λ n. w - n) (sym (length-take-le k p inside)) in
     sym (take-append-drop k p) ∙ ap (λ r. take k p ++ r) (zeros ∙ ap (λ n. replicate n 0) behind)
@@ -65,7 +66,7 @@ filled-padded w t h =
     let two : drop (position_or_len (λ b. b == 0) (padded w t)) (padded w t)
     ≡ replicate (w - length t) 0 = ap (λ n. drop n (padded w t)) place
     ∙ drop-append_seam t (replicate (w - length t) 0) in
-    both_true (is_text (before_first (λ b. b == 0) (padded w t))) _ one
+    and_from (is_text (before_first (λ b. b == 0) (padded w t))) _ one
     (ap (list_all (λ b. b == 0)) two ∙ zeros_pass (w - length t))
 
 -- ---- all texts
@@ -83,7 +84,7 @@ length-text_part b t l =
 each_true : {K : Type 0} (p : K → Bool) → ((k : K) → p k ≡ true) → (ks : List K)
     → list_all p ks ≡ true
 each_true p h [] = refl
-each_true p h (k ∷ ks) = both_true (p k) (list_all p ks) (h k) (each_true p h ks)
+each_true p h (k ∷ ks) = and_from (p k) (list_all p ks) (h k) (each_true p h ks)
 
 -- ---- the faults
 
@@ -140,11 +141,11 @@ module _ (b : List ℕ) (none : find (has_fault (length b) b) faults ≡ None) w
       (MalformedText ∷ ReservedBits ∷ ReservedBytes ∷ []) past_length)
 
   known : is_layout (number_at b Layout) ≡ true
-  known = and_left (is_layout (number_at b Layout)) _ suits
+  known = first_so (is_layout (number_at b Layout)) _ suits
 
   whole : length b ≡ bytes_in_layout (number_at b Layout)
   whole = eqb-true (length b) (bytes_in_layout (number_at b Layout))
-      (and_right (is_layout (number_at b Layout)) _ suits)
+      (second_so (is_layout (number_at b Layout)) _ suits)
 
   filled : (t : TextField) → has_text b t ≡ true
   filled = each_text_field (has_text b)
@@ -170,10 +171,10 @@ module _ (b : List ℕ) (none : find (has_fault (length b) b) faults ≡ None) w
       ] whole
 
   allowed : (f : Field) → is_allowed (number_at b Layout) f (number_at b f) ≡ true
-  allowed Layout = both_true (number_at b Layout == number_at b Layout) _
+  allowed Layout = and_from (number_at b Layout == number_at b Layout) _
       (eq-eqb (number_at b Layout) (number_at b Layout) refl) known
-  allowed Reached = and_left (is_reached_word (number_at b Reached)) _ bits
-  allowed Alerts = and_right (is_reached_word (number_at b Reached)) _ bits
+  allowed Reached = first_so (is_reached_word (number_at b Reached)) _ bits
+  allowed Alerts = second_so (is_reached_word (number_at b Reached)) _ bits
   allowed Eczt = added Eczt (lit≤ tt)
   allowed Eezt = added Eezt (lit≤ tt)
   allowed Aczt = added Aczt (lit≤ tt)
@@ -185,7 +186,7 @@ module _ (b : List ℕ) (none : find (has_fault (length b) b) faults ≡ None) w
     filled = λ t. padded-filled (text_width_of t) (part (text_offset_of t) (text_width_of t) b)
         (length-text_part b t (omega (arith, whole, layout_short (number_at b Layout)))) (filled t);
     texts = λ t. ap is_text (text_of-fields_of (number_at b) (text_at b) t)
-        ∙ and_left (is_text (text_at b t)) _ (filled t);
+        ∙ first_so (is_text (text_at b t)) _ (filled t);
     numbers = λ f. ap (is_allowed (number_at b Layout) f)
         (number_of-fields_of (number_at b) (text_at b) f) ∙ allowed f;
     spare = spare;
@@ -208,9 +209,9 @@ none-AreOfRecord b r =
     let texts = λ (t : TextField). ap is_filled (r.kept.filled t)
     ∙ filled-padded (text_width_of t) (text_at b t)
     (sym (ap is_text (text_of-fields_of (number_at b) (text_at b) t)) ∙ r.kept.texts t) in
-    let known = and_right (number_at b Layout == number_at b Layout) _ (number Layout) in
+    let known = second_so (number_at b Layout == number_at b Layout) _ (number Layout) in
     let suits : is_layout_of (length b) (number_at b Layout) ≡ true =
-    both_true (is_layout (number_at b Layout)) _ known
+    and_from (is_layout (number_at b Layout)) _ known
     (eq-eqb (length b) (bytes_in_layout (number_at b Layout)) r.whole) in
     rw (
       one_of_two (number_at b Layout) (length b) r.whole,

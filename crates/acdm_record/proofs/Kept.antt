@@ -13,7 +13,7 @@ use Rattle.acdm_record.specs.Place.{text_fields}
 use Rattle.acdm_record.specs.Fields.{fields_of, number_of, text_of, set_number, set_text, part}
 use Rattle.acdm_record.specs.Fields.{number_at, text_at, fields_at, is_text, is_allowed, AreAllowed}
 use Rattle.acdm_record.specs.Fields.{AreTexts, IsRecord, ArePadded, is_layout, are_zeros, migrated}
-use Rattle.acdm_record.specs.Bools.{and_left}
+use Rattle.std.specs.Cmp.{first_so}
 use Rattle.acdm_record.proofs.Places.{same_field, same_text_field, index_bound, text_index_bound}
 use Rattle.acdm_record.proofs.Places.{text_of-fields_of}
 
@@ -39,7 +39,7 @@ module _ (n : Field → ℕ) (s : TextField → List ℕ) where
             let same : f ≡ Layout = same_field f Layout
             (sym (eqb-true (index_of Layout) (index_of f) e)) in
             let is : v ≡ number_of (fields_of n s) Layout =
-            eqb-true v (n Layout) (and_left (v == n Layout) (is_layout (n Layout))
+            eqb-true v (n Layout) (first_so (v == n Layout) (is_layout (n Layout))
             (subst (λ k. is_allowed (n Layout) k v ≡ true) same h)) in
             subst (λ k. number_of (set_number (fields_of n s) k v) Layout ≡ v) (sym same)
             (number_of-set_same Layout v) ∙ is

@@ -1,19 +1,18 @@
 -- A record of layout 1 is stored with zeros behind its bytes.
 use Rattle.std.proofs.Common.{◌≡◌, ℕ, ◌+◌, ◌-◌, ◌<◌, ◌≤◌, Bool, true, false, ◌&&◌, ◌||◌, ◌==◌, cond, List, []}
-use Rattle.std.proofs.Common.{◌∷◌, ◌++◌, length, take, drop, slice_index, replicate, Option, Some, None, refl, sym}
-use Rattle.std.proofs.Common.{ap, ◌∙◌, subst, arith, eqb-true, append-nil}
+use Rattle.std.proofs.Common.{◌∷◌, ◌++◌, length, take, drop, slice_index, replicate, Option, refl, sym}
+use Rattle.std.proofs.Common.{ap, ◌∙◌, subst, arith, eqb-true}
 use Rattle.std.proofs.lemmas.List.{take-append-drop, drop-drop, take_at, take_all, length-take-le}
-use Rattle.std.proofs.lemmas.List.{length-drop, length-append, length-replicate, get_or-take}
+use Rattle.std.proofs.lemmas.List.{length-drop, length-append, length-replicate}
 use Rattle.std.specs.List.{list_all}
 use Rattle.acdm_record.specs.declared.field.Field.TheVariants.{Reached, Alerts, Layout}
-use Rattle.acdm_record.specs.declared.field.TextField.{TextField}
 use Rattle.acdm_record.specs.declared.fault.RecordError.{RecordError}
 use Rattle.acdm_record.specs.Place.{text_offset_of, text_width_of, text_fields}
-use Rattle.acdm_record.specs.Fields.{Fields, bytes_of, part, number_at, number_of, fields_at, padded}
+use Rattle.acdm_record.specs.Fields.{bytes_of, part, number_at, fields_at, padded}
 use Rattle.acdm_record.specs.Fields.{is_layout, bytes_in_layout, are_zeros, AreTexts, AreAllowed}
 use Rattle.acdm_record.specs.Fields.{ArePadded, IsRecord}
 use Rattle.acdm_record.specs.Faults.{AreOfRecord, is_filled, first_fault, first_fault_in}
-use Rattle.acdm_record.specs.Bools.{and_left, and_right}
+use Rattle.std.specs.Cmp.{second_so}
 use Rattle.acdm_record.proofs.Zeros.{zeros_after, number-zeros, text-zeros, fields-zeros, padded-zeros}
 use Rattle.acdm_record.proofs.Zeros.{unpadded, byte-zeros}
 use Rattle.acdm_record.proofs.Whole.{bytes_of-fields_at, nothing_added}
@@ -88,7 +87,7 @@ is_first b kept short =
       | true ↦ λ e n. absurd (not_as_short n)
       | false ↦ λ e n. eqb-true (number_at b Layout) 1 (left_of (number_at b Layout == 1)
           (subst (λ v. (number_at b Layout == 1 || v) ≡ true) e
-          (and_right (number_at b Layout == number_at b Layout) _ (kept.numbers Layout))))
+          (second_so (number_at b Layout == number_at b Layout) _ (kept.numbers Layout))))
     ] refl short
 
 module _ (b : List ℕ) (long : length b ≡ 160) (bytes : (i : ℕ) → slice_index b i < 256)
@@ -102,7 +101,7 @@ module _ (b : List ℕ) (long : length b ≡ 160) (bytes : (i : ℕ) → slice_i
   last_part = ap (take 16) last
 
   known : is_layout (number_at b Layout) ≡ true
-  known = and_right (number_at b Layout == number_at b Layout) _ (kept.numbers Layout)
+  known = second_so (number_at b Layout == number_at b Layout) _ (kept.numbers Layout)
 
   first : (number_at b Layout == 2) ≡ false → number_at b Layout ≡ 1
   first e = eqb-true (number_at b Layout) 1

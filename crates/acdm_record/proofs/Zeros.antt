@@ -1,19 +1,19 @@
 -- Bytes say the same with zeros behind them as without.
-use Rattle.std.proofs.Common.{◌≡◌, ℕ, zero, suc, ◌+◌, ◌*◌, ◌-◌, ◌<◌, ◌≤◌, Bool, true, false, ◌==◌, nat_lt}
-use Rattle.std.proofs.Common.{◌&&◌, List, [], ◌∷◌, ◌++◌, map, length, take, drop, get_or, slice_index}
-use Rattle.std.proofs.Common.{replicate, refl, sym, ap, ◌∙◌, subst, arith}
+use Rattle.std.proofs.Common.{◌≡◌, ℕ, zero, suc, ◌+◌, ◌-◌, ◌≤◌, true, false, ◌==◌, nat_lt}
+use Rattle.std.proofs.Common.{◌&&◌, List, [], ◌∷◌, ◌++◌, length, take, drop, slice_index}
+use Rattle.std.proofs.Common.{replicate, refl, sym, ap, ◌∙◌, arith}
 use Rattle.std.proofs.Math.ListN.{get_or-append}
 use Rattle.std.proofs.Math.Seq.{get_or-append_right}
 use Rattle.std.proofs.lemmas.List.{get_or_past, get_or-drop, drop-append-le, take-append-le}
 use Rattle.std.proofs.lemmas.List.{length-drop}
-use Rattle.std.specs.List.{list_all, before_first}
-use Rattle.byteorder.specs.Endian.{little_from, little_number}
+use Rattle.std.specs.List.{before_first}
+use Rattle.byteorder.specs.Endian.{little_from}
 use Rattle.byteorder.specs.Numbers.{little_from-take}
 use Rattle.acdm_record.specs.declared.field.Field.{Field}
 use Rattle.acdm_record.specs.declared.field.TextField.{TextField}
 use Rattle.acdm_record.specs.Place.{offset_of, width_of, fields, text_offset_of, text_width_of}
 use Rattle.acdm_record.specs.Place.{text_fields}
-use Rattle.acdm_record.specs.Fields.{part, number_at, text_at, fields_at, are_zeros, ArePadded, padded}
+use Rattle.acdm_record.specs.Fields.{part, number_at, fields_at, are_zeros, ArePadded, padded}
 use Rattle.acdm_record.proofs.Places.{map_same, same_record, text_inside}
 
 no_byte : (n i : ℕ) → slice_index (replicate n 0) i ≡ 0

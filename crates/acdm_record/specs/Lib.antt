@@ -1,4 +1,3 @@
-pub mod Bools
 pub mod Place
 pub mod Fields
 pub mod Faults

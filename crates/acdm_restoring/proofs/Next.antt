@@ -23,10 +23,6 @@ judged_at d line core sigs number r same replays legal count judged =
     (subst (λ b. PlansLine sigs d.history line b r) replays p)
 
 module _ (d : DeskView) (line : List ℕ) (n : PlannedEntry) (next : IsNext d line n) where
-  pub stays_legal : IsLegal d.sigs (n.entry ∷ d.history)
-  stays_legal =
-      subst (λ e. IsLegal d.sigs (e ∷ d.history)) next.entry_is next.continues.legal
-
   pub comes_to : after_change (replay d.sigs d.history) n.plan.change
       ≡ replay d.sigs (n.entry ∷ d.history)
   comes_to = next.continues.replays

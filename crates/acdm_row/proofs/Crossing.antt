@@ -11,7 +11,7 @@ use Rattle.acdm_row.specs.contracts.published.Published as published
 use Rattle.acdm_row.specs.contracts.row.Row as row
 use Rattle.acdm_row.specs.contracts.front.Front as front
 use Rattle.acdm_row.specs.contracts.pass.Pass as pass
-use Rattle.acdm_row.specs.contracts.journal.Journal as journal
+use Rattle.acdm_row.specs.contracts.publisher.Publisher as publisher
 
 pub published_send : IsSend published.the_row
 published_send = declared_send published.the_type (
@@ -57,5 +57,5 @@ front_send = search (row_send, row_sync, note.the_send, sendable, crosses) depth
 pub pass_send : IsSend pass.the_row
 pass_send = search (front_send, sendable, crosses) depth 20
 
-pub journal_send : IsSend journal.the_row
-journal_send = search (front_send, row_send, row_sync, sendable, crosses) depth 20
+pub publisher_send : IsSend publisher.the_row
+publisher_send = search (front_send, row_send, row_sync, sendable, crosses) depth 20

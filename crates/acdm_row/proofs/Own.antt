@@ -97,19 +97,6 @@ get_length [] k below = absurd (omega arith)
 get_length (x ∷ xs) zero below = refl
 get_length (x ∷ xs) (suc k) below = get_length xs k (omega arith)
 
-pub entries_length : (xs : List Entry) (ks : List ℕ) → AreBelow (length xs) ks
-    → length (entries_at xs ks) ≡ length ks
-entries_length xs [] h = refl
-entries_length xs (k ∷ ks) h =
-    let one = option_to_list (slice_get xs k) in
-    omega (
-      arith,
-      length-append one (entries_at xs ks),
-      get_length xs k h.0,
-      entries_length xs ks
-          h.1,
-    )
-
 -- what is legal of a row and a journal is legal of the same under other names
 pub same_legal : (r s : RowView) (xs ys : List Entry) → r ≡ s → xs ≡ ys
     → IsLegal s.sigs (reverse ys) → IsLegal r.sigs (reverse xs)

@@ -18,7 +18,7 @@ pub record FrontView : Type 0 where
   pub room : ℕ
 
 -- a row, and the journal that its cells hold
-pub record JournalView : Type 0 where
+pub record PublisherView : Type 0 where
   pub row : RowView
   pub entries : List Entry
 

@@ -2,13 +2,13 @@
 #![tactic(auto)]
 
 mod front;
-mod journal;
 mod pass;
 mod published;
+mod publisher;
 mod row;
 
 pub use front::Front;
-pub use journal::Journal;
 pub use pass::Pass;
 pub use published::{Past, Published};
+pub use publisher::Publisher;
 pub use row::Row;

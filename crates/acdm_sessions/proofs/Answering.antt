@@ -7,7 +7,7 @@ use Rattle.acdm_step.specs.declared.command.Command.{Command}
 use Rattle.acdm_step.specs.declared.outcome.Outcome.{Outcome}
 use Rattle.acdm_step.specs.Verdicts.{outcome_of}
 use Rattle.acdm_board.specs.Desk.{DeskView, entered}
-use Rattle.acdm_wire.specs.declared.fault.Fault.{Fault}
+use Rattle.acdm_wire.specs.declared.fault.RequestFault.{RequestFault}
 use Rattle.acdm_wire.specs.declared.fault.Bad.{Bad}
 use Rattle.acdm_wire.specs.declared.fault.Bad.TheVariants.{Faulty, NoMemory, FullJournal}
 use Rattle.bpf_verifier.specs.declared.reading.ProgramError.{ProgramError}
@@ -25,7 +25,7 @@ use Rattle.acdm_sessions.specs.Output.{desk_command}
 use Rattle.acdm_sessions.specs.Output.{answer_meant, desk_meant, Answers}
 
 -- what a reader says of a fault
-pub fault_read : (line : List ℕ) (e : LineError) (f : Fault) → e ≡ errors.Fault f
+pub fault_read : (line : List ℕ) (e : LineError) (f : RequestFault) → e ≡ errors.Fault f
     → Gives {X = Request} (Err e) (meant line) → meant line ≡ Err f
 fault_read line e f is g = subst (λ v. Gives {X = Request} (Err v) (meant line)) is g
 
@@ -40,7 +40,7 @@ answers_short d after line e = record {
 }
 
 -- the line asks for nothing
-pub answers_fault : (d after : DeskView) (line : List ℕ) (f : Fault) → meant line ≡ Err f
+pub answers_fault : (d after : DeskView) (line : List ℕ) (f : RequestFault) → meant line ≡ Err f
     → after ≡ d → Answers d after line (Rejected (Faulty f))
 answers_fault d after line f m e = record {
   supply = no_supply;

@@ -4,7 +4,7 @@ use Rattle.std.proofs.Common.{subst, ◌∙◌}
 use Rattle.std.proofs.lemmas.Bool.{false≢true}
 use Rattle.bpf_helpers.specs.Promise.{Promise}
 use Rattle.acdm_step.specs.declared.command.Command.{Command}
-use Rattle.acdm_wire.specs.declared.fault.Fault.{Fault}
+use Rattle.acdm_wire.specs.declared.fault.RequestFault.{RequestFault}
 use Rattle.acdm_wire.specs.declared.fault.Bad.TheVariants.{Faulty, NoMinute, NoMemory}
 use Rattle.bpf_verifier.specs.declared.reading.ProgramError.{ProgramError}
 use Rattle.bpf_verifier.specs.declared.reading.ProgramError.TheVariants.{Memory, Refused}
@@ -20,7 +20,7 @@ use Rattle.acdm_sessions.specs.Orders.{Orders}
 abbrev nothing : OrderFacts
 nothing = record { short = false; minute = None; program = Err (0, 0) }
 
-pub fault_read : (line : List ℕ) (e : LineError) (f : Fault) → e ≡ errors.Fault f
+pub fault_read : (line : List ℕ) (e : LineError) (f : RequestFault) → e ≡ errors.Fault f
     → Gives {X = Asked} (Err e) (asked_of line) → asked_of line ≡ Err f
 fault_read line e f is g = subst (λ v. Gives {X = Asked} (Err v) (asked_of line)) is g
 
@@ -35,7 +35,7 @@ module _ (gives : ℕ → Bool) (sigs : List (ℕ × Promise)) (line : List ℕ)
   }
 
   -- the line asks for nothing
-  pub orders_fault : (f : Fault) → asked_of line ≡ Err f → Orders gives sigs line (Err (Faulty f))
+  pub orders_fault : (f : RequestFault) → asked_of line ≡ Err f → Orders gives sigs line (Err (Faulty f))
   orders_fault f m = record {
     facts = nothing;
     minute = tt;

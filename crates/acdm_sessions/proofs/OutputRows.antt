@@ -6,7 +6,7 @@ use Rattle.acdm_record.specs.Fields.{bytes_of}
 use Rattle.acdm_alerts.specs.Names.{names_text}
 use Rattle.acdm_milestones.specs.declared.refusal.Refusal.TheVariants.{TimeOrder}
 use Rattle.acdm_step.specs.declared.outcome.Outcome.TheVariants.{Done, Refused}
-use Rattle.acdm_wire.specs.declared.fault.Fault.TheVariants.{TooLong}
+use Rattle.acdm_wire.specs.declared.fault.RequestFault.TheVariants.{TooLong}
 use Rattle.acdm_wire.specs.declared.fault.Bad.TheVariants.{Faulty, Program}
 use Rattle.acdm_sessions.specs.declared.answer.Answer.TheVariants.{Entered, Rejected}
 use Rattle.acdm_lines.specs.Lines.{lines_of}

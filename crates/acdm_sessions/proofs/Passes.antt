@@ -6,7 +6,7 @@ use Rattle.std.specs.Prelude.{slice_get, option_to_list}
 use Rattle.std.specs.List.{filter, list_all}
 use Rattle.std.proofs.lemmas.Bool.{le-leb, leb-true}
 use Rattle.std.proofs.lemmas.List.Folds.{list_all-append}
-use Rattle.acdm_record.specs.Bools.{and_left, and_right}
+use Rattle.std.specs.Cmp.{first_so, second_so}
 use Rattle.std.proofs.lemmas.List.{take-append-drop}
 use Rattle.acdm_milestones.specs.declared.role.Role.{Role}
 use Rattle.acdm_step.specs.declared.entry.Entry.{Entry}
@@ -25,12 +25,7 @@ pub froms : (n : ℕ) (ks : List ℕ) → are_from n ks ≡ true → AreFrom n k
 froms n [] h = tt
 froms n (k ∷ ks) h =
     let rest = list_all (λ j. nat_le n j) ks in
-    (leb-true n k (and_left (nat_le n k) rest h), froms n ks (and_right (nat_le n k) rest h))
-
-pub from_push : (n k : ℕ) (ks : List ℕ) → n ≤ k → are_from n ks ≡ true
-    → are_from n (ks ++ k ∷ []) ≡ true
-from_push n k ks le h =
-    list_all-append (λ j. nat_le n j) ks (k ∷ []) ∙ rw (h, le-leb n k le) refl
+    (leb-true n k (first_so (nat_le n k) rest h), froms n ks (second_so (nat_le n k) rest h))
 
 -- ---- numbers, each one less
 

@@ -3,7 +3,7 @@ use Rattle.std.proofs.Common.{◌≡◌, ℕ, ◌+◌, ◌-◌, ◌^◌, ◌<◌
 use Rattle.std.proofs.Common.{length}
 use Rattle.std.proofs.Common.{refl, sym, ap, subst, ◌∙◌, arith, append_assoc, append-nil}
 use Rattle.std.proofs.Common.{inl, inr, Result, Ok, Err}
-use Rattle.acdm_wire.specs.declared.request.TheConstants.{LONGEST_LINE}
+use Rattle.acdm_wire.specs.declared.request.TheConstants.{LONGEST_REQUEST}
 use Rattle.acdm_sessions.specs.declared.stream.TheConstants.{MOST_KEPT}
 use Rattle.acdm_sessions.specs.declared.answer.Answer.{Answer}
 use Rattle.acdm_lines.specs.declared.lines.Lines.{Lines}
@@ -225,7 +225,7 @@ module _ {A R W : Type 0} (may : A → A → List ℕ → Answer → Type 0)
         → AnswersAll may r0.log r2.log r2.ended before d old w1.log
     sofar-ends t empty =
         let none : l1.window ++ t.text ≡ [] =
-        kept-empty LONGEST_LINE (l1.window ++ t.text) (ap length (sym t.bytes_are) ∙ empty) in
+        kept-empty LONGEST_REQUEST (l1.window ++ t.text) (ap length (sym t.bytes_are) ∙ empty) in
         record {
           text = so_far.whole;
           gave = subst (λ l. r2.log ≡ r0.log ++ l)
@@ -243,7 +243,7 @@ module _ {A R W : Type 0} (may : A → A → List ℕ → Answer → Type 0)
         w2.log
     sofar-rest after t some a =
         let rest : List ℕ = l1.window ++ t.text in
-        let there : 0 < length rest = kept-some LONGEST_LINE rest
+        let there : 0 < length rest = kept-some LONGEST_REQUEST rest
         (subst (λ l. 0 < length l) t.bytes_are some) in
         let more = spoken-more rest l2.line after t.bytes_are a in
         let lines = lines_to_end so_far.whole rest so_far.is_whole t.is_line there in
@@ -262,7 +262,7 @@ module _ {A R W : Type 0} (may : A → A → List ℕ → Answer → Type 0)
         w2.log
     part-rest after error t some a =
         let rest : List ℕ = l1.window ++ t.text in
-        let there : 0 < length rest = kept-some LONGEST_LINE rest
+        let there : 0 < length rest = kept-some LONGEST_REQUEST rest
         (subst (λ l. 0 < length l) t.bytes_are some) in
         record {
           whole = so_far.whole;

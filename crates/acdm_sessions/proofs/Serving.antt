@@ -7,8 +7,8 @@ use Rattle.std.proofs.lemmas.List.{take_all, length-take-le}
 use Rattle.bpf_helpers.specs.Promise.{Promise}
 use Rattle.acdm_step.specs.declared.command.Command.{Command}
 use Rattle.acdm_board.specs.Desk.{DeskView, entered}
-use Rattle.acdm_wire.specs.declared.fault.Fault.{Fault}
-use Rattle.acdm_wire.specs.declared.fault.Fault.TheVariants.{TooLong}
+use Rattle.acdm_wire.specs.declared.fault.RequestFault.{RequestFault}
+use Rattle.acdm_wire.specs.declared.fault.RequestFault.TheVariants.{TooLong}
 use Rattle.acdm_wire.specs.declared.fault.Bad.{Bad}
 use Rattle.acdm_wire.specs.declared.fault.Bad.TheVariants.{NoMemory}
 use Rattle.acdm_sessions.specs.declared.answer.Answer.{Answer}
@@ -25,7 +25,7 @@ use Rattle.acdm_wire.specs.Writes.{AppendsPart}
 use Rattle.acdm_sessions.specs.Run.{ServesAll, ServesWhole, ServesPart, ServesInReply, ServesToFlush}
 use Rattle.acdm_sessions.specs.Stream.{AnswersEach, AnswersText, AnswersAll, AnswersWhole}
 use Rattle.acdm_sessions.specs.Stream.{AnswersPart, StopsAtFlush, StopsInReply, replies_text, kept}
-use Rattle.acdm_wire.specs.declared.request.TheConstants.{LONGEST_LINE}
+use Rattle.acdm_wire.specs.declared.request.TheConstants.{LONGEST_REQUEST}
 use Rattle.acdm_sessions.specs.declared.stream.TheConstants.{MOST_KEPT}
 
 -- ---- the signatures stay as they are
@@ -37,7 +37,7 @@ command_keeps d s r (Ok c) =
     let after : DeskView = entered d r.session r.role r.moment c s.answers in
     elim (is_full d) as (λ v. (cond v d after).sigs ≡ d.sigs) [ true ↦ refl | false ↦ refl ]
 
-meant_keeps : (d : DeskView) (s : Supply) (m : Result Request Fault)
+meant_keeps : (d : DeskView) (s : Supply) (m : Result Request RequestFault)
     → (desk_meant d s m).sigs ≡ d.sigs
 meant_keeps d s (Err f) = refl
 meant_keeps d s (Ok r) = command_keeps d s r (command_with s.reading r.asked)
@@ -51,7 +51,7 @@ desk_keeps d s l =
 
 -- ---- what is kept of a line means what the line means
 
-too_long : (line : List ℕ) → nat_le (length line) LONGEST_LINE ≡ false → meant line ≡ Err TooLong
+too_long : (line : List ℕ) → nat_le (length line) LONGEST_REQUEST ≡ false → meant line ≡ Err TooLong
 unfolding meant
 too_long line h = rw h refl
 
@@ -64,8 +64,8 @@ meant-kept line =
       | false ↦ λ over.
           let long : MOST_KEPT < length line = leb-false (length line) MOST_KEPT over in
           let cut : length (kept line) ≡ MOST_KEPT = length-take-le MOST_KEPT line (omega arith) in
-          too_long (kept line) (lt-leb (length (kept line)) LONGEST_LINE (omega arith))
-          ∙ sym (too_long line (lt-leb (length line) LONGEST_LINE (omega arith)))
+          too_long (kept line) (lt-leb (length (kept line)) LONGEST_REQUEST (omega arith))
+          ∙ sym (too_long line (lt-leb (length line) LONGEST_REQUEST (omega arith)))
     ] refl
 
 pub desk-kept : (d : DeskView) (s : Supply) (line : List ℕ)

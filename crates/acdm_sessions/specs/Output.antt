@@ -7,7 +7,7 @@ use Rattle.acdm_step.specs.declared.command.Command.{Command}
 use Rattle.acdm_step.specs.declared.command.Command.TheVariants as commands
 use Rattle.acdm_step.specs.Verdicts.{outcome_of}
 use Rattle.acdm_board.specs.Desk.{DeskView, entered}
-use Rattle.acdm_wire.specs.declared.fault.Fault.{Fault}
+use Rattle.acdm_wire.specs.declared.fault.RequestFault.{RequestFault}
 use Rattle.acdm_wire.specs.declared.fault.Bad.{Bad}
 use Rattle.acdm_wire.specs.declared.fault.Bad.TheVariants.{Faulty, Program, NoMemory}
 use Rattle.acdm_wire.specs.declared.fault.Bad.TheVariants.{FullJournal}
@@ -39,7 +39,7 @@ abbrev pub IsReadingFor : List (ℕ × Promise) → Asked → Reading → Type 0
 IsReadingFor sigs (Plain c) reading = Unit {0}
 IsReadingFor sigs (Load l) reading = IsReading sigs l.length l.program reading
 
-abbrev pub IsReadingOf : List (ℕ × Promise) → Result Request Fault → Reading → Type 0
+abbrev pub IsReadingOf : List (ℕ × Promise) → Result Request RequestFault → Reading → Type 0
 IsReadingOf sigs (Err f) reading = Unit {0}
 IsReadingOf sigs (Ok r) reading = IsReadingFor sigs r.asked reading
 
@@ -92,12 +92,12 @@ desk_command d supply r (Ok c) =
     else entered d r.session r.role r.moment c supply.answers
 
 -- the same of what a line means
-abbrev pub answer_meant : DeskView → Supply → Result Request Fault → Answer
+abbrev pub answer_meant : DeskView → Supply → Result Request RequestFault → Answer
 answer_meant d supply (Err f) = Rejected (Faulty f)
 answer_meant d supply (Ok r) =
     answer_command d supply r.role (command_with supply.reading r.asked)
 
-abbrev pub desk_meant : DeskView → Supply → Result Request Fault → DeskView
+abbrev pub desk_meant : DeskView → Supply → Result Request RequestFault → DeskView
 desk_meant d supply (Err f) = d
 desk_meant d supply (Ok r) = desk_command d supply r (command_with supply.reading r.asked)
 

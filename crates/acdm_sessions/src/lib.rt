@@ -15,9 +15,11 @@ mod sessions;
 mod stream;
 
 pub use acdm_lines::{RunError, Sink, Source};
-pub use acdm_wire::{Asked, Bad, Fault, LineError, LoadRequest, ProgramBytes, Request, request_of};
+pub use acdm_wire::{
+    Asked, Bad, LineError, LoadRequest, ProgramBytes, Request, RequestFault, request_of,
+};
 pub use answer::Answer;
 pub use clock::{Clock, Gate};
-pub use session::{Closed, End, Ended, Session};
+pub use session::{Closed, End, EndedSession, Session};
 pub use sessions::run_sessions;
 pub use stream::run;

@@ -45,7 +45,7 @@ pub enum End {
 
 /// A session, once it has ended.
 #[derive(Drop)]
-pub struct Ended<R: Read + Drop, W: Write + Drop, C: Drop> {
+pub struct EndedSession<R: Read + Drop, W: Write + Drop, C: Drop> {
     /// Its number, from 1.
     pub number: u8,
     /// Its role.
@@ -73,7 +73,7 @@ pub struct Closed<H: Helpers + Drop, R: Read + Drop, W: Write + Drop, C: Drop> {
     /// The desk, with the entries that the sessions made.
     pub desk: Desk<H>,
     /// The sessions, in the order of their numbers.
-    pub sessions: Vec<Ended<R, W, C>>,
+    pub sessions: Vec<EndedSession<R, W, C>>,
 }
 
 /// Who calls: a session with its clock, and its part of the ledger.

@@ -11,7 +11,7 @@ ghost use Rattle.acdm_sessions.specs.Sessions.{session_left, session_start};
 use crate::at_desk::serve;
 use crate::clock::{Clock, Gate};
 use crate::locked::{Locked, Naming};
-use crate::session::{Caller, Closed, Ended, Seat, Served, Session};
+use crate::session::{Caller, Closed, EndedSession, Seat, Served, Session};
 use acdm_board::Desk;
 use acdm_jobs::{Crew, Job};
 use acdm_milestones::Role;
@@ -202,7 +202,7 @@ fn left_by<R: Read + Drop, W: Write + Drop, C: Drop, H: Helpers + Drop, J: Namin
     one: Served<R, W, C, J>,
     desk: &mut Desk<H>,
     all: &mut Share<J>,
-) -> Ended<R, W, C>
+) -> EndedSession<R, W, C>
     requires row { row_of desk.old ≡ J.desk_row }
     ensures desk { desk.new ≡ desk.old }
     ensures shown { IsShown J.start desk.old result.number result.role result.calls result.torn
@@ -232,7 +232,7 @@ fn left_by<R: Read + Drop, W: Write + Drop, C: Drop, H: Helpers + Drop, J: Namin
     all.merge(share);
     let torn = !desk.holds(&mut pass);
     let _own = pass.own_len();
-    Ended {
+    EndedSession {
         number,
         role,
         reader,
@@ -250,8 +250,8 @@ fn gathered<R: Read + Drop, W: Write + Drop, C: Drop, H: Helpers + Drop, J: Nami
     served: Vec<Served<R, W, C, J>>,
     desk: &mut Desk<H>,
     all: &mut Share<J>,
-    mut ended: Vec<Ended<R, W, C>>,
-) -> Vec<Ended<R, W, C>>
+    mut ended: Vec<EndedSession<R, W, C>>,
+) -> Vec<EndedSession<R, W, C>>
     requires room { (vec_len ended ≡ 0) × (vec_len served ≤ vec_capacity ended) }
     requires row { row_of desk.old ≡ J.desk_row }
     ensures desk { desk.new ≡ desk.old }
@@ -290,7 +290,7 @@ fn close<R: Read + Drop, W: Write + Drop, C: Drop, H: Helpers + Drop, J: Naming>
     mut first: Pass,
     mut all: Share<J>,
     served: Vec<Served<R, W, C, J>>,
-    ended: Vec<Ended<R, W, C>>,
+    ended: Vec<EndedSession<R, W, C>>,
 ) -> Closed<H, R, W, C>
     requires parts { all.parts + vec_len served ≡ J.parts }
     requires room { (vec_len ended ≡ 0) × (vec_len served ≤ vec_capacity ended) }
@@ -320,7 +320,7 @@ struct Opened<R: Read + Drop, W: Write + Drop, C: Drop, H: Helpers + Drop, J: Na
     first: Pass,
     all: Share<J>,
     seats: Vec<Seat<R, W, C, J>>,
-    ended: Vec<Ended<R, W, C>>,
+    ended: Vec<EndedSession<R, W, C>>,
 }
 
 // Opens the ledger over the desk, and seats the sessions.

@@ -8,13 +8,13 @@ use crate::next::next_line;
 use crate::reply::{let_go, write_reply};
 use acdm_board::Desk;
 use acdm_lines::{Ending, Lines, RunError, Sink, Source};
-use acdm_wire::LONGEST_LINE;
+use acdm_wire::LONGEST_REQUEST;
 use bpf_helpers::Helpers;
 use std::alloc::Global;
 use std::io::{Read, Write};
 
 // One byte more than the longest line has, so that a longer one is told by what is kept of it.
-pub(crate) const MOST_KEPT: usize = LONGEST_LINE + 1;
+pub(crate) const MOST_KEPT: usize = LONGEST_REQUEST + 1;
 
 // Answers one line. The writer is not flushed.
 fn serve_line<W: Write, A: Answerer>(

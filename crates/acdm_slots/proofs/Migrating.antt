@@ -43,10 +43,6 @@ module _ (l : Length) (p : Verified) where
             ap Some (ap with_code same.0 ∙ ap with_slot same.1)
       ] refl
 
-  pub faulty_goes : (slot code : ℕ) → fault_beside l p ≡ Some (slot, code)
-      → kept_program l (Some p) ≡ None
-  faulty_goes slot code e = ap (λ f. unless_faulty f (lengthened l p)) e
-
 -- what is answered of a program that was judged again
 module _ (l : Length) (p : Verified) (ops : List Op) (sigs : List (ℕ × Promise)) (eo : ops ≡ p.ops)
     (es : sigs ≡ p.sigs) where

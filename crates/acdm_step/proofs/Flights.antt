@@ -5,7 +5,7 @@ use Rattle.std.proofs.Common.{None, refl, sym, ap, subst, ◌∙◌, arith, eqb-
 use Rattle.std.proofs.lemmas.Bool.{eqb-false}
 use Rattle.std.proofs.lemmas.Bool.Decides.{nat_tests}
 use Rattle.std.specs.List.{list_any, position_or_len}
-use Rattle.acdm_record.specs.Bools.{and_left, and_right}
+use Rattle.std.specs.Cmp.{first_so, second_so}
 use Rattle.acdm_record.specs.Fields.{Fields}
 use Rattle.acdm_step.specs.Commands.{History, created}
 use Rattle.acdm_step.specs.Summaries.{with_flight, flights}
@@ -95,12 +95,12 @@ module _ (f : ℕ) (old new : ℕ → Fields) (other : (g : ℕ) → g ≢ f →
             let same : g ≡ f = eqb-true g f t in
             let here : new g ≡ new f = ap new same in
             let gone : has f gs ≡ false = subst (λ x. has x gs ≡ false) same
-            (not_true (has g gs) (and_left (not (has g gs)) (is_distinct gs) d)) in
+            (not_true (has g gs) (first_so (not (has g gs)) (is_distinct gs) d)) in
             let rest = absent f old new other gs gone in
             λ i. here i ∷ rest i
         | false ↦ λ t.
             let here = other g (eqb-false g f t) in
-            let rest = updated gs (and_right (not (has g gs)) (is_distinct gs) d)
+            let rest = updated gs (second_so (not (has g gs)) (is_distinct gs) d)
             (sym (ap (λ b. b || has f gs) t) ∙ e) in
             (λ i. here i ∷ rest i)
             ∙ sym (ap (λ n. set (map old (g ∷ gs)) n (new f))
@@ -123,12 +123,12 @@ distinct-push : (f : ℕ) (gs : List ℕ) → is_distinct gs ≡ true → has f 
     → is_distinct (gs ++ f ∷ []) ≡ true
 distinct-push f [] d e = refl
 distinct-push f (g ∷ gs) d e =
-    let no : has g gs ≡ false = not_true (has g gs) (and_left (not (has g gs)) (is_distinct gs) d)
+    let no : has g gs ≡ false = not_true (has g gs) (first_so (not (has g gs)) (is_distinct gs) d)
     in
     let ne : is_it g f ≡ false = eqb_comm_false g f (or_left (is_it f g) (has f gs) e) in
     let still : has g (gs ++ f ∷ []) ≡ false = has-push g f gs ∙ ap (λ b. b || is_it g f) no ∙ ne in
     ap (λ b. not b && is_distinct (gs ++ f ∷ [])) still
-    ∙ distinct-push f gs (and_right (not (has g gs)) (is_distinct gs) d)
+    ∙ distinct-push f gs (second_so (not (has g gs)) (is_distinct gs) d)
     (or_right (is_it f g) (has f gs) e)
 
 distinct-with_flight : (fs : List ℕ) (o : Option ℕ) → is_distinct fs ≡ true

@@ -6,7 +6,8 @@ use Rattle.std.proofs.lemmas.List.{get_or_past, length-map, length-take-le, get_
 use Rattle.std.proofs.lemmas.List.{get_or-drop}
 use Rattle.std.proofs.lemmas.Option.{get_or_from_slice_get}
 use Rattle.std.specs.List.{list_all}
-use Rattle.acdm_record.specs.Bools.{and_left, and_right, both_true}
+use Rattle.std.specs.Cmp.{first_so, second_so}
+use Rattle.std.proofs.lemmas.Bool.{and_from}
 use Rattle.acdm_record.specs.declared.field.Field.TheVariants.{Layout}
 use Rattle.acdm_record.specs.Fields.{Fields, length_of, bytes_in_layout, number_of, new_record, migrated}
 use Rattle.acdm_record.proofs.Table.{all_at}
@@ -25,16 +26,16 @@ module _ {X : Type 0} (p : X → Bool) where
   pub all_put : (xs : List X) (i : ℕ) (x : X) → list_all p xs ≡ true → p x ≡ true
       → list_all p (set xs i x) ≡ true
   all_put [] i x h k = refl
-  all_put (y ∷ ys) zero x h k = both_true (p x) (list_all p ys) k (and_right (p y) (list_all p ys) h)
-  all_put (y ∷ ys) (suc i) x h k = both_true (p y) (list_all p (set ys i x))
-      (and_left (p y) (list_all p ys) h)
-      (all_put ys i x (and_right (p y) (list_all p ys) h) k)
+  all_put (y ∷ ys) zero x h k = and_from (p x) (list_all p ys) k (second_so (p y) (list_all p ys) h)
+  all_put (y ∷ ys) (suc i) x h k = and_from (p y) (list_all p (set ys i x))
+      (first_so (p y) (list_all p ys) h)
+      (all_put ys i x (second_so (p y) (list_all p ys) h) k)
 
   pub all_add : (xs : List X) (x : X) → list_all p xs ≡ true → p x ≡ true
       → list_all p (xs ++ x ∷ []) ≡ true
-  all_add [] x h k = both_true (p x) true k refl
-  all_add (y ∷ ys) x h k = both_true (p y) (list_all p (ys ++ x ∷ []))
-      (and_left (p y) (list_all p ys) h) (all_add ys x (and_right (p y) (list_all p ys) h) k)
+  all_add [] x h k = and_from (p x) true k refl
+  all_add (y ∷ ys) x h k = and_from (p y) (list_all p (ys ++ x ∷ []))
+      (first_so (p y) (list_all p ys) h) (all_add ys x (second_so (p y) (list_all p ys) h) k)
 
 module _ (record_length : Length) where
   pub long : (r : Fields) → length_of r ≡ bytes_in record_length → is_long record_length r ≡ true
@@ -44,10 +45,10 @@ module _ (record_length : Length) where
       → list_all (is_long record_length) (map (touched moment) rs) ≡ true
   all_touched moment [] h = refl
   all_touched moment (r ∷ rs) h =
-      both_true (is_long record_length (touched moment r)) _
+      and_from (is_long record_length (touched moment r)) _
       (ap (λ n. n == bytes_in record_length) (length-touched r moment)
-      ∙ and_left (is_long record_length r) (list_all (is_long record_length) rs) h)
-      (all_touched moment rs (and_right (is_long record_length r)
+      ∙ first_so (is_long record_length r) (list_all (is_long record_length) rs) h)
+      (all_touched moment rs (second_so (is_long record_length r)
       (list_all (is_long record_length) rs) h))
 
 -- the record that a flight begins with

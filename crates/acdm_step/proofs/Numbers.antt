@@ -5,7 +5,7 @@ use Rattle.std.proofs.Common.{arith}
 use Rattle.std.proofs.lemmas.List.{get_or_past, get_or_default, get_or-set_other}
 use Rattle.std.proofs.lemmas.List.Sums.{prefix_len-le-length}
 use Rattle.std.proofs.lemmas.Bool.Decides.{nat_tests}
-use Rattle.acdm_record.specs.Bools.{and_left, and_right}
+use Rattle.std.specs.Cmp.{first_so, second_so}
 use Rattle.acdm_record.specs.declared.field.Field.{Field}
 use Rattle.acdm_record.specs.declared.field.Field.TheVariants.{Flight, Alerts, Reached, Layout, Tobt}
 use Rattle.acdm_record.specs.Fields.{Fields, number_of, set_number, length_of}
@@ -48,8 +48,8 @@ module _ (k : Field) (no_plain : (g : Field) → is_plain g ≡ true → index_o
       → number_of (with_all r xs) k ≡ number_of r k
   all_plain r [] h = refl
   all_plain r (number_is g v ∷ more) h =
-      all_plain (set_number r g v) more (and_right (is_plain g) (are_plain more) h)
-      ∙ set_other r g v (no_plain g (and_left (is_plain g) (are_plain more) h))
+      all_plain (set_number r g v) more (second_so (is_plain g) (are_plain more) h)
+      ∙ set_other r g v (no_plain g (first_so (is_plain g) (are_plain more) h))
   all_plain r (text_is t v ∷ more) h = all_plain _ more h
 
   suggested : (s : Suggestion) (r : Fields) → number_of (with_suggestion s r) k ≡ number_of r k
@@ -105,14 +105,6 @@ length-changed s r moment c =
 pub length-touched : (r : Fields) (moment : ℕ) → length_of (touched moment r) ≡ length_of r
 length-touched r moment =
     ap bytes_in_layout (touched-kept Layout no_plain_layout (omega arith) (omega arith) r moment)
-
-pub length-assigned : (r : Fields) (c : Command) → length_of (assigned_to r c) ≡ length_of r
-length-assigned r c =
-    ap bytes_in_layout (assigned Layout no_plain_layout (omega arith) (omega arith) r c)
-
-pub length-suggested : (s : Suggestion) (r : Fields) → length_of (with_suggestion s r) ≡ length_of r
-length-suggested s r =
-    ap bytes_in_layout (suggested Layout no_plain_layout (omega arith) (omega arith) s r)
 
 module _ (b : Board) (ps : Programs) (moment : ℕ) (c : Command) (from to : OracleView)
     (flight place : ℕ) (r s : Fields) (at : place ≡ place_of b.records flight)

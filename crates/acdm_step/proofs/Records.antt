@@ -7,7 +7,7 @@ use Rattle.std.proofs.lemmas.Nat.Bits.{bit_at_or, bit_at-pow_same, bit_at-pow_ot
 use Rattle.std.proofs.lemmas.Nat.Bits.{bit_at-lt}
 use Rattle.std.specs.Int.{bit_at}
 use Rattle.std.specs.List.{list_any}
-use Rattle.acdm_record.specs.Bools.{and_left, and_right}
+use Rattle.std.specs.Cmp.{first_so, second_so}
 use Rattle.acdm_record.specs.declared.field.Field.{Field}
 use Rattle.acdm_record.specs.declared.field.Field.TheVariants.{Flight, Layout, Reached, Alerts}
 use Rattle.acdm_record.specs.declared.field.Field.TheVariants.{Tobt, Tsat}
@@ -29,7 +29,7 @@ use Rattle.acdm_milestones.specs.Deicing.{deicing_field}
 use Rattle.acdm_milestones.specs.Tables.{times_of, marked_by, has_reached}
 use Rattle.acdm_step.specs.Programs.{Programs, Suggestion, Nothing, Usable, Unusable, Effect}
 use Rattle.acdm_step.specs.Programs.{effect, with_suggestion, with_local_alerts, with_effect}
-use Rattle.acdm_step.specs.declared.command.Plan.{Plan}
+use Rattle.acdm_step.specs.declared.command.FlightPlan.{FlightPlan}
 use Rattle.acdm_step.specs.declared.command.Command.{Command}
 use Rattle.acdm_step.specs.declared.command.Command.TheVariants as commands
 use Rattle.acdm_step.specs.declared.command.FlightCommand.TheVariants.{Schedule, Report, Deice}
@@ -79,9 +79,9 @@ with_all-record_with : (f : ℕ) (qs ps : List Assignment) (rs al : ℕ) → are
     → with_all (record_with f ps rs al) qs ≡ record_with f (onto qs ps) rs al
 with_all-record_with f [] ps rs al h = refl
 with_all-record_with f (number_is g v ∷ qs) ps rs al h =
-    ap (λ r. with_all r qs) (set_one f ps rs al g v (and_left (is_plain g) (are_plain qs) h))
+    ap (λ r. with_all r qs) (set_one f ps rs al g v (first_so (is_plain g) (are_plain qs) h))
     ∙ with_all-record_with f qs (number_is g v ∷ ps) rs al
-    (and_right (is_plain g) (are_plain qs) h)
+    (second_so (is_plain g) (are_plain qs) h)
 with_all-record_with f (text_is u v ∷ qs) ps rs al h =
     ap (λ r. with_all r qs) (set_one_text f ps rs al u v)
     ∙ with_all-record_with f qs (text_is u v ∷ ps) rs al h
@@ -134,8 +134,8 @@ plain-append : (xs ys : List Assignment) → are_plain xs ≡ true → are_plain
     → are_plain (xs ++ ys) ≡ true
 plain-append [] ys h k = k
 plain-append (number_is g v ∷ xs) ys h k =
-    ap (λ b. b && are_plain (xs ++ ys)) (and_left (is_plain g) (are_plain xs) h)
-    ∙ plain-append xs ys (and_right (is_plain g) (are_plain xs) h) k
+    ap (λ b. b && are_plain (xs ++ ys)) (first_so (is_plain g) (are_plain xs) h)
+    ∙ plain-append xs ys (second_so (is_plain g) (are_plain xs) h) k
 plain-append (text_is t v ∷ xs) ys h k = plain-append xs ys h k
 
 plain_times : (m : Milestone) (time : ℕ) → are_plain (times_of m time) ≡ true
@@ -148,7 +148,7 @@ plain_times TobtUpdate time = elim (time == 0)
 plain_times FlightPlanActivated time = refl
 plain_times _ time = refl
 
-plain_plan : (p : Option Plan) → are_plain (plan_assignments p) ≡ true
+plain_plan : (p : Option FlightPlan) → are_plain (plan_assignments p) ≡ true
 plain_plan None = refl
 plain_plan (Some p) = refl
 
@@ -344,9 +344,9 @@ touched-there (e ∷ J) f h =
         → is_some (summary (e ∷ J) f).touch ≡ true) [
           | true ↦ λ d s.
               let done : is_accepted e.verdict ≡ true =
-              and_left (is_accepted e.verdict) (creates e.command) d in
+              first_so (is_accepted e.verdict) (creates e.command) d in
               let makes : changes_flight e.command ≡ true =
-              creates_changes e.command (and_right (is_accepted e.verdict) (creates e.command)
+              creates_changes e.command (second_so (is_accepted e.verdict) (creates e.command)
               d) in
               let same : flight_of e.command ≡ f = cc in
               let of : is_of f e ≡ true = ap (λ b. b

@@ -24,7 +24,7 @@ use Rattle.bpf_semantics.specs.Machine.{start}
 use Rattle.acdm_slots.specs.declared.kind.Kind.{Kind}
 use Rattle.acdm_slots.specs.declared.kind.Kind.TheVariants.{Tobt as TobtProgram}
 use Rattle.acdm_slots.specs.declared.kind.Kind.TheVariants.{Alert as AlertProgram}
-use Rattle.acdm_step.specs.declared.command.Plan.{Plan}
+use Rattle.acdm_step.specs.declared.command.FlightPlan.{FlightPlan}
 use Rattle.acdm_step.specs.declared.command.Command.{Command}
 use Rattle.acdm_step.specs.declared.command.Command.TheVariants.{Load, Unload, Tick, Show}
 use Rattle.acdm_step.specs.declared.command.FlightCommand.TheVariants.{Schedule, Report}
@@ -45,7 +45,7 @@ use Rattle.acdm_step.specs.History.{after, left_by}
 abbrev plus : History → ℕ → Role → ℕ → Command → History
 plus J session role m c = after J session role m c (verdict_of [] J role c) []
 
-abbrev the_plan : Plan
+abbrev the_plan : FlightPlan
 the_plan = record {
   callsign = codes "DLH7";
   aircraft = codes "A320";

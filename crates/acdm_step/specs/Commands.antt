@@ -12,7 +12,7 @@ use Rattle.acdm_record.specs.declared.field.TextField.TheVariants.{PlanDestinati
 use Rattle.acdm_record.specs.Assign.{Assignment, number_is, text_is}
 use Rattle.acdm_milestones.specs.Tables.{number, times_of}
 use Rattle.acdm_milestones.specs.Deicing.{deicing_field}
-use Rattle.acdm_step.specs.declared.command.Plan.{Plan}
+use Rattle.acdm_step.specs.declared.command.FlightPlan.{FlightPlan}
 use Rattle.acdm_step.specs.declared.command.Command.{Command}
 use Rattle.acdm_step.specs.declared.command.Command.TheVariants.{Load, Tick, Migrate, Show}
 use Rattle.acdm_step.specs.declared.command.FlightCommand.TheVariants.{Schedule, Report, Deice}
@@ -55,7 +55,7 @@ abbrev pub is_load : Command → Bool
 is_load (Load l) = true
 is_load _ = false
 
-abbrev pub plan_assignments : Option Plan → List Assignment
+abbrev pub plan_assignments : Option FlightPlan → List Assignment
 plan_assignments None = []
 plan_assignments (Some p) = text_is Callsign p.callsign ∷ text_is PlanType p.aircraft
     ∷ text_is PlanRegistration p.registration ∷ text_is PlanDestination p.destination ∷ []

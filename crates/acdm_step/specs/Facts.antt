@@ -5,11 +5,11 @@ use Rattle.acdm_milestones.specs.declared.milestone.Milestone.TheVariants.{Fligh
 use Rattle.acdm_milestones.specs.declared.milestone.Milestone.TheVariants.{TwoHoursBeforeEobt}
 use Rattle.acdm_milestones.specs.declared.milestone.Milestone.TheVariants.{TobtUpdate}
 use Rattle.acdm_step.specs.declared.command.TheConstants.{MINUTES_OF_DAY}
-use Rattle.acdm_step.specs.declared.command.Plan.{Plan}
+use Rattle.acdm_step.specs.declared.command.FlightPlan.{FlightPlan}
 
 pub record ScheduleFacts : Type 0 where
   pub flight : ℕ
-  pub plan : Plan
+  pub plan : FlightPlan
   pub sobt : ℕ
   pub mttt : ℕ
   pub exit : ℕ
@@ -26,10 +26,10 @@ pub record ReportFacts : Type 0 where
   pub flight : ℕ
   pub milestone : Milestone
   pub time : ℕ
-  pub plan : Option Plan
+  pub plan : Option FlightPlan
 
 -- a plan comes with the first milestone, and with it alone
-abbrev pub has_its_plan : Milestone → Option Plan → Bool
+abbrev pub has_its_plan : Milestone → Option FlightPlan → Bool
 has_its_plan FlightPlanActivated p = is_some p
 has_its_plan _ p = not (is_some p)
 
@@ -39,7 +39,7 @@ has_its_time TwoHoursBeforeEobt time = true
 has_its_time TobtUpdate time = true
 has_its_time _ time = not (time == 0)
 
-pub record IsReport (flight : ℕ) (milestone : Milestone) (time : ℕ) (plan : Option Plan) : Type 0
+pub record IsReport (flight : ℕ) (milestone : Milestone) (time : ℕ) (plan : Option FlightPlan) : Type 0
   where
     pub flight_given : 1 ≤ flight
     pub plan_with_first : has_its_plan milestone plan ≡ true

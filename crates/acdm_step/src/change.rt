@@ -10,7 +10,7 @@ ghost use Rattle.acdm_record.specs.Fields.{length_of};
 ghost use Rattle.bpf_regstate.specs.declared.length.Length.TheVariants.{L160};
 ghost use Rattle.bpf_regstate.specs.Lengths.{bytes_in};
 
-use crate::command::{Command, Deice, FlightCommand, Plan, Report, Schedule};
+use crate::command::{Command, Deice, FlightCommand, FlightPlan, Report, Schedule};
 use crate::programs::run_programs;
 use acdm_alerts::builtin;
 use acdm_milestones::{mark_reached, set_deicing_time, set_time};
@@ -56,7 +56,7 @@ fn set_deiced(record: &mut Record, deice: &Deice)
     set_deicing_time(record, deice.which, deice.time);
 }
 
-fn set_planned(record: &mut Record, plan: &Option<Plan>)
+fn set_planned(record: &mut Record, plan: &Option<FlightPlan>)
     ensures { «record».new ≡ with_all «record».old (plan_assignments plan.now) }
 {
     if let Some(plan) = plan {

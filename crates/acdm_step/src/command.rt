@@ -16,7 +16,7 @@ pub const MINUTES_OF_DAY: u64 = 1_440;
 
 /// What is planned for a flight.
 #[derive(Drop)]
-pub struct Plan {
+pub struct FlightPlan {
     pub callsign: Text<8>,
     pub aircraft: Text<4>,
     pub registration: Text<8>,
@@ -30,7 +30,7 @@ pub struct Plan {
 #[derive(Drop)]
 pub struct Schedule {
     pub(crate) flight: FlightNumber,
-    pub(crate) plan: Plan,
+    pub(crate) plan: FlightPlan,
     pub(crate) sobt: u32,
     pub(crate) mttt: u16,
     pub(crate) exit: u8,
@@ -60,7 +60,7 @@ impl Schedule {
     /// A schedule of these values, which are in their ranges.
     pub fn new(
         flight: u64,
-        plan: Plan,
+        plan: FlightPlan,
         sobt: u32,
         mttt: u16,
         exit: u8,
@@ -102,7 +102,7 @@ impl Schedule {
     }
 
     /// What is planned for it.
-    pub fn plan(&self) -> &Plan
+    pub fn plan(&self) -> &FlightPlan
         ensures { result.now ≡ self.now.plan }
     {
         &self.plan
@@ -156,7 +156,7 @@ pub struct Report {
     pub(crate) flight: FlightNumber,
     pub(crate) milestone: Milestone,
     pub(crate) time: u32,
-    pub(crate) plan: Option<Plan>,
+    pub(crate) plan: Option<FlightPlan>,
 }
 
 impl Model for Report {
@@ -176,7 +176,7 @@ impl Model for Report {
 
 impl Report {
     /// A report of these values, which are in their ranges.
-    pub fn new(flight: u64, milestone: Milestone, time: u32, plan: Option<Plan>) -> Report
+    pub fn new(flight: u64, milestone: Milestone, time: u32, plan: Option<FlightPlan>) -> Report
         requires flight_given { 1 ≤ flight }
         requires plan_with_first { IsTrue (has_its_plan milestone plan) }
         requires timed { IsTrue (has_its_time milestone time) }
@@ -219,7 +219,7 @@ impl Report {
     }
 
     /// What is planned, with milestone 1 and with it alone.
-    pub fn plan(&self) -> Option<&Plan>
+    pub fn plan(&self) -> Option<&FlightPlan>
         ensures value { option_copied result ≡ self.now.plan }
         ensures with_first { IsTrue (has_its_plan self.now.milestone self.now.plan) }
     {

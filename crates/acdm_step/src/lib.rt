@@ -14,8 +14,8 @@ mod state;
 mod verdicts;
 
 pub use command::{
-    Command, Deice, FlightCommand, FlightNumber, Load, MINUTES_OF_DAY, Plan, Report, Schedule,
-    Unload,
+    Command, Deice, FlightCommand, FlightNumber, FlightPlan, Load, MINUTES_OF_DAY, Report,
+    Schedule, Unload,
 };
 pub use entry::{Answers, Entry, Verdict};
 pub use outcome::{AlertList, Alerted, Outcome, UnloadedList};

@@ -14,9 +14,9 @@ use Rattle.acdm_step.specs.declared.entry.Entry.{Entry}
 use Rattle.acdm_step.specs.Commands.{History}
 use Rattle.acdm_step.specs.History.{Board, IsLegal, replay}
 use Rattle.acdm_step.specs.Prepared.{after_change}
-use Rattle.acdm_journal.specs.declared.auditing.Fault.TheVariants as faults
+use Rattle.acdm_journal.specs.declared.auditing.JournalFault.TheVariants as faults
 use Rattle.acdm_journal.specs.declared.auditing.TheConstants.{MOST_KEPT}
-use Rattle.acdm_journal.specs.declared.reading.TheConstants.{LONGEST_LINE}
+use Rattle.acdm_journal.specs.declared.reading.TheConstants.{LONGEST_ENTRY}
 use Rattle.acdm_journal.specs.declared.judge.Clause.{Clause}
 use Rattle.acdm_journal.specs.declared.judge.PlannedEntry.{PlannedEntry}
 use Rattle.acdm_journal.specs.declared.judge.Clause.TheVariants as clauses
@@ -275,7 +275,7 @@ module _ {R W : Type 0} (sigs : List (ℕ × Promise)) (r0 r1 r2 : SourceView R)
         rest = l1.window ++ t.text;
         gives = gives t.text t.gave;
         count = g.sofar.count;
-        leaves = kept-empty LONGEST_LINE (l1.window ++ t.text)
+        leaves = kept-empty LONGEST_ENTRY (l1.window ++ t.text)
             (ap length (sym t.bytes_are) ∙ empty);
         gathers = g.gathers;
       }

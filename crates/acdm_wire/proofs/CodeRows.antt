@@ -1,7 +1,7 @@
 -- The numbers of faults and of bad lines, as the profile's list of codes has them.
 use Rattle.std.proofs.Common.{◌≡◌, map, [], ◌∷◌, refl}
-use Rattle.acdm_wire.specs.declared.fault.Fault.TheVariants.{Prefix, NoJson, UnknownCommand}
-use Rattle.acdm_wire.specs.declared.fault.Fault.TheVariants.{Kind, Range, TooLong}
+use Rattle.acdm_wire.specs.declared.fault.RequestFault.TheVariants.{Prefix, NoJson, UnknownCommand}
+use Rattle.acdm_wire.specs.declared.fault.RequestFault.TheVariants.{Kind, Range, TooLong}
 use Rattle.acdm_wire.specs.declared.fault.Bad.TheVariants.{Faulty, Program, NoMinute, NoMemory}
 use Rattle.acdm_wire.specs.declared.fault.Bad.TheVariants.{FullJournal}
 use Rattle.bpf_verifier.specs.declared.reading.ProgramError.TheVariants as errors

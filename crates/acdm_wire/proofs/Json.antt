@@ -8,7 +8,7 @@ use Rattle.std.proofs.lemmas.Str.{is_utf8-from_IsUtf8, IsUtf8-from_is_utf8}
 use Rattle.serde_json.specs.Data.{Data}
 use Rattle.serde_json.specs.Read.{read}
 use Rattle.serde_json.proofs.OnLiterals.{serde_json_on_literals}
-use Rattle.acdm_wire.specs.declared.fault.Fault.TheVariants.{NoJson}
+use Rattle.acdm_wire.specs.declared.fault.RequestFault.TheVariants.{NoJson}
 use Rattle.acdm_wire.specs.Meant.{json_of, or_fault}
 use Rattle.acdm_wire.specs.Memory.{json_needs_memory}
 

@@ -12,8 +12,8 @@ use Rattle.acdm_step.specs.declared.command.FlightCommand.TheVariants.{Schedule,
 use Rattle.acdm_slots.specs.declared.kind.Kind.TheVariants.{Tobt, Alert}
 use Rattle.bpf_regstate.specs.declared.length.Length.TheVariants.{L128, L160}
 use Rattle.acdm_wire.specs.declared.request.Asked.TheVariants.{Plain, Load}
-use Rattle.acdm_wire.specs.declared.fault.Fault.TheVariants.{Prefix, NoJson, UnknownCommand, Kind}
-use Rattle.acdm_wire.specs.declared.fault.Fault.TheVariants.{Range}
+use Rattle.acdm_wire.specs.declared.fault.RequestFault.TheVariants.{Prefix, NoJson, UnknownCommand, Kind}
+use Rattle.acdm_wire.specs.declared.fault.RequestFault.TheVariants.{Range}
 use Rattle.acdm_wire.specs.Meant.{meant}
 use Rattle.acdm_wire.proofs.OnLiterals.{lines_on_literals}
 

@@ -22,10 +22,6 @@ use Rattle.acdm_wire.specs.Plain.{IsScalar, BeginsMember, Completes, value_data,
 
 -- ---- the conversion of what was read
 
-pick : {A : Type 0} → A → Option A → A
-pick d None = d
-pick d (Some a) = a
-
 abbrev right : {A B : Type 0} → (b : B) → Option (A × B) → B
 right b None = b
 right b (Some p) = p.1

@@ -1,14 +1,14 @@
 -- The numbers of faults in lines and of bad lines (this project's profile).
 use Rattle.std.specs.Prelude.{ℕ}
-use Rattle.acdm_wire.specs.declared.fault.Fault.{Fault}
-use Rattle.acdm_wire.specs.declared.fault.Fault.TheVariants.{Prefix, NoJson, UnknownCommand}
-use Rattle.acdm_wire.specs.declared.fault.Fault.TheVariants.{Kind, Range, TooLong}
+use Rattle.acdm_wire.specs.declared.fault.RequestFault.{RequestFault}
+use Rattle.acdm_wire.specs.declared.fault.RequestFault.TheVariants.{Prefix, NoJson, UnknownCommand}
+use Rattle.acdm_wire.specs.declared.fault.RequestFault.TheVariants.{Kind, Range, TooLong}
 use Rattle.acdm_wire.specs.declared.fault.Bad.{Bad}
 use Rattle.acdm_wire.specs.declared.fault.Bad.TheVariants as bad
 use Rattle.bpf_verifier.specs.declared.reading.ProgramError.{ProgramError}
 use Rattle.bpf_verifier.specs.declared.reading.ProgramError.TheVariants as errors
 
-abbrev pub fault_code : Fault → ℕ
+abbrev pub fault_code : RequestFault → ℕ
 fault_code Prefix = 100
 fault_code NoJson = 101
 fault_code UnknownCommand = 102

@@ -5,14 +5,14 @@ use Rattle.std.specs.Prelude.{length, codes, option_and_then, Result, Ok, Err}
 use Rattle.std.specs.Str.{is_utf8, bytes_eq}
 use Rattle.serde_json.specs.Data.{Data}
 use Rattle.serde_json.specs.Find.{get, as_str}
-use Rattle.acdm_wire.specs.declared.fault.Fault.{Fault}
-use Rattle.acdm_wire.specs.declared.fault.Fault.TheVariants.{UnknownCommand, Kind}
-use Rattle.acdm_wire.specs.declared.request.TheConstants.{LONGEST_LINE}
+use Rattle.acdm_wire.specs.declared.fault.RequestFault.{RequestFault}
+use Rattle.acdm_wire.specs.declared.fault.RequestFault.TheVariants.{UnknownCommand, Kind}
+use Rattle.acdm_wire.specs.declared.request.TheConstants.{LONGEST_REQUEST}
 use Rattle.acdm_wire.specs.Meant.{head_of, or_fault, slot_field}
 
 -- a test of what one reading gives, which fails where it gives a fault
 infixl 10 ◌>>=◌
-abbrev pub ◌>>=◌ : {A : Type 0} → Result A Fault → (A → Bool) → Bool
+abbrev pub ◌>>=◌ : {A : Type 0} → Result A RequestFault → (A → Bool) → Bool
 (Ok x) >>= test = test x
 (Err e) >>= test = false
 
@@ -23,13 +23,13 @@ json_needs_memory bytes = is_utf8 bytes && nat_lt 0 (length bytes)
 
 -- a line of a session, which is JSON: one that is not too long
 unfoldable pub asked_needs_memory : List ℕ → Bool
-asked_needs_memory line = nat_le (length line) LONGEST_LINE && json_needs_memory line
+asked_needs_memory line = nat_le (length line) LONGEST_REQUEST && json_needs_memory line
 
 -- a line of a stream of all partners: one that is not too long and begins with a session, a minute
 -- and a role, for its JSON
 unfoldable pub request_needs_memory : List ℕ → Bool
 request_needs_memory line =
-    nat_le (length line) LONGEST_LINE && (head_of line >>= λ head. json_needs_memory head.rest)
+    nat_le (length line) LONGEST_REQUEST && (head_of line >>= λ head. json_needs_memory head.rest)
 
 -- ---- the fields of JSON that was read
 

@@ -3,10 +3,10 @@ ghost use Rattle.std.specs.Prelude.{◌≡◌, true, IfOk, IsTrue, Err};
 ghost use Rattle.acdm_wire.specs.Meant.{Gives, asked_of, is_plain};
 ghost use Rattle.acdm_wire.specs.Memory.{asked_needs_memory};
 
-use crate::fault::Fault;
+use crate::fault::RequestFault;
 use crate::field::command_in;
 use crate::line_json::json_in;
-use crate::request::{Asked, LONGEST_LINE, LineError};
+use crate::request::{Asked, LONGEST_REQUEST, LineError};
 use arrayvec::ArrayVec;
 use std::alloc::Global;
 
@@ -20,8 +20,8 @@ pub fn asked_of(alloc: Global, line: &[u8]) -> Result<Asked, LineError>
     ensures memory { result ≡ Err LineError.Memory → IsTrue (asked_needs_memory line.now) }
     ensures plain { IfOk result (λ asked. is_plain asked ≡ true) }
 {
-    if line.len() > LONGEST_LINE {
-        return Err(LineError::Fault(Fault::TooLong));
+    if line.len() > LONGEST_REQUEST {
+        return Err(LineError::Fault(RequestFault::TooLong));
     }
     let mut found = ArrayVec::new();
     let value = json_in(alloc, line, &mut found)?;

@@ -7,7 +7,7 @@ use bpf_verifier::ProgramError;
 /// Why a line asks for nothing: the first reason that applies, in the order of their tests, which
 /// is too long, prefix, JSON, command, and then the fields (this project's profile).
 #[derive(Clone, Copy, Debug, PartialEq, Eq)]
-pub enum Fault {
+pub enum RequestFault {
     /// 100: the line does not begin with a session, a minute and a role, each before one space.
     Prefix,
     /// 101: what follows is no JSON.
@@ -22,18 +22,18 @@ pub enum Fault {
     TooLong,
 }
 
-impl Fault {
+impl RequestFault {
     /// The number of the fault in a reply.
     pub fn code(self) -> u16
         ensures { result ≡ fault_code self }
     {
         match self {
-            Fault::Prefix => 100,
-            Fault::NoJson => 101,
-            Fault::UnknownCommand => 102,
-            Fault::Kind => 103,
-            Fault::Range => 104,
-            Fault::TooLong => 105,
+            RequestFault::Prefix => 100,
+            RequestFault::NoJson => 101,
+            RequestFault::UnknownCommand => 102,
+            RequestFault::Kind => 103,
+            RequestFault::Range => 104,
+            RequestFault::TooLong => 105,
         }
     }
 }
@@ -42,7 +42,7 @@ impl Fault {
 #[derive(Clone, Copy, Debug, PartialEq, Eq)]
 pub enum Bad {
     /// The line asks for nothing.
-    Faulty(Fault),
+    Faulty(RequestFault),
     /// It asks to load a program, and its bytes encode none (RFC 9669) or one that is not accepted:
     /// the number of their first fault, 301 to 315, and its slot, counted from 0.
     Program { code: u16, slot: usize },

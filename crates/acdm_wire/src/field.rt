@@ -14,7 +14,7 @@ ghost use Rattle.acdm_wire.specs.Memory.{program_needs_memory};
 ghost use Rattle.acdm_wire.specs.Plain.{data_of};
 ghost use Rattle.acdm_wire.specs.Memory.{load_needs_memory, command_needs_memory};
 
-use crate::fault::Fault;
+use crate::fault::RequestFault;
 use crate::line_json::LineJson;
 use crate::program::ProgramBytes;
 use crate::request::{Asked, LineError, LoadRequest};
@@ -22,7 +22,8 @@ use acdm_milestones::{DeicingTime, Milestone};
 use acdm_record::Text;
 use acdm_slots::Kind;
 use acdm_step::{
-    Command, Deice, FlightCommand, FlightNumber, MINUTES_OF_DAY, Plan, Report, Schedule, Unload,
+    Command, Deice, FlightCommand, FlightNumber, FlightPlan, MINUTES_OF_DAY, Report, Schedule,
+    Unload,
 };
 use bpf_regstate::Length;
 use hex::FromHexError;
@@ -30,36 +31,36 @@ use jiff::Timestamp;
 use std::alloc::Global;
 
 #[tactic(auto, unfolding(crate::specs::Meant::number_field))]
-fn number_in(value: &LineJson<'_, '_>, key: &str, low: u64, high: u64) -> Result<u64, Fault>
+fn number_in(value: &LineJson<'_, '_>, key: &str, low: u64, high: u64) -> Result<u64, RequestFault>
     ensures reads { result ≡ number_field key.now low high (data_of value.now) }
     ensures within { IfOk result (λ n. (low ≤ n) × (n ≤ high)) }
 {
     let Some(number) = value.number(key) else {
-        return Err(Fault::Kind);
+        return Err(RequestFault::Kind);
     };
     if low <= number && number <= high {
         Ok(number)
     } else {
-        Err(Fault::Range)
+        Err(RequestFault::Range)
     }
 }
 
 // The minute of a text that is an instant.
 #[tactic(auto, unfolding(crate::specs::Meant::time_field))]
-fn time_in(value: &LineJson<'_, '_>, key: &str) -> Result<u32, Fault>
+fn time_in(value: &LineJson<'_, '_>, key: &str) -> Result<u32, RequestFault>
     ensures reads { result ≡ time_field key.now (data_of value.now) }
     ensures given { IfOk result (λ t. 1 ≤ t) }
 {
     let Some(text) = value.text(key) else {
-        return Err(Fault::Kind);
+        return Err(RequestFault::Kind);
     };
     let Ok(instant) = text.parse::<Timestamp>() else {
-        return Err(Fault::Range);
+        return Err(RequestFault::Range);
     };
     minute_at(instant)
 }
 
-fn minute_at(instant: Timestamp) -> Result<u32, Fault>
+fn minute_at(instant: Timestamp) -> Result<u32, RequestFault>
     ensures reads { result ≡ minute_of instant.nanosecond }
     ensures given { IfOk result (λ t. 1 ≤ t) }
 {
@@ -67,32 +68,32 @@ fn minute_at(instant: Timestamp) -> Result<u32, Fault>
     if 1 <= minute && minute <= 4_294_967_295 {
         Ok(minute as u32)
     } else {
-        Err(Fault::Range)
+        Err(RequestFault::Range)
     }
 }
 
 #[tactic(auto, unfolding(crate::specs::Meant::text_field))]
-fn text_in<const N: usize>(value: &LineJson<'_, '_>, key: &str) -> Result<Text<N>, Fault>
+fn text_in<const N: usize>(value: &LineJson<'_, '_>, key: &str) -> Result<Text<N>, RequestFault>
     ensures { result ≡ text_field key.now N (data_of value.now) }
 {
     let Some(text) = value.text(key) else {
-        return Err(Fault::Kind);
+        return Err(RequestFault::Kind);
     };
     let Some(kept) = Text::from_bytes(text.as_bytes()) else {
-        return Err(Fault::Range);
+        return Err(RequestFault::Range);
     };
     Ok(kept)
 }
 
 #[tactic(auto, unfolding(crate::specs::Meant::plan_field))]
-fn plan_in(value: &LineJson<'_, '_>) -> Result<Plan, Fault>
+fn plan_in(value: &LineJson<'_, '_>) -> Result<FlightPlan, RequestFault>
     ensures { result ≡ plan_field (data_of value.now) }
 {
     let callsign = text_in(value, "callsign")?;
     let aircraft = text_in(value, "type")?;
     let registration = text_in(value, "reg")?;
     let destination = text_in(value, "dest")?;
-    Ok(Plan {
+    Ok(FlightPlan {
         callsign,
         aircraft,
         registration,
@@ -100,17 +101,17 @@ fn plan_in(value: &LineJson<'_, '_>) -> Result<Plan, Fault>
     })
 }
 
-fn milestone_at(number: u64) -> Result<Milestone, Fault>
+fn milestone_at(number: u64) -> Result<Milestone, RequestFault>
     ensures { result ≡ milestone_of number }
 {
     let Some(milestone) = Milestone::from_number(number) else {
-        return Err(Fault::Range);
+        return Err(RequestFault::Range);
     };
     Ok(milestone)
 }
 
 #[tactic(auto, unfolding(crate::specs::Meant::milestone_field))]
-fn milestone_in(value: &LineJson<'_, '_>) -> Result<Milestone, Fault>
+fn milestone_in(value: &LineJson<'_, '_>) -> Result<Milestone, RequestFault>
     ensures { result ≡ milestone_field (data_of value.now) }
 {
     let number = number_in(value, "milestone", 0, u64::MAX)?;
@@ -119,7 +120,7 @@ fn milestone_in(value: &LineJson<'_, '_>) -> Result<Milestone, Fault>
 
 // A time, or 0 for null.
 #[tactic(auto, unfolding(crate::specs::Meant::time_or_null))]
-fn time_or_null_in(value: &LineJson<'_, '_>, key: &str) -> Result<u32, Fault>
+fn time_or_null_in(value: &LineJson<'_, '_>, key: &str) -> Result<u32, RequestFault>
     ensures { result ≡ time_or_null key.now (data_of value.now) }
 {
     if value.has_null(key) {
@@ -129,7 +130,7 @@ fn time_or_null_in(value: &LineJson<'_, '_>, key: &str) -> Result<u32, Fault>
 }
 
 // The time of a report.
-fn time_of(value: &LineJson<'_, '_>, milestone: Milestone) -> Result<u32, Fault>
+fn time_of(value: &LineJson<'_, '_>, milestone: Milestone) -> Result<u32, RequestFault>
     ensures reads { result ≡ time_for milestone (data_of value.now) }
     ensures timed { IfOk result (λ t. IsTrue (has_its_time milestone t)) }
 {
@@ -140,7 +141,7 @@ fn time_of(value: &LineJson<'_, '_>, milestone: Milestone) -> Result<u32, Fault>
 }
 
 #[tactic(auto, unfolding(crate::specs::Meant::schedule_field, crate::specs::Meant::number_field))]
-fn schedule_in(value: &LineJson<'_, '_>) -> Result<Command, Fault>
+fn schedule_in(value: &LineJson<'_, '_>) -> Result<Command, RequestFault>
     ensures reads { result ≡ schedule_field (data_of value.now) }
     ensures plain { IfOk result (λ command. is_load command ≡ false) }
 {
@@ -162,7 +163,10 @@ fn schedule_in(value: &LineJson<'_, '_>) -> Result<Command, Fault>
     ))))
 }
 
-fn plan_of(value: &LineJson<'_, '_>, milestone: Milestone) -> Result<Option<Plan>, Fault>
+fn plan_of(
+    value: &LineJson<'_, '_>,
+    milestone: Milestone,
+) -> Result<Option<FlightPlan>, RequestFault>
     ensures reads { result ≡ plan_for milestone (data_of value.now) }
     ensures with_first { IfOk result (λ p. IsTrue (has_its_plan milestone p)) }
 {
@@ -173,7 +177,7 @@ fn plan_of(value: &LineJson<'_, '_>, milestone: Milestone) -> Result<Option<Plan
 }
 
 #[tactic(auto, unfolding(crate::specs::Meant::report_field))]
-fn report_in(value: &LineJson<'_, '_>) -> Result<Command, Fault>
+fn report_in(value: &LineJson<'_, '_>) -> Result<Command, RequestFault>
     ensures reads { result ≡ report_field (data_of value.now) }
     ensures plain { IfOk result (λ command. is_load command ≡ false) }
 {
@@ -185,20 +189,20 @@ fn report_in(value: &LineJson<'_, '_>) -> Result<Command, Fault>
 }
 
 #[tactic(auto, unfolding(crate::specs::Meant::deicing_field))]
-fn deicing_time_in(value: &LineJson<'_, '_>) -> Result<DeicingTime, Fault>
+fn deicing_time_in(value: &LineJson<'_, '_>) -> Result<DeicingTime, RequestFault>
     ensures { result ≡ deicing_field (data_of value.now) }
 {
     let Some(name) = value.text("field") else {
-        return Err(Fault::Kind);
+        return Err(RequestFault::Kind);
     };
     let Some(which) = DeicingTime::from_name(name.as_bytes()) else {
-        return Err(Fault::Range);
+        return Err(RequestFault::Range);
     };
     Ok(which)
 }
 
 #[tactic(auto, unfolding(crate::specs::Meant::deice_field))]
-fn deice_in(value: &LineJson<'_, '_>) -> Result<Command, Fault>
+fn deice_in(value: &LineJson<'_, '_>) -> Result<Command, RequestFault>
     ensures reads { result ≡ deice_field (data_of value.now) }
     ensures plain { IfOk result (λ command. is_load command ≡ false) }
 {
@@ -214,7 +218,7 @@ fn deice_in(value: &LineJson<'_, '_>) -> Result<Command, Fault>
 }
 
 #[tactic(auto, unfolding(crate::specs::Meant::show_field))]
-fn show_in(value: &LineJson<'_, '_>) -> Result<Command, Fault>
+fn show_in(value: &LineJson<'_, '_>) -> Result<Command, RequestFault>
     ensures reads { result ≡ show_field (data_of value.now) }
     ensures plain { IfOk result (λ command. is_load command ≡ false) }
 {
@@ -223,20 +227,20 @@ fn show_in(value: &LineJson<'_, '_>) -> Result<Command, Fault>
 }
 
 #[tactic(auto, unfolding(crate::specs::Meant::kind_field))]
-fn kind_in(value: &LineJson<'_, '_>) -> Result<Kind, Fault>
+fn kind_in(value: &LineJson<'_, '_>) -> Result<Kind, RequestFault>
     ensures { result ≡ kind_field (data_of value.now) }
 {
     let Some(name) = value.text("kind") else {
-        return Err(Fault::Kind);
+        return Err(RequestFault::Kind);
     };
     let Some(kind) = Kind::from_name(name.as_bytes()) else {
-        return Err(Fault::Range);
+        return Err(RequestFault::Range);
     };
     Ok(kind)
 }
 
 // The slot of a program: its milestone and its kind.
-fn slot_in(value: &LineJson<'_, '_>) -> Result<(Milestone, Kind), Fault>
+fn slot_in(value: &LineJson<'_, '_>) -> Result<(Milestone, Kind), RequestFault>
     ensures { result ≡ slot_field (data_of value.now) }
 {
     let milestone = milestone_in(value)?;
@@ -252,35 +256,35 @@ fn program_in(alloc: Global, value: &LineJson<'_, '_>) -> Result<ProgramBytes, L
         → IsTrue (program_needs_memory (data_of value.now)) }
 {
     let Some(digits) = value.text("program") else {
-        return Err(LineError::Fault(Fault::Kind));
+        return Err(LineError::Fault(RequestFault::Kind));
     };
     match hex::decode(alloc, digits) {
         Ok(bytes) => Ok(ProgramBytes::from(bytes)),
         Err(FromHexError::OutOfMemory) => Err(LineError::Memory),
-        Err(_) => Err(LineError::Fault(Fault::Range)),
+        Err(_) => Err(LineError::Fault(RequestFault::Range)),
     }
 }
 
-fn length_at(number: u64) -> Result<Length, Fault>
-    ensures { result ≡ or_fault Fault.Range (length_of number) }
+fn length_at(number: u64) -> Result<Length, RequestFault>
+    ensures { result ≡ or_fault RequestFault.Range (length_of number) }
 {
     match number {
         128 => Ok(Length::L128),
         160 => Ok(Length::L160),
-        _ => Err(Fault::Range),
+        _ => Err(RequestFault::Range),
     }
 }
 
 // The length of the records beside which a program is to run.
 #[tactic(auto, unfolding(crate::specs::Meant::length_field))]
-fn length_in(value: &LineJson<'_, '_>) -> Result<Length, Fault>
+fn length_in(value: &LineJson<'_, '_>) -> Result<Length, RequestFault>
     ensures { result ≡ length_field (data_of value.now) }
 {
     if !value.has("length") {
         return Ok(Length::L128);
     }
     let Some(number) = value.number("length") else {
-        return Err(Fault::Kind);
+        return Err(RequestFault::Kind);
     };
     length_at(number)
 }
@@ -309,7 +313,7 @@ fn load_in(alloc: Global, value: &LineJson<'_, '_>) -> Result<Asked, LineError>
 }
 
 #[tactic(auto, unfolding(crate::specs::Meant::unload_field))]
-fn unload_in(value: &LineJson<'_, '_>) -> Result<Command, Fault>
+fn unload_in(value: &LineJson<'_, '_>) -> Result<Command, RequestFault>
     ensures reads { result ≡ unload_field (data_of value.now) }
     ensures plain { IfOk result (λ command. is_load command ≡ false) }
 {
@@ -319,7 +323,7 @@ fn unload_in(value: &LineJson<'_, '_>) -> Result<Command, Fault>
 
 // The command of this name, where it is not a load.
 #[tactic(auto, unfolding(crate::specs::Meant::plain_named))]
-fn plain_in(value: &LineJson<'_, '_>, name: &str) -> Result<Command, Fault>
+fn plain_in(value: &LineJson<'_, '_>, name: &str) -> Result<Command, RequestFault>
     ensures reads { result ≡ plain_named name.now (data_of value.now) }
     ensures plain { IfOk result (λ command. is_load command ≡ false) }
 {
@@ -340,7 +344,7 @@ fn plain_in(value: &LineJson<'_, '_>, name: &str) -> Result<Command, Fault>
     } else if name == "alerts" {
         Ok(Command::Alerts)
     } else {
-        Err(Fault::UnknownCommand)
+        Err(RequestFault::UnknownCommand)
     }
 }
 
@@ -352,7 +356,7 @@ pub(crate) fn command_in(alloc: Global, value: &LineJson<'_, '_>) -> Result<Aske
     ensures plain { IfOk result (λ asked. is_plain asked ≡ true) }
 {
     let Some(name) = value.text("cmd") else {
-        return Err(LineError::Fault(Fault::UnknownCommand));
+        return Err(LineError::Fault(RequestFault::UnknownCommand));
     };
     if name == "load" {
         return load_in(alloc, value);

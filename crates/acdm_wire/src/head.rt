@@ -4,10 +4,10 @@ ghost use Rattle.acdm_wire.specs.Meant.{Gives, Sees, is_space, word_at, natural_
 ghost use Rattle.acdm_wire.specs.Meant.{number_word, head_of, meant, is_plain};
 ghost use Rattle.acdm_wire.specs.Memory.{request_needs_memory};
 
-use crate::fault::Fault;
+use crate::fault::RequestFault;
 use crate::field::command_in;
 use crate::line_json::json_in;
-use crate::request::{LONGEST_LINE, LineError, Request};
+use crate::request::{LONGEST_REQUEST, LineError, Request};
 use acdm_milestones::Role;
 use arrayvec::ArrayVec;
 use std::alloc::Global;
@@ -21,11 +21,11 @@ fn space_in(line: &[u8]) -> Option<usize>
 }
 
 // The bytes before the first space, and those after it.
-fn word_in(line: &[u8]) -> Result<(&[u8], &[u8]), Fault>
+fn word_in(line: &[u8]) -> Result<(&[u8], &[u8]), RequestFault>
     ensures { Sees (λ x. (x.0.now, x.1.now)) result (word_at line.now) }
 {
     let Some(end) = space_in(line) else {
-        return Err(Fault::Prefix);
+        return Err(RequestFault::Prefix);
     };
     Ok((&line[..end], &line[end + 1..]))
 }
@@ -48,17 +48,17 @@ fn natural_in(word: &[u8]) -> Option<u64>
     Some(number)
 }
 
-fn number_in(word: &[u8], high: u64) -> Result<u64, Fault>
+fn number_in(word: &[u8], high: u64) -> Result<u64, RequestFault>
     ensures reads { result ≡ number_word high word.now }
     ensures within { IfOk result (λ n. (1 ≤ n) × (n ≤ high)) }
 {
     let Some(number) = natural_in(word) else {
-        return Err(Fault::Prefix);
+        return Err(RequestFault::Prefix);
     };
     if 1 <= number && number <= high {
         Ok(number)
     } else {
-        Err(Fault::Prefix)
+        Err(RequestFault::Prefix)
     }
 }
 
@@ -71,7 +71,7 @@ struct Head<'a> {
 }
 
 #[tactic(auto, unfolding(crate::specs::Meant::head_of))]
-fn head_in(line: &[u8]) -> Result<Head<'_>, Fault>
+fn head_in(line: &[u8]) -> Result<Head<'_>, RequestFault>
     ensures session { IfOk result (λ h. (1 ≤ h.session) × (h.session ≤ 64)) }
     ensures moment { IfOk result (λ h. 1 ≤ h.moment) }
     ensures reads { Sees
@@ -84,7 +84,7 @@ fn head_in(line: &[u8]) -> Result<Head<'_>, Fault>
     let moment = number_in(second, 4_294_967_295)?;
     let (third, rest) = word_in(line)?;
     let Some(role) = Role::from_name(third) else {
-        return Err(Fault::Prefix);
+        return Err(RequestFault::Prefix);
     };
     Ok(Head {
         session: session as u8,
@@ -106,8 +106,8 @@ pub fn request_of(alloc: Global, line: &[u8]) -> Result<Request, LineError>
     ensures moment { IfOk result (λ r. 1 ≤ r.moment) }
     ensures plain { IfOk result (λ r. is_plain r.asked ≡ true) }
 {
-    if line.len() > LONGEST_LINE {
-        return Err(LineError::Fault(Fault::TooLong));
+    if line.len() > LONGEST_REQUEST {
+        return Err(LineError::Fault(RequestFault::TooLong));
     }
     let head = match head_in(line) {
         Ok(head) => head,

@@ -15,9 +15,9 @@ mod request;
 mod text;
 
 pub use asked::asked_of;
-pub use fault::{Bad, Fault};
+pub use fault::{Bad, RequestFault};
 pub use head::request_of;
 pub use program::ProgramBytes;
 pub use reply::{write_entered, write_out, write_rejected, write_whole};
-pub use request::{Asked, LONGEST_LINE, LineError, LoadRequest, Request};
+pub use request::{Asked, LONGEST_REQUEST, LineError, LoadRequest, Request};
 pub use text::Text;

@@ -6,7 +6,7 @@ ghost use Rattle.acdm_wire.specs.Meant.{GivesView, json_of, has_null};
 ghost use Rattle.acdm_wire.specs.Memory.{json_needs_memory};
 ghost use Rattle.acdm_wire.specs.Plain.{data_of, value_data, with_members};
 
-use crate::fault::Fault;
+use crate::fault::RequestFault;
 use crate::plain::{MOST_MEMBERS, PlainMember, PlainValue, plain_in};
 use crate::request::LineError;
 use arrayvec::ArrayVec;
@@ -101,7 +101,7 @@ pub(crate) fn json_in<'a, 'b>(
     ensures needs { OnOk result (IsTrue (json_needs_memory bytes.now)) }
 {
     let Ok(text) = str::from_utf8(bytes) else {
-        return Err(LineError::Fault(Fault::NoJson));
+        return Err(LineError::Fault(RequestFault::NoJson));
     };
     if plain_in(bytes, found) {
         return Ok(LineJson::Plain(found.as_slice()));
@@ -112,7 +112,7 @@ pub(crate) fn json_in<'a, 'b>(
             if error.is_memory() {
                 Err(LineError::Memory)
             } else {
-                Err(LineError::Fault(Fault::NoJson))
+                Err(LineError::Fault(RequestFault::NoJson))
             }
         }
     }

@@ -1,5 +1,5 @@
 //! What a line gives.
-use crate::fault::Fault;
+use crate::fault::RequestFault;
 use crate::program::ProgramBytes;
 use acdm_milestones::{Milestone, Role};
 use acdm_slots::Kind;
@@ -7,7 +7,7 @@ use acdm_step::Command;
 use bpf_regstate::Length;
 
 /// How many bytes a line has at most (this project's profile).
-pub const LONGEST_LINE: usize = 70_000;
+pub const LONGEST_REQUEST: usize = 70_000;
 
 /// Why a line gave no request.
 #[derive(Clone, Copy, Debug, PartialEq, Eq)]
@@ -15,7 +15,7 @@ pub enum LineError {
     /// There was no memory to read it.
     Memory,
     /// It asks for nothing.
-    Fault(Fault),
+    Fault(RequestFault),
 }
 
 /// To load the program of these bytes into a slot, in place of what stands there, for records of

@@ -4,7 +4,7 @@
 use acdm_board::Desk;
 use acdm_milestones::Role;
 use acdm_record::Text;
-use acdm_step::{Alerted, Command, FlightCommand, Outcome, Plan, Schedule};
+use acdm_step::{Alerted, Command, FlightCommand, FlightPlan, Outcome, Schedule};
 use bpf_helpers::{Bank, Helpers};
 use std::alloc::Global;
 use std::process::Abort;
@@ -20,7 +20,7 @@ fn text<const N: usize>(rt: &impl Abort, letters: &str) -> Text<N> {
 // A flight without a flight plan three hours before its SOBT, which is CDM13.
 fn scheduled(rt: &impl Abort, flight: u64) -> Command {
     assert!(rt; flight >= 1);
-    let plan = Plan {
+    let plan = FlightPlan {
         callsign: text(rt, "DLH7"),
         aircraft: text(rt, "A320"),
         registration: text(rt, "DAIBC"),

@@ -1,4 +1,5 @@
-//! The longest inputs with ample memory: nothing is answered that memory was refused.
+//! The longest inputs with ample memory: nothing is answered that memory was refused. A check of a
+//! crate's tests proves the crate once more, so they stand here.
 #![tactic(auto)]
 
 #[cfg(test)]

@@ -2,7 +2,7 @@
 use crate::texts::{EXIT, ZERO, push, push_times};
 use acdm_board::Desk;
 use acdm_milestones::Role;
-use acdm_sessions::{Clock, Closed, Ended, Gate, Session, Sink, Source, run_sessions};
+use acdm_sessions::{Clock, Closed, EndedSession, Gate, Session, Sink, Source, run_sessions};
 use bpf_helpers::{Bank, Helpers};
 use std::alloc::Global;
 use std::io::Cursor;
@@ -34,7 +34,7 @@ impl Gate for Open {
     fn answered(&self, _session: u8, _call: u64) {}
 }
 
-type Left = Ended<Cursor<Vec<u8>>, Vec<u8>, Nine>;
+type Left = EndedSession<Cursor<Vec<u8>>, Vec<u8>, Nine>;
 
 // A tick with spaces behind it, so many bytes in all.
 fn push_tick(rt: &impl Abort, text: &mut Vec<u8>, length: usize) {
@@ -70,7 +70,7 @@ fn longest_lines(rt: &impl Abort, alloc: Global) -> Vec<u8> {
 const REPLIES: &str = "ok 0\nbad 105\nok 1\nbad 302 0\nbad 303 4095\nbad 307 4095\nok 2\n";
 
 fn is_told(rt: &impl Abort, alloc: Global, left: Left) {
-    let Ended {
+    let EndedSession {
         writer,
         calls,
         end,

@@ -11,7 +11,7 @@ use Rattle.bpf_decode.specs.declared.op.Code.TheVariants.{Add, SignedDiv, Mov}
 use Rattle.bpf_decode.specs.declared.op.Condition.TheVariants.{Above, SignedAtMost}
 use Rattle.bpf_decode.specs.declared.op.Size.TheVariants.{Word, Double}
 use Rattle.bpf_decode.specs.declared.op.Part.TheVariants.{Low8, Low16}
-use Rattle.bpf_decode.specs.declared.op.Order.TheVariants.{Swap}
+use Rattle.bpf_decode.specs.declared.op.ByteOrder.TheVariants.{Swap}
 use Rattle.bpf_decode.specs.declared.op.Bytes.TheVariants.{Eight}
 use Rattle.bpf_decode.specs.Encoding.{encoding}
 

@@ -22,7 +22,7 @@ use Rattle.bpf_decode.specs.declared.op.Part.{Part}
 use Rattle.bpf_decode.specs.declared.op.Part.TheVariants.{Low8, Low16, Low32}
 use Rattle.bpf_decode.specs.declared.op.Bytes.{Bytes}
 use Rattle.bpf_decode.specs.declared.op.Bytes.TheVariants.{Two}
-use Rattle.bpf_decode.specs.declared.op.Order.TheVariants.{Little, Big, Swap}
+use Rattle.bpf_decode.specs.declared.op.ByteOrder.TheVariants.{Little, Big, Swap}
 use Rattle.bpf_decode.specs.declared.form.Source.{Source}
 use Rattle.bpf_decode.specs.declared.form.Source.TheVariants as source
 use Rattle.bpf_decode.specs.declared.form.Form.{Form}

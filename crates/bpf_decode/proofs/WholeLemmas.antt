@@ -69,9 +69,6 @@ pub record IsRead (bytes : List ℕ) (front : List Op) (rest : List ℕ) : Type 
   pub whole : AreWhole front
   pub count : 8 * length front + length rest ≡ length bytes
 
-pub nothing_read : (bytes : List ℕ) → IsRead bytes [] bytes
-nothing_read bytes = record { bytes_are = refl; whole = (refl, tt); count = omega arith }
-
 pub goes_on : (bytes rest : List ℕ) (old new : List Op) (len : ℕ) → IsRead bytes old rest
     → Grows old new rest len → IsRead bytes new (drop len rest) × (len ≤ length rest) × (0 < len)
 goes_on bytes rest old new len read (op, (is, (after, rest-is)), new-is, len-is) =
@@ -102,20 +99,6 @@ goes_on bytes rest old new len read (op, (is, (after, rest-is)), new-is, len-is)
     parts_some : (op : Op) → 0 < length (parts_of op)
     parts_some (Wide dst value) = omega arith
     parts_some op = omega arith
-
-pub all_read : (bytes rest : List ℕ) (front : List Op) → length bytes ≤ 32768 → AreSlots bytes
-    → IsRead bytes front rest → length rest ≡ 0 → Encodes bytes front
-all_read bytes rest front few slots read none =
-    let empty : rest ≡ [] = nil_from_length rest none in
-    record {
-      program = record {
-        some = omega (arith, read.count, slots.0);
-        few = omega (arith, read.count);
-        whole = read.whole;
-      };
-      bytes_are = read.bytes_are ∙ ap (λ (x : List ℕ). encoding front ++ x) empty
-          ∙ append-nil (encoding front);
-    }
 
 pub stops_behind : (bytes rest : List ℕ) (front : List Op) (code more slot : ℕ)
     → length bytes ≤ 32768 → AreSlots bytes → IsRead bytes front rest

@@ -1,12 +1,12 @@
 -- The numbers of faults (this project's profile).
 use Rattle.std.specs.Prelude.{ℕ}
-use Rattle.bpf_decode.specs.declared.fault.Fault.{Fault}
-use Rattle.bpf_decode.specs.declared.fault.Fault.TheVariants.{Length, TooLong, Opcode, Field}
-use Rattle.bpf_decode.specs.declared.fault.Fault.TheVariants.{Register, CutWide}
+use Rattle.bpf_decode.specs.declared.fault.EncodingFault.{EncodingFault}
+use Rattle.bpf_decode.specs.declared.fault.EncodingFault.TheVariants.{Length, TooLong, Opcode, Field}
+use Rattle.bpf_decode.specs.declared.fault.EncodingFault.TheVariants.{Register, CutWide}
 use Rattle.bpf_decode.specs.declared.fault.DecodeError.{DecodeError}
 use Rattle.bpf_decode.specs.declared.fault.DecodeError.TheVariants.{Refused, Memory}
 
-abbrev pub code_of : Fault → ℕ
+abbrev pub code_of : EncodingFault → ℕ
 code_of Length = 301
 code_of TooLong = 302
 code_of Opcode = 303

@@ -24,8 +24,8 @@ use Rattle.bpf_decode.specs.declared.op.Size.{Size}
 use Rattle.bpf_decode.specs.declared.op.Size.TheVariants.{Byte, Half, Word, Double}
 use Rattle.bpf_decode.specs.declared.op.Part.{Part}
 use Rattle.bpf_decode.specs.declared.op.Part.TheVariants.{Low8, Low16, Low32}
-use Rattle.bpf_decode.specs.declared.op.Order.{Order}
-use Rattle.bpf_decode.specs.declared.op.Order.TheVariants.{Little, Big, Swap}
+use Rattle.bpf_decode.specs.declared.op.ByteOrder.{ByteOrder}
+use Rattle.bpf_decode.specs.declared.op.ByteOrder.TheVariants.{Little, Big, Swap}
 use Rattle.bpf_decode.specs.declared.op.Bytes.{Bytes}
 use Rattle.bpf_decode.specs.declared.op.Bytes.TheVariants.{Two, Four, Eight}
 
@@ -71,7 +71,7 @@ part_name Low8 = codes "b"
 part_name Low16 = codes "h"
 part_name Low32 = codes "w"
 
-abbrev pub order_name : Order → List ℕ
+abbrev pub order_name : ByteOrder → List ℕ
 order_name Little = codes "le"
 order_name Big = codes "be"
 order_name Swap = codes "swap"

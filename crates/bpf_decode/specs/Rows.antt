@@ -7,22 +7,22 @@ use Rattle.bpf_decode.specs.declared.op.Code.{Code}
 use Rattle.bpf_decode.specs.declared.op.Part.{Part}
 use Rattle.bpf_decode.specs.declared.op.Width.{Width}
 use Rattle.bpf_decode.specs.declared.op.Bytes.{Bytes}
-use Rattle.bpf_decode.specs.declared.fault.Fault.{Fault}
-use Rattle.bpf_decode.specs.declared.fault.Fault.TheVariants.{Register}
+use Rattle.bpf_decode.specs.declared.fault.EncodingFault.{EncodingFault}
+use Rattle.bpf_decode.specs.declared.fault.EncodingFault.TheVariants.{Register}
 use Rattle.bpf_decode.specs.Words.{part_bits, count_of}
 use Rattle.bpf_decode.specs.Encoding.{number_of, sign_of, slot_of, HasRow, IsInstruction, RowFault}
 use Rattle.bpf_decode.specs.Faults.{code_of}
 
 -- an instruction whose row writes these fields, or the fault of the slot
-abbrev pub SlotGives : Result Op Fault → Insn → Type 0
+abbrev pub SlotGives : Result Op EncodingFault → Insn → Type 0
 SlotGives (Ok op) i = IsInstruction op × (slot_of op ≡ i)
 SlotGives (Err fault) i = RowFault i (code_of fault)
 
-abbrev pub RegisterGives : Result ℕ Fault → ℕ → Type 0
+abbrev pub RegisterGives : Result ℕ EncodingFault → ℕ → Type 0
 RegisterGives (Ok r) number = (r ≡ number) × (number < 11)
 RegisterGives (Err fault) number = (fault ≡ Register) × (10 < number)
 
-abbrev pub RegistersGive : Result (ℕ × ℕ) Fault → ℕ → ℕ → Type 0
+abbrev pub RegistersGive : Result (ℕ × ℕ) EncodingFault → ℕ → ℕ → Type 0
 RegistersGive (Ok rs) dst src = (rs.0 ≡ dst) × (rs.1 ≡ src) × (dst < 11) × (src < 11)
 RegistersGive (Err fault) dst src = (fault ≡ Register) × ((dst < 11) × (src < 11) → ⊥)
 

@@ -9,7 +9,7 @@ ghost use Rattle.bpf_decode.specs.Decoding.{AnswersFault, AnswersProgram, Begins
 ghost use Rattle.bpf_decode.specs.Decoding.{Refuses, Stops, parts_of};
 ghost use Rattle.bpf_decode.specs.declared.op.Op.{Op};
 
-use crate::fault::{DecodeError, Fault};
+use crate::fault::{DecodeError, EncodingFault};
 use crate::insn::Insn;
 use crate::op::{Op, Register};
 use crate::program::{MOST_SLOTS, Program};
@@ -42,13 +42,13 @@ fn program_of(alloc: Global, bytes: &[u8]) -> Result<Program, DecodeError>
 {
     if bytes.len() > MOST_BYTES {
         return Err(DecodeError::Refused {
-            fault: Fault::TooLong,
+            fault: EncodingFault::TooLong,
             slot: 0,
         });
     }
     if bytes.is_empty() || bytes.len() % 8 != 0 {
         return Err(DecodeError::Refused {
-            fault: Fault::Length,
+            fault: EncodingFault::Length,
             slot: 0,
         });
     }
@@ -135,14 +135,14 @@ fn whole_wide(rest: &[u8], slot: usize, first: Insn, dst: Register) -> Result<Op
 {
     if rest.len() == 8 {
         return Err(DecodeError::Refused {
-            fault: Fault::CutWide,
+            fault: EncodingFault::CutWide,
             slot,
         });
     }
     let tail = Insn::from_bytes(&rest[8..]);
     if tail.opc != 0 || tail.dst != 0 || tail.src != 0 || tail.off != 0 {
         return Err(DecodeError::Refused {
-            fault: Fault::Field,
+            fault: EncodingFault::Field,
             slot: slot + 1,
         });
     }

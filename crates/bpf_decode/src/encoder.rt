@@ -9,7 +9,7 @@ ghost use Rattle.bpf_decode.specs.Words.{part_bits, count_of};
 
 use crate::fault::NoMemory;
 use crate::insn::Insn;
-use crate::op::{Bytes, Code, Condition, Op, Operand, Order, Part, Register, Size, Width};
+use crate::op::{ByteOrder, Bytes, Code, Condition, Op, Operand, Part, Register, Size, Width};
 use crate::program::Program;
 use arrayvec::ArrayVec;
 use std::alloc::Global;
@@ -161,15 +161,15 @@ fn extend_insn(width: Width, part: Part, dst: Register, src: Register) -> Insn
     insn(0xb8 + class(width), dst.number(), src.number(), bits, 0)
 }
 
-fn end_insn(order: Order, bytes: Bytes, dst: Register) -> Insn
+fn end_insn(order: ByteOrder, bytes: Bytes, dst: Register) -> Insn
     ensures fields { result ≡ slot_of (Op.End order bytes dst) }
     ensures dst { result.dst < 16 }
     ensures src { result.src < 16 }
 {
     let opc = match order {
-        Order::Little => 0xd4,
-        Order::Big => 0xdc,
-        Order::Swap => 0xd7,
+        ByteOrder::Little => 0xd4,
+        ByteOrder::Big => 0xdc,
+        ByteOrder::Swap => 0xd7,
     };
     let bits = match bytes {
         Bytes::Two => 16,

@@ -11,7 +11,7 @@ pub type NoMemory = AllocError;
 
 /// What is wrong with the bytes of a program.
 #[derive(Clone, Copy, PartialEq, Eq, Debug, Error)]
-pub enum Fault {
+pub enum EncodingFault {
     /// Their number is 0 or no multiple of 8.
     #[error("no whole slots of 8 bytes")]
     Length,
@@ -32,18 +32,18 @@ pub enum Fault {
     CutWide,
 }
 
-impl Fault {
+impl EncodingFault {
     /// The number of the fault: 301 to 305, or 315.
     pub fn code(self) -> u16
         ensures { result ≡ code_of self }
     {
         match self {
-            Fault::Length => 301,
-            Fault::TooLong => 302,
-            Fault::Opcode => 303,
-            Fault::Field => 304,
-            Fault::Register => 305,
-            Fault::CutWide => 315,
+            EncodingFault::Length => 301,
+            EncodingFault::TooLong => 302,
+            EncodingFault::Opcode => 303,
+            EncodingFault::Field => 304,
+            EncodingFault::Register => 305,
+            EncodingFault::CutWide => 315,
         }
     }
 }
@@ -53,7 +53,7 @@ impl Fault {
 pub enum DecodeError {
     /// The bytes encode none: their first fault, and its slot.
     #[error("slot {slot}: {fault}")]
-    Refused { fault: Fault, slot: usize },
+    Refused { fault: EncodingFault, slot: usize },
     /// No memory was left.
     #[error("no memory")]
     Memory,

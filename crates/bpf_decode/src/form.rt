@@ -8,7 +8,7 @@ ghost use Rattle.bpf_decode.specs.declared.op.Code.{Code};
 ghost use Rattle.bpf_decode.specs.declared.op.Condition.{Condition};
 ghost use Rattle.bpf_decode.specs.declared.form.Form.{Form};
 
-use crate::op::{Code, Condition, Order, Part, Size, Width};
+use crate::op::{ByteOrder, Code, Condition, Part, Size, Width};
 
 /// Where the second operand comes from: bit 3 of the opcode.
 #[derive(Clone, Copy)]
@@ -22,7 +22,7 @@ pub(crate) enum Source {
 pub(crate) enum Form {
     Arith(Width, Code, Source),
     Negate(Width),
-    End(Order),
+    End(ByteOrder),
     Ja,
     Ja32,
     Jump(Width, Condition, Source),
@@ -95,9 +95,9 @@ fn arith_form(width: Width, opcode: u8) -> Option<Form>
 {
     match opcode {
         0x84 | 0x87 => Some(Form::Negate(width)),
-        0xd4 => Some(Form::End(Order::Little)),
-        0xdc => Some(Form::End(Order::Big)),
-        0xd7 => Some(Form::End(Order::Swap)),
+        0xd4 => Some(Form::End(ByteOrder::Little)),
+        0xdc => Some(Form::End(ByteOrder::Big)),
+        0xd7 => Some(Form::End(ByteOrder::Swap)),
         _ => {
             let code = code_at(opcode / 16)?;
             Some(Form::Arith(width, code, source_of(opcode)))

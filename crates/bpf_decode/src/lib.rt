@@ -14,8 +14,8 @@ mod row;
 
 pub use decoder::decode;
 pub use encoder::{encode, encode_op};
-pub use fault::{DecodeError, Fault, NoMemory};
+pub use fault::{DecodeError, EncodingFault, NoMemory};
 pub use insn::Insn;
 pub use listing::line;
-pub use op::{Bytes, Code, Condition, Op, Operand, Order, Part, Register, Size, Width};
+pub use op::{ByteOrder, Bytes, Code, Condition, Op, Operand, Part, Register, Size, Width};
 pub use program::{MOST_SLOTS, Program};

@@ -10,7 +10,7 @@ ghost use Rattle.bpf_decode.specs.Listing.{line_text};
 ghost use Rattle.bpf_decode.specs.declared.op.Op.TheVariants.{Arith, Extend, Jump, Load};
 ghost use Rattle.bpf_decode.specs.declared.op.Op.TheVariants.{LoadSigned, Store};
 
-use crate::op::{Bytes, Code, Condition, Op, Operand, Order, Part, Register, Size, Width};
+use crate::op::{ByteOrder, Bytes, Code, Condition, Op, Operand, Part, Register, Size, Width};
 use crate::program::Program;
 use std::{fmt, io};
 
@@ -104,14 +104,14 @@ impl fmt::Display for Size {
     }
 }
 
-impl fmt::Display for Order {
+impl fmt::Display for ByteOrder {
     ghost output = { λ order. Some (order_name order) };
 
     fn fmt<W: fmt::Write>(&self, f: &mut fmt::Formatter<W>) -> fmt::Result {
         let name = match self {
-            Order::Little => "le",
-            Order::Big => "be",
-            Order::Swap => "swap",
+            ByteOrder::Little => "le",
+            ByteOrder::Big => "be",
+            ByteOrder::Swap => "swap",
         };
         write!(f, "{name}")
     }

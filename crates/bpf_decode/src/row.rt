@@ -6,17 +6,17 @@ ghost use Rattle.bpf_decode.specs.Forms.{HasOpcode};
 ghost use Rattle.bpf_decode.specs.Rows.{SlotGives, SignGives, RegisterGives, RegistersGive};
 ghost use Rattle.bpf_decode.specs.Rows.{PartGives, BytesGive};
 
-use crate::fault::Fault;
+use crate::fault::EncodingFault;
 use crate::form::{Form, Source, form_at};
 use crate::insn::Insn;
-use crate::op::{Bytes, Code, Condition, Op, Operand, Order, Part, Register, Size, Width};
+use crate::op::{ByteOrder, Bytes, Code, Condition, Op, Operand, Part, Register, Size, Width};
 
 /// The instruction of a slot. Of a wide load the value has the lower half alone.
-pub(crate) fn op_of(insn: Insn) -> Result<Op, Fault>
+pub(crate) fn op_of(insn: Insn) -> Result<Op, EncodingFault>
     ensures { SlotGives result insn }
 {
     let Some(form) = form_at(insn.opc) else {
-        return Err(Fault::Opcode);
+        return Err(EncodingFault::Opcode);
     };
     match form {
         Form::Arith(width, code, Source::Immediate) => arith_immediate(width, code, insn),
@@ -38,17 +38,17 @@ pub(crate) fn op_of(insn: Insn) -> Result<Op, Fault>
 }
 
 /// A register by its number.
-fn register(number: u8) -> Result<Register, Fault>
+fn register(number: u8) -> Result<Register, EncodingFault>
     ensures { RegisterGives result number }
 {
     if number > 10 {
-        return Err(Fault::Register);
+        return Err(EncodingFault::Register);
     }
     Ok(Register::new(number))
 }
 
 /// Two registers by their numbers.
-fn registers(dst: u8, src: u8) -> Result<(Register, Register), Fault>
+fn registers(dst: u8, src: u8) -> Result<(Register, Register), EncodingFault>
     ensures { RegistersGive result dst src }
 {
     let dst = register(dst)?;
@@ -93,15 +93,15 @@ fn bytes_at(bits: i32) -> Option<Bytes>
     }
 }
 
-fn arith_immediate(width: Width, code: Code, insn: Insn) -> Result<Op, Fault>
+fn arith_immediate(width: Width, code: Code, insn: Insn) -> Result<Op, EncodingFault>
     requires { HasOpcode (Some (Form.Arith width code Source.Immediate)) insn.opc }
     ensures { SlotGives result insn }
 {
     let Some(code) = with_sign(code, insn.off) else {
-        return Err(Fault::Field);
+        return Err(EncodingFault::Field);
     };
     if insn.src != 0 {
-        return Err(Fault::Field);
+        return Err(EncodingFault::Field);
     }
     let dst = register(insn.dst)?;
     Ok(Op::Arith {
@@ -112,18 +112,18 @@ fn arith_immediate(width: Width, code: Code, insn: Insn) -> Result<Op, Fault>
     })
 }
 
-fn arith_register(width: Width, code: Code, insn: Insn) -> Result<Op, Fault>
+fn arith_register(width: Width, code: Code, insn: Insn) -> Result<Op, EncodingFault>
     requires { HasOpcode (Some (Form.Arith width code Source.Register)) insn.opc }
     ensures { SlotGives result insn }
 {
     if insn.imm != 0 {
-        return Err(Fault::Field);
+        return Err(EncodingFault::Field);
     }
     if code == Code::Mov && insn.off != 0 {
         return extend(width, insn);
     }
     let Some(code) = with_sign(code, insn.off) else {
-        return Err(Fault::Field);
+        return Err(EncodingFault::Field);
     };
     let (dst, src) = registers(insn.dst, insn.src)?;
     Ok(Op::Arith {
@@ -134,14 +134,14 @@ fn arith_register(width: Width, code: Code, insn: Insn) -> Result<Op, Fault>
     })
 }
 
-fn extend(width: Width, insn: Insn) -> Result<Op, Fault>
+fn extend(width: Width, insn: Insn) -> Result<Op, EncodingFault>
     requires opcode { HasOpcode (Some (Form.Arith width Code.Mov Source.Register)) insn.opc }
     requires offset { insn.off ≢ pos 0 }
     requires immediate { insn.imm ≡ pos 0 }
     ensures { SlotGives result insn }
 {
     let Some(part) = part_at(width, insn.off) else {
-        return Err(Fault::Field);
+        return Err(EncodingFault::Field);
     };
     let (dst, src) = registers(insn.dst, insn.src)?;
     Ok(Op::Extend {
@@ -152,57 +152,57 @@ fn extend(width: Width, insn: Insn) -> Result<Op, Fault>
     })
 }
 
-fn negate(width: Width, insn: Insn) -> Result<Op, Fault>
+fn negate(width: Width, insn: Insn) -> Result<Op, EncodingFault>
     requires { HasOpcode (Some (Form.Negate width)) insn.opc }
     ensures { SlotGives result insn }
 {
     if insn.src != 0 || insn.off != 0 || insn.imm != 0 {
-        return Err(Fault::Field);
+        return Err(EncodingFault::Field);
     }
     let dst = register(insn.dst)?;
     Ok(Op::Negate { width, dst })
 }
 
-fn end(order: Order, insn: Insn) -> Result<Op, Fault>
+fn end(order: ByteOrder, insn: Insn) -> Result<Op, EncodingFault>
     requires { HasOpcode (Some (Form.End order)) insn.opc }
     ensures { SlotGives result insn }
 {
     if insn.src != 0 || insn.off != 0 {
-        return Err(Fault::Field);
+        return Err(EncodingFault::Field);
     }
     let Some(bytes) = bytes_at(insn.imm) else {
-        return Err(Fault::Field);
+        return Err(EncodingFault::Field);
     };
     let dst = register(insn.dst)?;
     Ok(Op::End { order, bytes, dst })
 }
 
-fn ja(insn: Insn) -> Result<Op, Fault>
+fn ja(insn: Insn) -> Result<Op, EncodingFault>
     requires { HasOpcode (Some Form.Ja) insn.opc }
     ensures { SlotGives result insn }
 {
     if insn.dst != 0 || insn.src != 0 || insn.imm != 0 {
-        return Err(Fault::Field);
+        return Err(EncodingFault::Field);
     }
     Ok(Op::Ja { offset: insn.off })
 }
 
-fn ja32(insn: Insn) -> Result<Op, Fault>
+fn ja32(insn: Insn) -> Result<Op, EncodingFault>
     requires { HasOpcode (Some Form.Ja32) insn.opc }
     ensures { SlotGives result insn }
 {
     if insn.dst != 0 || insn.src != 0 || insn.off != 0 {
-        return Err(Fault::Field);
+        return Err(EncodingFault::Field);
     }
     Ok(Op::Ja32 { offset: insn.imm })
 }
 
-fn jump_immediate(width: Width, condition: Condition, insn: Insn) -> Result<Op, Fault>
+fn jump_immediate(width: Width, condition: Condition, insn: Insn) -> Result<Op, EncodingFault>
     requires { HasOpcode (Some (Form.Jump width condition Source.Immediate)) insn.opc }
     ensures { SlotGives result insn }
 {
     if insn.src != 0 {
-        return Err(Fault::Field);
+        return Err(EncodingFault::Field);
     }
     let dst = register(insn.dst)?;
     Ok(Op::Jump {
@@ -214,12 +214,12 @@ fn jump_immediate(width: Width, condition: Condition, insn: Insn) -> Result<Op, 
     })
 }
 
-fn jump_register(width: Width, condition: Condition, insn: Insn) -> Result<Op, Fault>
+fn jump_register(width: Width, condition: Condition, insn: Insn) -> Result<Op, EncodingFault>
     requires { HasOpcode (Some (Form.Jump width condition Source.Register)) insn.opc }
     ensures { SlotGives result insn }
 {
     if insn.imm != 0 {
-        return Err(Fault::Field);
+        return Err(EncodingFault::Field);
     }
     let (dst, src) = registers(insn.dst, insn.src)?;
     Ok(Op::Jump {
@@ -231,34 +231,34 @@ fn jump_register(width: Width, condition: Condition, insn: Insn) -> Result<Op, F
     })
 }
 
-fn call(insn: Insn) -> Result<Op, Fault>
+fn call(insn: Insn) -> Result<Op, EncodingFault>
     requires { HasOpcode (Some Form.Call) insn.opc }
     ensures { SlotGives result insn }
 {
     if insn.dst != 0 || insn.src != 0 || insn.off != 0 {
-        return Err(Fault::Field);
+        return Err(EncodingFault::Field);
     }
     Ok(Op::Call {
         helper: insn.imm.cast_unsigned(),
     })
 }
 
-fn exit(insn: Insn) -> Result<Op, Fault>
+fn exit(insn: Insn) -> Result<Op, EncodingFault>
     requires { HasOpcode (Some Form.Exit) insn.opc }
     ensures { SlotGives result insn }
 {
     if insn.dst != 0 || insn.src != 0 || insn.off != 0 || insn.imm != 0 {
-        return Err(Fault::Field);
+        return Err(EncodingFault::Field);
     }
     Ok(Op::Exit)
 }
 
-fn load(size: Size, insn: Insn) -> Result<Op, Fault>
+fn load(size: Size, insn: Insn) -> Result<Op, EncodingFault>
     requires { HasOpcode (Some (Form.Load size)) insn.opc }
     ensures { SlotGives result insn }
 {
     if insn.imm != 0 {
-        return Err(Fault::Field);
+        return Err(EncodingFault::Field);
     }
     let (dst, base) = registers(insn.dst, insn.src)?;
     Ok(Op::Load {
@@ -269,12 +269,12 @@ fn load(size: Size, insn: Insn) -> Result<Op, Fault>
     })
 }
 
-fn load_signed(part: Part, insn: Insn) -> Result<Op, Fault>
+fn load_signed(part: Part, insn: Insn) -> Result<Op, EncodingFault>
     requires { HasOpcode (Some (Form.LoadSigned part)) insn.opc }
     ensures { SlotGives result insn }
 {
     if insn.imm != 0 {
-        return Err(Fault::Field);
+        return Err(EncodingFault::Field);
     }
     let (dst, base) = registers(insn.dst, insn.src)?;
     Ok(Op::LoadSigned {
@@ -285,12 +285,12 @@ fn load_signed(part: Part, insn: Insn) -> Result<Op, Fault>
     })
 }
 
-fn store_immediate(size: Size, insn: Insn) -> Result<Op, Fault>
+fn store_immediate(size: Size, insn: Insn) -> Result<Op, EncodingFault>
     requires { HasOpcode (Some (Form.Store size Source.Immediate)) insn.opc }
     ensures { SlotGives result insn }
 {
     if insn.src != 0 {
-        return Err(Fault::Field);
+        return Err(EncodingFault::Field);
     }
     let base = register(insn.dst)?;
     Ok(Op::Store {
@@ -301,12 +301,12 @@ fn store_immediate(size: Size, insn: Insn) -> Result<Op, Fault>
     })
 }
 
-fn store_register(size: Size, insn: Insn) -> Result<Op, Fault>
+fn store_register(size: Size, insn: Insn) -> Result<Op, EncodingFault>
     requires { HasOpcode (Some (Form.Store size Source.Register)) insn.opc }
     ensures { SlotGives result insn }
 {
     if insn.imm != 0 {
-        return Err(Fault::Field);
+        return Err(EncodingFault::Field);
     }
     let (base, src) = registers(insn.dst, insn.src)?;
     Ok(Op::Store {
@@ -317,12 +317,12 @@ fn store_register(size: Size, insn: Insn) -> Result<Op, Fault>
     })
 }
 
-fn wide(insn: Insn) -> Result<Op, Fault>
+fn wide(insn: Insn) -> Result<Op, EncodingFault>
     requires { HasOpcode (Some Form.Wide) insn.opc }
     ensures { SlotGives result insn }
 {
     if insn.src != 0 || insn.off != 0 {
-        return Err(Fault::Field);
+        return Err(EncodingFault::Field);
     }
     let dst = register(insn.dst)?;
     Ok(Op::Wide {

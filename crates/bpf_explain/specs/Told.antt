@@ -6,7 +6,7 @@ use Rattle.bpf_helpers.specs.Promise.{Promise}
 use Rattle.bpf_regstate.specs.declared.length.Length.{Length}
 use Rattle.bpf_regstate.specs.Lengths.{bytes_in}
 use Rattle.bpf_verifier.specs.Explained.{Explains}
-use Rattle.bpf_verifier.specs.declared.fault.Fault.{Fault}
+use Rattle.bpf_verifier.specs.declared.fault.SlotFault.{SlotFault}
 use Rattle.bpf_explain.specs.declared.told.Told.{Told}
 use Rattle.bpf_explain.specs.declared.told.Told.TheVariants.{Encoded, Unreadable}
 
@@ -18,7 +18,7 @@ Tells sigs long bytes (Encoded program length explanation) =
 Tells sigs long bytes (Unreadable fault slot) = FirstFault bytes (code_of fault) slot
 
 -- whether it is told that no slot has a fault
-abbrev pub is_clear : Option (Fault × ℕ) → Bool
+abbrev pub is_clear : Option (SlotFault × ℕ) → Bool
 is_clear None = true
 is_clear (Some found) = false
 

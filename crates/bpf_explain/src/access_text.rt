@@ -8,7 +8,7 @@ use bpf_decode::{Op, Register};
 use bpf_helpers::Range;
 use bpf_places::{Place, RECORD_BASE, STACK_BASE, STACK_LENGTH, byte_count, part_byte_count};
 use bpf_regstate::{Length, Reg, State, place_of_access};
-use bpf_verifier::Fault;
+use bpf_verifier::SlotFault;
 use std::fmt;
 use std::io::{self, Write};
 
@@ -111,7 +111,7 @@ fn is_over_both(length: Length, range: Range, access: Access) -> bool {
 pub(crate) fn write_address<W: Write>(
     length: Length,
     state: &State,
-    fault: Fault,
+    fault: SlotFault,
     op: &Op,
     writer: &mut W,
 ) -> io::Result<()> {
@@ -126,7 +126,7 @@ pub(crate) fn write_address<W: Write>(
     let Reg::Known(range) = state.register(base) else {
         return Ok(());
     };
-    let in_record = fault == Fault::Address && !matches!(op, Op::Store { .. });
+    let in_record = fault == SlotFault::Address && !matches!(op, Op::Store { .. });
     let distance = Signed(offset as i64);
     let reached = Reached {
         base: range,

@@ -1,7 +1,7 @@
 //! Why bytes encode no program, as text.
 
 use crate::slot_text::write_slot;
-use bpf_decode::Fault;
+use bpf_decode::EncodingFault;
 use std::io::{self, Write};
 
 /// A file of another kind than the bytes of a program.
@@ -44,7 +44,7 @@ fn kind_of(bytes: &[u8]) -> Option<Kind> {
 
 /// Writes the first fault of bytes, what is known there and what is wanted, and the verdict.
 pub(crate) fn write_unreadable<W: Write>(
-    fault: Fault,
+    fault: EncodingFault,
     slot: usize,
     bytes: &[u8],
     writer: &mut W,
@@ -70,17 +70,20 @@ pub(crate) fn write_unreadable<W: Write>(
 }
 
 fn write_reason<W: Write>(
-    fault: Fault,
+    fault: EncodingFault,
     slot: usize,
     bytes: &[u8],
     writer: &mut W,
 ) -> io::Result<()> {
     match fault {
-        Fault::Length => {
+        EncodingFault::Length => {
             let count = bytes.len();
             writeln!(writer, "    bytes: known {count}, wanted 8 for each slot")
         }
-        Fault::TooLong => writeln!(writer, "    bytes: known over 32768, wanted 32768 at most"),
+        EncodingFault::TooLong => writeln!(
+            writer,
+            "    bytes: known over 32768, wanted 32768 at most"
+        ),
         _ => write_slot(fault, slot, bytes, writer),
     }
 }

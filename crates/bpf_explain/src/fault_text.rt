@@ -6,7 +6,7 @@ use crate::ways::{Ways, is_unset, target_of};
 use bpf_decode::{Code, Op, Operand, Program, Register};
 use bpf_helpers::{Range, Sigs};
 use bpf_regstate::{Reg, State};
-use bpf_verifier::Fault;
+use bpf_verifier::SlotFault;
 use std::io::{self, Write};
 
 /// The helpers that are told of are those with a number below this one.
@@ -15,7 +15,7 @@ const MOST_TOLD: u32 = 64;
 /// Writes the first fault of a program with its reason, and the verdict.
 pub(crate) fn write_fault<'a, W: Write>(
     ways: Ways<'a>,
-    fault: Fault,
+    fault: SlotFault,
     slot: usize,
     writer: &mut W,
 ) -> io::Result<()> {
@@ -34,19 +34,19 @@ pub(crate) fn write_fault<'a, W: Write>(
 fn write_flow<W: Write>(
     program: &Program,
     sigs: &Sigs,
-    fault: Fault,
+    fault: SlotFault,
     slot: usize,
     op: &Op,
     writer: &mut W,
 ) -> io::Result<()> {
     match fault {
-        Fault::Jump => write_target(program, slot, op, writer),
-        Fault::FallsOff => writeln!(
+        SlotFault::Jump => write_target(program, slot, op, writer),
+        SlotFault::FallsOff => writeln!(
             writer,
             "    next: known no slot, wanted an exit as the last instruction"
         ),
-        Fault::Helper => write_helpers(sigs, op, writer),
-        Fault::WritesEnd => writeln!(writer, "    destination: known r10, wanted r0 to r9"),
+        SlotFault::Helper => write_helpers(sigs, op, writer),
+        SlotFault::WritesEnd => writeln!(writer, "    destination: known r10, wanted r0 to r9"),
         _ => Ok(()),
     }
 }
@@ -90,30 +90,30 @@ fn write_helpers<W: Write>(sigs: &Sigs, op: &Op, writer: &mut W) -> io::Result<(
 fn write_value<'a, W: Write>(
     ways: Ways<'a>,
     state: &State,
-    fault: Fault,
+    fault: SlotFault,
     slot: usize,
     op: &Op,
     writer: &mut W,
 ) -> io::Result<()> {
     match fault {
-        Fault::Uninitialised | Fault::Argument => match op {
+        SlotFault::Uninitialised | SlotFault::Argument => match op {
             Op::Call { helper } => write_argument(ways, state, fault, slot, *helper, writer),
             _ => write_unset(ways, state, slot, op, writer),
         },
-        Fault::Address | Fault::WritesRecord => {
+        SlotFault::Address | SlotFault::WritesRecord => {
             write_address(ways.length, state, fault, op, writer)
         }
-        Fault::StackByte => write_bytes(ways.length, state, op, writer),
+        SlotFault::StackByte => write_bytes(ways.length, state, op, writer),
         _ => Ok(()),
     }
 }
 
 /// Whether this is what the fault says of an argument that is to lie in a range.
-fn is_at_fault(fault: Fault, known: Reg, wanted: Range) -> bool {
+fn is_at_fault(fault: SlotFault, known: Reg, wanted: Range) -> bool {
     match known {
-        Reg::Uninit => fault == Fault::Uninitialised,
+        Reg::Uninit => fault == SlotFault::Uninitialised,
         Reg::Known(range) => {
-            fault == Fault::Argument && (range.lo < wanted.lo || wanted.hi < range.hi)
+            fault == SlotFault::Argument && (range.lo < wanted.lo || wanted.hi < range.hi)
         }
     }
 }
@@ -121,7 +121,7 @@ fn is_at_fault(fault: Fault, known: Reg, wanted: Range) -> bool {
 fn write_argument<'a, W: Write>(
     ways: Ways<'a>,
     state: &State,
-    fault: Fault,
+    fault: SlotFault,
     slot: usize,
     helper: u32,
     writer: &mut W,

@@ -1,6 +1,6 @@
 //! What is wrong with a slot that encodes no instruction, as text.
 
-use bpf_decode::{Fault, Insn};
+use bpf_decode::{EncodingFault, Insn};
 use std::fmt;
 use std::io::{self, Write};
 
@@ -200,9 +200,9 @@ fn is_tail(bytes: &[u8], slot: usize) -> bool {
 }
 
 /// What a slot seems to be, or nothing, and which field of it is at fault.
-fn at_fault(fault: Fault, insn: Insn, is_tail: bool) -> Option<(&'static str, Misfit)> {
+fn at_fault(fault: EncodingFault, insn: Insn, is_tail: bool) -> Option<(&'static str, Misfit)> {
     let (name, misfit) = match fault {
-        Fault::Opcode => {
+        EncodingFault::Opcode => {
             let misfit = Misfit {
                 field: "opcode",
                 known: Known::Opcode(insn.opc),
@@ -210,10 +210,10 @@ fn at_fault(fault: Fault, insn: Insn, is_tail: bool) -> Option<(&'static str, Mi
             };
             (foreign(insn.opc), misfit)
         }
-        Fault::Field if is_tail => ("the second slot of a wide load", tail_at_fault(insn)),
-        Fault::Field => (name_of(insn), field_at_fault(insn)),
-        Fault::Register => (name_of(insn), register_at_fault(insn)),
-        Fault::CutWide => {
+        EncodingFault::Field if is_tail => ("the second slot of a wide load", tail_at_fault(insn)),
+        EncodingFault::Field => (name_of(insn), field_at_fault(insn)),
+        EncodingFault::Register => (name_of(insn), register_at_fault(insn)),
+        EncodingFault::CutWide => {
             let misfit = Misfit {
                 field: "second slot",
                 known: Known::Nothing,
@@ -228,7 +228,7 @@ fn at_fault(fault: Fault, insn: Insn, is_tail: bool) -> Option<(&'static str, Mi
 
 /// Writes which field of a slot is at fault, what it is and what is wanted.
 pub(crate) fn write_slot<W: Write>(
-    fault: Fault,
+    fault: EncodingFault,
     slot: usize,
     bytes: &[u8],
     writer: &mut W,

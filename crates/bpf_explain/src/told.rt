@@ -7,7 +7,7 @@ use crate::bytes_text::write_unreadable;
 use crate::fault_text::write_fault;
 use crate::state_text::write_known;
 use crate::ways::Ways;
-use bpf_decode::{DecodeError, Fault, Program, decode, line};
+use bpf_decode::{DecodeError, EncodingFault, Program, decode, line};
 use bpf_helpers::Sigs;
 use bpf_regstate::Length;
 use bpf_verifier::{Explanation, explain};
@@ -26,7 +26,7 @@ pub enum Told {
     },
     /// They encode none: their first fault and its slot, counted from 0.
     Unreadable {
-        fault: Fault,
+        fault: EncodingFault,
         slot: usize,
     },
 }

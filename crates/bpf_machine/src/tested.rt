@@ -8,7 +8,7 @@ ghost use Rattle.bpf_helpers.specs.Oracles.{Counts, MayBeAsked, SameRule};
 ghost use Rattle.acdm_milestones.specs.Tables.{number as number_of};
 
 use crate::outcome::Trap;
-use crate::state::{State, Step};
+use crate::state::{MachineState, Step};
 use acdm_milestones::Milestone;
 use bpf_decode::{Op, Program};
 use bpf_helpers::{Oracle, Sigs};
@@ -35,7 +35,7 @@ fn run_slots<O: Oracle>(
     ensures counted { Counts (is_refused result) (O.view oracle.old) (O.view oracle.new) }
     ensures same_rule { SameRule (O.view oracle.old) (O.view oracle.new) }
 {
-    let mut state = State::start(record_bytes.len(), moment, milestone);
+    let mut state = MachineState::start(record_bytes.len(), moment, milestone);
     let mut steps = 0u64;
     loop {
         steps += 1;

@@ -1,4 +1,5 @@
 //! The two regions of memory, the record and the stack, and the places of loads and stores in them.
+//! It is a crate of its own so that the verifier and the machine stand on it alone.
 #![tactic(auto)]
 
 mod place;

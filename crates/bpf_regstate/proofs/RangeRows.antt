@@ -5,7 +5,7 @@ use Rattle.bpf_decode.specs.declared.op.Code.TheVariants.{Add, Sub, Mul, Div, Mo
 use Rattle.bpf_decode.specs.declared.op.Code.TheVariants.{LeftShift, RightShift, ArithmeticShift}
 use Rattle.bpf_decode.specs.declared.op.Code.TheVariants.{Mov}
 use Rattle.bpf_decode.specs.declared.op.Condition.TheVariants.{Equal, NotEqual, Above, Below}
-use Rattle.bpf_decode.specs.declared.op.Order.TheVariants.{Little, Big}
+use Rattle.bpf_decode.specs.declared.op.ByteOrder.TheVariants.{Little, Big}
 use Rattle.bpf_decode.specs.declared.op.Part.TheVariants.{Low8}
 use Rattle.bpf_decode.specs.declared.op.Width.TheVariants.{W32, W64}
 use Rattle.bpf_regstate.specs.declared.reg.Reg.TheVariants.{Uninit, Known}

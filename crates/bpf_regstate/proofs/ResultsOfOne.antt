@@ -7,8 +7,8 @@ use Rattle.bpf_decode.specs.declared.op.Width.{Width}
 use Rattle.bpf_decode.specs.declared.op.Width.TheVariants.{W32, W64}
 use Rattle.bpf_decode.specs.declared.op.Part.{Part}
 use Rattle.bpf_decode.specs.declared.op.Part.TheVariants.{Low8, Low16, Low32}
-use Rattle.bpf_decode.specs.declared.op.Order.{Order}
-use Rattle.bpf_decode.specs.declared.op.Order.TheVariants.{Little, Big, Swap}
+use Rattle.bpf_decode.specs.declared.op.ByteOrder.{ByteOrder}
+use Rattle.bpf_decode.specs.declared.op.ByteOrder.TheVariants.{Little, Big, Swap}
 use Rattle.bpf_decode.specs.declared.op.Bytes.{Bytes}
 use Rattle.bpf_decode.specs.declared.op.Bytes.TheVariants.{Two, Four, Eight}
 use Rattle.bpf_decode.specs.Words.{low, negated, extended, ordered, turned, part_bits, count_of}
@@ -92,7 +92,7 @@ low_same Eight x h = omega arith
 bytes_in : (n : Bytes) (v : ℕ) → v < 2 ^ (8 * count_of n) → In (span 0 (2 ^ (8 * count_of n) - 1)) v
 bytes_in n v h = record { low = omega arith; high = omega arith }
 
-order_in : (order : Order) (n : Bytes) (a : Range) (x : ℕ) → In a x
+order_in : (order : ByteOrder) (n : Bytes) (a : Range) (x : ℕ) → In a x
     → In (order_range order n a) (ordered order n x)
 order_in Little n a x i =
     choice_in (ltb a.hi (2 ^ (8 * count_of n))) a (span 0 (2 ^ (8 * count_of n) - 1))
@@ -103,7 +103,7 @@ order_in Little n a x i =
 order_in Big n a x i = bytes_in n (turned n x) (turned_below n x)
 order_in Swap n a x i = bytes_in n (turned n x) (turned_below n x)
 
-pub order_result_in : (order : Order) (n : Bytes) (a : Range) (x : ℕ) → In a x
+pub order_result_in : (order : ByteOrder) (n : Bytes) (a : Range) (x : ℕ) → In a x
     → In (order_result order n a) (ordered order n x)
 order_result_in order n a x i =
     choice_in (eqb a.lo a.hi) (span (ordered order n a.lo) (ordered order n a.lo))

@@ -22,8 +22,8 @@ use Rattle.bpf_decode.specs.declared.op.Width.TheVariants.{W32, W64}
 use Rattle.bpf_decode.specs.declared.op.Code.{Code}
 use Rattle.bpf_decode.specs.declared.op.Condition.{Condition}
 use Rattle.bpf_decode.specs.declared.op.Part.{Part}
-use Rattle.bpf_decode.specs.declared.op.Order.{Order}
-use Rattle.bpf_decode.specs.declared.op.Order.TheVariants.{Little, Big, Swap}
+use Rattle.bpf_decode.specs.declared.op.ByteOrder.{ByteOrder}
+use Rattle.bpf_decode.specs.declared.op.ByteOrder.TheVariants.{Little, Big, Swap}
 use Rattle.bpf_decode.specs.declared.op.Bytes.{Bytes}
 use Rattle.bpf_decode.specs.declared.op.Bytes.TheVariants.{Two, Four, Eight}
 use Rattle.bpf_decode.specs.declared.op.Size.{Size}
@@ -110,18 +110,18 @@ all_bytes n = record {
   words = omega (arith, bytes_are_words n, some_bytes n);
 }
 
-order_is : (order : Order) (n : Bytes) (a : Range) → IsRange a → IsRange (order_range order n a)
+order_is : (order : ByteOrder) (n : Bytes) (a : Range) → IsRange a → IsRange (order_range order n a)
 order_is Little n a i = choice_is (ltb a.hi (2 ^ (8 * count_of n))) a
     (span 0 (2 ^ (8 * count_of n) - 1)) (λ e. i) (λ e. all_bytes n)
 order_is Big n a i = all_bytes n
 order_is Swap n a i = all_bytes n
 
-ordered_below : (order : Order) (n : Bytes) (x : ℕ) → ordered order n x < 2 ^ (8 * count_of n)
+ordered_below : (order : ByteOrder) (n : Bytes) (x : ℕ) → ordered order n x < 2 ^ (8 * count_of n)
 ordered_below Little n x = low_bytes n x
 ordered_below Big n x = turned_below n x
 ordered_below Swap n x = turned_below n x
 
-order_result_is : (order : Order) (n : Bytes) (a : Range) → IsRange a
+order_result_is : (order : ByteOrder) (n : Bytes) (a : Range) → IsRange a
     → IsRange (order_result order n a)
 order_result_is order n a i =
     choice_is (eqb a.lo a.hi) (span (ordered order n a.lo) (ordered order n a.lo))

@@ -17,7 +17,7 @@ use Rattle.bpf_decode.specs.declared.op.Condition.{Condition}
 use Rattle.bpf_decode.specs.declared.op.Code.{Code}
 use Rattle.bpf_decode.specs.declared.op.Code.TheVariants.{Mov}
 use Rattle.bpf_decode.specs.declared.op.Part.{Part}
-use Rattle.bpf_decode.specs.declared.op.Order.{Order}
+use Rattle.bpf_decode.specs.declared.op.ByteOrder.{ByteOrder}
 use Rattle.bpf_decode.specs.declared.op.Bytes.{Bytes}
 use Rattle.bpf_decode.specs.Words.{arith_word, negated, extended, ordered, holds}
 use Rattle.bpf_helpers.specs.declared.range.Range.{Range}
@@ -227,7 +227,7 @@ module _ (ops : List Op) (sigs : List (ℕ × Promise)) (m : Machine) (s : Shape
         (extend_in w part (range_of (known s src)) x.0 (range_is (known s src) (i.ranges src))
         x.2) c.end (not_false (is_entry (slice_get ops (m.slot + 1))) c.next) (omega arith))
 
-    pub order_steps : (order : Order) (n : Bytes) (dst : ℕ)
+    pub order_steps : (order : ByteOrder) (n : Bytes) (dst : ℕ)
         → IsClear (length record_bytes) ops sigs m.slot s (End order n dst)
         → LeadsWell ops sigs (edges (length record_bytes) sigs m.slot (End order n dst) s) m
         (act_on ops sigs record_bytes m (End order n dst))

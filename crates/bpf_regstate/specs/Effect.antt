@@ -15,8 +15,8 @@ use Rattle.bpf_decode.specs.declared.op.Code.TheVariants.{Mov}
 use Rattle.bpf_decode.specs.declared.op.Width.{Width}
 use Rattle.bpf_decode.specs.declared.op.Width.TheVariants.{W64}
 use Rattle.bpf_decode.specs.declared.op.Part.{Part}
-use Rattle.bpf_decode.specs.declared.op.Order.{Order}
-use Rattle.bpf_decode.specs.declared.op.Order.TheVariants.{Little, Big, Swap}
+use Rattle.bpf_decode.specs.declared.op.ByteOrder.{ByteOrder}
+use Rattle.bpf_decode.specs.declared.op.ByteOrder.TheVariants.{Little, Big, Swap}
 use Rattle.bpf_decode.specs.declared.op.Bytes.{Bytes}
 use Rattle.bpf_decode.specs.Words.{negated, extended, ordered, part_bits, count_of}
 use Rattle.bpf_helpers.specs.declared.range.Range.{Range}
@@ -58,13 +58,13 @@ extend_range w part b =
     else (if nat_lt (reduced w b).hi (2 ^ (part_bits part - 1)) then reduced w b else full w)
 
 -- 4.2: of the whole register, also where a word has more bits (profile)
-abbrev pub order_range : Order → Bytes → Range → Range
+abbrev pub order_range : ByteOrder → Bytes → Range → Range
 order_range Little n a = if nat_lt a.hi (2 ^ (8 * count_of n)) then a else
     span 0 (2 ^ (8 * count_of n) - 1)
 order_range Big n a = span 0 (2 ^ (8 * count_of n) - 1)
 order_range Swap n a = span 0 (2 ^ (8 * count_of n) - 1)
 
-abbrev pub order_result : Order → Bytes → Range → Range
+abbrev pub order_result : ByteOrder → Bytes → Range → Range
 order_result order n a = if is_single a then span (ordered order n a.lo) (ordered order n a.lo) else
     order_range order n a
 

@@ -8,7 +8,7 @@ ghost use Rattle.bpf_decode.specs.declared.op.Code.{Code};
 ghost use Rattle.bpf_decode.specs.declared.op.Condition.{Condition};
 ghost use Rattle.bpf_decode.specs.declared.op.Op.{Op};
 ghost use Rattle.bpf_decode.specs.declared.op.Operand.{Operand};
-ghost use Rattle.bpf_decode.specs.declared.op.Order.{Order};
+ghost use Rattle.bpf_decode.specs.declared.op.ByteOrder.{ByteOrder};
 ghost use Rattle.bpf_decode.specs.declared.op.Part.{Part};
 ghost use Rattle.bpf_decode.specs.declared.op.Size.{Size};
 ghost use Rattle.bpf_decode.specs.declared.op.Width.{Width};
@@ -44,7 +44,7 @@ pub fn results_stay_in_range()
         → In (negate_range w a) (negated w x) }
     ensures extension { (w : Width) (part : Part) (b : Range) (x : ℕ) → IsRange b → In b x
         → In (extend_range w part b) (extended w part x) }
-    ensures order { (order : Order) (n : Bytes) (a : Range) (x : ℕ) → In a x
+    ensures order { (order : ByteOrder) (n : Bytes) (a : Range) (x : ℕ) → In a x
         → In (order_result order n a) (ordered order n x) }
     ensures loads { (size : Size) (bytes : List ℕ) → AreBytes bytes →
         In (record { lo = 0; hi = 2 ^ (8 * byte_len (size_type size)) - 1 })

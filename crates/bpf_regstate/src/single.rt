@@ -6,7 +6,7 @@ ghost use Rattle.bpf_regstate.specs.Shape.{IsRange};
 ghost use Rattle.bpf_decode.specs.Words.{count_of, part_bits};
 
 use crate::arith::{all_of, reduce};
-use bpf_decode::{Bytes, Order, Part, Width};
+use bpf_decode::{ByteOrder, Bytes, Part, Width};
 use bpf_helpers::Range;
 use bpf_words::{extend, negate, order_bytes};
 
@@ -71,7 +71,7 @@ fn greatest_of(bytes: Bytes) -> u64
 }
 
 /// The range of the words of a range with their bytes in another order.
-pub fn order_words(order: Order, bytes: Bytes, a: Range) -> Range
+pub fn order_words(order: ByteOrder, bytes: Bytes, a: Range) -> Range
     requires { IsRange a }
     ensures value { result ≡ order_result order bytes a }
     ensures range { IsRange result }
@@ -84,8 +84,8 @@ pub fn order_words(order: Order, bytes: Bytes, a: Range) -> Range
         hi: greatest_of(bytes),
     };
     match order {
-        Order::Little => { if a.hi <= all.hi { a } else { all } }
-        Order::Big => all,
-        Order::Swap => all,
+        ByteOrder::Little => { if a.hi <= all.hi { a } else { all } }
+        ByteOrder::Big => all,
+        ByteOrder::Swap => all,
     }
 }

@@ -11,7 +11,7 @@ use Rattle.bpf_decode.specs.declared.op.Width.{Width}
 use Rattle.bpf_decode.specs.declared.op.Width.TheVariants.{W32, W64}
 use Rattle.bpf_decode.specs.declared.op.Size.TheVariants.{Byte, Half, Word, Double}
 use Rattle.bpf_decode.specs.declared.op.Part.TheVariants.{Low8, Low16, Low32}
-use Rattle.bpf_decode.specs.declared.op.Order.TheVariants.{Big, Swap}
+use Rattle.bpf_decode.specs.declared.op.ByteOrder.TheVariants.{Big, Swap}
 use Rattle.bpf_decode.specs.declared.op.Bytes.TheVariants.{Two, Four}
 use Rattle.bpf_decode.specs.declared.op.Condition.{Condition}
 use Rattle.bpf_decode.specs.declared.op.Condition.TheVariants.{Below, Meets, SignedAbove}

@@ -3,7 +3,7 @@
 use crate::programs::{
     EXIT, bytes_of, encodes_to, is_fault, is_shown, program_of, repeated, same_count,
 };
-use bpf_decode::{DecodeError, Fault, Program, decode, line};
+use bpf_decode::{DecodeError, EncodingFault, Program, decode, line};
 use std::alloc::Global;
 use std::process::Abort;
 
@@ -248,7 +248,7 @@ fn lengths(rt: HostRuntime) {
 }
 
 /// The text of a fault, and of its refusal at slot 2.
-fn has_text(rt: &impl Abort, alloc: Global, fault: Fault, text: &str) {
+fn has_text(rt: &impl Abort, alloc: Global, fault: EncodingFault, text: &str) {
     is_shown(rt, alloc, &fault, text);
     let refused = DecodeError::Refused { fault, slot: 2 };
     let whole = format!(in alloc; "slot 2: {text}").expect(rt, text);
@@ -256,13 +256,16 @@ fn has_text(rt: &impl Abort, alloc: Global, fault: Fault, text: &str) {
 }
 
 /// Each fault with its text.
-static TEXTS: [(Fault, &str); 6] = [
-    (Fault::Length, "no whole slots of 8 bytes"),
-    (Fault::TooLong, "more than 4096 slots"),
-    (Fault::Opcode, "unknown opcode"),
-    (Fault::Field, "field value that the opcode does not allow"),
-    (Fault::Register, "register over 10"),
-    (Fault::CutWide, "wide load without its second slot"),
+static TEXTS: [(EncodingFault, &str); 6] = [
+    (EncodingFault::Length, "no whole slots of 8 bytes"),
+    (EncodingFault::TooLong, "more than 4096 slots"),
+    (EncodingFault::Opcode, "unknown opcode"),
+    (
+        EncodingFault::Field,
+        "field value that the opcode does not allow",
+    ),
+    (EncodingFault::Register, "register over 10"),
+    (EncodingFault::CutWide, "wide load without its second slot"),
 ];
 
 #[test]

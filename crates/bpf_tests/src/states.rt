@@ -6,7 +6,7 @@ mod words;
 
 use self::Second::{Number, Of};
 use crate::fixtures::{no_sigs, range, taxi_sigs};
-use bpf_decode::{Bytes, Code, Condition, Op, Operand, Order, Part, Register, Size, Width};
+use bpf_decode::{ByteOrder, Bytes, Code, Condition, Op, Operand, Part, Register, Size, Width};
 use bpf_helpers::{Range, Sigs};
 use bpf_places::Place;
 use bpf_regstate::{Length, Reg, State, place_of_access};
@@ -237,13 +237,13 @@ fn negation_and_sign_extension(rt: HostRuntime) {
 }
 
 /// Orders of the bytes of a register, and the range that it then has.
-static BYTE_ORDERS: [(Order, Bytes, u8, u64, u64); 6] = [
-    (Order::Little, Bytes::Two, 4, 1, 16),
-    (Order::Little, Bytes::Two, 3, 0, 65535),
-    (Order::Little, Bytes::Four, 1, 0, 0),
-    (Order::Big, Bytes::Two, 4, 0, 65535),
-    (Order::Big, Bytes::Two, 2, 0x8000, 0x8000),
-    (Order::Swap, Bytes::Eight, 4, 0, ALL),
+static BYTE_ORDERS: [(ByteOrder, Bytes, u8, u64, u64); 6] = [
+    (ByteOrder::Little, Bytes::Two, 4, 1, 16),
+    (ByteOrder::Little, Bytes::Two, 3, 0, 65535),
+    (ByteOrder::Little, Bytes::Four, 1, 0, 0),
+    (ByteOrder::Big, Bytes::Two, 4, 0, 65535),
+    (ByteOrder::Big, Bytes::Two, 2, 0x8000, 0x8000),
+    (ByteOrder::Swap, Bytes::Eight, 4, 0, ALL),
 ];
 
 #[test]

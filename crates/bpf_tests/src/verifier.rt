@@ -19,7 +19,7 @@ use crate::programs::{
 };
 use bpf_helpers::Sigs;
 use bpf_regstate::Length;
-use bpf_verifier::{Checked, Explanation, Fault, VerifyError, explain, verify};
+use bpf_verifier::{Checked, Explanation, SlotFault, VerifyError, explain, verify};
 use std::alloc::{AllocError, Global};
 use std::process::Abort;
 
@@ -378,7 +378,7 @@ fn the_least_slot_and_its_least_number_are_told(rt: HostRuntime) {
 }
 
 /// The text of a fault, and of its refusal at slot 2.
-fn has_text(rt: &impl Abort, alloc: Global, fault: Fault, text: &str) {
+fn has_text(rt: &impl Abort, alloc: Global, fault: SlotFault, text: &str) {
     is_shown(rt, alloc, &fault, text);
     let refused = VerifyError::Refused { fault, slot: 2 };
     let whole = format!(in alloc; "slot 2: {text}").expect(rt, text);
@@ -386,16 +386,22 @@ fn has_text(rt: &impl Abort, alloc: Global, fault: Fault, text: &str) {
 }
 
 /// Each fault with its text.
-static TEXTS: [(Fault, &str); 9] = [
-    (Fault::Jump, "jump backward, outside or into a wide load"),
-    (Fault::FallsOff, "end of the program without an exit"),
-    (Fault::Uninitialised, "uninitialised register"),
-    (Fault::Address, "address outside the record and the stack"),
-    (Fault::StackByte, "uninitialised byte of the stack"),
-    (Fault::WritesRecord, "store to the record"),
-    (Fault::Helper, "unknown helper"),
-    (Fault::Argument, "argument outside the helper's range"),
-    (Fault::WritesEnd, "write to r10"),
+static TEXTS: [(SlotFault, &str); 9] = [
+    (
+        SlotFault::Jump,
+        "jump backward, outside or into a wide load",
+    ),
+    (SlotFault::FallsOff, "end of the program without an exit"),
+    (SlotFault::Uninitialised, "uninitialised register"),
+    (
+        SlotFault::Address,
+        "address outside the record and the stack",
+    ),
+    (SlotFault::StackByte, "uninitialised byte of the stack"),
+    (SlotFault::WritesRecord, "store to the record"),
+    (SlotFault::Helper, "unknown helper"),
+    (SlotFault::Argument, "argument outside the helper's range"),
+    (SlotFault::WritesEnd, "write to r10"),
 ];
 
 #[test]
@@ -473,7 +479,7 @@ fn is_known(told: &Explanation, slot: usize) -> bool {
 
 /// Slot 2 is faulty, and slot 1 has no state.
 fn is_told(rt: &impl Abort, told: &Explanation) {
-    assert!(rt; told.fault == Some((Fault::StackByte, 2)));
+    assert!(rt; told.fault == Some((SlotFault::StackByte, 2)));
     same_count(rt, told.states.len(), 3, "states");
     assert!(rt; is_known(told, 0) && !is_known(told, 1) && is_known(told, 2));
 }

@@ -230,11 +230,6 @@ module _ (record_length : ℕ) (ops : List Op) (sigs : List (ℕ × Promise)) wh
         verdict = verdict;
       }
 
-  -- ---- the end
-
-  pub all_clear : (table : List (Option Shape)) → Passed (length ops) table → Accepts record_length ops sigs
-  all_clear table passed = λ slot inside. passed.clear slot inside
-
 -- an instruction or a tail stands at each slot
 pub op_in : (ops : List Op) (slot : ℕ) → slot < length ops
     → (op : Op) × (slice_get ops slot ≡ Some op)

@@ -5,11 +5,11 @@ use Rattle.bpf_decode.specs.declared.op.Op.{Op}
 use Rattle.bpf_helpers.specs.Promise.{Promise}
 use Rattle.bpf_regstate.specs.States.{Accepts, IsFirstFault, state_at}
 use Rattle.bpf_verifier.specs.declared.explanation.Explanation.{Explanation}
-use Rattle.bpf_verifier.specs.declared.fault.Fault.{Fault}
+use Rattle.bpf_verifier.specs.declared.fault.SlotFault.{SlotFault}
 use Rattle.bpf_verifier.specs.Verdict.{code_of}
 
 -- of how many of so many slots it is told: of all, or of those up to the first with a fault
-abbrev pub slots_told : Option (Fault × ℕ) → ℕ → ℕ
+abbrev pub slots_told : Option (SlotFault × ℕ) → ℕ → ℕ
 slots_told None slots = slots
 slots_told (Some found) slots = found.1 + 1
 

@@ -5,14 +5,14 @@ use Rattle.bpf_decode.specs.declared.op.Op.{Op}
 use Rattle.bpf_helpers.specs.Promise.{Promise}
 use Rattle.bpf_regstate.specs.declared.length.Length.{Length}
 use Rattle.bpf_regstate.specs.States.{IsFirstFault}
-use Rattle.bpf_verifier.specs.declared.fault.Fault.{Fault}
-use Rattle.bpf_verifier.specs.declared.fault.Fault.TheVariants.{Jump, FallsOff, Uninitialised}
-use Rattle.bpf_verifier.specs.declared.fault.Fault.TheVariants.{Address, StackByte, WritesRecord}
-use Rattle.bpf_verifier.specs.declared.fault.Fault.TheVariants.{Helper, Argument, WritesEnd}
+use Rattle.bpf_verifier.specs.declared.fault.SlotFault.{SlotFault}
+use Rattle.bpf_verifier.specs.declared.fault.SlotFault.TheVariants.{Jump, FallsOff, Uninitialised}
+use Rattle.bpf_verifier.specs.declared.fault.SlotFault.TheVariants.{Address, StackByte, WritesRecord}
+use Rattle.bpf_verifier.specs.declared.fault.SlotFault.TheVariants.{Helper, Argument, WritesEnd}
 use Rattle.bpf_verifier.specs.declared.fault.VerifyError.{VerifyError}
 use Rattle.bpf_verifier.specs.declared.fault.VerifyError.TheVariants.{Refused, Memory}
 
-abbrev pub code_of : Fault → ℕ
+abbrev pub code_of : SlotFault → ℕ
 code_of Jump = 306
 code_of FallsOff = 307
 code_of Uninitialised = 308

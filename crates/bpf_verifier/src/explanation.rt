@@ -8,7 +8,7 @@ ghost use Rattle.bpf_regstate.specs.States.{Accepts, IsFirstFault, start_shape, 
 ghost use Rattle.bpf_verifier.specs.Explained.{Explains, slots_told};
 ghost use Rattle.bpf_verifier.specs.Verdict.{code_of};
 
-use crate::fault::Fault;
+use crate::fault::SlotFault;
 use crate::table::pass_slot;
 use crate::waiting::Waiting;
 use bpf_decode::{Op, Program};
@@ -24,7 +24,7 @@ pub struct Explanation {
     /// known before it runs; nothing where no edge leads.
     pub states: Vec<Option<State>>,
     /// The first fault and its slot, if the program is not accepted.
-    pub fault: Option<(Fault, usize)>,
+    pub fault: Option<(SlotFault, usize)>,
 }
 
 /// The first fault of these slots with its slot, and what waited at each slot when its turn came.
@@ -35,7 +35,7 @@ fn walk(
     record_length: usize,
     waiting: &mut Waiting,
     known: &mut Vec<Option<State>>,
-) -> Result<Option<(Fault, usize)>, AllocError>
+) -> Result<Option<(SlotFault, usize)>, AllocError>
     requires short { record_length < 2 ^ 16 }
     requires some { 0 < length ops.now }
     requires few { length ops.now ≤ MOST_SLOTS }

@@ -8,7 +8,7 @@ use thiserror::Error;
 
 /// What is wrong at a slot (this project's profile).
 #[derive(Clone, Copy, PartialEq, Eq, Debug, Error)]
-pub enum Fault {
+pub enum SlotFault {
     /// A jump whose target is not later, outside the program, or the second slot of a wide load.
     #[error("jump backward, outside or into a wide load")]
     Jump,
@@ -39,21 +39,21 @@ pub enum Fault {
     WritesEnd,
 }
 
-impl Fault {
+impl SlotFault {
     /// The number of the fault, 306 to 314. Of several faults of a slot the least number is told.
     pub fn code(self) -> u16
         ensures { result ≡ code_of self }
     {
         match self {
-            Fault::Jump => 306,
-            Fault::FallsOff => 307,
-            Fault::Uninitialised => 308,
-            Fault::Address => 309,
-            Fault::StackByte => 310,
-            Fault::WritesRecord => 311,
-            Fault::Helper => 312,
-            Fault::Argument => 313,
-            Fault::WritesEnd => 314,
+            SlotFault::Jump => 306,
+            SlotFault::FallsOff => 307,
+            SlotFault::Uninitialised => 308,
+            SlotFault::Address => 309,
+            SlotFault::StackByte => 310,
+            SlotFault::WritesRecord => 311,
+            SlotFault::Helper => 312,
+            SlotFault::Argument => 313,
+            SlotFault::WritesEnd => 314,
         }
     }
 }
@@ -63,7 +63,7 @@ impl Fault {
 pub enum VerifyError {
     /// A slot has a fault: the least such slot, and its fault of the least number.
     #[error("slot {slot}: {fault}")]
-    Refused { fault: Fault, slot: usize },
+    Refused { fault: SlotFault, slot: usize },
     /// No memory was left.
     #[error("no memory")]
     Memory,

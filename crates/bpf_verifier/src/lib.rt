@@ -16,6 +16,6 @@ mod waiting;
 
 pub use checked::Checked;
 pub use explanation::{Explanation, explain};
-pub use fault::{Fault, VerifyError};
+pub use fault::{SlotFault, VerifyError};
 pub use reading::{ProgramError, read_program};
 pub use verifier::verify;

@@ -8,7 +8,7 @@ ghost use Rattle.bpf_verifier.specs.Reading.{AnswersReading};
 use crate::checked::Checked;
 use crate::fault::VerifyError;
 use crate::verifier::verify;
-use bpf_decode::{DecodeError, Fault, MOST_SLOTS, decode};
+use bpf_decode::{DecodeError, EncodingFault, MOST_SLOTS, decode};
 use bpf_helpers::Sigs;
 use bpf_regstate::Length;
 use std::alloc::Global;
@@ -49,15 +49,15 @@ pub fn read_program(
 }
 
 // What is wrong with the number of the bytes, for which nobody asks for memory.
-fn length_fault(bytes: &[u8]) -> Option<Fault>
+fn length_fault(bytes: &[u8]) -> Option<EncodingFault>
     ensures some { IfSome result (λ fault. FirstFault bytes.now (code_of fault) 0) }
     ensures none { IfNone result (HasSlots bytes.now) }
 {
     if bytes.len() > 8 * MOST_SLOTS {
-        return Some(Fault::TooLong);
+        return Some(EncodingFault::TooLong);
     }
     if bytes.is_empty() || bytes.len() % 8 != 0 {
-        return Some(Fault::Length);
+        return Some(EncodingFault::Length);
     }
     None
 }

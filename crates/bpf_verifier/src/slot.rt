@@ -5,7 +5,7 @@ ghost use Rattle.bpf_regstate.specs.Faults.{faults, least};
 ghost use Rattle.bpf_verifier.specs.Rows.{contents};
 ghost use Rattle.bpf_verifier.specs.Verdict.{code_of};
 
-use crate::fault::Fault;
+use crate::fault::SlotFault;
 use crate::flow::{calls_unknown, falls_off, jumps_badly, writes_end};
 use crate::memory::{loads_unmarked, misses_memory, stores_in_record};
 use crate::reads::{passes_badly, reads_uninit};
@@ -22,7 +22,7 @@ pub fn least_fault(
     slot: usize,
     op: Op,
     state: &Option<Box<State>>,
-) -> Option<Fault>
+) -> Option<SlotFault>
     requires short { record_length < 2 ^ 16 }
     requires few { slot < 2 ^ 32 }
     ensures { option_map code_of result
@@ -32,35 +32,35 @@ pub fn least_fault(
         return None;
     }
     if jumps_badly(ops, slot, op) {
-        return Some(Fault::Jump);
+        return Some(SlotFault::Jump);
     }
     if falls_off(ops, slot, op) {
-        return Some(Fault::FallsOff);
+        return Some(SlotFault::FallsOff);
     }
     if let Some(state) = state {
         if reads_uninit(sigs, state, op) {
-            return Some(Fault::Uninitialised);
+            return Some(SlotFault::Uninitialised);
         }
         if misses_memory(record_length, state, op) {
-            return Some(Fault::Address);
+            return Some(SlotFault::Address);
         }
         if loads_unmarked(record_length, state, op) {
-            return Some(Fault::StackByte);
+            return Some(SlotFault::StackByte);
         }
         if stores_in_record(record_length, state, op) {
-            return Some(Fault::WritesRecord);
+            return Some(SlotFault::WritesRecord);
         }
         if calls_unknown(sigs, op) {
-            return Some(Fault::Helper);
+            return Some(SlotFault::Helper);
         }
         if passes_badly(sigs, state, op) {
-            return Some(Fault::Argument);
+            return Some(SlotFault::Argument);
         }
     } else if calls_unknown(sigs, op) {
-        return Some(Fault::Helper);
+        return Some(SlotFault::Helper);
     }
     if writes_end(op) {
-        return Some(Fault::WritesEnd);
+        return Some(SlotFault::WritesEnd);
     }
     None
 }

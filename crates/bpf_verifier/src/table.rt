@@ -10,7 +10,7 @@ ghost use Rattle.bpf_verifier.specs.Rows.{contents};
 ghost use Rattle.bpf_verifier.specs.Table.{Passes, sent};
 ghost use Rattle.bpf_verifier.specs.Verdict.{code_of};
 
-use crate::fault::Fault;
+use crate::fault::SlotFault;
 use crate::flow::{next_slot, target};
 use crate::slot::least_fault;
 use crate::waiting::Waiting;
@@ -107,7 +107,7 @@ pub fn pass_slot(
     sigs: &Sigs,
     record_length: usize,
     slot: usize,
-) -> Result<Option<Fault>, AllocError>
+) -> Result<Option<SlotFault>, AllocError>
     requires short { record_length < 2 ^ 16 }
     requires same { length waiting.old ≡ length ops.now }
     requires inside { slot < length ops.now }

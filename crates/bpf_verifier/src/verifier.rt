@@ -9,7 +9,7 @@ ghost use Rattle.bpf_verifier.specs.Runs.{MayRun};
 ghost use Rattle.bpf_verifier.specs.Verdict.{AnswersFault, Refuses, code_of};
 
 use crate::checked::Checked;
-use crate::fault::{Fault, VerifyError};
+use crate::fault::{SlotFault, VerifyError};
 use crate::table::pass_slot;
 use crate::waiting::Waiting;
 use bpf_decode::{Op, Program};
@@ -26,7 +26,7 @@ fn first_fault(
     sigs: &Sigs,
     record_length: usize,
     waiting: &mut Waiting,
-) -> Result<Option<(Fault, usize)>, AllocError>
+) -> Result<Option<(SlotFault, usize)>, AllocError>
     requires short { record_length < 2 ^ 16 }
     requires some { 0 < length ops.now }
     requires few { length ops.now ≤ MOST_SLOTS }

@@ -5,7 +5,7 @@ ghost use Rattle.bpf_decode.specs.Words.{operation, arith_word, negated, extende
 ghost use Rattle.bpf_decode.specs.Words.{comparison, holds};
 ghost use Rattle.bpf_decode.specs.declared.op.Width.TheVariants.{W32, W64};
 
-use bpf_decode::{Bytes, Code, Condition, Order, Part, Width};
+use bpf_decode::{ByteOrder, Bytes, Code, Condition, Part, Width};
 
 /// The result of an operation on 64 bits.
 #[inline(always)]
@@ -76,17 +76,17 @@ fn compare64(condition: Condition, a: u64, b: u64) -> bool
 }
 
 /// The byte order operations.
-pub fn order_bytes(order: Order, bytes: Bytes, a: u64) -> u64
+pub fn order_bytes(order: ByteOrder, bytes: Bytes, a: u64) -> u64
     ensures { result ≡ ordered order bytes a }
 {
     match order {
-        Order::Little => match bytes {
+        ByteOrder::Little => match bytes {
             Bytes::Two => a % 0x1_0000,
             Bytes::Four => a % 0x1_0000_0000,
             Bytes::Eight => a,
         },
-        Order::Big => turn(bytes, a),
-        Order::Swap => turn(bytes, a),
+        ByteOrder::Big => turn(bytes, a),
+        ByteOrder::Swap => turn(bytes, a),
     }
 }
 

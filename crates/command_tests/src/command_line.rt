@@ -1,12 +1,12 @@
 //! What command lines ask for.
-use acdm_command_line::{Line, Order, parse};
+use acdm_command_line::{Invocation, Subcommand, parse};
 use bpf_regstate::Length;
 use std::alloc::Global;
 
 // Whether these words ask for this.
-fn asks_for(alloc: Global, words: &[&str], wanted: &Line<'_>) -> bool {
+fn asks_for(alloc: Global, words: &[&str], wanted: &Subcommand<'_>) -> bool {
     match parse(alloc, words) {
-        Ok(order) => order.line == *wanted && order.tables.is_none(),
+        Ok(invocation) => invocation.subcommand == *wanted && invocation.tables.is_none(),
         Err(_) => false,
     }
 }
@@ -28,7 +28,7 @@ static JOURNALS: [(&[&str], usize); 6] = [
 #[test]
 fn a_journal_is_read_or_the_usual_one(rt: HostRuntime) {
     for (words, journal) in &JOURNALS {
-        let wanted = Line::Run {
+        let wanted = Subcommand::Run {
             journal: *journal,
             save: None,
             keep: None,
@@ -67,13 +67,13 @@ fn a_file_to_judge_is_taken_as_it_stands(rt: HostRuntime) {
         asks_for(
             alloc,
             &["acdm", "verify", file],
-            &Line::Verify { length, file }
+            &Subcommand::Verify { length, file }
         )
     );
     assert!(rt; is_refused(alloc, &["acdm", "verify"]));
     let file = "days/monday.txt";
-    assert!(rt; asks_for(alloc, &["acdm", "audit", file], &Line::Audit { file }));
-    assert!(rt; asks_for(alloc, &["acdm", "tell", file], &Line::Tell { file }));
+    assert!(rt; asks_for(alloc, &["acdm", "audit", file], &Subcommand::Audit { file }));
+    assert!(rt; asks_for(alloc, &["acdm", "tell", file], &Subcommand::Tell { file }));
     assert!(rt; is_refused(alloc, &["acdm", "tell"]));
 }
 
@@ -86,7 +86,7 @@ fn a_file_to_explain_is_taken_as_it_stands(rt: HostRuntime) {
         asks_for(
             alloc,
             &["acdm", "explain", file],
-            &Line::Explain { length, file }
+            &Subcommand::Explain { length, file }
         )
     );
     assert!(rt; is_refused(alloc, &["acdm", "explain"]));
@@ -98,12 +98,12 @@ fn a_program_is_judged_beside_records_of_the_length_that_is_named(rt: HostRuntim
     let file = "rules/ice.bin";
     let length = Length::L160;
     let words = ["acdm", "verify", "--length", "160", file];
-    assert!(rt; asks_for(alloc, &words, &Line::Verify { length, file }));
+    assert!(rt; asks_for(alloc, &words, &Subcommand::Verify { length, file }));
     let words = ["acdm", "explain", file, "--length=160"];
-    assert!(rt; asks_for(alloc, &words, &Line::Explain { length, file }));
+    assert!(rt; asks_for(alloc, &words, &Subcommand::Explain { length, file }));
     let length = Length::L128;
     let words = ["acdm", "verify", "--length", "128", file];
-    assert!(rt; asks_for(alloc, &words, &Line::Verify { length, file }));
+    assert!(rt; asks_for(alloc, &words, &Subcommand::Verify { length, file }));
     assert!(rt; is_refused(alloc, &["acdm", "verify", "--length", "129", file]));
     assert!(rt; is_refused(alloc, &["acdm", "explain", "--length", "0160", file]));
     assert!(rt; is_refused(alloc, &["acdm", "verify", "--length", "160"]));
@@ -120,8 +120,8 @@ fn asks_to_keep(
 ) -> bool {
     match parse(alloc, words) {
         Ok(
-            Order {
-                line: Line::Serve { save, watch, .. },
+            Invocation {
+                subcommand: Subcommand::Serve { save, watch, .. },
                 ..
             },
         ) => save == wanted_save && watch == wanted_watch,
@@ -141,7 +141,7 @@ fn a_journal_is_saved_where_it_is_said(rt: HostRuntime) {
         asks_for(
             alloc,
             &words,
-            &Line::Run {
+            &Subcommand::Run {
                 journal,
                 save,
                 keep,
@@ -173,7 +173,7 @@ fn a_journal_is_kept_where_it_is_said(rt: HostRuntime) {
         asks_for(
             alloc,
             &words,
-            &Line::Run {
+            &Subcommand::Run {
                 journal,
                 save,
                 keep,
@@ -187,8 +187,8 @@ fn a_journal_is_kept_where_it_is_said(rt: HostRuntime) {
 fn asks_to_serve(alloc: Global, words: &[&str], wanted: usize, words_wanted: &[&str]) -> bool {
     match parse(alloc, words) {
         Ok(
-            Order {
-                line: Line::Serve {
+            Invocation {
+                subcommand: Subcommand::Serve {
                     journal,
                     save,
                     keep: None,
@@ -238,8 +238,8 @@ fn a_board_is_watched_where_it_is_said(rt: HostRuntime) {
 fn asks_to_serve_from(alloc: Global, words: &[&str], file: &str, is_synced: bool) -> bool {
     match parse(alloc, words) {
         Ok(
-            Order {
-                line: Line::Serve { keep, sync, .. },
+            Invocation {
+                subcommand: Subcommand::Serve { keep, sync, .. },
                 ..
             },
         ) => keep == Some(file) && sync == is_synced,
@@ -269,8 +269,8 @@ fn partners_make_a_journal_that_is_kept_where_it_is_said(rt: HostRuntime) {
 fn asks_for_page(alloc: Global, words: &[&str], address: &str) -> bool {
     match parse(alloc, words) {
         Ok(
-            Order {
-                line: Line::Serve { web, .. },
+            Invocation {
+                subcommand: Subcommand::Serve { web, .. },
                 ..
             },
         ) => web == Some(address),

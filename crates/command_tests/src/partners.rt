@@ -1,5 +1,5 @@
 //! Partners that come and go: the words for them, and the reader over their connections.
-use acdm_command_line::{Line, Order, parse};
+use acdm_command_line::{Invocation, Subcommand, parse};
 use acdm_partners::{Arrivals, WholeLines};
 use std::alloc::Global;
 use std::io::Read;
@@ -83,8 +83,8 @@ fn asks_to_serve(
 ) -> bool {
     match parse(alloc, words) {
         Ok(
-            Order {
-                line: Line::Serve {
+            Invocation {
+                subcommand: Subcommand::Serve {
                     again,
                     control,
                     pace,

@@ -1,5 +1,6 @@
 //! What displays are sent, through the public calls of `acdm_displays`: what no clause can say of
-//! readers, writers, connections and threads.
+//! readers, writers, connections and threads. A check of a crate's tests proves the crate once more, so
+//! they stand here.
 #![tactic(auto)]
 
 #[cfg(test)]

@@ -3,7 +3,7 @@
 //! Minute 29000580 is 2025-02-20T07:00Z, and 29000760 is 10:00Z of that day.
 use acdm_milestones::{DeicingTime, Milestone};
 use acdm_record::Text;
-use acdm_step::{Command, Deice, FlightCommand, FlightNumber, Plan, Report, Schedule};
+use acdm_step::{Command, Deice, FlightCommand, FlightNumber, FlightPlan, Report, Schedule};
 use std::process::Abort;
 
 pub(crate) const SEVEN: u32 = 29_000_580;
@@ -18,8 +18,8 @@ fn text<const N: usize>(rt: &impl Abort, letters: &str) -> Text<N> {
     Text::from_bytes(letters.as_bytes()).expect(rt, "a text")
 }
 
-fn plan(rt: &impl Abort) -> Plan {
-    Plan {
+fn plan(rt: &impl Abort) -> FlightPlan {
+    FlightPlan {
         callsign: text(rt, "DLH7"),
         aircraft: text(rt, "A320"),
         registration: text(rt, "DAIBC"),

@@ -1,7 +1,8 @@
 //! Entries written, and lines read.
 use crate::fixture::{SEVEN, TEN, deiced, planned, reported, same_number, scheduled};
 use acdm_journal::{
-    Asked, LineError, Stated, WriteError, push_entry, read_line, write_entry, write_entry_by,
+    ReadError, Stated, StatedCommand, WriteError, push_entry, read_line, write_entry,
+    write_entry_by,
 };
 use acdm_lines::Sink;
 use acdm_milestones::{DeicingTime, Milestone, Refusal, Role};
@@ -283,7 +284,9 @@ fn a_report_is_read(rt: HostRuntime) {
     );
     tells_its_head(&rt, &stated);
     match &stated.asked {
-        Asked::Plain(Command::Flight(FlightCommand::Report(report))) => tells_a_report(&rt, report),
+        StatedCommand::Plain(Command::Flight(FlightCommand::Report(report))) => tells_a_report(
+            &rt, report,
+        ),
         _ => panic!(rt; "no report"),
     }
     drop(stated);
@@ -307,7 +310,7 @@ fn a_schedule_is_read(rt: HostRuntime) {
         "0 1 29000580 APT 0 0 schedule 7 DLH7 A320 DAIBC EDDM 29000760 40 5 10 12",
     );
     match &stated.asked {
-        Asked::Plain(Command::Flight(FlightCommand::Schedule(schedule))) => {
+        StatedCommand::Plain(Command::Flight(FlightCommand::Schedule(schedule))) => {
             tells_a_schedule(&rt, schedule);
         }
         _ => panic!(rt; "no schedule"),
@@ -320,7 +323,7 @@ fn a_schedule_is_read(rt: HostRuntime) {
 fn the_bytes_of_a_load_are_read(rt: HostRuntime) {
     let stated = read(&rt, rt.alloc(), "0 1 29000580 APT 0 0 load 9 alert 9500fe");
     match &stated.asked {
-        Asked::Load(load) => {
+        StatedCommand::Load(load) => {
             assert!(rt; load.milestone == Milestone::TobtUpdate && load.kind == Kind::Alert);
             assert!(rt; load.program.as_slice() == [0x95, 0, 0xfe].as_slice());
             assert!(rt; load.record_length == Length::L128);
@@ -335,7 +338,7 @@ fn a_time_of_deicing_is_read(rt: HostRuntime) {
     let line = "0 6 29000580 DIC 0 0 deice 7 eezt 29000760";
     let stated = read(&rt, rt.alloc(), line);
     match &stated.asked {
-        Asked::Plain(Command::Flight(FlightCommand::Deice(deice))) => {
+        StatedCommand::Plain(Command::Flight(FlightCommand::Deice(deice))) => {
             same_number(&rt, deice.flight.get(), 7);
             assert!(rt; deice.which == DeicingTime::EstimatedEnd && deice.time == TEN);
         }
@@ -346,7 +349,7 @@ fn a_time_of_deicing_is_read(rt: HostRuntime) {
 }
 
 fn is_unreadable(alloc: Global, line: &[u8]) -> bool {
-    matches!(read_line(alloc, line), Err(LineError::Unreadable))
+    matches!(read_line(alloc, line), Err(ReadError::Unreadable))
 }
 
 static UNREADABLE: [&str; 8] = [

@@ -1,5 +1,6 @@
 //! How a journal is kept for sessions that share a keeper, through the public calls of `acdm_keeping`:
-//! what no clause can say of writers and threads.
+//! what no clause can say of writers and threads. A check of a crate's tests proves the crate once more,
+//! so they stand here.
 #![tactic(auto)]
 
 #[cfg(test)]

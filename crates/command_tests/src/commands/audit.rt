@@ -459,6 +459,35 @@ fn saving_fails(rt: &impl Abort, alloc: Global, complaint: &str) {
     assert!(rt; errors.into_inner().as_slice() == complaint.as_bytes());
 }
 
+/// Gives the same digit without an end, and knows how many it gave.
+#[derive(Drop)]
+struct Endless {
+    given: usize,
+}
+
+impl Read for Endless {
+    fn read(&mut self, buf: &mut [u8]) -> io::Result<usize> {
+        buf.fill(b'0');
+        self.given = self.given.saturating_add(buf.len());
+        Ok(buf.len())
+    }
+}
+
+#[test]
+fn a_line_without_an_end_is_told(rt: HostRuntime) {
+    let alloc = rt.alloc();
+    let mut reader = Source::new(Endless { given: 0 });
+    let mut writer = Sink::new(Vec::new(alloc));
+    let mut errors = Sink::new(Vec::new(alloc));
+    let tables = built_in(&rt, alloc);
+    let status = audit_on(alloc, &tables, &mut reader, &mut writer, &mut errors);
+    assert!(rt; status == 1);
+    assert!(rt; writer.into_inner().as_slice() == b"entry 0 401\n".as_slice());
+    assert!(rt; errors.into_inner().is_empty());
+    // Four reads of 65,536 bytes are the first that have more than 200,000.
+    assert!(rt; reader.into_inner().given == 262_144);
+}
+
 #[test]
 fn what_fails_is_told(rt: HostRuntime) {
     let alloc = rt.alloc();

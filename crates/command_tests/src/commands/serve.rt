@@ -5,8 +5,9 @@ use super::status_of;
 use acdm_board::Desk;
 use acdm_commands::serve_on;
 use acdm_milestones::Role;
-use acdm_sessions::{Clock, Sink};
+use acdm_sessions::{Clock, RunError, Sink};
 use bpf_helpers::{Bank, Helpers};
+use faulty_streams::{Fault, Narrow};
 use std::alloc::Global;
 use std::fs::{File, Files};
 use std::io::{Eprint, Read, Write};
@@ -142,6 +143,44 @@ fn partners_are_served_over_tcp(rt: HostRuntime) {
     );
     assert!(rt; told.starts_with(first.as_str()));
     assert!(rt; told.ends_with("\nsession 1 1 end\nsession 2 1 end\nclosed 2\n"));
+}
+
+// How many entries two partners leave where the writer takes the lines of the listeners, and fails once
+// they are gone.
+fn left_untold<H: Helpers + Drop + Send, Rt: Threads + Wait + Abort + Sync>(
+    rt: &Rt,
+    alloc: Global,
+    helpers: H,
+    first: Partner,
+    second: Partner,
+) -> u64 {
+    let desk = Desk::new(alloc, helpers, 10).expect(rt, "a desk");
+    let partners = both(rt, alloc, first, second);
+    let mut output = Sink::new(Narrow::new(alloc, 100, 2, Fault::Fails));
+    let served = serve_on(rt, alloc, partners, desk, &mut output)
+        .ok()
+        .expect(rt, "partners who were served");
+    assert!(rt; served.told == Err(RunError::Write));
+    served.desk.len()
+}
+
+#[test]
+fn what_partners_made_is_left_where_it_is_not_told(rt: HostRuntime) {
+    let alloc = rt.alloc();
+    let (manager, to_manager) = listening(&rt);
+    let (tower, to_tower) = listening(&rt);
+    let talking = thread::spawn(&rt, move || talk(to_manager, to_tower))
+        .ok()
+        .expect(&rt, "a thread");
+    let entries = left_untold(
+        &rt,
+        alloc,
+        Bank::new(alloc).expect(&rt, "a bank"),
+        (Role::NetworkManager, manager, Morning),
+        (Role::AirTrafficControl, tower, Morning),
+    );
+    assert!(rt; talking.join(&rt));
+    assert!(rt; entries == 2);
 }
 
 #[test]

@@ -1,19 +1,19 @@
 //! The numbers in replies, as the profile's list of codes has them.
 use acdm_board::DeskError;
-use acdm_sessions::{Bad, Fault};
+use acdm_sessions::{Bad, RequestFault};
 use std::process::Abort;
 
 fn same_code(rt: &impl Abort, found: u16, code: u16) {
     assert!(rt; found == code, "{found} stands for {code}");
 }
 
-static FAULTS: [(Fault, u16); 6] = [
-    (Fault::Prefix, 100),
-    (Fault::NoJson, 101),
-    (Fault::UnknownCommand, 102),
-    (Fault::Kind, 103),
-    (Fault::Range, 104),
-    (Fault::TooLong, 105),
+static FAULTS: [(RequestFault, u16); 6] = [
+    (RequestFault::Prefix, 100),
+    (RequestFault::NoJson, 101),
+    (RequestFault::UnknownCommand, 102),
+    (RequestFault::Kind, 103),
+    (RequestFault::Range, 104),
+    (RequestFault::TooLong, 105),
 ];
 
 #[test]

@@ -3,7 +3,7 @@ use crate::sessions::replies_of;
 use acdm_board::Desk;
 use acdm_milestones::Role;
 use acdm_record::Field;
-use acdm_sessions::{Clock, Closed, End, Ended, Gate, Session, Sink, Source, run_sessions};
+use acdm_sessions::{Clock, Closed, End, EndedSession, Gate, Session, Sink, Source, run_sessions};
 use bpf_helpers::{Bank, Helpers};
 use std::alloc::Global;
 use std::io::{self, Cursor, Read, Write};
@@ -191,7 +191,7 @@ impl Write for Freeing<'_> {
 
 type Opened<W> = Session<Cursor<Vec<u8>>, W, Fixed>;
 
-type Left = Ended<Cursor<Vec<u8>>, Vec<u8>, Fixed>;
+type Left = EndedSession<Cursor<Vec<u8>>, Vec<u8>, Fixed>;
 
 type Stands<H, W> = Closed<H, Cursor<Vec<u8>>, W, Fixed>;
 
@@ -218,7 +218,7 @@ fn opened<W: Write + Drop>(
 
 // What a session was answered, after its number, calls and end.
 fn told_of(rt: &impl Abort, alloc: Global, left: Left) -> String {
-    let Ended {
+    let EndedSession {
         number,
         writer,
         calls,

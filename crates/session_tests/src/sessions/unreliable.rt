@@ -4,7 +4,7 @@ use acdm_board::Desk;
 use acdm_lines::Lines;
 use acdm_milestones::Role;
 use acdm_sessions::{
-    Clock, Closed, End, Ended, Gate, RunError, Session, Sink, Source, run, run_sessions,
+    Clock, Closed, End, EndedSession, Gate, RunError, Session, Sink, Source, run, run_sessions,
 };
 use bpf_helpers::{Bank, Helpers};
 use faulty_streams::{Fault, Faulty, Narrow};
@@ -260,7 +260,7 @@ fn closed_by<
 // How the session of this place ended, and its calls.
 fn end_at<R: Read + Drop, W: Write + Drop>(
     rt: &impl Abort,
-    ended: &[Ended<R, W, Fixed>],
+    ended: &[EndedSession<R, W, Fixed>],
     place: usize,
 ) -> (End, u64) {
     let left = ended.get(place).expect(rt, "a session");
@@ -442,9 +442,12 @@ fn gate(rt: &impl Abort, failed: &Arc<AtomicU64>) -> Meeting {
 }
 
 // What the first session was told.
-fn first_told<R: Read + Drop>(rt: &impl Abort, sessions: Vec<Ended<R, Telling, Fixed>>) -> Vec<u8> {
+fn first_told<R: Read + Drop>(
+    rt: &impl Abort,
+    sessions: Vec<EndedSession<R, Telling, Fixed>>,
+) -> Vec<u8> {
     for ended in sessions {
-        let Ended { writer, .. } = ended;
+        let EndedSession { writer, .. } = ended;
         return writer.into_inner().taken;
     }
     panic!(rt; "no session");

@@ -7,7 +7,7 @@ use crate::sessions::replies_of;
 use acdm_board::Desk;
 use acdm_milestones::Role;
 use acdm_row::Row;
-use acdm_sessions::{Clock, Closed, End, Ended, Gate, Session, Sink, Source, run_sessions};
+use acdm_sessions::{Clock, Closed, End, EndedSession, Gate, Session, Sink, Source, run_sessions};
 use acdm_step::{Core, Entry};
 use acdm_watch::Watch;
 use bpf_helpers::{Bank, Helpers, Logged};
@@ -132,7 +132,7 @@ impl Gate for Beside {
 
 type Opened = Session<Cursor<Vec<u8>>, Vec<u8>, Looking>;
 
-type Left = Ended<Cursor<Vec<u8>>, Vec<u8>, Looking>;
+type Left = EndedSession<Cursor<Vec<u8>>, Vec<u8>, Looking>;
 
 type Stands<H> = Closed<H, Cursor<Vec<u8>>, Vec<u8>, Looking>;
 

@@ -19,13 +19,13 @@ returns-in-Some-clause-asks c =
     let words = map (λ w. w.now) c.args.words.now in
     let has = subst (λ (a : App). HasMatchesOf a words c.in_ok-matches.matches)
     c.requires.shape c.in_ok-matches.ensures.ok.2 in
-    some_right words _ c.in_ok-line.field-0 c.in-Some.line _ (has program_is_simple).1
-    c.in_ok-line.ensures c.in-Some.is c.tables_of-tables.ensures
+    some_right words _ c.in_ok-subcommand.field-0 c.in-Some.subcommand _ (has program_is_simple).1
+    c.in_ok-subcommand.ensures c.in-Some.is c.tables_of-tables.ensures
 
 pub returns-clause-refuses : goal.returns-clause-refuses
 returns-clause-refuses c = λ right.
     let words = map (λ w. w.now) c.args.words.now in
     let has = subst (λ (a : App). HasMatchesOf a words c.in_ok-matches.matches)
     c.requires.shape c.in_ok-matches.ensures.ok.2 in
-    absurd (none_right words _ c.in_ok-line.field-0 (has program_is_simple).1 c.in_ok-line.ensures
+    absurd (none_right words _ c.in_ok-subcommand.field-0 (has program_is_simple).1 c.in_ok-subcommand.ensures
     c.in_default.is right)

@@ -1,4 +1,4 @@
-use Rattle.std.proofs.Common.{◌≡◌, ◌==◌, cond, take, ap, sym, subst, ◌∙◌, ne_eqb, arith, ◌≤◌, length}
+use Rattle.std.proofs.Common.{cond, take, ap, sym, subst, ◌∙◌, ne_eqb, arith}
 use Rattle.std.proofs.lemmas.List.{take_all}
 use Rattle.acdm_record.specs.declared.field.Field.TheVariants.{Layout}
 use Rattle.acdm_record.specs.Fields.{bytes_of, number_of}

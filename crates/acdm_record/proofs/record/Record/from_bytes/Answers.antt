@@ -1,4 +1,4 @@
-use Rattle.std.proofs.Common.{◌≡◌, ◌||◌, ◌==◌, true, length, ap, sym, subst, ◌∙◌, refl, arith}
+use Rattle.std.proofs.Common.{ap, sym, subst, ◌∙◌, refl, arith}
 use Rattle.acdm_record.specs.Fields.{IsRecord, bytes_of, fields_at}
 use Rattle.acdm_record.proofs.Judged.{fault-length, AreOfRecord-none, no_record}
 use Rattle.acdm_record.proofs.Stored.{judged-zeros, kept-zeros, fields-kept, given_back}

@@ -2,7 +2,7 @@ use Rattle.std.proofs.Common.{◌≡◌, ◌≤◌, List, length, take, sym, sub
 use Rattle.acdm_step.specs.declared.entry.Entry.{Entry}
 use Rattle.acdm_row.specs.Views.{entries_at, AreOf}
 use Rattle.acdm_row.proofs.Own.{below_more, entries_shown, same_legal}
-use Rattle.acdm_row.proofs.journal.Journal.show.Goals as goal
+use Rattle.acdm_row.proofs.publisher.Publisher.show.Goals as goal
 
 pub invariant_of-pass-2 : goal.invariant_of-pass-2
 invariant_of-pass-2 c =

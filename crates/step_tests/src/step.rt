@@ -4,8 +4,8 @@ use acdm_milestones::{Milestone, Role};
 use acdm_record::{Field, Record, Text};
 use acdm_slots::Kind;
 use acdm_step::{
-    AlertList, Alerted, Answers, Command, Core, Entry, FlightCommand, FlightNumber, Load, Outcome,
-    Plan, Report, Schedule, Unload, Verdict,
+    AlertList, Alerted, Answers, Command, Core, Entry, FlightCommand, FlightNumber, FlightPlan,
+    Load, Outcome, Report, Schedule, Unload, Verdict,
 };
 use bpf_helpers::{Logged, Sigs};
 use std::alloc::Global;
@@ -19,8 +19,8 @@ const NINE: u32 = 29_000_700;
 
 const TEN: u32 = 29_000_760;
 
-pub(crate) fn plan(rt: &impl Abort) -> Plan {
-    Plan {
+pub(crate) fn plan(rt: &impl Abort) -> FlightPlan {
+    FlightPlan {
         callsign: Text::from_bytes(b"DLH7").expect(rt, "a callsign"),
         aircraft: Text::from_bytes(b"A320").expect(rt, "a type"),
         registration: Text::from_bytes(b"DAIBC").expect(rt, "a registration"),

@@ -1,6 +1,6 @@
 use Rattle.std.proofs.Common.{rules, refl}
 use Rattle.bpf_machine.proofs.Told.{action_at, no_refusal, tells}
-use Rattle.bpf_machine.proofs.state.State.advance.Goals as goal
+use Rattle.bpf_machine.proofs.state.MachineState.advance.Goals as goal
 
 pub returns-in-Call-clause-told : goal.returns-in-Call-clause-told
 returns-in-Call-clause-told g c =

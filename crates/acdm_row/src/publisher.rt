@@ -1,4 +1,4 @@
-//! The journal in a row of cells.
+//! The publishing of entries in a row of cells.
 ghost use Rattle.std.specs.Prelude.{◌≡◌, ◌<◌, ◌≤◌, ◌++◌, ◌∷◌, [], true, false, length, take};
 ghost use Rattle.std.specs.Prelude.{reverse, IfOk, OnOk, OnErr, vec_len, vec_capacity};
 ghost use Rattle.std.specs.Prelude.{slice_get};
@@ -18,22 +18,22 @@ use std::marker::Model;
 use std::snapshot::Snapshot;
 use std::sync::Arc;
 
-/// The entries that were published, in a row of cells.
+/// Publishes entries, each in the next cell of a row, and knows those that it published.
 #[derive(Drop)]
-pub struct Journal {
+pub struct Publisher {
     row: Arc<Row>,
     front: Front,
     past: Past,
     alloc: Global,
 }
 
-impl Model for Journal {
+impl Model for Publisher {
     ghost use Rattle.std.specs.Prelude.{◌≡◌, map, reverse};
     ghost use Rattle.std.specs.Arc.{arc_value};
     ghost use Rattle.acdm_step.specs.History.{IsLegal};
-    ghost use Rattle.acdm_row.specs.Views.{JournalView};
+    ghost use Rattle.acdm_row.specs.Views.{PublisherView};
 
-    ghost Value = { JournalView };
+    ghost Value = { PublisherView };
 
     ghost view = { λ j. record { row = j.front.row; entries = j.front.entries } };
 
@@ -42,16 +42,16 @@ impl Model for Journal {
         × IsLegal j.front.row.sigs (reverse j.front.entries) };
 }
 
-impl Journal {
+impl Publisher {
     /// No entry, with a cell for each of so many. `Err` only where memory was refused.
-    pub fn new(alloc: Global, sigs: Sigs, capacity: usize) -> Result<Journal, AllocError>
+    pub fn new(alloc: Global, sigs: Sigs, capacity: usize) -> Result<Publisher, AllocError>
         ensures empty { IfOk result (λ j. j.entries ≡ []) }
         ensures cells { IfOk result (λ j. length j.row.cells ≡ capacity) }
         ensures sigs { IfOk result (λ j. j.row.sigs ≡ sigs) }
     {
         let row = Arc::new(alloc, Row::new(alloc, sigs, capacity)?)?;
         let front = Front::new(alloc, Arc::try_clone(&row)?);
-        Ok(Journal {
+        Ok(Publisher {
             row,
             front,
             past: Vec::new(alloc),

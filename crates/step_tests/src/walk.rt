@@ -10,7 +10,8 @@ use acdm_milestones::{
 };
 use acdm_record::{Field, Record, TextField};
 use acdm_step::{
-    Alerted, Command, Core, Deice, FlightCommand, FlightNumber, Plan, Report, Schedule, Verdict,
+    Alerted, Command, Core, Deice, FlightCommand, FlightNumber, FlightPlan, Report, Schedule,
+    Verdict,
 };
 use std::alloc::Global;
 use std::process::Abort;
@@ -161,7 +162,7 @@ fn refusal_of(
 }
 
 // The texts that a schedule sets.
-fn set_scheduled(record: &mut Record, plan: &Plan) {
+fn set_scheduled(record: &mut Record, plan: &FlightPlan) {
     record.set_text(TextField::Callsign, plan.callsign.as_bytes());
     record.set_text(TextField::ScheduledType, plan.aircraft.as_bytes());
     record.set_text(
@@ -182,7 +183,7 @@ fn set_numbers(record: &mut Record, schedule: &Schedule) {
 }
 
 // The texts that a flight plan sets.
-fn set_planned(record: &mut Record, plan: &Plan) {
+fn set_planned(record: &mut Record, plan: &FlightPlan) {
     record.set_text(TextField::Callsign, plan.callsign.as_bytes());
     record.set_text(TextField::PlanType, plan.aircraft.as_bytes());
     record.set_text(TextField::PlanRegistration, plan.registration.as_bytes());

@@ -3,7 +3,7 @@ use Rattle.std.proofs.Common.{arith, rules, length-append}
 use Rattle.acdm_step.specs.declared.entry.Entry.{Entry}
 use Rattle.acdm_row.specs.Views.{PassView, entries_at, AreBelow, AreOf, AreRising}
 use Rattle.acdm_row.proofs.Own.{below_push, entries_grown, of_caller_push, rising_push, same_legal}
-use Rattle.acdm_row.proofs.journal.Journal.enter.Goals as goal
+use Rattle.acdm_row.proofs.publisher.Publisher.enter.Goals as goal
 
 pub invariant_of-pass-2 : goal.invariant_of-pass-2
 invariant_of-pass-2 c =

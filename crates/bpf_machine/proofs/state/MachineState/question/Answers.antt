@@ -1,7 +1,7 @@
 use Rattle.std.proofs.Common.{rules, IsTrue}
 use Rattle.bpf_helpers.specs.Promise.{is_question}
 use Rattle.bpf_helpers.proofs.SomeAnswer.{some_answer}
-use Rattle.bpf_machine.proofs.state.State.question.Goals as goal
+use Rattle.bpf_machine.proofs.state.MachineState.question.Goals as goal
 
 pub returns-then-is_entry_at-clause-answerable : goal.returns-then-is_entry_at-clause-answerable
 returns-then-is_entry_at-clause-answerable c =
