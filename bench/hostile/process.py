@@ -4,8 +4,8 @@
     python3 bench/hostile/process.py [--program PATH]
 
 Closed standard streams, in all combinations, for each command; words that are no text; SIGSTOP and SIGCONT while it waits for
-lines, partners, files and displays; a full disk, and readers that went away; an airport's own tables, and files of
-them that are wrong. The last line is `N cases, M failed`; status 1 where one failed.
+lines, partners, files and displays; a full disk, and readers that went away, of a board with partners too; a file
+without an end; an airport's own tables, and files of them that are wrong. The last line is `N cases, M failed`; status 1 where one failed.
 """
 
 import itertools
@@ -279,6 +279,85 @@ def gone_reader(cases, program):
         cases.expect(f"{command}, its reader gone", done.returncode == 2, done)
 
 
+def gone_while_serving(cases, program, room):
+    """Whoever reads what `serve` tells goes away: what its partners made is saved all the same, and kept."""
+    for number, options in enumerate(([], ["--again"], ["--keep", "held"])):
+        for has_file in (True, False):
+            port, control = free_port(), free_port()
+            words = [str(room.folder / it) if it == "held" else it for it in options]
+            if options:
+                words += ["--control", f"127.0.0.1:{control}"]
+            saved = room.folder / f"saved{number}"
+            saved.write_text("another day\n")
+            words += ["--save", str(saved)] if has_file else []
+            command = [str(program), "serve", *words, f"APT=127.0.0.1:{port}"]
+            server = subprocess.Popen(command, stdin=subprocess.DEVNULL, stdout=subprocess.PIPE, stderr=subprocess.PIPE)
+            server.stdout.readline()
+            server.stdout.close()
+            with connected(port) as partner:
+                partner.sendall(f"{ALERTS}\n{ALERTS}\n".encode())
+                with partner.makefile("rb") as answered:
+                    replies = [answered.readline() for _ in range(2)]
+                if options:
+                    with connected(control) as it:
+                        it.sendall(b"close\n")
+                        it.recv(64)
+            status, errors = server.wait(timeout=PATIENCE), server.stderr.read().decode()
+            server.stderr.close()
+            name = f"serve {' '.join(options)}, its reader gone, {'saved' if has_file else 'not saved'}"
+            told = [it for it in errors.splitlines(keepends=True) if it.startswith("acdm")]
+            cases.expect(name, (status, told, len(replies[1])) == (2, [WRITE], len(replies[0])), (status, errors, replies))
+            before = 2 if has_file or "--keep" not in options else 4
+            if has_file:
+                done = came(ran(program, ["audit", saved]))
+                cases.expect(f"{name}, its journal", done == (0, f"legal {before}\n", ""), done)
+                cases.expect(f"{name}, nothing beside it", not saved.with_name(saved.name + ".part").exists())
+            if "--keep" in options:
+                done = came(ran(program, ["audit", room.folder / "held"]))
+                cases.expect(f"{name}, what was kept", done == (0, f"legal {before}\n", ""), done)
+    saved.write_text("another day\n")
+    reading, writing = os.pipe()
+    os.close(reading)
+    command = ["serve", "--save", saved, f"APT=127.0.0.1:{free_port()}"]
+    done = ran(program, command, stdout=writing, capture_output=False, stderr=subprocess.PIPE)
+    os.close(writing)
+    seen = done.returncode, done.stderr.decode(), saved.read_text()
+    cases.expect("serve, nobody served, its reader gone", seen == (2, WRITE, "another day\n"), seen)
+
+
+# How many bytes of a line an audit keeps, and of how many one read is.
+LINE, ONE_READ = 200_001, 65_536
+
+
+def without_end(cases, program, room):
+    """A line that is too long is told once so much of it is read; what comes behind is not waited for."""
+    for front, count in ((b"", 0), (text(DAY_JOURNAL).encode(), 5)):
+        for word in ("audit", "tell"):
+            server = subprocess.Popen([str(program), word, "/dev/stdin"], stdin=subprocess.PIPE, stdout=subprocess.PIPE, stderr=subprocess.PIPE)
+            server.stdin.write(front + b"0" * LINE)
+            server.stdin.flush()
+            # (its input stays open)
+            watchdog = threading.Timer(PATIENCE, server.kill)
+            watchdog.start()
+            output = server.stdout.read().decode().splitlines()
+            done = server.wait(timeout=PATIENCE), output[-1:], len(output), server.stderr.read()
+            watchdog.cancel()
+            server.stdin.close()
+            owed = count + 1 if word == "tell" else 1
+            cases.expect(f"{word} of a line without an end, behind {count}", done == (1, [f"entry {count} 401"], owed, b""), done)
+        given = front + b"0" * (LINE - 1)
+        server = subprocess.Popen([str(program), "audit", "/dev/stdin"], stdin=subprocess.PIPE, stdout=subprocess.PIPE)
+        server.stdin.write(given)
+        server.stdin.flush()
+        time.sleep(0.2)
+        cases.expect(f"audit of a line that may be one, behind {count}", server.poll() is None)
+        output = server.communicate(b"\n")[0]
+        cases.expect(f"audit of the longest line, behind {count}", output == f"entry {count} 401\n".encode(), output)
+    for word in ("audit", "tell"):
+        done = came(ran(program, [word, "/dev/zero"]))
+        cases.expect(f"{word} of zeros without an end", done == (1, "entry 0 401\n", ""), done)
+
+
 # Stand 12 is 5 minutes away: the bits 0 and 2.
 OWN = "[turn_round]\nother = 75\ntypes = {A320 = 40}\n[[taxi]]\nfrom = 0\nminutes = 7\n[[taxi]]\nfrom = 12\nminutes = 5\n"
 OWN_REPLIES = [*DAY_REPLIES[:4], "alerts 4 7:LOC00,LOC02"]
@@ -353,6 +432,8 @@ def main():
         stopped_serve(cases, program, room)
         full_disk(cases, program, room)
         gone_reader(cases, program)
+        gone_while_serving(cases, program, room)
+        without_end(cases, program, room)
         own_tables(cases, program, room)
         wrong_tables(cases, program, room)
     return cases.end()

@@ -229,21 +229,19 @@ class Scenes:
             return process.was_refused()
 
     def counted(self, _number):
-        """A journal is saved by as many requests for memory as one entry is, but for one for each program that is loaded."""
+        """A journal is saved by as many requests for memory as one entry is, whatever its entries are."""
         tick = at(29_000_700, 1, "APT", '{"cmd":"tick"}')
-        loads = sum(entry.split(" ")[6] == "load" for entry in owed(self.lines)[1].splitlines())
-        for option in ("--save",):
-            one = self.more_for(option, [tick])
-            for name, lines, more in (("ticks", [tick] * 1000, 0), ("all commands", self.lines, loads)):
-                found = self.more_for(option, lines)
-                self.cases.expect(f"{option}, {name}", found == one + more, (one, found, more))
+        one = self.more_to_save([tick])
+        for name, lines in (("ticks", [tick] * 1000), ("all commands", self.lines)):
+            found = self.more_to_save(lines)
+            self.cases.expect(f"saving {name}", found == one, (one, found))
         return False
 
-    def more_for(self, option, lines):
-        """How many requests more a run over lines makes where the journal goes into a file."""
+    def more_to_save(self, lines):
+        """How many requests more a run over lines makes where the journal is saved."""
         words, given = ["run", "--journal", 1000], text(lines)
         self.saved.unlink(missing_ok=True)
-        return self.refusing.counted([*words, option, self.saved], given) - self.refusing.counted(words, given)
+        return self.refusing.counted([*words, "--save", self.saved], given) - self.refusing.counted(words, given)
 
     def sent(self, name, process):
         """Sends line by line, and again what was answered `bad 501`; the answers but for these."""
