@@ -11,7 +11,7 @@ use Rattle.acdm_step.specs.declared.entry.Entry.{Entry}
 use Rattle.acdm_step.specs.declared.entry.Verdict.{Verdict}
 use Rattle.acdm_step.specs.declared.outcome.Outcome.{Outcome}
 use Rattle.acdm_step.specs.Programs.{Programs}
-use Rattle.acdm_step.specs.Commands.{flight_of, told_milestone, is_accepted}
+use Rattle.acdm_step.specs.Commands.{told_milestone, is_accepted}
 use Rattle.acdm_step.specs.InSlots.{answers_room, programs_of, room_of}
 use Rattle.acdm_step.specs.Summaries.{run_record_of}
 use Rattle.acdm_step.specs.Verdicts.{verdict_of, outcome_of, verdict_in}

@@ -1,6 +1,6 @@
 -- What callers see of a desk, and what its fields keep.
-use Rattle.std.specs.Prelude.{ℕ, ◌≡◌, ◌≤◌, Bool, false, not, List, [], ◌∷◌, ◌++◌, length, reverse}
-use Rattle.std.specs.Prelude.{take}
+use Rattle.std.specs.Prelude.{ℕ, ◌≡◌, ◌≢◌, ◌≤◌, ◌↔◌, Bool, false, true, not, List, [], ◌∷◌, ◌++◌}
+use Rattle.std.specs.Prelude.{length, reverse, take, Result, Err, IfOk, OnErr}
 use Rattle.acdm_milestones.specs.declared.role.Role.{Role}
 use Rattle.bpf_helpers.specs.Promise.{Promise}
 use Rattle.acdm_step.specs.declared.command.Command.{Command}
@@ -10,9 +10,11 @@ use Rattle.acdm_step.specs.declared.outcome.Outcome.{Outcome}
 use Rattle.acdm_step.specs.Verdicts.{outcome_of, verdict_of}
 use Rattle.acdm_step.specs.History.{Board, IsLegal, is_checked, replay, after}
 use Rattle.acdm_row.specs.Views.{PublisherView, PassView, RowView}
+use Rattle.acdm_board.specs.declared.desk.Reply.{Reply}
+use Rattle.acdm_board.specs.declared.error.DeskError.{DeskError}
+use Rattle.acdm_board.specs.declared.error.DeskError.TheVariants.{Full, OtherSignatures}
 
--- the entries, the newest first, how many there may be, the signatures of the helpers, and the
--- names
+-- the entries, the newest first, how many there may be, the signatures of the helpers, and the names
 -- of the cells in which the entries stand
 pub record DeskView : Type 0 where
   pub history : List Entry
@@ -67,3 +69,17 @@ pub record Enters (old : DeskView) (session : ℕ) (role : Role) (moment : ℕ) 
   pub answers : List ℕ
   pub entry : new ≡ entered old session role moment c answers
   pub outcome_is : outcome ≡ outcome_of old.sigs old.history role c
+
+-- What comes of a call of the desk for a session in a role, at a moment. An entry was made for the
+-- command, and the reply has its number, which is how many there were before it, and what came of the
+-- command; or there is none, and the desk is as it was. The call was refused as `Full` exactly where
+-- the journal was full, and as `OtherSignatures` exactly where it was not, and the command loads a
+-- program that was checked against other signatures.
+pub record CallsDesk (old : DeskView) (session : ℕ) (role : Role) (moment : ℕ) (c : Command)
+    (new : DeskView) (result : Result Reply DeskError) : Type 0 where
+  pub entry : IfOk result (λ reply. Enters old session role moment c new reply.outcome)
+  pub number : IfOk result (λ reply. reply.number ≡ length old.history)
+  pub full : (result ≡ Err Full) ↔ (length old.history ≡ old.capacity)
+  pub other : (result ≡ Err OtherSignatures)
+      ↔ ((length old.history ≢ old.capacity) × (is_foreign old.sigs c ≡ true))
+  pub err : OnErr result (new ≡ old)

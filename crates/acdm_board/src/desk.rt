@@ -1,14 +1,13 @@
 //! The desk: helpers, the core and the journal of what changed it.
 ghost use Rattle.std.specs.Prelude.{◌≡◌, ◌≢◌, ◌<◌, ◌≤◌, ◌↔◌, [], ◌∷◌, true, false, length, reverse};
 ghost use Rattle.std.specs.Prelude.{take};
-ghost use Rattle.std.specs.Prelude.{slice_get, IfOk, OnOk, OnErr, Err, Some, None};
+ghost use Rattle.std.specs.Prelude.{slice_get, IfOk, OnOk, OnErr, Some, None};
 ghost use Rattle.std.specs.Option.{option_copied};
 ghost use Rattle.acdm_step.specs.History.{IsChecked, IsLegal, replay};
 ghost use Rattle.acdm_step.specs.Prepared.{Fits, after_change};
 ghost use Rattle.std.specs.Arc.{arc_value};
 ghost use Rattle.acdm_row.specs.Views.{IsSameCaller};
-ghost use Rattle.acdm_board.specs.Desk.{DeskView, Enters, Extends, is_foreign, row_of};
-ghost use Rattle.acdm_board.specs.Desk.{with_entry};
+ghost use Rattle.acdm_board.specs.Desk.{CallsDesk, DeskView, Extends, is_foreign, row_of, with_entry};
 
 use crate::book::Book;
 use crate::error::DeskError;
@@ -188,17 +187,11 @@ impl<H: Helpers + Drop> Desk<H> {
     ) -> Result<Reply, DeskError>
         requires row { pass.old.row ≡ row_of self.old }
         requires moment_given { 1 ≤ moment }
-        ensures entry { IfOk result (λ reply. Enters self.old pass.old.session pass.old.role moment
-            command self.new reply.outcome) }
+        ensures called { CallsDesk self.old pass.old.session pass.old.role moment command self.new
+            result }
         ensures pass { OnOk result (Extends self.old self.new pass.old pass.new) }
         ensures caller { IsSameCaller pass.old pass.new }
-        ensures number { IfOk result (λ reply. reply.number ≡ length self.old.history) }
-        ensures full { (result ≡ Err DeskError.Full) ↔
-            (length self.old.history ≡ self.old.capacity) }
-        ensures other { (result ≡ Err DeskError.OtherSignatures) ↔
-            ((length self.old.history ≢ self.old.capacity)
-            × (is_foreign self.old.sigs command ≡ true)) }
-        ensures err { OnErr result ((self.new ≡ self.old) × (pass.new ≡ pass.old)) }
+        ensures err { OnErr result (pass.new ≡ pass.old) }
     {
         let number = self.book.len();
         if let Some(error) = self.refusal(&command) {
@@ -224,15 +217,7 @@ impl<H: Helpers + Drop> Desk<H> {
         requires session_given { 1 ≤ session }
         requires few_sessions { session ≤ 64 }
         requires moment_given { 1 ≤ moment }
-        ensures entry { IfOk result (λ reply. Enters self.old session role moment command self.new
-            reply.outcome) }
-        ensures number { IfOk result (λ reply. reply.number ≡ length self.old.history) }
-        ensures full { (result ≡ Err DeskError.Full) ↔
-            (length self.old.history ≡ self.old.capacity) }
-        ensures other { (result ≡ Err DeskError.OtherSignatures) ↔
-            ((length self.old.history ≢ self.old.capacity)
-            × (is_foreign self.old.sigs command ≡ true)) }
-        ensures err { OnErr result (self.new ≡ self.old) }
+        ensures { CallsDesk self.old session role moment command self.new result }
     {
         if let Some(error) = self.refusal(&command) {
             return Err(error);
@@ -242,6 +227,7 @@ impl<H: Helpers + Drop> Desk<H> {
         self.passes.put(pass);
         result
     }
+
     /// Puts an entry that is told of elsewhere, as in a saved journal, behind the others, and does to
     /// the core what was planned for it on that core. The journal has to stay legal with it, and to
     /// have room for it. `Err` where memory was refused, or where the cell of the entry was set;

@@ -11,7 +11,7 @@ returns-clause-calls g c =
     let J = c.args.self.now.desk.history in
     let old = c.args.pass.now in
     let o = c.args.order in
-    let entry = c.in-Ok.ensures.entry in
+    let entry = c.in-Ok.ensures.called.entry in
     let pass = c.in-Ok.ensures.pass in
     let same = ap (λ (r : RowView). r.sigs) c.args.self.now.of_run in
     record {
@@ -26,6 +26,6 @@ returns-clause-calls g c =
       own = pass.own ∙ ap (λ (d : DeskView). old.own ++ take 1 d.history) entry.entry
           ∙ ap (λ s. old.own ++ take 1 (after J old.session old.role o.moment o.command
           (verdict_of s J old.role o.command) entry.answers)) same;
-      number = c.in-Ok.ensures.number;
+      number = c.in-Ok.ensures.called.number;
       outcome = entry.outcome_is ∙ ap (λ s. outcome_of s J old.role o.command) same;
     }
