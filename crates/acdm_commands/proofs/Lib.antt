@@ -5,6 +5,7 @@ mod Counting
 mod Done
 mod Failing
 mod Files
+mod FromEmpty
 mod MinuteRows
 mod KeptOn
 mod Named

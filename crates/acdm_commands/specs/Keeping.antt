@@ -6,10 +6,11 @@ use Rattle.acdm_failures.specs.declared.failure.Failure.{Failure}
 use Rattle.acdm_judging.specs.Findings.{status_of}
 use Rattle.acdm_judging.specs.declared.auditing.Finding.{Finding}
 use Rattle.acdm_lines.specs.Counted.{SinkView, SourceView}
-use Rattle.acdm_sessions.specs.Run.{ServesAll}
+use Rattle.acdm_sessions.specs.Run.{serving_desk}
 use Rattle.acdm_failures.specs.declared.failure.Failure.TheVariants.{Keep}
 use Rattle.acdm_milestones.specs.declared.role.Role.{Role}
 use Rattle.acdm_sessions.specs.Sessions.{SessionStart}
+use Rattle.acdm_sessions.specs.Stream.{AnswersAll}
 use Rattle.acdm_commands.specs.Partners.{FailsServed, FailsToServe, FailsToServeAll, ServesNamed}
 use Rattle.acdm_commands.specs.Partners.{ServesPartners, Telling}
 use Rattle.acdm_step.specs.Commands.{History}
@@ -25,7 +26,7 @@ GoesOn before after (Some finding) = status_of finding ≡ 1
 pub record ServesKept {R : Type 0} (before after : DeskView) (read read_after : SourceView R)
     : Type 0 where
   pub replies : List ℕ
-  pub serves : ServesAll read.log read_after.log read_after.ended before after [] replies
+  pub serves : AnswersAll serving_desk read.log read_after.log read_after.ended before after [] replies
 
 -- All lines that a reader gave, to its end, were answered by a desk with room for so many entries that
 -- went on from a kept journal, and what the desk had then was saved, where that was asked for.

@@ -1,5 +1,5 @@
 -- What `run` answers and saves, from an empty desk on, and how it ends.
-use Rattle.std.specs.Prelude.{ℕ, ◌+◌, ◌≡◌, ◌⊎◌, Bool, false, List, [], Option, Some, None, Result, Ok}
+use Rattle.std.specs.Prelude.{ℕ, ◌≡◌, ◌⊎◌, false, List, [], Option, Some, None, Result, Ok}
 use Rattle.std.specs.Prelude.{Err}
 use Rattle.bpf_helpers.specs.Promise.{Promise}
 use Rattle.acdm_board.specs.Desk.{DeskView}
@@ -8,7 +8,10 @@ use Rattle.acdm_failures.specs.declared.failure.Failure.TheVariants as failures
 use Rattle.acdm_journal.specs.Whole.{Saves}
 use Rattle.acdm_journal.specs.Written.{HasFailed}
 use Rattle.acdm_lines.specs.Counted.{SinkView, SourceView}
-use Rattle.acdm_sessions.specs.Run.{ServesAll, ServesPart, ServesWhole}
+use Rattle.acdm_lines.specs.declared.run_error.RunError.{RunError}
+use Rattle.acdm_lines.specs.declared.run_error.RunError.TheVariants as errors
+use Rattle.acdm_sessions.specs.Run.{serving_desk}
+use Rattle.acdm_sessions.specs.Stream.{AnswersLines}
 use Rattle.acdm_step.specs.Commands.{History}
 
 -- a desk with room for so many entries, and none in it
@@ -27,49 +30,24 @@ IsSaved J None None = Unit {0}
 IsSaved J (Some old) (Some new) = Saves J old.log new.log × (new.waits ≡ false)
 IsSaved J _ _ = ⊥
 
--- all lines were answered by a desk that was empty at first, with room for so many entries, in some
--- cells
-abbrev pub ServesFromEmpty : List (ℕ × Promise) → ℕ → DeskView → List ℕ → List ℕ → Bool → List ℕ
-    → List ℕ → Type 0
-ServesFromEmpty sigs capacity after log log_after ended old new =
-    (cells : List ℕ)
-    × ServesAll log log_after ended (empty_desk sigs capacity cells) after old new
-
--- The lines that a reader gave, to its end, were answered on a writer by a desk that was empty at
--- first. No byte of a reply waits for a flush.
-pub record ServesDesk {R W : Type 0} (sigs : List (ℕ × Promise)) (capacity : ℕ) (desk : DeskView)
-    (read read_after : SourceView R) (written written_after : SinkView W) : Type 0 where
-  pub serves : ServesFromEmpty sigs capacity desk read.log read_after.log read_after.ended written.log
-      written_after.log
-  pub flushed : written_after.waits ≡ false
-
--- no more could be read, and the whole lines before that were answered so; no byte of a reply waits for
--- a flush
-pub record StopsReading {R W : Type 0} (sigs : List (ℕ × Promise)) (capacity : ℕ)
-    (read read_after : SourceView R) (written written_after : SinkView W) : Type 0 where
+-- The lines of a reader were answered on a writer, as far as the result says, by a desk that was empty at
+-- first, with room for so many entries, in some cells.
+pub record ServesFromEmpty {R W : Type 0} (sigs : List (ℕ × Promise)) (capacity : ℕ) (desk : DeskView)
+    (read read_after : SourceView R) (written written_after : SinkView W)
+    (result : Result (Unit {0}) RunError) : Type 0 where
   pub cells : List ℕ
-  pub desk : DeskView
-  pub serves : ServesWhole read.log read_after.log read.faults read_after.faults
-      (empty_desk sigs capacity cells) desk written.log written_after.log
-  pub flushed : written_after.waits ≡ false
-
--- the writer failed once more: a reply could not be written, and the lines before it were answered; or the
--- replies to all lines so far could not be let go
-pub record StopsWriting {R W : Type 0} (sigs : List (ℕ × Promise)) (capacity : ℕ)
-    (read read_after : SourceView R) (written written_after : SinkView W) : Type 0 where
-  pub cells : List ℕ
-  pub desk : DeskView
-  pub serves : ServesPart read.log read_after.log (empty_desk sigs capacity cells) desk written.log
-      written_after.log
-  pub fault : written_after.faults ≡ written.faults + 1
+  pub lines : AnswersLines serving_desk read read_after written written_after
+      (empty_desk sigs capacity cells) desk result
 
 -- why not all lines were answered
 abbrev pub Stops : {R W : Type 0} → List (ℕ × Promise) → ℕ → SourceView R → SourceView R
     → SinkView W → SinkView W → Failure → Type 0
 Stops sigs capacity read read_after written written_after failures.Read =
-    StopsReading sigs capacity read read_after written written_after
+    (desk : DeskView) × ServesFromEmpty sigs capacity desk read read_after written written_after
+    (Err errors.Read)
 Stops sigs capacity read read_after written written_after failures.Write =
-    StopsWriting sigs capacity read read_after written written_after
+    (desk : DeskView) × ServesFromEmpty sigs capacity desk read read_after written written_after
+    (Err errors.Write)
 Stops sigs capacity read read_after written written_after failures.Memory =
     (read_after ≡ read) × (written_after ≡ written)
 Stops sigs capacity read read_after written written_after failure = ⊥
@@ -79,7 +57,7 @@ pub record Runs {R W : Type 0} (sigs : List (ℕ × Promise)) (capacity : ℕ)
     (read read_after : SourceView R) (written written_after : SinkView W) (Kept : History → Type 0)
     : Type 0 where
   pub desk : DeskView
-  pub serves : ServesDesk sigs capacity desk read read_after written written_after
+  pub serves : ServesFromEmpty sigs capacity desk read read_after written written_after (Ok tt)
   pub kept : Kept desk.history
 
 -- why a history was not saved, where there is a writer to save it by: that failed at least once more, or

@@ -1,6 +1,6 @@
 //! The command `run`, over the reader and the writers that it is handed.
-ghost use Rattle.std.specs.Prelude.{◌-◌, ◌^◌, ◌<◌, IfOk, IfErr};
-ghost use Rattle.acdm_commands.specs.Served.{RunsTo, ServesDesk, Stops};
+ghost use Rattle.std.specs.Prelude.{◌-◌, ◌^◌, ◌<◌, IfOk, IfErr, Ok};
+ghost use Rattle.acdm_commands.specs.Served.{RunsTo, ServesFromEmpty, Stops};
 ghost use Rattle.acdm_failures.specs.Failures.{EndsBy};
 ghost use Rattle.acdm_tables.specs.Helpers.{helpers_by};
 
@@ -87,8 +87,8 @@ fn serve_desk<H: Helpers + Drop, R: Read, W: Write>(
 ) -> Result<Desk<H>, Failure>
     requires reads { reader.old.faults < 2 ^ 64 - 1 }
     requires writes { writer.old.faults < 2 ^ 64 - 1 }
-    ensures serves { IfOk result (λ desk. ServesDesk (H.entries helpers) journal desk
-        reader.old reader.new writer.old writer.new) }
+    ensures serves { IfOk result (λ desk. ServesFromEmpty (H.entries helpers) journal desk
+        reader.old reader.new writer.old writer.new (Ok tt)) }
     ensures stops { IfErr result (Stops (H.entries helpers) journal
         reader.old reader.new writer.old writer.new) }
 {

@@ -2,21 +2,21 @@
 use Rattle.std.proofs.Common.{◌≡◌, ℕ, ◌+◌, ◌-◌, ◌^◌, ◌<◌, ◌≤◌, ◌⊎◌, Bool, true, List, [], ◌∷◌, ◌++◌}
 use Rattle.std.proofs.Common.{length}
 use Rattle.std.proofs.Common.{refl, sym, ap, subst, ◌∙◌, arith, append_assoc, append-nil}
-use Rattle.std.proofs.Common.{inl, inr, Result, Ok, Err}
+use Rattle.std.proofs.Common.{inl, inr, Result, Err}
 use Rattle.acdm_wire.specs.declared.request.TheConstants.{LONGEST_REQUEST}
 use Rattle.acdm_sessions.specs.declared.stream.TheConstants.{MOST_KEPT}
 use Rattle.acdm_sessions.specs.declared.answer.Answer.{Answer}
 use Rattle.acdm_lines.specs.declared.lines.Lines.{Lines}
 use Rattle.acdm_lines.specs.declared.run_error.RunError.{RunError}
-use Rattle.acdm_lines.specs.declared.run_error.RunError.TheVariants.{Memory}
+use Rattle.acdm_lines.specs.declared.run_error.RunError.TheVariants.{Memory, Read, Write}
 use Rattle.acdm_lines.specs.Counted.{SourceView, SinkView, faults_after}
 use Rattle.acdm_lines.specs.Lines.{IsLine, IsWhole, lines_of}
 use Rattle.acdm_lines.specs.NextLine.{TakesLine, TakesRest, TakesPart, FailsOrEndless}
 use Rattle.acdm_sessions.specs.Output.{reply_text}
 use Rattle.acdm_sessions.specs.Stream.{Answered, AnsweredInPart, AnswersEach, replies_text}
-use Rattle.acdm_sessions.specs.Stream.{AnswersText, AnswersAll, AnswersWhole, StopsInReply}
-use Rattle.acdm_sessions.specs.Stream.{StopsAtFlush}
-use Rattle.acdm_sessions.specs.Stream.{kept}
+use Rattle.acdm_sessions.specs.Stream.{AnswersText, AnswersAll, AnswersLines, AnswersWhole, EndsSo}
+use Rattle.acdm_sessions.specs.Stream.{FailsToRead, FailsToWrite, Serving, StopsAtFlush, StopsInReply}
+use Rattle.acdm_sessions.specs.Stream.{kept, serving_by}
 use Rattle.acdm_lines.proofs.Feeds.{lines_of-line, lines_of-rest}
 use Rattle.acdm_wire.proofs.Writing.{log-both}
 use Rattle.acdm_lines.proofs.Whole.{lines_of-whole, IsWhole-line, IsWhole-append}
@@ -174,7 +174,7 @@ module _ {A R W : Type 0} (may : A → A → List ℕ → Answer → Type 0)
     -- its reply could not be written
     pub part-line : (after : A) (error : RunError) → TakesLine MOST_KEPT r1 r2 l1 l2
         → AnsweredInPart may w1 w2 d after l2.line error
-        → StopsInReply may r0.log r2.log before after old
+        → StopsInReply (serving_by may) r0.log r2.log before after old
         w2.log
     part-line after error t a = record {
       whole = so_far.whole;
@@ -190,15 +190,17 @@ module _ {A R W : Type 0} (may : A → A → List ℕ → Answer → Type 0)
       between = w1.log;
       served = text_as so_far.whole (lines_of so_far.whole) d w1.log refl
           so_far.spoken;
-      answer = a.answer;
-      is_right = subst (λ bs. may d after bs a.answer) t.bytes_are a.is_right;
-      in_hand = a.wrote;
+      in_hand = record {
+        answer = a.answer;
+        is_right = subst (λ bs. may d after bs a.answer) t.bytes_are a.is_right;
+        wrote = a.wrote;
+      };
     }
 
     -- no line more could be read
     pub sofar-part : (error : RunError) → TakesPart MOST_KEPT r1 r2 l1 l2 error
         → r1.faults ≡ r0.faults → r0.faults < 2 ^ 64 - 1
-        → AnswersWhole may r0.log r2.log r0.faults r2.faults before d
+        → AnswersWhole (serving_by may) r0.log r2.log r0.faults r2.faults before d
         old w1.log
     sofar-part error t well room = record {
       whole = so_far.whole;
@@ -222,7 +224,7 @@ module _ {A R W : Type 0} (may : A → A → List ℕ → Answer → Type 0)
 
     -- the text has ended with a line feed, or was empty
     pub sofar-ends : TakesRest MOST_KEPT r1 r2 l1 l2 → length l2.line ≡ 0
-        → AnswersAll may r0.log r2.log r2.ended before d old w1.log
+        → AnswersAll (serving_by may) r0.log r2.log r2.ended before d old w1.log
     sofar-ends t empty =
         let none : l1.window ++ t.text ≡ [] =
         kept-empty LONGEST_REQUEST (l1.window ++ t.text) (ap length (sym t.bytes_are) ∙ empty) in
@@ -239,7 +241,7 @@ module _ {A R W : Type 0} (may : A → A → List ℕ → Answer → Type 0)
     -- the text has ended with the rest of a line, which is answered
     pub sofar-rest : (after : A) → TakesRest MOST_KEPT r1 r2 l1 l2 → 0 < length l2.line
         → Answered may w1 w2 d after l2.line
-        → AnswersAll may r0.log r2.log r2.ended before after old
+        → AnswersAll (serving_by may) r0.log r2.log r2.ended before after old
         w2.log
     sofar-rest after t some a =
         let rest : List ℕ = l1.window ++ t.text in
@@ -258,7 +260,7 @@ module _ {A R W : Type 0} (may : A → A → List ℕ → Answer → Type 0)
     -- its reply could not be written
     pub part-rest : (after : A) (error : RunError) → TakesRest MOST_KEPT r1 r2 l1 l2
         → 0 < length l2.line → AnsweredInPart may w1 w2 d after l2.line error
-        → StopsInReply may r0.log r2.log before after old
+        → StopsInReply (serving_by may) r0.log r2.log before after old
         w2.log
     part-rest after error t some a =
         let rest : List ℕ = l1.window ++ t.text in
@@ -278,9 +280,11 @@ module _ {A R W : Type 0} (may : A → A → List ℕ → Answer → Type 0)
           between = w1.log;
           served = text_as so_far.whole (lines_of so_far.whole) d w1.log refl
               so_far.spoken;
-          answer = a.answer;
-          is_right = subst (λ bs. may d after bs a.answer) t.bytes_are a.is_right;
-          in_hand = a.wrote;
+          in_hand = record {
+            answer = a.answer;
+            is_right = subst (λ bs. may d after bs a.answer) t.bytes_are a.is_right;
+            wrote = a.wrote;
+          };
         }
 
 -- ---- a flush that failed
@@ -290,7 +294,7 @@ pub flush-same : {A R : Type 0} (may : A → A → List ℕ → Answer → Type 
     (start : List ℕ) (r1 r2 : SourceView R) (held : List ℕ) (reads : ℕ) (before after : A)
     (old new : List ℕ) → r2 ≡ r1 → IsLine held
     → Sofar may start r1.log held reads before after old new
-    → StopsAtFlush may start r2.log before after old new
+    → StopsAtFlush (serving_by may) start r2.log before after old new
 flush-same may start r1 r2 held reads before after old new same line so_far = record {
   text = so_far.whole;
   part = held;
@@ -307,8 +311,8 @@ flush-same may start r1 r2 held reads before after old new same line so_far = re
 -- the reply to the last line, which lacks its line feed
 pub flush-last : {A : Type 0} (may : A → A → List ℕ → Answer → Type 0)
     (log later : List ℕ) (ended : Bool) (before after : A) (old new : List ℕ)
-    → AnswersAll may log later ended before after old new
-    → StopsAtFlush may log later before after old new
+    → AnswersAll (serving_by may) log later ended before after old new
+    → StopsAtFlush (serving_by may) log later before after old new
 flush-last may log later ended before after old new all = record {
   text = all.text;
   part = [];
@@ -318,12 +322,36 @@ flush-last may log later ended before after old new all = record {
   served = all.served;
 }
 
--- ---- the error of a call that gives something else
+-- ---- the error of a call
 
-abbrev told_as : {T U : Type 0} → Result T RunError → Result U RunError
-told_as (Ok x) = Err Memory
-told_as (Err e) = Err e
+-- nothing was done, since memory was refused
+pub none_done : {A R W T : Type 0} (serving : Serving A) (r r' : SourceView R) (w w' : SinkView W)
+    (a b : A) (result : Result T RunError) → result ≡ Err Memory
+    → AnswersLines serving r r' w w' a b result → b ≡ a
+none_done serving r r' w w' a b result same h =
+    (subst (λ v. EndsSo serving r r' w w' a b v) same h.ends).2
 
-pub err-as : {T U : Type 0} (e f : RunError)
-    → ◌≡◌ {A = Result T RunError} (Err e) (Err f) → ◌≡◌ {A = Result U RunError} (Err e) (Err f)
-err-as e f same = ap told_as same
+module _ {A R W T : Type 0} (serving : Serving A) (r r' : SourceView R) (w w' : SinkView W) (a b : A)
+  where
+    -- a call that gives something else failed, and memory was not refused
+    pub fails_so : {U : Type 0} (e : RunError) → w'.first ≡ w.first
+        → (◌≡◌ {A = Result U RunError} (Err e) (Err Memory) → ⊥)
+        → (◌≡◌ {A = Result U RunError} (Err e) (Err Read)
+        → (r'.first ≡ r.first) × FailsToRead serving r r' w w' a b)
+        → (◌≡◌ {A = Result U RunError} (Err e) (Err Write)
+        → (r'.first ≡ r.first) × FailsToWrite serving r r' w w' a b)
+        → AnswersLines {T = T} serving r r' w w' a b (Err e)
+    fails_so Memory same none read write = absurd (none refl)
+    fails_so Read same none read write =
+        let h = read refl in
+        record { same_reader = h.0; same_writer = same; ends = h.1 }
+    fails_so Write same none read write =
+        let h = write refl in
+        record { same_reader = h.0; same_writer = same; ends = h.1 }
+
+    -- the writer failed
+    pub fails_writing : (e : RunError) → e ≡ Write → r'.first ≡ r.first → w'.first ≡ w.first
+        → FailsToWrite serving r r' w w' a b → AnswersLines {T = T} serving r r' w w' a b (Err e)
+    fails_writing e kind same_reader same_writer h =
+        subst (λ x. AnswersLines {T = T} serving r r' w w' a b (Err x)) (sym kind)
+        (record { same_reader = same_reader; same_writer = same_writer; ends = h })

@@ -1,10 +1,18 @@
 -- Seats, and what is told of those who left them.
 use Rattle.std.proofs.Common.{◌≡◌, ℕ, ◌+◌, ◌<◌, ◌≤◌, List, [], ◌∷◌, map, length, refl, sym, ap}
-use Rattle.std.proofs.Common.{◌++◌, ◌∙◌, subst, arith, append_assoc, length-append}
+use Rattle.std.proofs.Common.{◌++◌, ◌∙◌, subst, arith, append_assoc, length-append, Bool}
+use Rattle.std.proofs.Common.{Result, Ok, Err}
 use Rattle.std.proofs.lemmas.List.{map-append}
 use Rattle.acdm_milestones.specs.declared.role.Role.{Role}
 use Rattle.acdm_jobs.specs.Each.{Each}
+use Rattle.acdm_row.specs.Views.{PassView, RowView}
+use Rattle.acdm_lines.specs.Counted.{SinkView, SourceView}
+use Rattle.acdm_lines.specs.declared.run_error.RunError.{RunError}
+use Rattle.acdm_lines.specs.declared.run_error.RunError.TheVariants.{Memory, Read, Write}
 use Rattle.acdm_sessions.specs.Sessions.{SessionEnd, numbered, HaveEnded, EndsAs}
+use Rattle.acdm_sessions.specs.Sessions.{HasServed, ServesAs, SessionAnswers, end_for, new_pass}
+use Rattle.acdm_sessions.specs.Sessions.{session_left, session_start}
+use Rattle.acdm_sessions.specs.Stream.{AnswersLines, EndsSo, serving_by}
 
 pub empty_of : {X : Type 0} (xs : List X) → length xs ≡ 0 → xs ≡ []
 empty_of [] h = refl
@@ -133,3 +141,26 @@ parts_there now opened named blank len same on given all = omega arith
 pub amount_there : (now added opened more there : ℕ) → now ≡ added → added ≡ opened + more
     → opened ≡ 0 → more ≡ there → now ≡ there
 amount_there now added opened more there same grew none is = omega arith
+
+-- ---- what a session leaves
+
+module _ {R W T : Type 0} (row : RowView) (number : ℕ) (role : Role) (gives : ℕ → Bool)
+    (r r' : SourceView R) (w w' : SinkView W) (p' : PassView) where
+  serves_as : (result : Result T RunError)
+      → EndsSo (serving_by (SessionAnswers gives row.sigs)) r r' w w' (new_pass row number role) p'
+      result
+      → ServesAs row number (session_start role r w gives) (session_left (end_for result) r' w' p')
+      (end_for result)
+  serves_as (Ok x) h = (h.output, h.flushed)
+  serves_as (Err Read) h = (h.read, h.quiet)
+  serves_as (Err Write) h = (h.written_in_part, h.write)
+  serves_as (Err Memory) h = (ap (λ v. v.log) h.0, ap (λ v. v.log) h.1, h.2)
+
+  -- its lines were answered so, from a pass that had seen nothing
+  pub has_served : (result : Result T RunError)
+      → AnswersLines (serving_by (SessionAnswers gives row.sigs)) r r' w w' (new_pass row number role)
+      p' result
+      → HasServed row number (session_start role r w gives)
+      (session_left (end_for result) r' w' p')
+  has_served result h =
+      (serves_as result h.ends, λ i. (h.same_reader i, h.same_writer i))

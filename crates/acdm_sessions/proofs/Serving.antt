@@ -1,7 +1,7 @@
 -- What a desk that answers lines has served.
 use Rattle.std.proofs.Common.{◌≡◌, ℕ, ◌<◌, Bool, true, false, cond, nat_le, List, [], ◌∷◌, ◌++◌}
 use Rattle.std.proofs.Common.{length, Result, Ok, Err, refl, sym, ap, subst, ◌∙◌, arith}
-use Rattle.std.proofs.Common.{leb-true, leb-false, inl, inr}
+use Rattle.std.proofs.Common.{leb-true, leb-false}
 use Rattle.std.proofs.lemmas.Bool.{lt-leb}
 use Rattle.std.proofs.lemmas.List.{take_all, length-take-le}
 use Rattle.bpf_helpers.specs.Promise.{Promise}
@@ -14,17 +14,20 @@ use Rattle.acdm_wire.specs.declared.fault.Bad.TheVariants.{NoMemory}
 use Rattle.acdm_sessions.specs.declared.answer.Answer.{Answer}
 use Rattle.acdm_sessions.specs.declared.answer.Answer.TheVariants.{Rejected}
 use Rattle.acdm_wire.specs.declared.request.Request.{Request}
+use Rattle.acdm_lines.specs.Counted.{SinkView, SourceView}
 use Rattle.acdm_lines.specs.Lines.{lines_of}
+use Rattle.acdm_lines.specs.declared.run_error.RunError.{RunError}
 use Rattle.acdm_wire.specs.Meant.{meant}
 use Rattle.acdm_sessions.specs.Output.{Supply, IsReadingOf, IsRight, AreRight, command_with}
 use Rattle.acdm_sessions.specs.Output.{is_full}
 use Rattle.acdm_sessions.specs.Output.{answer_meant, desk_command, desk_meant, answer_to}
 use Rattle.acdm_sessions.specs.Output.{desk_after}
-use Rattle.acdm_sessions.specs.Output.{reply_text, replies, desk_after_all, Answers, Serves}
+use Rattle.acdm_sessions.specs.Output.{reply_text, replies, desk_after_all, Answers}
 use Rattle.acdm_wire.specs.Writes.{AppendsPart}
-use Rattle.acdm_sessions.specs.Run.{ServesAll, ServesWhole, ServesPart, ServesInReply, ServesToFlush}
-use Rattle.acdm_sessions.specs.Stream.{AnswersEach, AnswersText, AnswersAll, AnswersWhole}
-use Rattle.acdm_sessions.specs.Stream.{AnswersPart, StopsAtFlush, StopsInReply, replies_text, kept}
+use Rattle.acdm_sessions.specs.Run.{Serves, ServesLinePart, serving_desk}
+use Rattle.acdm_sessions.specs.Stream.{AnswersEach, AnswersLinePart, AnswersLines, AnswersText}
+use Rattle.acdm_sessions.specs.Stream.{kept, replies_text, serving_by}
+use Rattle.acdm_sessions.proofs.Kept.{lines_seen}
 use Rattle.acdm_wire.specs.declared.request.TheConstants.{LONGEST_REQUEST}
 use Rattle.acdm_sessions.specs.declared.stream.TheConstants.{MOST_KEPT}
 
@@ -130,7 +133,7 @@ supplied (l ∷ ls) (x ∷ xs) before after e =
     }
 
 -- the lines of a text that a desk answered were served
-pub serves : (text : List ℕ) (before after : DeskView) (old new : List ℕ)
+serves : (text : List ℕ) (before after : DeskView) (old new : List ℕ)
     → AnswersText Answers text before after old new → Serves text before after old new
 serves text before after old new t =
     let all : Supplied (lines_of text) t.answers before after =
@@ -142,66 +145,26 @@ serves text before after old new t =
       wrote = subst (λ t. new ≡ old ++ t) all.text_is t.wrote;
     }
 
-module _ (log log_after : List ℕ) (before after : DeskView) (old new : List ℕ)
-  where
-    pub serves_all : (ended : Bool) → AnswersAll Answers log log_after ended before after old new
-        → ServesAll log log_after ended before after old new
-    serves_all ended a = record {
-      text = a.text;
-      gave = a.gave;
-      at_end = a.at_end;
-      served = serves a.text before after old new a.served;
+-- a line that a desk answered was served in part
+serves_part : (line : List ℕ) (before after : DeskView) (old new : List ℕ)
+    → AnswersLinePart Answers line before after old new
+    → ServesLinePart line before after old new
+serves_part line before after old new a =
+    let here : Answers before after line a.answer =
+    to_line before after line a.answer a.is_right in
+    record {
+      supply = here.supply;
+      right = here.right;
+      desk_is = here.desk_is;
+      wrote = subst (λ x. AppendsPart old new (reply_text x)) here.answer_is a.wrote;
     }
 
-    pub serves_whole : (faults later : ℕ)
-        → AnswersWhole Answers log log_after faults later before after old new
-        → ServesWhole log log_after faults later before after old new
-    serves_whole faults later a = record {
-      whole = a.whole;
-      part = a.part;
-      is_whole = a.is_whole;
-      is_part = a.is_part;
-      gave = a.gave;
-      why = a.why;
-      served = serves a.whole before after old new a.served;
-    }
-
-    in_reply : StopsInReply Answers log log_after before after old new
-        → ServesInReply log log_after before after old new
-    in_reply a =
-        let last : Answers a.middle after a.line a.answer =
-        to_line a.middle after a.line a.answer a.is_right in
-        record {
-          whole = a.whole;
-          line = a.line;
-          later = a.later;
-          others = a.others;
-          is_whole = a.is_whole;
-          is_next = a.is_next;
-          gave = a.gave;
-          middle = a.middle;
-          between = a.between;
-          served = serves a.whole before a.middle old a.between a.served;
-          in_hand = record {
-            supply = last.supply;
-            right = last.right;
-            desk_is = last.desk_is;
-            wrote = subst (λ x. AppendsPart a.between new (reply_text x)) last.answer_is a.in_hand;
-          };
-        }
-
-    to_flush : StopsAtFlush Answers log log_after before after old new
-        → ServesToFlush log log_after before after old new
-    to_flush a = record {
-      text = a.text;
-      part = a.part;
-      is_part = a.is_part;
-      apart = a.apart;
-      gave = a.gave;
-      served = serves a.text before after old new a.served;
-    }
-
-    pub serves_part : AnswersPart Answers log log_after before after old new
-        → ServesPart log log_after before after old new
-    serves_part (inl a) = inl (in_reply a)
-    serves_part (inr a) = inr (to_flush a)
+-- lines that a desk answered were served
+pub serves_lines : {R W T : Type 0} (r r' : SourceView R) (w w' : SinkView W)
+    (before after : DeskView) (result : Result T RunError)
+    → AnswersLines (serving_by Answers) r r' w w' before after result
+    → AnswersLines serving_desk r r' w w' before after result
+serves_lines r r' w w' before after result h =
+    lines_seen (λ d. d) (serving_by Answers) serving_desk (λ d. Unit {0})
+    (λ text a b old new s t. (serves text a b old new t, tt))
+    (λ line a b old new s t. serves_part line a b old new t) r r' w w' before after result tt h

@@ -20,7 +20,6 @@ use Rattle.acdm_wire.specs.declared.request.Asked.{Asked}
 use Rattle.acdm_wire.specs.declared.request.Asked.TheVariants.{Plain, Load}
 use Rattle.acdm_wire.specs.Replies.{entry_text, bad_text}
 use Rattle.acdm_lines.specs.Lines.{lines_of}
-use Rattle.acdm_wire.specs.Writes.{AppendsPart}
 use Rattle.bpf_verifier.specs.Reading.{Reading, IsReading}
 use Rattle.acdm_wire.specs.Meant.{meant}
 
@@ -122,14 +121,6 @@ abbrev pub reply_text : Answer → List ℕ
 reply_text (Entered reply) = entry_text reply.number reply.outcome
 reply_text (Rejected b) = bad_text b
 
--- one line was answered, and a first part of its reply was written
-pub record ServesLinePart (before after : DeskView) (line : List ℕ) (old new : List ℕ)
-    : Type 0 where
-  pub supply : Supply
-  pub right : IsRight before.sigs supply line
-  pub desk_is : after ≡ desk_after before supply line
-  pub wrote : AppendsPart old new (reply_text (answer_to before supply line))
-
 -- ---- all lines
 
 -- to lines beyond the list nothing is supplied, and no program is read
@@ -165,11 +156,3 @@ desk_after_all d supplies (l ∷ ls) =
 -- the output of a text
 abbrev pub output : DeskView → List Supply → List ℕ → List ℕ
 output d supplies text = replies d supplies (lines_of text)
-
--- the lines of a text were answered: their entries were made, and their output was written
-pub record Serves (text : List ℕ) (before after : DeskView) (old new : List ℕ)
-    : Type 0 where
-  pub supplies : List Supply
-  pub right : AreRight before.sigs supplies (lines_of text)
-  pub desk_is : after ≡ desk_after_all before supplies (lines_of text)
-  pub wrote : new ≡ old ++ output before supplies text

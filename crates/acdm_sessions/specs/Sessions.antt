@@ -21,7 +21,7 @@ use Rattle.acdm_sessions.specs.declared.session.End.{End}
 use Rattle.acdm_sessions.specs.declared.session.End.TheVariants as ends
 use Rattle.acdm_sessions.specs.declared.session.End.TheVariants.{Start}
 use Rattle.acdm_sessions.specs.Orders.{Orders}
-use Rattle.acdm_sessions.specs.Stream.{AnswersAll, AnswersPart, AnswersWhole}
+use Rattle.acdm_sessions.specs.Stream.{AnswersAll, AnswersPart, AnswersWhole, serving_by}
 
 -- ---- one line
 
@@ -204,17 +204,19 @@ end_for (Err errors.Memory) = ends.Memory
 
 -- Lines were answered, from a pass that had seen nothing to the one that the session leaves: all of
 -- the input, or the whole lines before its reader failed or without end, and then no byte of a
--- reply waits for a flush; or those before its writer failed once more. One that had no memory for its buffers, or was not started, did nothing.
+-- reply waits for a flush; or those before its writer failed once more. One that had no memory for its
+-- buffers, or was not started, did nothing.
 abbrev pub ServesAs : RowView → ℕ → SessionStart → SessionLeft → End → Type 0
 ServesAs row number s t ends.End =
-    AnswersAll (SessionAnswers s.gives row.sigs) s.read t.read t.ended (new_pass row number s.role)
-    t.pass s.written t.written × (t.waits ≡ false)
+    AnswersAll (serving_by (SessionAnswers s.gives row.sigs)) s.read t.read t.ended
+    (new_pass row number s.role) t.pass s.written t.written × (t.waits ≡ false)
 ServesAs row number s t ends.Read =
-    AnswersWhole (SessionAnswers s.gives row.sigs) s.read t.read s.faults t.faults
+    AnswersWhole (serving_by (SessionAnswers s.gives row.sigs)) s.read t.read s.faults t.faults
     (new_pass row number s.role) t.pass s.written t.written × (t.waits ≡ false)
 ServesAs row number s t ends.Write =
-    AnswersPart (SessionAnswers s.gives row.sigs) s.read t.read (new_pass row number s.role) t.pass
-    s.written t.written × (t.write_faults ≡ s.write_faults + 1)
+    AnswersPart (serving_by (SessionAnswers s.gives row.sigs)) s.read t.read
+    (new_pass row number s.role) t.pass s.written t.written
+    × (t.write_faults ≡ s.write_faults + 1)
 ServesAs row number s t _ =
     (t.read ≡ s.read) × (t.written ≡ s.written) × (t.pass ≡ new_pass row number s.role)
 

@@ -1,10 +1,11 @@
 -- How the lines of a stream are answered, by whoever answers them.
-use Rattle.std.specs.Prelude.{ℕ, ◌≡◌, true, List, [], ◌∷◌, ◌++◌}
-use Rattle.std.specs.Prelude.{◌⊎◌, Bool, take, Result, Ok, Err}
+use Rattle.std.specs.Prelude.{ℕ, ◌+◌, ◌≡◌, ◌⊎◌, Bool, true, false, List, [], ◌∷◌, ◌++◌, take}
+use Rattle.std.specs.Prelude.{Result, Ok, Err}
 use Rattle.acdm_sessions.specs.declared.answer.Answer.{Answer}
 use Rattle.acdm_lines.specs.declared.run_error.RunError.{RunError}
+use Rattle.acdm_lines.specs.declared.run_error.RunError.TheVariants as errors
 use Rattle.acdm_lines.specs.declared.run_error.RunError.TheVariants.{Write}
-use Rattle.acdm_lines.specs.Counted.{SinkView, faults_after}
+use Rattle.acdm_lines.specs.Counted.{SinkView, SourceView, faults_after}
 use Rattle.acdm_lines.specs.Lines.{IsLine, IsWhole, lines_of}
 use Rattle.acdm_lines.specs.NextLine.{FailsOrEndless}
 use Rattle.acdm_sessions.specs.Output.{reply_text}
@@ -72,19 +73,39 @@ pub record AnswersText {A : Type 0} (may : Answering A) (text : List ℕ) (befor
   pub are_right : AnswersEach may before after (lines_of text) answers
   pub wrote : new ≡ old ++ replies_text answers
 
+-- a line was answered, by what is kept of it, and a first part of its reply was written
+pub record AnswersLinePart {A : Type 0} (may : Answering A) (line : List ℕ) (before after : A)
+    (old new : List ℕ) : Type 0 where
+  pub answer : Answer
+  pub is_right : may before after (kept line) answer
+  pub wrote : AppendsPart old new (reply_text answer)
+
+-- ---- what is said of lines that were answered
+
+-- What is said of a text whose lines were all answered, and their replies written; and of a line that
+-- was answered, and of whose reply a first part was written. Either tells of the text or the line, of
+-- who answers before and after it, and of what the writer had taken before and after it.
+pub record Serving (A : Type 0) : Type 1 where
+  pub text : List ℕ → A → A → List ℕ → List ℕ → Type 0
+  pub line_part : List ℕ → A → A → List ℕ → List ℕ → Type 0
+
+-- each line was answered as it may be
+abbrev pub serving_by : {A : Type 0} → Answering A → Serving A
+serving_by may = record { text = AnswersText may; line_part = AnswersLinePart may }
+
 -- ---- how it ends
 
 -- The reader gave a text and has ended, and the lines of that text were answered.
-pub record AnswersAll {A : Type 0} (may : Answering A) (log log_after : List ℕ) (ended : Bool)
+pub record AnswersAll {A : Type 0} (serving : Serving A) (log log_after : List ℕ) (ended : Bool)
     (before after : A) (old new : List ℕ) : Type 0 where
   pub text : List ℕ
   pub gave : log_after ≡ log ++ text
   pub at_end : ended ≡ true
-  pub served : AnswersText may text before after old new
+  pub served : serving.text text before after old new
 
 -- No more could be read: the reader gave whole lines and a part of one, and then failed or was
 -- endless. The whole lines were answered, and nothing else was done.
-pub record AnswersWhole {A : Type 0} (may : Answering A) (log log_after : List ℕ)
+pub record AnswersWhole {A : Type 0} (serving : Serving A) (log log_after : List ℕ)
     (faults later_faults : ℕ) (before after : A) (old new : List ℕ) : Type 0 where
   pub whole : List ℕ
   pub part : List ℕ
@@ -92,12 +113,12 @@ pub record AnswersWhole {A : Type 0} (may : Answering A) (log log_after : List �
   pub is_part : IsLine part
   pub gave : log_after ≡ log ++ (whole ++ part)
   pub why : FailsOrEndless faults later_faults (whole ++ part)
-  pub served : AnswersText may whole before after old new
+  pub served : serving.text whole before after old new
 
 -- A reply could not be written: the reader gave whole lines, a line, and what follows it. The whole
 -- lines were answered, and so was the line, of whose reply a first part was written. Of the other
 -- lines none was answered.
-pub record StopsInReply {A : Type 0} (may : Answering A) (log log_after : List ℕ)
+pub record StopsInReply {A : Type 0} (serving : Serving A) (log log_after : List ℕ)
     (before after : A) (old new : List ℕ) : Type 0 where
   pub whole : List ℕ
   pub line : List ℕ
@@ -108,26 +129,72 @@ pub record StopsInReply {A : Type 0} (may : Answering A) (log log_after : List �
   pub gave : log_after ≡ log ++ (whole ++ (line ++ later))
   pub middle : A
   pub between : List ℕ
-  pub served : AnswersText may whole before middle old between
-  pub answer : Answer
-  pub is_right : may middle after (kept line) answer
-  pub in_hand : AppendsPart between new (reply_text answer)
+  pub served : serving.text whole before middle old between
+  pub in_hand : serving.line_part line middle after between new
 
 -- Replies could not be let go: the reader gave the text of some lines, and of one more at most a
 -- part. The lines were answered, and the writer took all of their replies, but where these waited
 -- for a flush it failed. Nothing else was done.
-pub record StopsAtFlush {A : Type 0} (may : Answering A) (log log_after : List ℕ)
+pub record StopsAtFlush {A : Type 0} (serving : Serving A) (log log_after : List ℕ)
     (before after : A) (old new : List ℕ) : Type 0 where
   pub text : List ℕ
   pub part : List ℕ
   pub is_part : IsLine part
   pub apart : lines_of (text ++ part) ≡ lines_of text ++ lines_of part
   pub gave : log_after ≡ log ++ (text ++ part)
-  pub served : AnswersText may text before after old new
+  pub served : serving.text text before after old new
 
 -- The writer failed: in the midst of a reply, or as the replies to all lines so far were let go.
-abbrev pub AnswersPart : {A : Type 0} → Answering A → List ℕ → List ℕ → A → A → List ℕ → List ℕ
+abbrev pub AnswersPart : {A : Type 0} → Serving A → List ℕ → List ℕ → A → A → List ℕ → List ℕ
     → Type 0
-AnswersPart may log log_after before after old new =
-    StopsInReply may log log_after before after old new
-    ⊎ StopsAtFlush may log log_after before after old new
+AnswersPart serving log log_after before after old new =
+    StopsInReply serving log log_after before after old new
+    ⊎ StopsAtFlush serving log log_after before after old new
+
+-- ---- from a reader to a writer
+
+-- All that the reader gave was answered, and it has ended. Neither failed, and no byte of a reply waits
+-- for a flush.
+pub record EndsWell {A R W : Type 0} (serving : Serving A) (reader reader_after : SourceView R)
+    (writer writer_after : SinkView W) (before after : A) : Type 0 where
+  pub output : AnswersAll serving reader.log reader_after.log reader_after.ended before after
+      writer.log writer_after.log
+  pub read_well : reader_after.faults ≡ reader.faults
+  pub wrote_well : writer_after.faults ≡ writer.faults
+  pub flushed : writer_after.waits ≡ false
+
+-- No more could be read. The writer did not fail, and no byte of a reply waits for a flush.
+pub record FailsToRead {A R W : Type 0} (serving : Serving A) (reader reader_after : SourceView R)
+    (writer writer_after : SinkView W) (before after : A) : Type 0 where
+  pub read : AnswersWhole serving reader.log reader_after.log reader.faults reader_after.faults before
+      after writer.log writer_after.log
+  pub read_alone : writer_after.faults ≡ writer.faults
+  pub quiet : writer_after.waits ≡ false
+
+-- The writer failed once more, and the reader did not.
+pub record FailsToWrite {A R W : Type 0} (serving : Serving A) (reader reader_after : SourceView R)
+    (writer writer_after : SinkView W) (before after : A) : Type 0 where
+  pub write : writer_after.faults ≡ writer.faults + 1
+  pub write_alone : reader_after.faults ≡ reader.faults
+  pub written_in_part : AnswersPart serving reader.log reader_after.log before after writer.log
+      writer_after.log
+
+-- what stands at the end; without memory nothing was done
+abbrev pub EndsSo : {A R W T : Type 0} → Serving A → SourceView R → SourceView R → SinkView W
+    → SinkView W → A → A → Result T RunError → Type 0
+EndsSo serving reader reader_after writer writer_after before after (Ok x) =
+    EndsWell serving reader reader_after writer writer_after before after
+EndsSo serving reader reader_after writer writer_after before after (Err errors.Read) =
+    FailsToRead serving reader reader_after writer writer_after before after
+EndsSo serving reader reader_after writer writer_after before after (Err errors.Write) =
+    FailsToWrite serving reader reader_after writer writer_after before after
+EndsSo serving reader reader_after writer writer_after before after (Err errors.Memory) =
+    (reader_after ≡ reader) × (writer_after ≡ writer) × (after ≡ before)
+
+-- The lines of a reader were answered on a writer, as far as the result says. What was known of both at
+-- first stays as it was.
+pub record AnswersLines {A R W T : Type 0} (serving : Serving A) (reader reader_after : SourceView R)
+    (writer writer_after : SinkView W) (before after : A) (result : Result T RunError) : Type 0 where
+  pub same_reader : reader_after.first ≡ reader.first
+  pub same_writer : writer_after.first ≡ writer.first
+  pub ends : EndsSo serving reader reader_after writer writer_after before after result

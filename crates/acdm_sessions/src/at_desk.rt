@@ -1,10 +1,10 @@
 //! One session, from its first line to its last reply.
-ghost use Rattle.std.specs.Prelude.{◌≡◌, ◌+◌, ◌-◌, ◌≤◌, ◌<◌, ◌^◌, false, Err, IfOk, OnOk};
+ghost use Rattle.std.specs.Prelude.{◌≡◌, ◌-◌, ◌≤◌, ◌<◌, ◌^◌, false, Err, IfOk};
 ghost use Rattle.acdm_board.specs.Desk.{is_foreign};
 ghost use Rattle.acdm_sessions.specs.Orders.{Orders};
 ghost use Rattle.acdm_sessions.specs.Sessions.{CallAnswers, EndsAs, HasServed, SessionAnswers};
 ghost use Rattle.acdm_sessions.specs.Sessions.{end_for, session_end, session_left, session_start};
-ghost use Rattle.acdm_sessions.specs.Stream.{AnswersAll, AnswersPart, AnswersWhole};
+ghost use Rattle.acdm_sessions.specs.Stream.{AnswersLines, serving_by};
 
 use crate::answer::Answer;
 use crate::answerer::Answerer;
@@ -127,30 +127,12 @@ fn answer_all<
 ) -> Result<(), RunError>
     requires reads { reader.old.faults < 2 ^ 64 - 1 }
     requires writes { writer.old.faults < 2 ^ 64 - 1 }
-    ensures same_reader { reader.new.first ≡ reader.old.first }
-    ensures same_writer { writer.new.first ≡ writer.old.first }
-    ensures write { result ≡ Err RunError.Write → writer.new.faults ≡ writer.old.faults + 1 }
-    ensures flushed { OnOk result (writer.new.waits ≡ false) }
-    ensures quiet { result ≡ Err RunError.Read → writer.new.waits ≡ false }
+    ensures lines { AnswersLines (serving_by (SessionAnswers (C.gives who.old.caller.clock)
+        J.desk_row.sigs)) reader.old reader.new writer.old writer.new who.old.caller.pass
+        who.new.caller.pass result }
     ensures number { who.new.caller.number ≡ who.old.caller.number }
     ensures role { who.new.caller.role ≡ who.old.caller.role }
-    ensures output { OnOk result (AnswersAll
-        (SessionAnswers (C.gives who.old.caller.clock) J.desk_row.sigs)
-        reader.old.log reader.new.log reader.new.ended
-        who.old.caller.pass who.new.caller.pass
-        writer.old.log writer.new.log) }
-    ensures read { result ≡ Err RunError.Read → AnswersWhole
-        (SessionAnswers (C.gives who.old.caller.clock) J.desk_row.sigs)
-        reader.old.log reader.new.log
-        reader.old.faults reader.new.faults who.old.caller.pass who.new.caller.pass
-        writer.old.log writer.new.log }
-    ensures written_in_part { result ≡ Err RunError.Write → AnswersPart
-        (SessionAnswers (C.gives who.old.caller.clock) J.desk_row.sigs)
-        reader.old.log reader.new.log
-        who.old.caller.pass who.new.caller.pass
-        writer.old.log writer.new.log }
-    ensures memory { result ≡ Err RunError.Memory →
-        (reader.new ≡ reader.old) × (writer.new ≡ writer.old) × (who.new ≡ who.old) }
+    ensures memory { result ≡ Err RunError.Memory → who.new ≡ who.old }
 {
     serve_lines(alloc, reader, writer, who)
 }

@@ -1,7 +1,7 @@
 //! From a reader to a writer.
-ghost use Rattle.std.specs.Prelude.{◌≡◌, ◌+◌, ◌-◌, ◌^◌, ◌<◌, false, Err, OnOk};
-ghost use Rattle.acdm_sessions.specs.Run.{ServesAll, ServesWhole, ServesPart};
-ghost use Rattle.acdm_sessions.specs.Stream.{AnswersLine, AnswersAll, AnswersWhole, AnswersPart};
+ghost use Rattle.std.specs.Prelude.{◌-◌, ◌^◌, ◌<◌};
+ghost use Rattle.acdm_sessions.specs.Run.{serving_desk};
+ghost use Rattle.acdm_sessions.specs.Stream.{AnswersLine, AnswersLines, serving_by};
 
 use crate::answerer::Answerer;
 use crate::next::next_line;
@@ -41,27 +41,8 @@ pub(crate) fn serve_lines<R: Read, W: Write, A: Answerer>(
 ) -> Result<(), RunError>
     requires reads { reader.old.faults < 2 ^ 64 - 1 }
     requires writes { writer.old.faults < 2 ^ 64 - 1 }
-    ensures output { OnOk result (AnswersAll A.may
-        reader.old.log reader.new.log reader.new.ended who.old who.new
-        writer.old.log writer.new.log) }
-    ensures same_reader { reader.new.first ≡ reader.old.first }
-    ensures same_writer { writer.new.first ≡ writer.old.first }
-    ensures read_well { OnOk result (reader.new.faults ≡ reader.old.faults) }
-    ensures wrote_well { OnOk result (writer.new.faults ≡ writer.old.faults) }
-    ensures flushed { OnOk result (writer.new.waits ≡ false) }
-    ensures read { result ≡ Err RunError.Read → AnswersWhole A.may
-        reader.old.log reader.new.log
-        reader.old.faults reader.new.faults who.old who.new
-        writer.old.log writer.new.log }
-    ensures read_alone { result ≡ Err RunError.Read → writer.new.faults ≡ writer.old.faults }
-    ensures quiet { result ≡ Err RunError.Read → writer.new.waits ≡ false }
-    ensures write { result ≡ Err RunError.Write → writer.new.faults ≡ writer.old.faults + 1 }
-    ensures write_alone { result ≡ Err RunError.Write → reader.new.faults ≡ reader.old.faults }
-    ensures written_in_part { result ≡ Err RunError.Write → AnswersPart A.may
-        reader.old.log reader.new.log who.old who.new
-        writer.old.log writer.new.log }
-    ensures memory { result ≡ Err RunError.Memory →
-        (reader.new ≡ reader.old) × (writer.new ≡ writer.old) × (who.new ≡ who.old) }
+    ensures { AnswersLines (serving_by A.may) reader.old reader.new writer.old writer.new who.old who.new
+        result }
 {
     let Ok(mut lines) = Lines::<MOST_KEPT>::new(alloc) else {
         return Err(RunError::Memory);
@@ -98,35 +79,8 @@ pub fn run<R: Read, W: Write, H: Helpers + Drop>(
 ) -> Result<(), RunError>
     requires reads { reader.old.faults < 2 ^ 64 - 1 }
     requires writes { writer.old.faults < 2 ^ 64 - 1 }
-
-    // Where neither fails, all that the reader gave was answered, and it has ended.
-    ensures output { OnOk result (ServesAll
-        reader.old.log reader.new.log reader.new.ended desk.old desk.new
-        writer.old.log writer.new.log) }
-    ensures same_reader { reader.new.first ≡ reader.old.first }
-    ensures same_writer { writer.new.first ≡ writer.old.first }
-    ensures read_well { OnOk result (reader.new.faults ≡ reader.old.faults) }
-    ensures wrote_well { OnOk result (writer.new.faults ≡ writer.old.faults) }
-    ensures flushed { OnOk result (writer.new.waits ≡ false) }
-
-    // When no more could be read, and what stands then.
-    ensures read { result ≡ Err RunError.Read → ServesWhole
-        reader.old.log reader.new.log
-        reader.old.faults reader.new.faults desk.old desk.new
-        writer.old.log writer.new.log }
-    ensures read_alone { result ≡ Err RunError.Read → writer.new.faults ≡ writer.old.faults }
-    ensures quiet { result ≡ Err RunError.Read → writer.new.waits ≡ false }
-
-    // When a reply could not be written, and what stands then.
-    ensures write { result ≡ Err RunError.Write → writer.new.faults ≡ writer.old.faults + 1 }
-    ensures write_alone { result ≡ Err RunError.Write → reader.new.faults ≡ reader.old.faults }
-    ensures written_in_part { result ≡ Err RunError.Write → ServesPart
-        reader.old.log reader.new.log desk.old desk.new
-        writer.old.log writer.new.log }
-
-    ensures memory { result ≡ Err RunError.Memory →
-        (reader.new ≡ reader.old) × (writer.new ≡ writer.old) × (desk.new ≡ desk.old) }
+    ensures { AnswersLines serving_desk reader.old reader.new writer.old writer.new desk.old desk.new
+        result }
 {
-    serve_lines(alloc, reader, writer, desk)?;
-    Ok(())
+    serve_lines(alloc, reader, writer, desk)
 }

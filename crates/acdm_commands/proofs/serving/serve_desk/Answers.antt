@@ -1,23 +1,18 @@
-use Rattle.std.proofs.Common.{subst}
-use Rattle.acdm_board.specs.Desk.{DeskView}
-use Rattle.acdm_sessions.specs.Run.{ServesAll}
+use Rattle.std.proofs.lemmas.Result.{err_from_is_err_and}
+use Rattle.acdm_commands.proofs.FromEmpty.{from_empty, stops_so}
 use Rattle.acdm_commands.proofs.serving.serve_desk.Goals as goal
 
 pub returns-clause-serves : goal.returns-clause-serves
 returns-clause-serves g c =
     let made = c.in_ok-desk.ensures in
-    let d = c.in_ok-desk.desk in
-    record {
-      serves = (
-        d.cells,
-        subst (λ (x : DeskView). ServesAll c.args.reader.now.log c.run.new.reader.log
-            c.run.new.reader.ended x c.run.new.desk c.args.writer.now.log c.run.new.writer.log)
-            (λ i. record {
-              history = made.empty i;
-              capacity = made.capacity i;
-              sigs = made.sigs i;
-              cells = d.cells;
-            }) c.in_ok-run.ensures.output,
-      );
-      flushed = c.in_ok-run.ensures.flushed;
-    }
+    from_empty _ _ c.in_ok-desk.desk c.run.new.desk c.args.reader.now c.run.new.reader
+    c.args.writer.now c.run.new.writer made.empty made.capacity made.sigs _ c.in_ok-run.ensures
+
+pub returns-in_err-run-clause-stops : goal.returns-in_err-run-clause-stops
+returns-in_err-run-clause-stops g c =
+    let made = c.in_ok-desk.ensures in
+    let failure = c.from_residual-in_err-run in
+    let p = err_from_is_err_and failure.result failure.ensures.1 in
+    rw (p.1, p.2)
+    (stops_so _ _ c.in_ok-desk.desk c.run.new.desk c.args.reader.now c.run.new.reader
+    c.args.writer.now c.run.new.writer made.empty made.capacity made.sigs _ c.in_err-run.ensures)
