@@ -21,11 +21,7 @@ module _ {W : Type 0} (desk : DeskView) (roles : List Role) (starts : List Sessi
   kept_as said J Kept kept served = record {
     closed = served.closed;
     sessions = served.sessions;
-    sum = served.sum;
-    begins = served.begins;
-    ended = served.ended;
-    served = served.served;
-    shown = served.shown;
+    serves = served.serves;
     kept = subst Kept (sym served.kept) kept;
     tells = served.tells;
   }

@@ -1,7 +1,6 @@
 pub mod Crossing
 pub mod Saved
 mod EndRows
-mod Counting
 mod Done
 mod Failing
 mod Files

@@ -1,26 +1,21 @@
 -- What is told of listeners and of sessions, one after the other.
 use Rattle.std.proofs.Common.{◌≡◌, ℕ, suc, ◌+◌, List, [], ◌∷◌, ◌++◌, length, map, refl, sym, ap}
-use Rattle.std.proofs.Common.{Bool, false, Option, Some, Result, Ok, Err, OnOk, inl, inr}
+use Rattle.std.proofs.Common.{false, Option, Some, Result, Ok, Err, OnOk, inl, inr}
 use Rattle.std.proofs.Common.{◌∙◌, append_assoc, append-nil, arith, subst, length-append}
-use Rattle.std.specs.Prelude.{sum_by}
-use Rattle.std.specs.List.{All, flat_map, sum}
-use Rattle.std.proofs.lemmas.List.Elements.{All-map}
-use Rattle.std.proofs.lemmas.List.Sums.{sum-map}
+use Rattle.std.specs.List.{flat_map}
 use Rattle.std.proofs.lemmas.List.{map-append}
 use Rattle.acdm_milestones.specs.declared.role.Role.{Role}
 use Rattle.acdm_lines.specs.Counted.{SinkView}
 use Rattle.acdm_wire.specs.Writes.{Writes, Wrote}
 use Rattle.acdm_wire.proofs.Writing.{wrote-both, writes-both}
-use Rattle.acdm_board.specs.Desk.{DeskView, row_of}
-use Rattle.acdm_sessions.specs.Passes.{BeginsWith, IsShown}
-use Rattle.acdm_sessions.specs.Sessions.{HaveEnded, HaveServed, SessionLeft, SessionStart, new_session}
-use Rattle.acdm_sessions.specs.Sessions.{session_end}
-use Rattle.acdm_sessions.specs.declared.session.End.{End}
+use Rattle.acdm_board.specs.Desk.{DeskView}
+use Rattle.acdm_sessions.specs.Sessions.{ServesSessions, SessionStart, SessionTold, new_session}
+use Rattle.acdm_sessions.proofs.Seats.{map_map}
 use Rattle.acdm_commands.specs.Minutes.{is_minute}
 use Rattle.acdm_commands.specs.Partners.{ServesNamed, ServesNamedTo, ServesPartners, ServesPartnersTo}
-use Rattle.acdm_commands.specs.Partners.{Announces, SavesSo, SessionTold, Telling, TellsPartners}
+use Rattle.acdm_commands.specs.Partners.{Announces, SavesSo, Telling, TellsPartners}
 use Rattle.acdm_commands.specs.Partners.{closed_text}
-use Rattle.acdm_commands.specs.Partners.{listen_text, listens_text, role_in, session_text, told_text}
+use Rattle.acdm_commands.specs.Partners.{listen_text, listens_text, role_in, told_text}
 use Rattle.acdm_commands.specs.Served.{IsSaved}
 use Rattle.acdm_failures.specs.declared.failure.Failure.{Failure}
 use Rattle.acdm_step.specs.Commands.{History}
@@ -63,63 +58,26 @@ roles_more role ps address p rest more all whole next =
     ∙ ap (λ xs. map (λ q. q.0) ps ++ map role xs) (sym next)
     ∙ whole
 
--- what is told of things that are seen by a function
-module _ {X : Type 0} (f : X → SessionTold) where
-  pub told_map : {Y : Type 0} (g : SessionTold → Y) (xs : List X)
-      → map (λ x. g (f x)) xs ≡ map g (map f xs)
-  told_map g [] = refl
-  told_map g (x ∷ xs) = ap (λ ys. g (f x) ∷ ys) (told_map g xs)
+told_texts : {X : Type 0} (f : X → SessionTold) (xs : List X)
+    → flat_map (λ x. told_text (f x)) xs ≡ flat_map told_text (map f xs)
+told_texts f [] = refl
+told_texts f (x ∷ xs) = ap (λ t. told_text (f x) ++ t) (told_texts f xs)
 
-  pub told_sum : (g : SessionTold → ℕ) (xs : List X)
-      → sum_by (λ x. g (f x)) xs ≡ sum_by g (map f xs)
-  told_sum g xs = sym (sum-map (λ x. g (f x)) xs) ∙ ap sum (told_map g xs) ∙ sum-map g (map f xs)
-
-  pub told_texts : (xs : List X) → flat_map (λ x. told_text (f x)) xs ≡ flat_map told_text (map f xs)
-  told_texts [] = refl
-  told_texts (x ∷ xs) = ap (λ t. told_text (f x) ++ t) (told_texts xs)
-
--- partners were served, by what is said of each of their sessions
-pub serves_partners : {W X : Type 0} (xs : List X) (number calls : X → ℕ) (role : X → Role)
-    (end : X → End) (torn : X → Bool) (left : X → SessionLeft) (desk closed : DeskView)
+-- partners were served, and it was told how their sessions ended
+pub serves_partners : {W X : Type 0} (told : X → SessionTold) (xs : List X) (desk closed : DeskView)
     (roles : List Role) (starts : List SessionStart) (old new : SinkView W)
-    → length closed.history ≡ length desk.history + sum_by calls xs
-    → HaveEnded 1 roles (map (λ x. session_end (number x) (role x) (calls x) (end x)) xs)
-    → HaveServed (row_of desk) starts (map left xs)
-    → BeginsWith desk.history closed.history
-    → All (λ x. IsShown (length desk.history) closed (number x) (role x) (calls x) (torn x)
-    (left x).pass) xs
-    → (said : Telling)
-    → TellsPartners roles (flat_map (λ x. session_text (number x) (calls x) (end x) (torn x)) xs)
-    (length closed.history) old new said
+    → ServesSessions desk closed starts (map told xs) → (said : Telling)
+    → TellsPartners roles (flat_map (λ x. told_text (told x)) xs) (length closed.history) old new said
     → (Kept : History → Type 0) → Kept closed.history
     → ServesPartners desk roles starts old new said Kept
-serves_partners {X = X} xs number calls role end torn left desk closed roles starts old new sums ended
-    served begins shown said tells Kept kept =
-    record {
-      closed = closed;
-      sessions = map told xs;
-      sum = sums ∙ ap (λ n. length desk.history + n) (told_sum told (λ t. t.end.calls) xs);
-      begins = begins;
-      ended = subst (λ ts. HaveEnded 1 roles ts) (told_map told (λ t. t.end) xs) ended;
-      served = subst (λ ts. HaveServed (row_of desk) starts ts) (told_map told (λ t. t.left) xs) served;
-      shown = All-map (λ (t : SessionTold). IsShown (length desk.history) closed t.end.number t.end.role
-          t.end.calls t.torn t.left.pass) told xs shown;
-      kept = kept;
-      tells = subst (λ t. TellsPartners roles t (length closed.history) old new said)
-          (told_texts told xs) tells;
-    }
-  where
-    told : X → SessionTold
-    told x = record {
-      end = session_end (number x) (role x) (calls x) (end x);
-      torn = torn x;
-      left = left x;
-    }
-
-map_map : {X Y Z : Type 0} (g : Y → Z) (f : X → Y) (xs : List X)
-    → map (λ x. g (f x)) xs ≡ map g (map f xs)
-map_map g f [] = refl
-map_map g f (x ∷ xs) = ap (λ ys. g (f x) ∷ ys) (map_map g f xs)
+serves_partners told xs desk closed roles starts old new serves said tells Kept kept = record {
+  closed = closed;
+  sessions = map told xs;
+  serves = serves;
+  kept = kept;
+  tells = subst (λ t. TellsPartners roles t (length closed.history) old new said) (told_texts told xs)
+      tells;
+}
 
 -- the lines of listeners were written, and it was told how partners ended, or that failed
 pub told_partners : {W : Type 0} (roles : List Role) (sessions : List ℕ) (entries : ℕ)

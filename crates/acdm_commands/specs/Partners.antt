@@ -1,14 +1,14 @@
 -- What `serve` does for its partners and tells of them, from its words on.
 use Rattle.std.specs.Prelude.{ℕ, ◌+◌, ◌≡◌, ◌≢◌, ◌⊎◌, ◌==◌, Bool, true, false, nat_lt, OnOk}
 use Rattle.std.specs.Prelude.{if◌then◌else◌, List, []}
-use Rattle.std.specs.Prelude.{◌∷◌, ◌++◌, codes, length, map, sum_by, Option, Some, None, Result, Ok, Err}
+use Rattle.std.specs.Prelude.{◌∷◌, ◌++◌, codes, length, map, Option, Some, None, Result, Ok, Err}
 use Rattle.std.specs.Prelude.{IsSome}
 use Rattle.std.specs.Fmt.{decimal}
-use Rattle.std.specs.List.{All, AllByRecursion, after_first, before_first, flat_map, position_or_len}
+use Rattle.std.specs.List.{AllByRecursion, after_first, before_first, flat_map, position_or_len}
 use Rattle.bpf_helpers.specs.Promise.{Promise}
 use Rattle.acdm_milestones.specs.Names.{role_name, role_named}
 use Rattle.acdm_milestones.specs.declared.role.Role.{Role}
-use Rattle.acdm_board.specs.Desk.{DeskView, row_of}
+use Rattle.acdm_board.specs.Desk.{DeskView}
 use Rattle.acdm_failures.specs.declared.failure.Failure.{Failure}
 use Rattle.acdm_failures.specs.declared.failure.Failure.TheVariants as failures
 use Rattle.acdm_failures.specs.declared.failure.ServeError.{ServeError}
@@ -16,9 +16,7 @@ use Rattle.acdm_failures.specs.declared.failure.ServeError.TheVariants as serve_
 use Rattle.acdm_lines.specs.Counted.{SinkView, faults_after}
 use Rattle.acdm_lines.specs.declared.run_error.RunError.{RunError}
 use Rattle.acdm_wire.specs.Writes.{Writes, Wrote}
-use Rattle.acdm_sessions.specs.Passes.{BeginsWith, IsShown}
-use Rattle.acdm_sessions.specs.Sessions.{HaveEnded, HaveServed, SessionEnd, SessionLeft, SessionStart}
-use Rattle.acdm_sessions.specs.Sessions.{new_session}
+use Rattle.acdm_sessions.specs.Sessions.{ServesSessions, SessionStart, SessionTold, new_session}
 use Rattle.acdm_sessions.specs.declared.session.End.{End}
 use Rattle.acdm_sessions.specs.declared.session.End.TheVariants as ends
 use Rattle.acdm_step.specs.Commands.{History}
@@ -82,12 +80,6 @@ listen_text number role address =
 abbrev pub listens_text : ℕ → List (Role × List ℕ) → List ℕ
 listens_text number [] = []
 listens_text number (p ∷ more) = listen_text number p.0 p.1 ++ listens_text (number + 1) more
-
--- what is told of a session that has ended, and what it leaves
-pub record SessionTold : Type 0 where
-  pub end : SessionEnd
-  pub torn : Bool
-  pub left : SessionLeft
 
 -- `session K CALLS END`
 abbrev pub session_text : ℕ → ℕ → End → Bool → List ℕ
@@ -153,13 +145,7 @@ pub record ServesPartners {W : Type 0} (desk : DeskView) (roles : List Role)
     (Kept : History → Type 0) : Type 0 where
   pub closed : DeskView
   pub sessions : List SessionTold
-  pub sum : length closed.history
-      ≡ length desk.history + sum_by (λ t. t.end.calls) sessions
-  pub begins : BeginsWith desk.history closed.history
-  pub ended : HaveEnded 1 roles (map (λ t. t.end) sessions)
-  pub served : HaveServed (row_of desk) starts (map (λ t. t.left) sessions)
-  pub shown : All (λ t. IsShown (length desk.history) closed t.end.number t.end.role t.end.calls
-      t.torn t.left.pass) sessions
+  pub serves : ServesSessions desk closed starts sessions
   pub kept : Kept closed.history
   pub tells : TellsPartners roles (flat_map told_text sessions) (length closed.history) written
       written_after told

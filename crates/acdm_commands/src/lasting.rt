@@ -1,13 +1,11 @@
 //! The command `serve` over partners that come and go, and a control address.
-ghost use Rattle.std.specs.Prelude.{◌≡◌, ◌+◌, ◌≤◌, false, IfOk, IfErr, OnOk, length, map, sum_by};
+ghost use Rattle.std.specs.Prelude.{◌≡◌, ◌+◌, ◌≤◌, IfOk, IfErr, OnOk, length, map};
 ghost use Rattle.std.specs.Prelude.{vec_len};
-ghost use Rattle.std.specs.List.{All, flat_map};
-ghost use Rattle.acdm_board.specs.Desk.{row_of};
+ghost use Rattle.std.specs.List.{flat_map};
 ghost use Rattle.acdm_commands.specs.Partners.{Announces, FailsToTell, IsOfAccepting, TellsPartners};
 ghost use Rattle.acdm_commands.specs.Partners.{session_text};
-ghost use Rattle.acdm_sessions.specs.Passes.{BeginsWith, IsShown, made_since};
-ghost use Rattle.acdm_sessions.specs.Sessions.{HaveEnded, HaveServed, new_session, session_end};
-ghost use Rattle.acdm_sessions.specs.Sessions.{session_left, session_start};
+ghost use Rattle.acdm_sessions.specs.Sessions.{ServesSessions, new_session, session_start};
+ghost use Rattle.acdm_sessions.specs.Sessions.{session_told};
 
 use crate::host::Host;
 use crate::partners::{REPLIES_HELD, Served, announce, served_by, tell};
@@ -355,18 +353,10 @@ fn served_while<
     again: bool,
 ) -> Result<Closed<H, Reading<'r, Rt>, Writing<'r, J, Rt>, C>, ServeError>
     requires few { vec_len sessions ≤ 64 }
-    ensures sum { IfOk result (λ c. length c.desk.history
-        ≡ length desk.history + sum_by (λ e. e.calls) c.sessions.items) }
-    ensures sessions { IfOk result (λ c. HaveEnded 1 (map (λ s. s.role) sessions.entry.items)
-        (map (λ e. session_end e.number e.role e.calls e.end) c.sessions.items)) }
-    ensures served { IfOk result (λ c. HaveServed (row_of desk)
+    ensures serves { IfOk result (λ c. ServesSessions desk c.desk
         (map (λ s. session_start s.role s.reader s.writer (C.gives s.clock)) sessions.entry.items)
-        (map (λ e. session_left e.end e.reader e.writer e.pass) c.sessions.items)) }
-    ensures begins { IfOk result (λ c. BeginsWith desk.history c.desk.history) }
-    ensures shown { IfOk result (λ c. All (λ e. IsShown (length desk.history) c.desk e.number
-        e.role e.calls e.torn e.pass) c.sessions.items) }
-    ensures own { IfOk result (λ c. All (λ e. e.torn ≡ false) c.sessions.items → All (λ e. e.pass.own
-        ≡ made_since (length desk.history) c.desk.history e.number) c.sessions.items) }
+        (map (λ e. session_told e.number e.role e.calls e.end e.torn e.reader e.writer e.pass)
+        c.sessions.items)) }
     ensures fails { IfErr result IsOfAccepting }
 {
     let Addresses { doors, places } = addresses;
@@ -405,18 +395,10 @@ pub(crate) fn serve_again<
     writer: &mut Sink<W>,
 ) -> Result<Served<H, Reading<'r, Rt>, Writing<'r, J, Rt>, C>, ServeError>
     requires few { vec_len partners ≤ 64 }
-    ensures sum { IfOk result (λ c. length c.desk.history
-        ≡ length desk.history + sum_by (λ e. e.calls) c.sessions.items) }
-    ensures sessions { IfOk result (λ c. HaveEnded 1 (map (λ p. p.0) partners.items)
-        (map (λ e. session_end e.number e.role e.calls e.end) c.sessions.items)) }
-    ensures served { IfOk result (λ c. HaveServed (row_of desk)
+    ensures serves { IfOk result (λ c. ServesSessions desk c.desk
         (map (λ p. new_session p.0 (C.gives p.2)) partners.items)
-        (map (λ e. session_left e.end e.reader e.writer e.pass) c.sessions.items)) }
-    ensures begins { IfOk result (λ c. BeginsWith desk.history c.desk.history) }
-    ensures shown { IfOk result (λ c. All (λ e. IsShown (length desk.history) c.desk e.number
-        e.role e.calls e.torn e.pass) c.sessions.items) }
-    ensures own { IfOk result (λ c. All (λ e. e.torn ≡ false) c.sessions.items → All (λ e. e.pass.own
-        ≡ made_since (length desk.history) c.desk.history e.number) c.sessions.items) }
+        (map (λ e. session_told e.number e.role e.calls e.end e.torn e.reader e.writer e.pass)
+        c.sessions.items)) }
     ensures tells { IfOk result (λ c. TellsPartners (map (λ p. p.0) partners.items)
         (flat_map (λ e. session_text e.number e.calls e.end e.torn) c.sessions.items)
         (length c.desk.history) writer.old writer.new c.told) }

@@ -19,9 +19,8 @@ use Rattle.acdm_step.specs.InSlots.{program_in, slots_of}
 use Rattle.acdm_step.specs.Summaries.{flights, record_of}
 use Rattle.acdm_step.specs.Verdicts.{verdict_of}
 use Rattle.acdm_slots.specs.Loaded as loaded
-use Rattle.acdm_board.specs.Desk.{DeskView, row_of}
-use Rattle.acdm_sessions.specs.Passes.{BeginsWith}
-use Rattle.acdm_sessions.specs.Sessions.{HaveServed, SessionLeft, SessionStart}
+use Rattle.acdm_board.specs.Desk.{DeskView}
+use Rattle.acdm_sessions.specs.Sessions.{ServesSessions, SessionStart, SessionTold}
 
 -- ---- programs
 
@@ -64,10 +63,9 @@ pub record ChangesNothing (sigs : List (ℕ × Promise)) (J : History) (e : Entr
 
 -- ---- partners
 
--- Whatever came of the threads, the closed journal is legal and goes on from the opening one, and each
--- session was answered, line by line, for the calls that it made of it.
+-- Whatever came of the threads, the closed journal is legal, and the sessions were served: it goes on from
+-- the opening one by the entries of their calls, and each was answered, line by line, for its own.
 pub record IsInterleaved (opening closed : DeskView) (starts : List SessionStart)
-    (lefts : List SessionLeft) : Type 0 where
+    (told : List SessionTold) : Type 0 where
   pub legal : IsLegal closed.sigs closed.history
-  pub begins : BeginsWith opening.history closed.history
-  pub served : HaveServed (row_of opening) starts lefts
+  pub serves : ServesSessions opening closed starts told

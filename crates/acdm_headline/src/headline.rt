@@ -1,17 +1,12 @@
 //! The headline, over the public contracts of the crates below.
-ghost use Rattle.std.specs.Prelude.{◌≡◌, ◌+◌, ◌≤◌, ℕ, List, ◌∷◌, false, length, map, IfOk, IfErr};
-ghost use Rattle.std.specs.Prelude.{vec_len, sum_by};
-ghost use Rattle.std.specs.List.{All};
+ghost use Rattle.std.specs.Prelude.{◌≡◌, ◌≤◌, ℕ, List, ◌∷◌, false, map, IfOk, IfErr, vec_len};
 ghost use Rattle.bpf_helpers.specs.Promise.{Promise};
 ghost use Rattle.bpf_verifier.specs.Verdict.{Verified};
 ghost use Rattle.bpf_verifier.specs.Runs.{MayRun};
 ghost use Rattle.acdm_step.specs.declared.entry.Entry.{Entry};
 ghost use Rattle.acdm_step.specs.Commands.{History, is_accepted};
 ghost use Rattle.acdm_step.specs.History.{IsLegal};
-ghost use Rattle.acdm_board.specs.Desk.{row_of};
-ghost use Rattle.acdm_sessions.specs.Passes.{BeginsWith, IsShown};
-ghost use Rattle.acdm_sessions.specs.Sessions.{HaveEnded, HaveServed, session_end};
-ghost use Rattle.acdm_sessions.specs.Sessions.{session_left, session_start};
+ghost use Rattle.acdm_sessions.specs.Sessions.{session_start, session_told};
 ghost use Rattle.acdm_headline.specs.Headline.{ChangesNothing, IsInterleaved, IsOfTheStep};
 ghost use Rattle.acdm_headline.specs.Headline.{NeverGoesWrong};
 
@@ -61,27 +56,6 @@ pub fn serve_sessions<
     gate: &G,
 ) -> Result<Closed<H, R, W, C>, Desk<H>>
     requires few { vec_len sessions ≤ 64 }
-    ensures sum { IfOk result (λ c. length c.desk.history
-        ≡ length desk.history + sum_by (λ e. e.calls) c.sessions.items) }
-    ensures sessions { IfOk result (λ c. HaveEnded 1 (map (λ s. s.role) sessions.items)
-        (map (λ e. session_end e.number e.role e.calls e.end)
-        c.sessions.items)) }
-
-    // What each session read was answered line by line, from a pass that had seen nothing to the
-    // pass that it leaves. A line that made an entry made the next of the pass's own, for what the
-    // line asks at a minute that the clock may give, and the reply tells of that entry.
-    ensures served { IfOk result (λ c. HaveServed (row_of desk)
-        (map (λ s. session_start s.role s.reader s.writer (C.gives s.clock)) sessions.items)
-        (map (λ e. session_left e.end e.reader e.writer e.pass) c.sessions.items)) }
-
-    // The closed journal begins with the opening one and, but for a torn session, with what the
-    // pass of each has seen, and its own entries are a part of what it made. With the sum above
-    // they are all of it.
-    ensures begins { IfOk result (λ c. BeginsWith desk.history c.desk.history) }
-    ensures shown { IfOk result (λ c. All (λ e. IsShown (length desk.history) c.desk e.number e.role e.calls
-        e.torn e.pass) c.sessions.items) }
-    ensures err { IfErr result (λ d. d ≡ desk) }
-
     ensures programs { (v : Verified) → MayRun v → NeverGoesWrong v }
     ensures step { (sigs : List (ℕ × Promise)) (J : History) (e : Entry) → IsLegal sigs (e ∷ J)
         → IsOfTheStep sigs J e }
@@ -89,7 +63,9 @@ pub fn serve_sessions<
         → is_accepted e.verdict ≡ false → ChangesNothing sigs J e }
     ensures interleaved { IfOk result (λ c. IsInterleaved desk c.desk
         (map (λ s. session_start s.role s.reader s.writer (C.gives s.clock)) sessions.items)
-        (map (λ e. session_left e.end e.reader e.writer e.pass) c.sessions.items)) }
+        (map (λ e. session_told e.number e.role e.calls e.end e.torn e.reader e.writer e.pass)
+        c.sessions.items)) }
+    ensures err { IfErr result (λ d. d ≡ desk) }
 {
     the_written_step_is_kept();
     match run_sessions(rt, alloc, desk, sessions, gate) {

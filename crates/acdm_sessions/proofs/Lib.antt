@@ -1,5 +1,6 @@
 pub mod Answering
 pub mod Completing
+pub mod Counting
 pub mod Crossing
 pub mod Kept
 pub mod Ordering

@@ -14,6 +14,11 @@ use Rattle.acdm_sessions.specs.Sessions.{HasServed, ServesAs, SessionAnswers, en
 use Rattle.acdm_sessions.specs.Sessions.{session_left, session_start}
 use Rattle.acdm_sessions.specs.Stream.{AnswersLines, EndsSo, serving_by}
 
+pub map_map : {X Y Z : Type 0} (g : Y → Z) (f : X → Y) (xs : List X)
+    → map (λ x. g (f x)) xs ≡ map g (map f xs)
+map_map g f [] = refl
+map_map g f (x ∷ xs) = ap (λ ys. g (f x) ∷ ys) (map_map g f xs)
+
 pub empty_of : {X : Type 0} (xs : List X) → length xs ≡ 0 → xs ≡ []
 empty_of [] h = refl
 empty_of (x ∷ xs) h = absurd (omega arith)

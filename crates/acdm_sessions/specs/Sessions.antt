@@ -1,12 +1,14 @@
 -- What sessions are served, and what is told of them once they have ended.
-use Rattle.std.specs.Prelude.{ℕ, ◌+◌, ◌≡◌, Bool, false, List, [], ◌∷◌, ◌++◌, length, reverse, take}
-use Rattle.std.specs.Prelude.{Option, None, Result, Ok, Err}
+use Rattle.std.specs.Prelude.{ℕ, ◌+◌, ◌≡◌, Bool, false, List, [], ◌∷◌, ◌++◌, length, map, reverse}
+use Rattle.std.specs.Prelude.{sum_by, take, Option, None, Result, Ok, Err}
+use Rattle.std.specs.List.{All}
 use Rattle.acdm_milestones.specs.declared.role.Role.{Role}
 use Rattle.bpf_helpers.specs.Promise.{Promise}
 use Rattle.acdm_step.specs.Commands.{History}
 use Rattle.acdm_step.specs.History.{IsLegal, after}
 use Rattle.acdm_step.specs.Verdicts.{outcome_of, verdict_of}
 use Rattle.acdm_row.specs.Views.{PassView, RowView, IsSameCaller}
+use Rattle.acdm_board.specs.Desk.{DeskView, row_of}
 use Rattle.acdm_board.specs.declared.desk.Reply.{Reply}
 use Rattle.acdm_jobs.specs.Each.{Each}
 use Rattle.acdm_lines.specs.Counted.{SinkView, SourceView}
@@ -21,6 +23,7 @@ use Rattle.acdm_sessions.specs.declared.session.End.{End}
 use Rattle.acdm_sessions.specs.declared.session.End.TheVariants as ends
 use Rattle.acdm_sessions.specs.declared.session.End.TheVariants.{Start}
 use Rattle.acdm_sessions.specs.Orders.{Orders}
+use Rattle.acdm_sessions.specs.Passes.{BeginsWith, IsShown, made_since}
 use Rattle.acdm_sessions.specs.Stream.{AnswersAll, AnswersPart, AnswersWhole, serving_by}
 
 -- ---- one line
@@ -227,3 +230,42 @@ HasServed row number s t = ServesAs row number s t t.end × (t.known ≡ s.known
 -- the same of all sessions, numbered from 1
 abbrev pub HaveServed : RowView → List SessionStart → List SessionLeft → Type 0
 HaveServed row ss ts = Each (λ p t. HasServed row p.0 p.1 t) (numbered 1 ss) ts
+
+-- ---- all that comes of them
+
+-- what is told of a session that has ended, whether its pass has seen more than there is, and what it
+-- leaves
+pub record SessionTold : Type 0 where
+  pub end : SessionEnd
+  pub torn : Bool
+  pub left : SessionLeft
+
+abbrev pub session_told : {R W : Type 0} → ℕ → Role → ℕ → End → Bool → SourceView R → SinkView W
+    → PassView → SessionTold
+session_told number role calls end torn reader writer pass =
+    record {
+      end = session_end number role calls end;
+      torn = torn;
+      left = session_left end reader writer pass;
+    }
+
+-- Sessions that began so were served by a desk, from its opening until it was closed, and this is told
+-- of them.
+--
+-- `sum`, `sessions`: the closed journal has an entry more for each call that made one, and there is a
+-- session for each start, in order, with its role. `served`: what each session read was answered line by
+-- line, from a pass that had seen nothing to the pass that it leaves. A line that made an entry made the
+-- next of the pass's own, for what the line asks at a minute that the clock may give, and the reply tells
+-- of that entry. `begins`, `shown`: the closed journal begins with the opening one and, but for a torn
+-- session, with what the pass of each has seen, and its own entries are a part of what it made. `own`:
+-- where no session is torn, they are all of it.
+pub record ServesSessions (opening closed : DeskView) (starts : List SessionStart)
+    (told : List SessionTold) : Type 0 where
+  pub sum : length closed.history ≡ length opening.history + sum_by (λ t. t.end.calls) told
+  pub sessions : HaveEnded 1 (map (λ s. s.role) starts) (map (λ t. t.end) told)
+  pub served : HaveServed (row_of opening) starts (map (λ t. t.left) told)
+  pub begins : BeginsWith opening.history closed.history
+  pub shown : All (λ t. IsShown (length opening.history) closed t.end.number t.end.role t.end.calls
+      t.torn t.left.pass) told
+  pub own : All (λ t. t.torn ≡ false) told → All (λ t. t.left.pass.own
+      ≡ made_since (length opening.history) closed.history t.end.number) told

@@ -4,9 +4,9 @@ ghost use Rattle.std.specs.Prelude.{vec_len, vec_capacity, sum_by, take, reverse
 ghost use Rattle.acdm_jobs.specs.Each.{Each};
 ghost use Rattle.std.specs.List.{All};
 ghost use Rattle.acdm_board.specs.Desk.{row_of};
-ghost use Rattle.acdm_sessions.specs.Passes.{BeginsWith, IsShown};
-ghost use Rattle.acdm_sessions.specs.Sessions.{HaveEnded, HaveServed, numbered, session_end};
-ghost use Rattle.acdm_sessions.specs.Sessions.{session_left, session_start};
+ghost use Rattle.acdm_sessions.specs.Passes.{IsShown};
+ghost use Rattle.acdm_sessions.specs.Sessions.{ServesSessions, numbered, session_end, session_left};
+ghost use Rattle.acdm_sessions.specs.Sessions.{session_start, session_told};
 
 use crate::at_desk::serve;
 use crate::clock::{Clock, Gate};
@@ -405,17 +405,10 @@ fn run_named<
     requires start { length desk.history ≡ J.start }
     requires all { blank.parts ≡ vec_len sessions + 1 }
     requires few { vec_len sessions ≤ 64 }
-    ensures begins { IfOk result (λ c. BeginsWith desk.history c.desk.history) }
-    ensures shown { IfOk result (λ c. All (λ e. IsShown J.start c.desk e.number e.role e.calls
-        e.torn e.pass) c.sessions.items) }
-    ensures sum { IfOk result (λ c. length c.desk.history
-        ≡ length desk.history + sum_by (λ e. e.calls) c.sessions.items) }
-    ensures sessions { IfOk result (λ c. HaveEnded 1 (map (λ s. s.role) sessions.items)
-        (map (λ e. session_end e.number e.role e.calls e.end)
-        c.sessions.items)) }
-    ensures served { IfOk result (λ c. HaveServed (row_of desk)
+    ensures serves { IfOk result (λ c. ServesSessions desk c.desk
         (map (λ s. session_start s.role s.reader s.writer (C.gives s.clock)) sessions.items)
-        (map (λ e. session_left e.end e.reader e.writer e.pass) c.sessions.items)) }
+        (map (λ e. session_told e.number e.role e.calls e.end e.torn e.reader e.writer e.pass)
+        c.sessions.items)) }
     ensures err { IfErr result (λ d. d ≡ desk) }
 {
     let Ok(crew) = Crew::new(alloc, sessions.len()) else {
@@ -459,25 +452,10 @@ pub fn run_sessions<
     gate: &G,
 ) -> Result<Closed<H, R, W, C>, Desk<H>>
     requires few { vec_len sessions ≤ 64 }
-    ensures sum { IfOk result (λ c. length c.desk.history
-        ≡ length desk.history + sum_by (λ e. e.calls) c.sessions.items) }
-    ensures sessions { IfOk result (λ c. HaveEnded 1 (map (λ s. s.role) sessions.items)
-        (map (λ e. session_end e.number e.role e.calls e.end)
-        c.sessions.items)) }
-
-    // What each session read was answered line by line, from a pass that had seen nothing to the
-    // pass that it leaves. A line that made an entry made the next of the pass's own, for what the
-    // line asks at a minute that the clock may give, and the reply tells of that entry.
-    ensures served { IfOk result (λ c. HaveServed (row_of desk)
+    ensures serves { IfOk result (λ c. ServesSessions desk c.desk
         (map (λ s. session_start s.role s.reader s.writer (C.gives s.clock)) sessions.items)
-        (map (λ e. session_left e.end e.reader e.writer e.pass) c.sessions.items)) }
-
-    // The closed journal begins with the opening one and, but for a torn session, with what the
-    // pass of each has seen, and its own entries are a part of what it made. With the sum above
-    // they are all of it.
-    ensures begins { IfOk result (λ c. BeginsWith desk.history c.desk.history) }
-    ensures shown { IfOk result (λ c. All (λ e. IsShown (length desk.history) c.desk e.number e.role e.calls
-        e.torn e.pass) c.sessions.items) }
+        (map (λ e. session_told e.number e.role e.calls e.end e.torn e.reader e.writer e.pass)
+        c.sessions.items)) }
     ensures err { IfErr result (λ d. d ≡ desk) }
 {
     let parts = sessions.len() as u64 + 1;

@@ -1,6 +1,6 @@
 use Rattle.std.proofs.Common.{inl}
 use Rattle.std.proofs.lemmas.Result.{err_from_is_err_and}
-use Rattle.acdm_sessions.specs.Sessions.{session_left}
+use Rattle.acdm_sessions.specs.Sessions.{session_told}
 use Rattle.acdm_commands.proofs.Failing.{unserved}
 use Rattle.acdm_commands.proofs.Told.{comes_served, serves_partners}
 use Rattle.acdm_commands.proofs.serve_command.serve_lasting.Goals as goal
@@ -10,9 +10,8 @@ returns g c =
     let done = c.in_ok-served.ensures in
     let served = c.in_ok-served.served in
     comes_served _ _ _ _ _ _ _ served.desk.history served.told c.save_served.result
-    (serves_partners served.sessions.items (λ e. e.number) (λ e. e.calls) (λ e. e.role) (λ e. e.end)
-    (λ e. e.torn) (λ e. session_left e.end e.reader e.writer e.pass) _ served.desk _ _ _ _ done.sum
-    done.sessions done.served done.begins done.shown served.told done.tells) c.save_served.ensures
+    (serves_partners (λ e. session_told e.number e.role e.calls e.end e.torn e.reader e.writer e.pass)
+    served.sessions.items _ served.desk _ _ _ _ done.serves served.told done.tells) c.save_served.ensures
 
 pub returns-in_err-served : goal.returns-in_err-served
 returns-in_err-served g c =

@@ -1,5 +1,5 @@
 use Rattle.std.proofs.Common.{◌≡◌, refl}
-use Rattle.acdm_sessions.specs.Sessions.{session_left}
+use Rattle.acdm_sessions.specs.Sessions.{session_told}
 use Rattle.acdm_commands.proofs.Told.{serves_partners}
 use Rattle.acdm_commands.proofs.serve_keeping.desk_after.Goals as goal
 
@@ -7,7 +7,6 @@ pub returns-clause-serves : goal.returns-clause-serves
 returns-clause-serves g c =
     let done = c.in_ok-desk.ensures in
     let closed = c.in_ok-desk.field-0 in
-    serves_partners closed.sessions.items (λ e. e.number) (λ e. e.calls) (λ e. e.role) (λ e. e.end)
-    (λ e. e.torn) (λ e. session_left e.end e.reader e.writer e.pass) _ closed.desk _ _ _ _ done.sum
-    done.sessions done.served done.begins done.shown closed.told done.tells
+    serves_partners (λ e. session_told e.number e.role e.calls e.end e.torn e.reader e.writer e.pass)
+    closed.sessions.items _ closed.desk _ _ _ _ done.serves closed.told done.tells
     (λ J. J ≡ closed.desk.history) refl

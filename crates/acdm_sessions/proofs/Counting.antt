@@ -1,18 +1,18 @@
 -- The own entries of sessions are all that they have, by counting.
 use Rattle.std.proofs.Common.{◌≡◌, ℕ, zero, suc, ◌+◌, ◌<◌, ◌≤◌, Bool, true, false, cond, ◌==◌}
-use Rattle.std.proofs.Common.{List, [], ◌∷◌, map, length, drop, reverse, refl, ap, ◌∙◌}
+use Rattle.std.proofs.Common.{List, [], ◌∷◌, map, length, drop, reverse, refl, sym, ap, subst, ◌∙◌}
 use Rattle.std.proofs.Common.{inl, inr, arith, eqb-true, ne_eqb}
 use Rattle.std.specs.Prelude.{slice_index_or, sum_by}
-use Rattle.std.specs.List.{All, filter}
+use Rattle.std.specs.List.{All, filter, sum as sum_of}
+use Rattle.std.proofs.lemmas.List.Elements.{All-map}
 use Rattle.std.proofs.lemmas.List.{length-reverse, length-drop}
-use Rattle.std.proofs.lemmas.List.Sums.{sum_by-cons}
+use Rattle.std.proofs.lemmas.List.Sums.{sum_by-cons, sum-map}
 use Rattle.acdm_milestones.specs.declared.role.Role.{Role}
 use Rattle.acdm_step.specs.declared.entry.Entry.{Entry}
-use Rattle.acdm_row.specs.Views.{PassView}
-use Rattle.acdm_board.specs.Desk.{DeskView}
-use Rattle.acdm_sessions.specs.Passes.{IsPartOf, IsShown, made_since}
-use Rattle.acdm_sessions.specs.Sessions.{HaveEnded, session_end}
-use Rattle.acdm_sessions.specs.declared.session.End.{End}
+use Rattle.acdm_board.specs.Desk.{DeskView, row_of}
+use Rattle.acdm_sessions.specs.Passes.{BeginsWith, IsPartOf, IsShown, made_since}
+use Rattle.acdm_sessions.specs.Sessions.{HaveEnded, HaveServed, ServesSessions, SessionStart, SessionTold}
+use Rattle.acdm_sessions.proofs.Seats.{map_map}
 
 -- ---- entries that stand in others
 
@@ -144,15 +144,12 @@ module _ {X : Type 0} where
 
 -- ---- all of them
 
-follows : {X : Type 0} (number calls : X → ℕ) (role : X → Role) (end : X → End) (n : ℕ)
-    (roles : List Role) (xs : List X)
-    → HaveEnded n roles (map (λ x. session_end (number x) (role x) (calls x) (end x)) xs)
-    → Follow n (map number xs)
-follows number calls role end n [] [] ended = tt
-follows number calls role end n [] (x ∷ xs) ended = absurd ended
-follows number calls role end n (r ∷ rs) [] ended = absurd ended
-follows number calls role end n (r ∷ rs) (x ∷ xs) ended =
-    (ended.0, follows number calls role end (n + 1) rs xs ended.3)
+follows : (n : ℕ) (roles : List Role) (ts : List SessionTold)
+    → HaveEnded n roles (map (λ t. t.end) ts) → Follow n (map (λ t. t.end.number) ts)
+follows n [] [] ended = tt
+follows n [] (t ∷ ts) ended = absurd ended
+follows n (r ∷ rs) [] ended = absurd ended
+follows n (r ∷ rs) (t ∷ ts) ended = (ended.0, follows (n + 1) rs ts ended.3)
 
 totals_total : {X : Type 0} (number : X → ℕ) (es : List Entry) (xs : List X)
     → totals (map number xs) es ≡ total (λ x. count (number x) es) xs
@@ -161,38 +158,78 @@ totals_total number es (x ∷ xs) = ap (λ n. count (number x) es + n) (totals_t
 
 -- where no session is torn, and their calls are as many as the entries since the opening, the own entries
 -- of each are all that it has
-pub owns_all : {X : Type 0} (xs : List X) (number calls : X → ℕ) (role : X → Role) (end : X → End)
-    (torn : X → Bool) (pass : X → PassView) (start : ℕ) (closed : DeskView) (roles : List Role)
-    → length closed.history ≡ start + sum_by calls xs
-    → HaveEnded 1 roles (map (λ x. session_end (number x) (role x) (calls x) (end x)) xs)
-    → All (λ x. IsShown start closed (number x) (role x) (calls x) (torn x) (pass x)) xs
-    → All (λ x. torn x ≡ false) xs
-    → All (λ x. (pass x).own ≡ made_since start closed.history (number x)) xs
-owns_all {X = X} xs number calls role end torn pass start closed roles sum ended shown none = each
+pub owns_all : (start : ℕ) (closed : DeskView) (roles : List Role) (ts : List SessionTold)
+    → length closed.history ≡ start + sum_by (λ t. t.end.calls) ts
+    → HaveEnded 1 roles (map (λ t. t.end) ts)
+    → All (λ t. IsShown start closed t.end.number t.end.role t.end.calls t.torn t.left.pass) ts
+    → All (λ t. t.torn ≡ false) ts
+    → All (λ t. t.left.pass.own ≡ made_since start closed.history t.end.number) ts
+owns_all start closed roles ts sum ended shown none = each
   where
     es : List Entry
     es = drop start (reverse closed.history)
 
-    few : All (λ x. calls x ≤ count (number x) es) xs
+    of : SessionTold → ℕ
+    of t = count t.end.number es
+
+    few : All (λ t. t.end.calls ≤ of t) ts
     few k d below =
         let s = shown k d below in
         omega (arith, s.counted, part_few _ _ (s.own (none k d below)))
 
-    enough : total (λ x. count (number x) es) xs ≤ total calls xs
+    enough : total of ts ≤ total (λ t. t.end.calls) ts
     enough = omega (
       arith,
       sum,
-      sum_total calls xs,
-      totals_total number es xs,
-      totals_few 1 (map number xs) es (follows number calls role end 1 roles xs ended),
+      sum_total (λ (t : SessionTold). t.end.calls) ts,
+      totals_total (λ (t : SessionTold). t.end.number) es ts,
+      totals_few 1 (map (λ (t : SessionTold). t.end.number) ts) es (follows 1 roles ts ended),
       length-drop start (reverse closed.history),
       length-reverse closed.history,
     )
 
-    same : All (λ x. calls x ≡ count (number x) es) xs
-    same = each_same calls (λ x. count (number x) es) xs few enough
+    same : All (λ t. t.end.calls ≡ of t) ts
+    same = each_same (λ t. t.end.calls) of ts few enough
 
-    each : All (λ x. (pass x).own ≡ made_since start closed.history (number x)) xs
+    each : All (λ t. t.left.pass.own ≡ made_since start closed.history t.end.number) ts
     each k d below =
         let s = shown k d below in
         part_same _ _ (s.own (none k d below)) (s.counted ∙ same k d below)
+
+-- ---- all that comes of sessions
+
+sum_map : {X Y : Type 0} (g : Y → ℕ) (f : X → Y) (xs : List X)
+    → sum_by (λ x. g (f x)) xs ≡ sum_by g (map f xs)
+sum_map g f xs =
+    sym (sum-map (λ x. g (f x)) xs) ∙ ap sum_of (map_map g f xs) ∙ sum-map g (map f xs)
+
+-- sessions were served, by what is said of each that began and of each that has ended
+pub serves_sessions : {S X : Type 0} (start : S → SessionStart) (told : X → SessionTold)
+    (opening closed : DeskView) (ss : List S) (xs : List X)
+    → length closed.history ≡ length opening.history + sum_by (λ x. (told x).end.calls) xs
+    → HaveEnded 1 (map (λ s. (start s).role) ss) (map (λ x. (told x).end) xs)
+    → HaveServed (row_of opening) (map start ss) (map (λ x. (told x).left) xs)
+    → BeginsWith opening.history closed.history
+    → All (λ x. IsShown (length opening.history) closed (told x).end.number (told x).end.role
+    (told x).end.calls (told x).torn (told x).left.pass) xs
+    → ServesSessions opening closed (map start ss) (map told xs)
+serves_sessions start told opening closed ss xs sum ended served begins shown =
+    let all : length closed.history
+    ≡ length opening.history + sum_by (λ (t : SessionTold). t.end.calls) (map told xs) =
+    sum ∙ ap (λ n. length opening.history + n) (sum_map (λ t. t.end.calls) told xs) in
+    let each : HaveEnded 1 (map (λ (s : SessionStart). s.role) (map start ss))
+    (map (λ (t : SessionTold). t.end) (map told xs)) =
+    subst (λ roles. HaveEnded 1 roles (map (λ (t : SessionTold). t.end) (map told xs)))
+    (map_map (λ s. s.role) start ss)
+    (subst (λ ts. HaveEnded 1 (map (λ s. (start s).role) ss) ts) (map_map (λ t. t.end) told xs) ended) in
+    let seen = All-map (λ (t : SessionTold). IsShown (length opening.history) closed t.end.number
+    t.end.role t.end.calls t.torn t.left.pass) told xs shown in
+    record {
+      sum = all;
+      sessions = each;
+      served = subst (λ ts. HaveServed (row_of opening) (map start ss) ts)
+          (map_map (λ t. t.left) told xs) served;
+      begins = begins;
+      shown = seen;
+      own = owns_all (length opening.history) closed _ (map told xs) all each seen;
+    }
