@@ -1,11 +1,15 @@
 -- What stays as it is while lines are answered, and what another sees of it.
 use Rattle.std.proofs.Common.{◌≡◌, ℕ, Bool, List, [], ◌∷◌, Result, Ok, Err, sym, ap, ◌∙◌}
-use Rattle.std.proofs.Common.{subst, inl, inr}
+use Rattle.std.proofs.Common.{refl, subst, inl, inr}
+use Rattle.acdm_milestones.specs.declared.role.Role.{Role}
+use Rattle.bpf_helpers.specs.Promise.{Promise}
+use Rattle.acdm_row.specs.Views.{PassView}
 use Rattle.acdm_lines.specs.Counted.{SinkView, SourceView}
 use Rattle.acdm_lines.specs.Lines.{lines_of}
 use Rattle.acdm_lines.specs.declared.run_error.RunError.{RunError}
 use Rattle.acdm_lines.specs.declared.run_error.RunError.TheVariants.{Read, Write, Memory}
 use Rattle.acdm_sessions.specs.declared.answer.Answer.{Answer}
+use Rattle.acdm_sessions.specs.Sessions.{SessionAnswers, StaysItself}
 use Rattle.acdm_sessions.specs.Stream.{Answering, AnswersAll, AnswersEach, AnswersLinePart}
 use Rattle.acdm_sessions.specs.Stream.{AnswersLines, AnswersPart, AnswersText, AnswersWhole, EndsSo}
 use Rattle.acdm_sessions.specs.Stream.{Serving, StopsAtFlush, StopsInReply, kept, serving_by}
@@ -40,7 +44,7 @@ module _ {A X : Type 0} (f : A → X) (may : Answering A)
       part_keeps a b r.log r'.log w.log w'.log h.written_in_part
   ends_keep r r' w w' a b (Err Memory) h = ap f h.2
 
-  pub lines_keep : {R W T : Type 0} (r r' : SourceView R) (w w' : SinkView W) (a b : A)
+  lines_keep : {R W T : Type 0} (r r' : SourceView R) (w w' : SinkView W) (a b : A)
       (result : Result T RunError) → AnswersLines (serving_by may) r r' w w' a b result → f b ≡ f a
   lines_keep r r' w w' a b result h = ends_keep r r' w w' a b result h.ends
 
@@ -167,9 +171,35 @@ module _ {A B : Type 0} (f : A → B) (may : Answering A) (seen : Answering B) (
     wrote = h.wrote;
   }
 
-  pub answers_seen : {R W T : Type 0} (r r' : SourceView R) (w w' : SinkView W) (a b : A)
+  answers_seen : {R W T : Type 0} (r r' : SourceView R) (w w' : SinkView W) (a b : A)
       (result : Result T RunError) → stays a → AnswersLines (serving_by may) r r' w w' a b result
       → AnswersLines (serving_by seen) r r' w w' (f a) (f b) result
   answers_seen r r' w w' a b result start h =
       lines_seen f (serving_by may) (serving_by seen) stays text_seen line_seen r r' w w' a b result
       start h
+
+-- Those who answer as sessions: what is seen of them is the pass of each.
+module _ {A R W T : Type 0} (gives : A → ℕ → Bool) (pass : A → PassView) (number : A → ℕ)
+    (role : A → Role) (sigs : List (ℕ × Promise)) (r r' : SourceView R) (w w' : SinkView W) (a b : A)
+    (result : Result T RunError) where
+  abbrev MayAnswer : Answering A
+  MayAnswer x y line answer =
+      SessionAnswers (gives x) sigs (pass x) (pass y) line answer
+      × StaysItself (gives x) (gives y) (number x) (number y) (role x) (role y)
+
+  pub session_lines : AnswersLines (serving_by MayAnswer) r r' w w' a b result
+      → AnswersLines (serving_by (SessionAnswers (gives a) sigs)) r r' w w' (pass a) (pass b) result
+  session_lines h =
+      answers_seen pass MayAnswer (SessionAnswers (gives a) sigs) (λ x. gives x ≡ gives a)
+      (λ x y l answer same step. (
+        subst (λ gs. SessionAnswers gs sigs (pass x) (pass y) l answer) same step.0,
+        step.1.same_clock ∙ same,
+      )) r r' w w' a b result refl h
+
+  pub session_number : AnswersLines (serving_by MayAnswer) r r' w w' a b result → number b ≡ number a
+  session_number h =
+      lines_keep number MayAnswer (λ x y l answer step. step.1.same_number) r r' w w' a b result h
+
+  pub session_role : AnswersLines (serving_by MayAnswer) r r' w w' a b result → role b ≡ role a
+  session_role h =
+      lines_keep role MayAnswer (λ x y l answer step. step.1.same_role) r r' w w' a b result h

@@ -1,4 +1,5 @@
 pub mod Answering
+pub mod Calling
 pub mod Completing
 pub mod Counting
 pub mod Crossing

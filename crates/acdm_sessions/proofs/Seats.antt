@@ -1,6 +1,6 @@
 -- Seats, and what is told of those who left them.
 use Rattle.std.proofs.Common.{◌≡◌, ℕ, ◌+◌, ◌<◌, ◌≤◌, List, [], ◌∷◌, map, length, refl, sym, ap}
-use Rattle.std.proofs.Common.{◌++◌, ◌∙◌, subst, arith, append_assoc, length-append, Bool}
+use Rattle.std.proofs.Common.{◌++◌, ◌∙◌, subst, arith, append_assoc, append-nil, length-append, Bool}
 use Rattle.std.proofs.Common.{Result, Ok, Err}
 use Rattle.std.proofs.lemmas.List.{map-append}
 use Rattle.acdm_milestones.specs.declared.role.Role.{Role}
@@ -28,32 +28,69 @@ pub longer_by_one : {X : Type 0} (xs ys : List X) (x : X) → ys ≡ xs ++ x ∷
 longer_by_one xs ys x h = ap length h ∙ length-append xs (x ∷ [])
 
 -- one more of a list was taken, and what came of it stands behind the others
-pub taken_as : {W S : Type 0} (f : W → S) (done : List W) (w : W) (items rest all : List S)
-    → items ≡ f w ∷ rest → map f done ++ items ≡ all → map f (done ++ w ∷ []) ++ rest ≡ all
-taken_as f done w items rest all next h =
-    ap (λ xs. xs ++ rest) (map-append f done (w ∷ []))
-    ∙ append_assoc (map f done) (f w ∷ []) rest ∙ ap (λ xs. map f done ++ xs) (sym next) ∙ h
+module _ {W S : Type 0} (f : W → S) where
+  pub taken_as : (done now : List W) (w : W) (items rest all : List S) → now ≡ done ++ w ∷ []
+      → items ≡ f w ∷ rest → map f done ++ items ≡ all → map f now ++ rest ≡ all
+  taken_as done now w items rest all added next h =
+      ap (λ ws. map f ws ++ rest) added
+      ∙ ap (λ xs. xs ++ rest) (map-append f done (w ∷ []))
+      ∙ append_assoc (map f done) (f w ∷ []) rest ∙ ap (λ xs. map f done ++ xs) (sym next) ∙ h
+
+  -- none is left
+  pub all_taken_as : (done : List W) (items all : List S) → length items ≡ 0
+      → map f done ++ items ≡ all → map f done ≡ all
+  all_taken_as done items all none h =
+      sym (append-nil (map f done)) ∙ ap (λ xs. map f done ++ xs) (sym (empty_of items none)) ∙ h
 
 -- the same, where both are looked at
-pub taken_both : {W S X : Type 0} (f : W → X) (h : S → X) (done : List W) (w : W) (s : S)
-    (items rest : List S) (all : List X) → items ≡ s ∷ rest → f w ≡ h s
-    → map f done ++ map h items ≡ all → map f (done ++ w ∷ []) ++ map h rest ≡ all
-taken_both f h done w s items rest all next same kept =
-    ap (λ xs. xs ++ map h rest) (map-append f done (w ∷ []))
-    ∙ append_assoc (map f done) (f w ∷ []) (map h rest)
-    ∙ ap (λ x. map f done ++ x ∷ map h rest) same
-    ∙ ap (λ xs. map f done ++ map h xs) (sym next) ∙ kept
+module _ {W S X : Type 0} (f : W → X) (h : S → X) where
+  pub taken_both : (done now : List W) (w : W) (s : S) (items rest : List S) (all : List X)
+      → now ≡ done ++ w ∷ [] → items ≡ s ∷ rest → f w ≡ h s → map f done ++ map h items ≡ all
+      → map f now ++ map h rest ≡ all
+  taken_both done now w s items rest all added next same kept =
+      ap (λ ws. map f ws ++ map h rest) added
+      ∙ ap (λ xs. xs ++ map h rest) (map-append f done (w ∷ []))
+      ∙ append_assoc (map f done) (f w ∷ []) (map h rest)
+      ∙ ap (λ x. map f done ++ x ∷ map h rest) same
+      ∙ ap (λ xs. map f done ++ map h xs) (sym next) ∙ kept
+
+  -- none was taken yet
+  pub none_taken : (done : List W) (items all : List S) → done ≡ [] → items ≡ all
+      → map f done ++ map h items ≡ map h all
+  none_taken done items all none same =
+      ap (λ ws. map f ws ++ map h items) none ∙ ap (λ xs. map h xs) same
+
+  -- none is left
+  pub all_taken : (done : List W) (items : List S) (all : List X) → length items ≡ 0
+      → map f done ++ map h items ≡ all → map f done ≡ all
+  all_taken done items all none kept =
+      sym (append-nil (map f done))
+      ∙ ap (λ xs. map f done ++ map h xs) (sym (empty_of items none)) ∙ kept
 
 -- the same, where what is taken has its number
-pub taken_numbered : {W S X : Type 0} (f : W → ℕ × X) (h : S → X) (n : ℕ) (done : List W) (w : W)
-    (s : S) (items rest : List S) (all : List (ℕ × X)) → items ≡ s ∷ rest → f w ≡ (n, h s)
-    → map f done ++ numbered n (map h items) ≡ all
-    → map f (done ++ w ∷ []) ++ numbered (n + 1) (map h rest) ≡ all
-taken_numbered f h n done w s items rest all next same kept =
-    ap (λ xs. xs ++ numbered (n + 1) (map h rest)) (map-append f done (w ∷ []))
-    ∙ append_assoc (map f done) (f w ∷ []) (numbered (n + 1) (map h rest))
-    ∙ ap (λ x. map f done ++ x ∷ numbered (n + 1) (map h rest)) same
-    ∙ ap (λ xs. map f done ++ numbered n (map h xs)) (sym next) ∙ kept
+module _ {W S X : Type 0} (f : W → ℕ × X) (h : S → X) (n : ℕ) where
+  pub taken_numbered : (done now : List W) (w : W) (s : S) (items rest : List S)
+      (all : List (ℕ × X)) → now ≡ done ++ w ∷ [] → items ≡ s ∷ rest → f w ≡ (n, h s)
+      → map f done ++ numbered n (map h items) ≡ all
+      → map f now ++ numbered (n + 1) (map h rest) ≡ all
+  taken_numbered done now w s items rest all added next same kept =
+      ap (λ ws. map f ws ++ numbered (n + 1) (map h rest)) added
+      ∙ ap (λ xs. xs ++ numbered (n + 1) (map h rest)) (map-append f done (w ∷ []))
+      ∙ append_assoc (map f done) (f w ∷ []) (numbered (n + 1) (map h rest))
+      ∙ ap (λ x. map f done ++ x ∷ numbered (n + 1) (map h rest)) same
+      ∙ ap (λ xs. map f done ++ numbered n (map h xs)) (sym next) ∙ kept
+
+  pub none_numbered : (done : List W) (items all : List S) → done ≡ [] → items ≡ all
+      → map f done ++ numbered n (map h items) ≡ numbered n (map h all)
+  none_numbered done items all none same =
+      ap (λ ws. map f ws ++ numbered n (map h items)) none
+      ∙ ap (λ xs. numbered n (map h xs)) same
+
+  pub all_numbered : (done : List W) (items : List S) (all : List (ℕ × X)) → length items ≡ 0
+      → map f done ++ numbered n (map h items) ≡ all → map f done ≡ all
+  all_numbered done items all none kept =
+      sym (append-nil (map f done))
+      ∙ ap (λ xs. map f done ++ numbered n (map h xs)) (sym (empty_of items none)) ∙ kept
 
 -- what is so of each that is looked at through f
 pub each_through : {X Y Z : Type 0} (f : X → Y) (P : Y → Z → Type 0) (xs : List X) (zs : List Z)

@@ -1,6 +1,6 @@
-use Rattle.std.proofs.Common.{◌≡◌, [], ◌++◌, map, sym, ap, ◌∙◌, append-nil, ◌≤◌, length, subst, arith}
+use Rattle.std.proofs.Common.{◌≤◌, ◌∙◌, length, sym, ap, subst, arith}
 use Rattle.std.specs.Vec.Iter.{into_iter_items}
-use Rattle.acdm_sessions.proofs.Seats.{empty_of, longer_by_one, taken_as}
+use Rattle.acdm_sessions.proofs.Seats.{all_taken_as, longer_by_one, taken_as}
 use denote.Exit.{no}
 use denote.Param.Send.{param_send, arg_send}
 use Rattle.acdm_sessions.proofs.Crossing.{served_send, work_send}
@@ -17,30 +17,24 @@ add-requires-send-T g c κs within = let k = c.type_bounds in
 
 pub loop-seat-preserved : goal.loop-seat-preserved
 loop-seat-preserved g c =
-    let jobs = c.loop-seat.crew.jobs in
-    let items = into_iter_items c.loop-seat.seat-iterator in
-    let rest = into_iter_items c.next.new.self in
     let added = ap (λ k. k.jobs) c.add.ensures in (
       (
         omega (
           arith,
           c.in-Some.ensures.steps.1,
           c.loop-seat.invariant.0.0,
-          longer_by_one jobs c.add.new.self.jobs _ added,
+          longer_by_one c.loop-seat.crew.jobs c.add.new.self.jobs _ added,
         ),
         subst (λ n. length c.args.seats.items ≤ n) (sym (ap (λ k. k.room) c.add.ensures))
             c.loop-seat.invariant.0.1,
       ),
-      ap (λ ws. map (λ work. work.seat) ws ++ rest) added
-          ∙ taken_as (λ work. work.seat) jobs _ items rest c.args.seats.items
-          c.in-Some.ensures.steps.0 c.loop-seat.invariant.1,
+      taken_as (λ work. work.seat) c.loop-seat.crew.jobs c.add.new.self.jobs _
+          (into_iter_items c.loop-seat.seat-iterator) (into_iter_items c.next.new.self)
+          c.args.seats.items added c.in-Some.ensures.steps.0 c.loop-seat.invariant.1,
     )
 
 pub returns-clause-seats : goal.returns-clause-seats
 returns-clause-seats g c =
     let it = c.loop-seat.seat-iterator in
-    let none : into_iter_items it ≡ [] =
-    empty_of it.rest.items (sym it.rest.ok.0 ∙ c.in-None.ensures.steps.0) in
-    sym (append-nil (map (λ work. work.seat) c.loop-seat.crew.jobs))
-    ∙ ap (λ xs. map (λ work. work.seat) c.loop-seat.crew.jobs ++ xs) (sym none)
-    ∙ c.loop-seat.invariant.1
+    all_taken_as (λ work. work.seat) c.loop-seat.crew.jobs it.rest.items c.args.seats.items
+    (sym it.rest.ok.0 ∙ c.in-None.ensures.steps.0) c.loop-seat.invariant.1

@@ -1,4 +1,4 @@
-use Rattle.std.proofs.Common.{◌≡◌, [], ◌∷◌, ◌++◌, map, sym, ap, subst, ◌∙◌, append-nil, arith, rules}
+use Rattle.std.proofs.Common.{◌≡◌, [], ◌∷◌, ◌++◌, map, sym, ap, subst, ◌∙◌, arith, rules}
 use Rattle.std.specs.List.{All}
 use Rattle.std.specs.Prelude.{sum_by}
 use Rattle.std.proofs.lemmas.List.Elements.{All-push}
@@ -7,35 +7,30 @@ use Rattle.std.specs.Vec.Iter.{into_iter_items}
 use Rattle.acdm_board.specs.Desk.{DeskView}
 use Rattle.acdm_sessions.specs.Passes.{IsShown}
 use Rattle.acdm_sessions.specs.Sessions.{session_end, session_left}
-use Rattle.acdm_sessions.proofs.Seats.{empty_of, taken_both}
+use Rattle.acdm_sessions.proofs.Seats.{all_taken, empty_of, none_taken, taken_both}
 use Rattle.acdm_sessions.proofs.sessions.gathered.Goals as goal
 
 pub returns-clause-session_end : goal.returns-clause-session_end
 returns-clause-session_end g c =
     let it = c.loop-one.one-iterator in
-    let none : into_iter_items it ≡ [] =
-    empty_of it.rest.items (sym it.rest.ok.0 ∙ c.in-None.ensures.steps.0) in
-    sym (append-nil (map (λ e. session_end e.number e.role e.calls e.end) c.loop-one.ended.items))
-    ∙ ap (λ xs. map (λ e. session_end e.number e.role e.calls e.end) c.loop-one.ended.items
-    ++ map (λ s. session_end s.number s.role s.caller.calls s.end) xs) (sym none)
-    ∙ c.loop-one.invariant.session_end
+    all_taken (λ e. session_end e.number e.role e.calls e.end)
+    (λ s. session_end s.number s.role s.caller.calls s.end) c.loop-one.ended.items it.rest.items
+    (map (λ s. session_end s.number s.role s.caller.calls s.end) c.args.served.items)
+    (sym it.rest.ok.0 ∙ c.in-None.ensures.steps.0) c.loop-one.invariant.session_end
 
 pub returns-clause-left : goal.returns-clause-left
 returns-clause-left g c =
     let it = c.loop-one.one-iterator in
-    let none : into_iter_items it ≡ [] =
-    empty_of it.rest.items (sym it.rest.ok.0 ∙ c.in-None.ensures.steps.0) in
-    sym (append-nil (map (λ e. session_left e.end e.reader e.writer e.pass) c.loop-one.ended.items))
-    ∙ ap (λ xs. map (λ e. session_left e.end e.reader e.writer e.pass) c.loop-one.ended.items
-    ++ map (λ s. session_left s.end s.reader s.writer s.caller.pass) xs) (sym none)
-    ∙ c.loop-one.invariant.left
+    all_taken (λ e. session_left e.end e.reader e.writer e.pass)
+    (λ s. session_left s.end s.reader s.writer s.caller.pass) c.loop-one.ended.items it.rest.items
+    (map (λ s. session_left s.end s.reader s.writer s.caller.pass) c.args.served.items)
+    (sym it.rest.ok.0 ∙ c.in-None.ensures.steps.0) c.loop-one.invariant.left
 
 pub loop-one-init : goal.loop-one-init
 loop-one-init g c =
     let none : c.args.ended.items ≡ [] =
     empty_of c.args.ended.items (sym c.args.ended.ok.0 ∙ c.requires.room.0) in
-    let it = into_iter_items c.into_iter-one-iterator.result in
-    let all : it ≡ c.args.served.items = search rules in
+    let all : into_iter_items c.into_iter-one-iterator.result ≡ c.args.served.items = search rules in
     record {
       count = search rules;
       room = search rules;
@@ -43,18 +38,17 @@ loop-one-init g c =
       same = search rules;
       shown = search rules;
       amount = omega (arith, ap (λ es. sum_by (λ e. e.calls) es) none);
-      session_end = ap (λ es. map (λ e. session_end e.number e.role e.calls e.end) es
-          ++ map (λ s. session_end s.number s.role s.caller.calls s.end) it) none
-          ∙ ap (λ es. map (λ s. session_end s.number s.role s.caller.calls s.end) es) all;
-      left = ap (λ es. map (λ e. session_left e.end e.reader e.writer e.pass) es
-          ++ map (λ s. session_left s.end s.reader s.writer s.caller.pass) it) none
-          ∙ ap (λ es. map (λ s. session_left s.end s.reader s.writer s.caller.pass) es) all;
+      session_end = none_taken (λ e. session_end e.number e.role e.calls e.end)
+          (λ s. session_end s.number s.role s.caller.calls s.end) c.args.ended.items
+          (into_iter_items c.into_iter-one-iterator.result) c.args.served.items none all;
+      left = none_taken (λ e. session_left e.end e.reader e.writer e.pass)
+          (λ s. session_left s.end s.reader s.writer s.caller.pass) c.args.ended.items
+          (into_iter_items c.into_iter-one-iterator.result) c.args.served.items none all;
     }
 
 pub loop-one-preserved : goal.loop-one-preserved
 loop-one-preserved g c =
     let e = c.left_by.result in
-    let rest = into_iter_items c.next.new.self in
     let items : c.push_reserved.new.self.items ≡ c.loop-one.ended.items ++ e ∷ [] = search rules in
     let here : IsShown g.J.Naming.start c.args.desk.now e.number e.role e.calls e.torn e.pass =
     subst (λ (d : DeskView). IsShown g.J.Naming.start d e.number e.role e.calls e.torn e.pass)
@@ -75,19 +69,17 @@ loop-one-preserved g c =
         ap (λ es. sum_by (λ e. e.calls) es) items,
         sum_by-append (λ e. e.calls) c.loop-one.ended.items (e ∷ []),
       );
-      session_end = ap (λ es. map (λ e. session_end e.number e.role e.calls e.end) es
-          ++ map (λ s. session_end s.number s.role s.caller.calls s.end) rest) items
-          ∙ taken_both (λ e. session_end e.number e.role e.calls e.end)
-          (λ s. session_end s.number s.role s.caller.calls s.end) c.loop-one.ended.items e
-          c.in-Some.one (into_iter_items c.loop-one.one-iterator) rest
-          (map (λ s. session_end s.number s.role s.caller.calls s.end) c.args.served.items)
+      session_end = taken_both (λ e. session_end e.number e.role e.calls e.end)
+          (λ s. session_end s.number s.role s.caller.calls s.end) c.loop-one.ended.items
+          c.push_reserved.new.self.items c.left_by.result c.in-Some.one
+          (into_iter_items c.loop-one.one-iterator) (into_iter_items c.next.new.self)
+          (map (λ s. session_end s.number s.role s.caller.calls s.end) c.args.served.items) items
           c.in-Some.ensures.steps.0 c.left_by.ensures.session_end
           c.loop-one.invariant.session_end;
-      left = ap (λ es. map (λ e. session_left e.end e.reader e.writer e.pass) es
-          ++ map (λ s. session_left s.end s.reader s.writer s.caller.pass) rest) items
-          ∙ taken_both (λ e. session_left e.end e.reader e.writer e.pass)
-          (λ s. session_left s.end s.reader s.writer s.caller.pass) c.loop-one.ended.items e
-          c.in-Some.one (into_iter_items c.loop-one.one-iterator) rest
-          (map (λ s. session_left s.end s.reader s.writer s.caller.pass) c.args.served.items)
+      left = taken_both (λ e. session_left e.end e.reader e.writer e.pass)
+          (λ s. session_left s.end s.reader s.writer s.caller.pass) c.loop-one.ended.items
+          c.push_reserved.new.self.items c.left_by.result c.in-Some.one
+          (into_iter_items c.loop-one.one-iterator) (into_iter_items c.next.new.self)
+          (map (λ s. session_left s.end s.reader s.writer s.caller.pass) c.args.served.items) items
           c.in-Some.ensures.steps.0 c.left_by.ensures.left c.loop-one.invariant.left;
     }

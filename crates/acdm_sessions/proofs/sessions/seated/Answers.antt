@@ -1,77 +1,61 @@
-use Rattle.std.proofs.Common.{◌≡◌, [], ◌++◌, map, sym, ap, subst, ◌∙◌, append-nil, refl, rules}
-use Rattle.std.proofs.Common.{◌+◌, ◌≤◌}
+use Rattle.std.proofs.Common.{◌≡◌, [], map, sym, ap, ◌∙◌, rules}
+use Rattle.std.proofs.Common.{◌+◌}
 use Rattle.std.specs.Vec.Iter.{into_iter_items}
 use Rattle.acdm_sessions.specs.Sessions.{numbered, session_start}
-use Rattle.acdm_sessions.proofs.Seats.{count_on, empty_of, few_so_far, len_of_all, part_less}
-use Rattle.acdm_sessions.proofs.Seats.{parts_of_all, parts_so_far, room_so_far, taken_numbered}
+use Rattle.acdm_sessions.proofs.Seats.{all_numbered, count_on, empty_of, few_so_far, len_of_all}
+use Rattle.acdm_sessions.proofs.Seats.{none_numbered, part_less, parts_of_all, parts_so_far}
+use Rattle.acdm_sessions.proofs.Seats.{room_so_far, taken_numbered}
 use Rattle.acdm_sessions.proofs.sessions.seated.Goals as goal
 
 pub loop-session-init : goal.loop-session-init
 loop-session-init g c =
     let none : c.args.seats.items ≡ [] =
     empty_of c.args.seats.items (sym c.args.seats.ok.0 ∙ c.requires.room.0) in
-    let it = into_iter_items c.into_iter-session-iterator.result in
-    let all : it ≡ c.args.sessions.items =
-    c.into_iter-session-iterator.ensures.into_iter_gives.0 in
     record {
       count = search rules;
       seats = c.requires.room.0;
       room = c.requires.room.1;
       parts = search rules;
-      amount = refl;
-      places = ap (λ es. map (λ s. (s.number, s.role)) es ++ numbered 1 (map (λ s. s.role) it)) none
-          ∙ ap (λ es. numbered 1 (map (λ s. s.role) es)) all;
-      starts = ap (λ es. map (λ s. (
+      amount = search rules;
+      places = none_numbered (λ s. (s.number, s.role)) (λ s. s.role) 1 c.args.seats.items
+          (into_iter_items c.into_iter-session-iterator.result) c.args.sessions.items none
+          c.into_iter-session-iterator.ensures.into_iter_gives.0;
+      starts = none_numbered (λ s. (
         s.number,
         session_start s.role s.reader s.writer (g.C.Clock.gives s.caller.clock),
-      )) es ++ numbered 1 (map (λ s. session_start s.role s.reader s.writer (g.C.Clock.gives s.clock)) it)) none
-          ∙ ap (λ es. numbered 1 (map (λ s. session_start s.role
-          s.reader s.writer
-          (g.C.Clock.gives s.clock)) es)) all;
+      )) (λ s. session_start s.role s.reader s.writer (g.C.Clock.gives s.clock)) 1
+          c.args.seats.items (into_iter_items c.into_iter-session-iterator.result)
+          c.args.sessions.items none c.into_iter-session-iterator.ensures.into_iter_gives.0;
     }
 
 pub loop-session-preserved : goal.loop-session-preserved
 loop-session-preserved g c =
     let n = c.loop-session.number in
     let before = c.loop-session.invariant in
-    let done = c.loop-session.seats.items in
     let one = c.in_ok-seat.seat in
     let given = c.in_ok-seat.ensures in
     let pushed = c.push_reserved.ensures in
-    let items = into_iter_items c.loop-session.session-iterator in
-    let rest = into_iter_items c.next.new.self in
     let steps = c.in-Some.ensures.steps in
     record {
       count = count_on n _ _ _ steps.1 before.count;
       seats = pushed.len ∙ ap (λ k. k + 1) before.seats;
-      room = subst (λ k. c.args.sessions.len ≤ k) (sym pushed.capacity) before.room;
+      room = rw pushed.capacity before.room;
       parts = part_less n _ _ _ given.share.0 before.parts;
       amount = given.share.1 ∙ before.amount;
-      places = ap (λ es. map (λ s. (s.number, s.role)) es
-          ++ numbered (n + 1 + 1) (map (λ s. s.role) rest)) pushed.items
-          ∙ taken_numbered (λ s. (s.number, s.role)) (λ s. s.role) (n + 1) done one
-          c.in-Some.session items rest (numbered 1 (map (λ s. s.role) c.args.sessions.items))
-          steps.0
-          (ap (λ k. (k, one.role)) given.place.0 ∙ ap (λ r. (n + 1, r)) given.place.1)
-          before.places;
-      starts = ap (λ es. map (λ s. (
+      places = taken_numbered (λ s. (s.number, s.role)) (λ s. s.role) (n + 1)
+          c.loop-session.seats.items c.push_reserved.new.self.items one c.in-Some.session
+          (into_iter_items c.loop-session.session-iterator) (into_iter_items c.next.new.self)
+          (numbered 1 (map (λ s. s.role) c.args.sessions.items)) pushed.items steps.0
+          (λ i. (given.place.0 i, given.place.1 i)) before.places;
+      starts = taken_numbered (λ s. (
         s.number,
         session_start s.role s.reader s.writer (g.C.Clock.gives s.caller.clock),
-      )) es ++ numbered (n + 1 + 1) (map (λ s. session_start s.role
-          s.reader s.writer
-          (g.C.Clock.gives s.clock)) rest)) pushed.items
-          ∙ taken_numbered (λ s. (
-            s.number,
-            session_start s.role s.reader s.writer (g.C.Clock.gives s.caller.clock),
-          )) (λ s. session_start s.role s.reader s.writer (g.C.Clock.gives s.clock)) (n + 1) done one
-          c.in-Some.session items rest
+      )) (λ s. session_start s.role s.reader s.writer (g.C.Clock.gives s.clock)) (n + 1)
+          c.loop-session.seats.items c.push_reserved.new.self.items one c.in-Some.session
+          (into_iter_items c.loop-session.session-iterator) (into_iter_items c.next.new.self)
           (numbered 1 (map (λ s. session_start s.role s.reader s.writer (g.C.Clock.gives s.clock))
-          c.args.sessions.items)) steps.0
-          (ap (λ k. (
-            k,
-            session_start one.role one.reader one.writer (g.C.Clock.gives one.caller.clock),
-          )) given.place.0 ∙ ap (λ t. (n + 1, t)) given.start)
-          before.starts;
+          c.args.sessions.items)) pushed.items steps.0
+          (λ i. (given.place.0 i, given.start i)) before.starts;
     }
 
 pub seat_for-requires-clause-row : goal.seat_for-requires-clause-row
@@ -108,27 +92,19 @@ returns-clause-amount g c = c.loop-session.invariant.amount
 pub returns-clause-seats : goal.returns-clause-seats
 returns-clause-seats g c =
     let it = c.loop-session.session-iterator in
-    let none : into_iter_items it ≡ [] =
-    empty_of it.rest.items (sym it.rest.ok.0 ∙ c.in-None.ensures.steps.0) in
-    sym (append-nil (map (λ s. (s.number, s.role)) c.loop-session.seats.items))
-    ∙ ap (λ xs. map (λ s. (s.number, s.role)) c.loop-session.seats.items
-    ++ numbered (c.loop-session.number + 1) (map (λ s. s.role) xs)) (sym none)
-    ∙ c.loop-session.invariant.places
+    all_numbered (λ s. (s.number, s.role)) (λ s. s.role) (c.loop-session.number + 1)
+    c.loop-session.seats.items it.rest.items
+    (numbered 1 (map (λ s. s.role) c.args.sessions.items))
+    (sym it.rest.ok.0 ∙ c.in-None.ensures.steps.0) c.loop-session.invariant.places
 
 pub returns-clause-starts : goal.returns-clause-starts
 returns-clause-starts g c =
     let it = c.loop-session.session-iterator in
-    let none : into_iter_items it ≡ [] =
-    empty_of it.rest.items (sym it.rest.ok.0 ∙ c.in-None.ensures.steps.0) in
-    sym (append-nil (map (λ s. (
+    all_numbered (λ s. (
       s.number,
       session_start s.role s.reader s.writer (g.C.Clock.gives s.caller.clock),
-    )) c.loop-session.seats.items))
-    ∙ ap (λ xs. map (λ s. (
-      s.number,
-      session_start s.role s.reader s.writer (g.C.Clock.gives s.caller.clock),
-    )) c.loop-session.seats.items
-    ++ numbered (c.loop-session.number + 1) (map (λ s. session_start s.role
-    s.reader s.writer
-    (g.C.Clock.gives s.clock)) xs)) (sym none)
-    ∙ c.loop-session.invariant.starts
+    )) (λ s. session_start s.role s.reader s.writer (g.C.Clock.gives s.clock))
+    (c.loop-session.number + 1) c.loop-session.seats.items it.rest.items
+    (numbered 1 (map (λ s. session_start s.role s.reader s.writer (g.C.Clock.gives s.clock))
+    c.args.sessions.items))
+    (sym it.rest.ok.0 ∙ c.in-None.ensures.steps.0) c.loop-session.invariant.starts
