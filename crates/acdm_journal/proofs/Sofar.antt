@@ -23,7 +23,7 @@ use Rattle.acdm_journal.specs.Text.{line_of, stated_in, history_text}
 use Rattle.acdm_journal.specs.Ranges.{IsStated}
 use Rattle.acdm_journal.specs.Audit.{States, StatesNext, Continues, Breaks}
 use Rattle.acdm_journal.specs.Whole.{AreReadable, BreaksNext, at_line, at_end}
-use Rattle.acdm_journal.specs.Whole.{FirstFault, FoundFaulty}
+use Rattle.acdm_journal.specs.Whole.{FirstFault, FoundFaulty, FoundUnended}
 use Rattle.acdm_journal.specs.Whole.{GaveLegal, GaveFaulty, GaveUnended, Audits, JudgesEntry}
 use Rattle.acdm_journal.specs.declared.auditing.JournalFault.{JournalFault}
 use Rattle.acdm_journal.specs.declared.auditing.JournalFault.TheVariants as faults
@@ -313,7 +313,7 @@ module _ {R : Type 0} (sigs : List (ℕ × Promise)) (r0 r1 r2 : SourceView R)
             (breaks-long sigs so_far.front (l1.window ++ t.text) later t.is_line long
             (none_or_first later)))
 
-    -- no line more could be read
+    -- no line more could be read, however much of it was
     pub unended : (error : RunError) → TakesPart MOST_KEPT r1 r2 l1 l2 error
         → r1.faults ≡ r0.faults → r0.faults < 2 ^ 64 - 1
         → GaveUnended sigs r0.log r2.log r0.faults r2.faults
@@ -337,3 +337,10 @@ module _ {R : Type 0} (sigs : List (ℕ × Promise)) (r0 r1 r2 : SourceView R)
             let most : l1.reads_left ≤ length t.text = few.1 in
             let all = gave_with t.text 0 (omega arith) in
             inr (few.0 ∙ well, omega (arith, all))
+
+    -- no line more could be read, and not much of it was
+    pub soon-unended : (error : RunError) → TakesPart MOST_KEPT r1 r2 l1 l2 error
+        → ReadsSoon MOST_KEPT r1 r2 l1 → r1.faults ≡ r0.faults → r0.faults < 2 ^ 64 - 1
+        → FoundUnended sigs r0.log r2.log r0.faults r2.faults
+    unfolding unended
+    soon-unended error t soon well room = (unended error t well room, few soon t.text t.gave)

@@ -101,6 +101,12 @@ pub record GaveUnended (sigs : List (ℕ × Promise)) (log log_after : List ℕ)
   pub gave : log_after ≡ log ++ (history_text front ++ part)
   pub why : FailsOrEndless faults later_faults (history_text front ++ part)
 
+-- No more could be read, and behind the text of the entries before no more was read than is kept of a
+-- line and one read gives.
+abbrev pub FoundUnended : List (ℕ × Promise) → List ℕ → List ℕ → ℕ → ℕ → Type 0
+FoundUnended sigs log log_after faults later_faults =
+    (g : GaveUnended sigs log log_after faults later_faults) × (length g.part ≤ MOST_KEPT + most_held)
+
 -- what comes of an audit of what a reader gives
 abbrev pub Audits : {R : Type 0} → List (ℕ × Promise) → SourceView R → SourceView R
     → Result ℕ JournalFault → Type 0
@@ -109,7 +115,7 @@ Audits sigs old new (Ok n) =
 Audits sigs old new (Err (faults.Faulty entry clause)) =
     FoundFaulty sigs old.log new.log new.ended entry clause × (new.faults ≡ old.faults)
 Audits sigs old new (Err faults.Read) =
-    GaveUnended sigs old.log new.log old.faults new.faults
+    FoundUnended sigs old.log new.log old.faults new.faults
 Audits sigs old new (Err faults.Memory) = new.faults ≡ old.faults
 
 -- ---- what was written

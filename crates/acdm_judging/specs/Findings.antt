@@ -1,11 +1,11 @@
 -- What is told of a journal.
-use Rattle.std.specs.Prelude.{ℕ, ◌≡◌, true, false, List, [], ◌∷◌, ◌++◌, codes, Result, Ok, Err}
+use Rattle.std.specs.Prelude.{ℕ, ◌≡◌, false, List, [], ◌∷◌, ◌++◌, codes, Result, Ok, Err}
 use Rattle.std.specs.Fmt.{decimal}
 use Rattle.bpf_helpers.specs.Promise.{Promise}
 use Rattle.acdm_lines.specs.Counted.{SinkView, SourceView}
 use Rattle.acdm_lines.specs.declared.run_error.RunError.TheVariants as errors
 use Rattle.acdm_journal.specs.Audit.{clause_code}
-use Rattle.acdm_journal.specs.Whole.{GaveLegal, FoundFaulty, GaveUnended}
+use Rattle.acdm_journal.specs.Whole.{GaveLegal, FoundFaulty, FoundUnended}
 use Rattle.acdm_wire.specs.Writes.{Wrote, WroteInPart}
 use Rattle.acdm_judging.specs.declared.auditing.Finding.{Finding}
 use Rattle.acdm_judging.specs.declared.auditing.Finding.TheVariants.{Legal, Faulty}
@@ -18,7 +18,7 @@ abbrev pub Finds : {R : Type 0} → List (ℕ × Promise) → SourceView R → S
 Finds sigs old new (Ok (Legal n)) = GaveLegal sigs old.log new.log new.ended n
 Finds sigs old new (Ok (Faulty entry clause)) =
     FoundFaulty sigs old.log new.log new.ended entry clause
-Finds sigs old new (Err Read) = GaveUnended sigs old.log new.log old.faults new.faults
+Finds sigs old new (Err Read) = FoundUnended sigs old.log new.log old.faults new.faults
 Finds sigs old new (Err Memory) = Unit {0}
 Finds sigs old new (Err failure) = ⊥
 

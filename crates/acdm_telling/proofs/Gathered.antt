@@ -1,6 +1,6 @@
 -- What is known while a saved journal is told.
-use Rattle.std.proofs.Common.{◌≡◌, ℕ, ◌+◌, ◌-◌, ◌^◌, ◌<◌, ◌≤◌, List, [], ◌∷◌, ◌++◌, length, Ok, Err}
-use Rattle.std.proofs.Common.{Option, Some, None, Result, take}
+use Rattle.std.proofs.Common.{◌≡◌, ℕ, ◌+◌, ◌-◌, ◌^◌, ◌<◌, List, [], ◌∷◌, ◌++◌, length, Ok, Err}
+use Rattle.std.proofs.Common.{Some, None, Result, take}
 use Rattle.std.proofs.Math.Seq.{take-append_seam}
 use Rattle.std.proofs.Common.{refl, sym, ap, subst, ◌∙◌, append_assoc, append-nil, arith, inl, inr}
 use Rattle.bpf_helpers.specs.Promise.{Promise}
@@ -22,9 +22,9 @@ use Rattle.acdm_journal.specs.declared.judge.PlannedEntry.{PlannedEntry}
 use Rattle.acdm_journal.specs.declared.judge.Clause.TheVariants as clauses
 use Rattle.acdm_journal.specs.Text.{history_text}
 use Rattle.acdm_journal.specs.Audit.{Breaks, Continues}
-use Rattle.acdm_journal.proofs.Sofar.{Sofar, ends, faulty, faulty-rest, sofar-begins, sofar-entry, unended}
+use Rattle.acdm_journal.proofs.Sofar.{Sofar, ends, faulty, faulty-rest, soon-unended, sofar-entry}
 use Rattle.acdm_wire.specs.Writes.{AppendsPart, Wrote, WroteInPart}
-use Rattle.acdm_wire.proofs.Writing.{wrote-as, wrote-back, wrote-both, wrote-front}
+use Rattle.acdm_wire.proofs.Writing.{wrote-back, wrote-both, wrote-front}
 use Rattle.acdm_judging.specs.Findings.{Tells, finding_text}
 use Rattle.acdm_judging.specs.declared.auditing.Finding.{Finding}
 use Rattle.acdm_judging.specs.declared.auditing.Finding.TheVariants.{Legal, Faulty}
@@ -295,9 +295,11 @@ module _ {R W : Type 0} (sigs : List (ℕ × Promise)) (r0 r1 r2 : SourceView R)
 
     -- no line more could be read
     pub broken_off : (error : RunError) → TakesPart MOST_KEPT r1 r2 l1 l2 error
-        → r0.faults < 2 ^ 64 - 1 → GatheredUnended sigs text r0 r2 w0 w1
-    broken_off error t room = record {
-      unended = unended sigs r0 r1 r2 l1 l2 judged.entries judged.core g.sofar error t g.well room;
+        → ReadsSoon MOST_KEPT r1 r2 l1 → r0.faults < 2 ^ 64 - 1
+        → GatheredUnended sigs text r0 r2 w0 w1
+    broken_off error t soon room = record {
+      unended = soon-unended sigs r0 r1 r2 l1 l2 judged.entries judged.core g.sofar error t soon g.well
+          room;
       history = g.sofar.front;
       rest = l1.window ++ t.text;
       gives = gives t.text t.gave;

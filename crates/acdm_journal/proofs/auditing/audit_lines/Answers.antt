@@ -2,7 +2,7 @@ use Rattle.std.proofs.Common.{◌<◌, ◌≢◌, Ok, length, refl, sym, ap, ◌
 use Rattle.std.proofs.lemmas.Bool.{eqb-true, eqb-false}
 use Rattle.std.proofs.lemmas.Result.{err_from_is_err_and}
 use Rattle.acdm_step.specs.History.{Board}
-use Rattle.acdm_journal.proofs.Sofar.{sofar-begins, sofar-line, faulty, ends, faulty-rest, unended}
+use Rattle.acdm_journal.proofs.Sofar.{sofar-begins, sofar-line, faulty, ends, faulty-rest, soon-unended}
 use Rattle.acdm_journal.proofs.auditing.audit_lines.Goals as goal
 
 pub loop-core-init : goal.loop-core-init
@@ -19,10 +19,10 @@ returns-in_err-next_line g c =
     let t = c.in_err-next_line.ensures.takes in
     let p = err_from_is_err_and c.from_residual.result c.from_residual.ensures.1 in
     rw (p.1, p.2, t.1) (record {
-      audits = unended c.args.sigs.now c.args.reader.now c.loop-core.reader
+      audits = soon-unended c.args.sigs.now c.args.reader.now c.loop-core.reader
           c.next_line.new.reader c.loop-core.lines c.next_line.new.lines c.loop-core.entry
-          c.loop-core.core c.loop-core.invariant.sofar _ t.0 c.loop-core.invariant.well
-          c.requires.reads;
+          c.loop-core.core c.loop-core.invariant.sofar _ t.0 c.in_err-next_line.ensures.soon
+          c.loop-core.invariant.well c.requires.reads;
       first = t.0.same ∙ c.loop-core.invariant.same;
     })
 

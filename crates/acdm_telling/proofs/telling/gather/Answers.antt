@@ -1,6 +1,8 @@
 use Rattle.std.proofs.Common.{◌<◌, ◌≢◌, Ok, length, sym, ap, ◌∙◌, arith}
 use Rattle.std.proofs.lemmas.Bool.{eqb-true, eqb-false}
-use Rattle.acdm_telling.proofs.Gathered.{begins, ends_faulty, ends_well, found_fault, goes_on, stopped}
+use Rattle.std.proofs.lemmas.Result.{err_from_is_err_and}
+use Rattle.acdm_telling.proofs.Gathered.{begins, broken_off, ends_faulty, ends_well, found_fault, goes_on}
+use Rattle.acdm_telling.proofs.Gathered.{stopped}
 use Rattle.acdm_telling.proofs.telling.gather.Goals as goal
 
 pub loop-judged-init : goal.loop-judged-init
@@ -28,6 +30,15 @@ loop-judged-preserved g c =
       sigs = e.told.sigs_are ∙ c.loop-judged.invariant.sigs;
       bound = omega (arith, c.loop-judged.invariant.bound, lighter, counted);
     }
+
+pub returns-in_err-next_line : goal.returns-in_err-next_line
+returns-in_err-next_line g c =
+    let t = c.in_err-next_line.ensures.takes in
+    let p = err_from_is_err_and c.from_residual.result c.from_residual.ensures.1 in
+    rw (p.1, p.2, t.1) (broken_off c.args.sigs.now c.args.reader.now c.loop-judged.reader
+    c.next_line.new.reader c.loop-judged.lines c.next_line.new.lines c.loop-judged.judged
+    c.loop-judged.text.items c.args.writer.now c.loop-judged.writer c.loop-judged.invariant.going _ t.0
+    c.in_err-next_line.ensures.soon c.requires.reads)
 
 pub returns-in-Ok-Some : goal.returns-in-Ok-Some
 returns-in-Ok-Some g c =
