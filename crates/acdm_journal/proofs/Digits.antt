@@ -5,7 +5,7 @@ use Rattle.hex.specs.Hex.{encode_lower, encode_with}
 use Rattle.bpf_decode.specs.declared.op.Op.{Op}
 use Rattle.bpf_decode.specs.Encoding.{encoding, encoding_of}
 use Rattle.acdm_journal.specs.Ranges.{IsByte}
-use Rattle.acdm_journal.proofs.NoSpaces.{each-append}
+use Rattle.acdm_journal.proofs.PlainWords.{each-append}
 
 -- the digits of one byte more
 pub digits-more : (old before added all rest : List ℕ) (b : ℕ) (more : List ℕ) → rest ≡ b ∷ more

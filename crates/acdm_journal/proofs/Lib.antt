@@ -2,7 +2,7 @@ pub mod Splitting
 pub mod Numbers
 pub mod Parts
 pub mod ReadBack
-pub mod NoSpaces
+pub mod PlainWords
 pub mod OneLine
 pub mod Pieces
 pub mod Digits
@@ -18,7 +18,6 @@ pub mod OneVerdict
 pub mod Sofar
 pub mod OneText
 pub mod FewAnswers
-pub mod LineLength
 pub mod Readable
 pub mod Taken
 pub mod TextRows

@@ -25,7 +25,7 @@ use Rattle.acdm_journal.specs.Memory.{some_need_memory, stated_needs_memory}
 use Rattle.acdm_journal.specs.Memory.{line_needs_memory, is_load_line, JudgingNeedsMemory}
 use Rattle.acdm_journal.proofs.Parts.{number_at-is, role_at-is, kind_at-is, milestone_at-is}
 use Rattle.acdm_journal.proofs.ReadBack.{answers_at-is}
-use Rattle.acdm_journal.proofs.NoSpaces.{line_lacks}
+use Rattle.acdm_journal.proofs.PlainWords.{line_lacks}
 use Rattle.acdm_journal.proofs.Splitting.{words_of-joined}
 
 -- the test of what is read

@@ -14,7 +14,7 @@ use Rattle.std.specs.Prelude.{IfOk}
 use Rattle.acdm_journal.specs.declared.stated.ReadError.{ReadError}
 use Rattle.acdm_journal.specs.declared.stated.ReadError.TheVariants.{Memory, Unreadable}
 use Rattle.acdm_journal.proofs.Parts.{bind_some, bind_is}
-use Rattle.acdm_journal.proofs.NoSpaces.{line_lacks}
+use Rattle.acdm_journal.proofs.PlainWords.{line_lacks}
 use Rattle.acdm_journal.proofs.ReadBack.{ReadsLine, stated_at-is, stated_at-back}
 use Rattle.acdm_journal.proofs.Splitting.{words_of-joined, joined-words_of}
 use Rattle.acdm_milestones.specs.Names.{role_name}

@@ -20,7 +20,7 @@ use Rattle.acdm_journal.specs.Audit.{IsCommandOf, UsesAnswers, States, StatesNex
 use Rattle.acdm_journal.specs.Audit.{Breaks}
 use Rattle.acdm_journal.specs.Whole.{IsReadable, AreReadable, IsTextOf, BreaksNext, at_line, at_end}
 use Rattle.acdm_journal.specs.Whole.{FirstFault}
-use Rattle.acdm_journal.proofs.NoSpaces.{line_is_line}
+use Rattle.acdm_journal.proofs.PlainWords.{line_is_line}
 use Rattle.acdm_journal.proofs.OneLine.{one_line}
 use Rattle.acdm_journal.proofs.OneVerdict.{one_command, breaks_none}
 use Rattle.acdm_journal.specs.declared.reading.TheConstants.{LONGEST_ENTRY}

@@ -23,25 +23,13 @@ use Rattle.acdm_journal.specs.Spaced.{spaced}
 use Rattle.acdm_journal.specs.Audit.{IsCommandOf}
 use Rattle.acdm_journal.specs.Whole.{IsReadable, AreReadable}
 use Rattle.acdm_journal.proofs.FewAnswers.{few_answered, load_unanswered}
-use Rattle.acdm_journal.proofs.LineLength.{plain_within, load_within, line_within}
+use Rattle.acdm_journal.proofs.PlainWords.{plain_within, load_within, line_within}
 
 -- ---- the outcome
 
 refusal_small : (r : Refusal) → nat_lt (refusal_code r) 1000 ≡ true
 refusal_small refusals.NotOwner = refl
-refusal_small refusals.UnknownFlight = refl
-refusal_small refusals.MissingMilestone = refl
-refusal_small refusals.Barred = refl
-refusal_small refusals.NotSet = refl
-refusal_small refusals.TimeOrder = refl
-refusal_small refusals.AlreadyPlanned = refl
-refusal_small refusals.FullBoard = refl
-refusal_small refusals.EmptySlot = refl
-refusal_small refusals.OtherSignatures = refl
-refusal_small refusals.OtherLength = refl
-refusal_small refusals.AlreadyMigrated = refl
-refusal_small refusals.FirstLayout = refl
-refusal_small refusals.Unanswered = refl
+refusal_small _ = refl
 
 outcome_small : (v : Verdict) → IsWord (outcome_code v)
 outcome_small Accepted = omega arith
@@ -65,12 +53,7 @@ command_is sigs (commands.Load l) checked program = (
     };
   },
 )
-command_is sigs (commands.Flight k) checked program = refl
-command_is sigs (commands.Unload u) checked program = refl
-command_is sigs commands.Tick checked program = refl
-command_is sigs commands.Migrate checked program = refl
-command_is sigs (commands.Show f) checked program = refl
-command_is sigs commands.Alerts checked program = refl
+command_is sigs _ checked program = refl
 
 -- ---- its length
 
@@ -102,23 +85,12 @@ module _ (sigs : List (ℕ × Promise)) (J : History) (role : Role) (moment : �
       let none : length answers ≡ 0 =
       ap length (load_unanswered sigs J role moment verdict answers l is) in
       record {
-        most = 65604;
+        most = 65621;
         asked = load_within l.milestone l.kind (encoding l.program.ops) l.program.record_length
             bytes;
         few = omega (arith, none);
       }
-  within (commands.Flight k) is program asked =
-      plain (commands.Flight k) is (plain_within (commands.Flight k) asked.0 asked.1)
-  within (commands.Unload u) is program asked =
-      plain (commands.Unload u) is (plain_within (commands.Unload u) asked.0 asked.1)
-  within commands.Tick is program asked =
-      plain commands.Tick is (plain_within commands.Tick asked.0 asked.1)
-  within commands.Migrate is program asked =
-      plain commands.Migrate is (plain_within commands.Migrate asked.0 asked.1)
-  within (commands.Show f) is program asked =
-      plain (commands.Show f) is (plain_within (commands.Show f) asked.0 asked.1)
-  within commands.Alerts is program asked =
-      plain commands.Alerts is (plain_within commands.Alerts asked.0 asked.1)
+  within c is program asked = plain c is (plain_within c asked.0 asked.1)
 
 -- ---- an entry
 
