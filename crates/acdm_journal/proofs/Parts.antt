@@ -139,11 +139,7 @@ named w name h = (bytes_eq-Decides w name).0 h
 
 pub role_named-is : (r : Role) → role_named (role_name r) ≡ Some r
 role_named-is NetworkManager = refl
-role_named-is AirTrafficControl = refl
-role_named-is AirportOperator = refl
-role_named-is AircraftOperator = refl
-role_named-is GroundHandler = refl
-role_named-is DeicingCompany = refl
+role_named-is _ = refl
 
 is_role : (w : List ℕ) (a r : Role) → bytes_eq w (role_name a) ≡ true → Some a ≡ Some r
     → w ≡ role_name r
@@ -223,9 +219,7 @@ kind_at-back ws k left h =
 
 deicing_named-is : (d : DeicingTime) → deicing_named (deicing_name d) ≡ Some d
 deicing_named-is EstimatedCommencement = refl
-deicing_named-is EstimatedEnd = refl
-deicing_named-is ActualCommencement = refl
-deicing_named-is ActualEnd = refl
+deicing_named-is _ = refl
 
 is_deicing : (w : List ℕ) (a d : DeicingTime) → bytes_eq w (deicing_name a) ≡ true
     → Some a ≡ Some d → w ≡ deicing_name d
@@ -291,21 +285,7 @@ length_at-back (w ∷ ws) l left h =
 
 milestone_numbered-is : (a : Milestone) → milestone_numbered (number a) ≡ Some a
 milestone_numbered-is m.FlightPlanActivated = refl
-milestone_numbered-is m.TwoHoursBeforeEobt = refl
-milestone_numbered-is m.TakeOffFromOutstation = refl
-milestone_numbered-is m.LocalRadarUpdate = refl
-milestone_numbered-is m.FinalApproach = refl
-milestone_numbered-is m.Landed = refl
-milestone_numbered-is m.InBlock = refl
-milestone_numbered-is m.GroundHandlingStarts = refl
-milestone_numbered-is m.TobtUpdate = refl
-milestone_numbered-is m.TsatIssue = refl
-milestone_numbered-is m.BoardingStarts = refl
-milestone_numbered-is m.AircraftReady = refl
-milestone_numbered-is m.StartUpRequest = refl
-milestone_numbered-is m.StartUpApproved = refl
-milestone_numbered-is m.OffBlock = refl
-milestone_numbered-is m.TakeOff = refl
+milestone_numbered-is _ = refl
 
 find-passes : {A : Type 0} (p : A → Bool) (xs : List A) (x : A) → find p xs ≡ Some x → p x ≡ true
 find-passes p [] x h = absurd (cc)
@@ -325,21 +305,7 @@ pub record IsNumbered (a : Milestone) : Type 0 where
 
 pub is_numbered : (a : Milestone) → IsNumbered a
 is_numbered m.FlightPlanActivated = record { some = omega arith; most = omega arith }
-is_numbered m.TwoHoursBeforeEobt = record { some = omega arith; most = omega arith }
-is_numbered m.TakeOffFromOutstation = record { some = omega arith; most = omega arith }
-is_numbered m.LocalRadarUpdate = record { some = omega arith; most = omega arith }
-is_numbered m.FinalApproach = record { some = omega arith; most = omega arith }
-is_numbered m.Landed = record { some = omega arith; most = omega arith }
-is_numbered m.InBlock = record { some = omega arith; most = omega arith }
-is_numbered m.GroundHandlingStarts = record { some = omega arith; most = omega arith }
-is_numbered m.TobtUpdate = record { some = omega arith; most = omega arith }
-is_numbered m.TsatIssue = record { some = omega arith; most = omega arith }
-is_numbered m.BoardingStarts = record { some = omega arith; most = omega arith }
-is_numbered m.AircraftReady = record { some = omega arith; most = omega arith }
-is_numbered m.StartUpRequest = record { some = omega arith; most = omega arith }
-is_numbered m.StartUpApproved = record { some = omega arith; most = omega arith }
-is_numbered m.OffBlock = record { some = omega arith; most = omega arith }
-is_numbered m.TakeOff = record { some = omega arith; most = omega arith }
+is_numbered _ = record { some = omega arith; most = omega arith }
 
 pub milestone_at-is : (a : Milestone) (ws : Words)
     → milestone_at (decimal (number a) ∷ ws) ≡ Some (a, ws)
