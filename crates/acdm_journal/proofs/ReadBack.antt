@@ -10,7 +10,6 @@ use Rattle.std.proofs.lemmas.Bool.Decides.{nat_tests}
 use Rattle.std.proofs.lemmas.Slice.Eq.{bytes_eq-Decides}
 use Rattle.acdm_milestones.specs.declared.milestone.Milestone.{Milestone}
 use Rattle.acdm_milestones.specs.declared.milestone.Milestone.TheVariants as m
-use Rattle.acdm_milestones.specs.Tables.{number}
 use Rattle.acdm_step.specs.Facts.{ScheduleFacts, ReportFacts, has_its_plan, has_its_time}
 use Rattle.acdm_step.specs.declared.command.TheConstants.{MINUTES_OF_DAY}
 use Rattle.acdm_step.specs.declared.command.FlightPlan.{FlightPlan}
@@ -26,8 +25,6 @@ use Rattle.acdm_journal.specs.declared.stated.StatedCommand.TheVariants.{Plain, 
 use Rattle.acdm_journal.specs.Text.{plan_words, plan_words_of, schedule_words, report_words}
 use Rattle.acdm_journal.specs.Text.{load_words, command_words, asked_words, answer_words}
 use Rattle.acdm_journal.specs.Text.{line_words, deice_words}
-use Rattle.acdm_milestones.specs.Deicing.{deicing_name}
-use Rattle.hex.specs.Hex.{encode_lower}
 use Rattle.acdm_journal.specs.Ranges.{IsPlan, IsPlanOf, IsWord, IsByte, IsScheduleLine}
 use Rattle.acdm_journal.specs.Ranges.{IsReportLine, IsCommandLine, IsAsked, IsStated}
 use Rattle.acdm_journal.specs.Reading.{Words, most_word, most_minute, word_at, number_at, text_at}
@@ -41,7 +38,6 @@ use Rattle.acdm_journal.proofs.Parts.{role_at-back, kind_at-is, kind_at-back, mi
 use Rattle.acdm_journal.proofs.Parts.{milestone_at-back, bytes_at-is, bytes_at-back, if_some}
 use Rattle.acdm_journal.proofs.Parts.{deicing_at-is, deicing_at-back, length_at-is, length_at-back}
 use Rattle.acdm_milestones.specs.Names.{role_name}
-use Rattle.acdm_slots.specs.Names.{kind_name}
 
 -- ---- plans
 
@@ -70,8 +66,7 @@ plan_at-back ws p left h =
     let rb = text_at-back 8 a.0.1 r.0.0 r.0.1 r.1 in
     let db = text_at-back 4 r.0.1 d.0.0 d.0.1 d.1 in
     given (ReadsPlan ws) _ p _ left d.2 (record {
-      words = cb.0 ∙ ap (λ (l : Words). c.0.0 ∷ l)
-          (ab.0 ∙ ap (λ (l : Words). a.0.0 ∷ l) (rb.0 ∙ ap (λ (l : Words). r.0.0 ∷ l) db.0));
+      words = cc (cb.0, ab.0, rb.0, db.0);
       is = record { callsign = cb.1; aircraft = ab.1; registration = rb.1; destination = db.1 };
     })
 
@@ -125,6 +120,13 @@ schedule_at-is s is =
     ∙ bind_is _ _ _ (number_at-is 0 65535 s.stand [] (omega arith) (omega (arith, is.stand))
     (omega (arith, is.stand)))
 
+-- the words of a schedule, each read of those that the one before it left
+linked : (name flight sobt mttt exit exot stand : List ℕ) (ws plan v0 v1 v2 v3 v4 v5 left : Words)
+    → ws ≡ flight ∷ v0 → v0 ≡ plan ++ v1 → v1 ≡ sobt ∷ v2 → v2 ≡ mttt ∷ v3 → v3 ≡ exit ∷ v4
+    → v4 ≡ exot ∷ v5 → v5 ≡ stand ∷ left
+    → name ∷ ws ≡ name ∷ flight ∷ (plan ++ (sobt ∷ mttt ∷ exit ∷ exot ∷ stand ∷ left))
+linked name flight sobt mttt exit exot stand ws plan v0 v1 v2 v3 v4 v5 left a b c d e f g = cc
+
 schedule_at-back : (ws : Words) (a : StatedCommand) (left : Words) → schedule_at ws ≡ Some (a, left)
     → ReadsAsked (codes "schedule" ∷ ws) a left
 unfolding schedule_at
@@ -143,14 +145,19 @@ schedule_at-back ws a left h =
     let i = number_at-back 0 255 mttt.0.1 _ _ (omega arith) exit.1 in
     let o = number_at-back 0 MINUTES_OF_DAY exit.0.1 _ _ (omega arith) exot.1 in
     let n = number_at-back 0 65535 exot.0.1 _ _ (omega arith) stand.1 in
-    given (ReadsAsked (codes "schedule" ∷ ws)) _ a _ left stand.2 (record {
-      words = ap (λ (l : Words). codes "schedule" ∷ l) (f.word
-          ∙ ap (λ (l : Words). decimal flight.0.0 ∷ l) (p.words
-          ∙ ap (λ (l : Words). plan_words plan.0.0 ++ l) (s.word
-          ∙ ap (λ (l : Words). decimal sobt.0.0 ∷ l) (t.word
-          ∙ ap (λ (l : Words). decimal mttt.0.0 ∷ l) (i.word
-          ∙ ap (λ (l : Words). decimal exit.0.0 ∷ l) (o.word
-          ∙ ap (λ (l : Words). decimal exot.0.0 ∷ l) n.word))))));
+    given (ReadsAsked (codes "schedule" ∷ ws)) (Plain (commands.Flight (Schedule (record {
+      flight = flight.0.0;
+      plan = plan.0.0;
+      sobt = sobt.0.0;
+      mttt = mttt.0.0;
+      exit = exit.0.0;
+      exot = exot.0.0;
+      stand = stand.0.0;
+    })))) a stand.0.1 left stand.2 (record {
+      words = linked (codes "schedule") (decimal flight.0.0) (decimal sobt.0.0) (decimal mttt.0.0)
+          (decimal exit.0.0) (decimal exot.0.0) (decimal stand.0.0) ws (plan_words plan.0.0) flight.0.1
+          plan.0.1 sobt.0.1 mttt.0.1 exit.0.1 exot.0.1 stand.0.1 f.word p.words s.word t.word i.word
+          o.word n.word;
       is = (
         refl,
         record {
@@ -206,11 +213,7 @@ report_at-back ws a left h =
     let t = number_at-back (least_time ms.0.0) most_minute ms.0.1 _ _ (omega arith) time.1 in
     let p = plan_for-back ms.0.0 time.0.1 plan.0.0 plan.0.1 plan.1 in
     given (ReadsAsked (codes "report" ∷ ws)) _ a _ left plan.2 (record {
-      words = ap (λ (l : Words). codes "report" ∷ l) (f.word
-          ∙ ap (λ (l : Words). decimal flight.0.0 ∷ l)
-          (milestone_at-back flight.0.1 ms.0.0 ms.0.1 ms.1
-          ∙ ap (λ (l : Words). decimal (number ms.0.0) ∷ l) (t.word
-          ∙ ap (λ (l : Words). decimal time.0.0 ∷ l) p.words)));
+      words = cc (f.word, milestone_at-back flight.0.1 ms.0.0 ms.0.1 ms.1, t.word, p.words);
       is = (
         refl,
         record {
@@ -245,10 +248,7 @@ deice_at-back ws a left h =
     let f = number_at-back 1 most_word ws _ _ (omega arith) flight.1 in
     let t = number_at-back 0 most_minute which.0.1 _ _ (omega arith) time.1 in
     given (ReadsAsked (codes "deice" ∷ ws)) _ a _ left time.2 (record {
-      words = ap (λ (l : Words). codes "deice" ∷ l) (f.word
-          ∙ ap (λ (l : Words). decimal flight.0.0 ∷ l)
-          (deicing_at-back flight.0.1 which.0.0 which.0.1 which.1
-          ∙ ap (λ (l : Words). deicing_name which.0.0 ∷ l) t.word));
+      words = cc (f.word, deicing_at-back flight.0.1 which.0.0 which.0.1 which.1, t.word);
       is = (refl, (f.least, omega (arith, f.most), omega (arith, t.most)));
     })
 
@@ -271,12 +271,12 @@ load_at-back ws a left h =
     let long = bind_some (length_at program.0.1) _ (a, left) program.2 in
     let b = bytes_at-back kind.0.1 program.0.0 program.0.1 program.1 in
     given (ReadsAsked (codes "load" ∷ ws)) _ a _ left long.2 (record {
-      words = ap (λ (l : Words). codes "load" ∷ l) (milestone_at-back ws ms.0.0 ms.0.1 ms.1
-          ∙ ap (λ (l : Words). decimal (number ms.0.0) ∷ l)
-          (kind_at-back ms.0.1 kind.0.0 kind.0.1 kind.1
-          ∙ ap (λ (l : Words). kind_name kind.0.0 ∷ l) (b.0
-          ∙ ap (λ (l : Words). encode_lower program.0.0 ∷ l)
-          (length_at-back program.0.1 long.0.0 long.0.1 long.1))));
+      words = cc (
+        milestone_at-back ws ms.0.0 ms.0.1 ms.1,
+        kind_at-back ms.0.1 kind.0.0 kind.0.1 kind.1,
+        b.0,
+        length_at-back program.0.1 long.0.0 long.0.1 long.1,
+      );
       is = b.1;
     })
 
@@ -287,9 +287,10 @@ unload_at-back ws a left h =
     let ms = bind_some (milestone_at ws) _ (a, left) h in
     let kind = bind_some (kind_at ms.0.1) _ (a, left) ms.2 in
     given (ReadsAsked (codes "unload" ∷ ws)) _ a _ left kind.2 (record {
-      words = ap (λ (l : Words). codes "unload" ∷ l) (milestone_at-back ws ms.0.0 ms.0.1 ms.1
-          ∙ ap (λ (l : Words). decimal (number ms.0.0) ∷ l)
-          (kind_at-back ms.0.1 kind.0.0 kind.0.1 kind.1));
+      words = cc (
+        milestone_at-back ws ms.0.0 ms.0.1 ms.1,
+        kind_at-back ms.0.1 kind.0.0 kind.0.1 kind.1,
+      );
       is = (refl, tt);
     })
 

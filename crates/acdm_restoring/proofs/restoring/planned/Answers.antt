@@ -1,8 +1,4 @@
-use Rattle.std.proofs.Common.{subst, Ok, Err}
-use Rattle.acdm_step.specs.History.{replay}
-use Rattle.acdm_step.specs.Prepared.{Fits}
-use Rattle.acdm_journal.specs.declared.judge.AuditError.{AuditError}
-use Rattle.acdm_journal.specs.Audit.{PlansLine}
+use Rattle.std.proofs.Common.{Ok, Err}
 use Rattle.acdm_restoring.proofs.Next.{judged_at}
 use Rattle.acdm_restoring.proofs.restoring.planned.Goals as goal
 
@@ -14,8 +10,7 @@ returns-in-Ok g c =
     record {
       continues = next.0;
       entry_is = next.1;
-      fits = subst (λ b. Fits b c.in-Ok.planned.plan.change) c.core.ensures.replays
-          c.in-Ok.ensures.fits;
+      fits = rw c.core.ensures.replays at c.in-Ok.ensures.fits;
     }
 
 pub returns-in-Err-Faulty : goal.returns-in-Err-Faulty
@@ -25,6 +20,5 @@ returns-in-Err-Faulty g c =
     c.len-entry.result (Err c.in-Err-Faulty.field-0) c.sigs.ensures c.core.ensures.replays
     c.core.ensures.legal c.len-entry.ensures c.in-Err-Faulty.ensures.plans in (
       c.len-entry.ensures,
-      subst (λ (e : AuditError). PlansLine d.sigs d.history c.args.line.now
-          (replay d.sigs d.history) (Err e)) c.in-Err-Faulty.field-0-is next,
+      rw c.in-Err-Faulty.field-0-is at next,
     )

@@ -1,4 +1,4 @@
-use Rattle.std.proofs.Common.{◌≡◌, ℕ, ◌+◌, List, length, sym, ap, subst, ◌∙◌}
+use Rattle.std.proofs.Common.{sym, subst}
 use Rattle.std.proofs.lemmas.Result.{err_from_is_err_and}
 use Rattle.acdm_restoring.proofs.Sofar.{Going, begins, goes_on, not_taken, too_long}
 use Rattle.acdm_restoring.proofs.restoring.restore_lines.Goals as goal
@@ -38,9 +38,7 @@ pub loop-desk-preserved : goal.loop-desk-preserved
 loop-desk-preserved g c =
     let t = rw c.in-LineFeed.is at c.in_ok-next_line.ensures.takes in
     let line = c.as_slice.result.now in
-    let count : c.in_ok-bytes.bytes ≡ c.loop-desk.bytes + (length line + 1) =
-    c.in_ok-bytes.ensures ∙ ap (λ (l : List ℕ). c.loop-desk.bytes + (length l + 1))
-    (c.as_slice-in-LineFeed.ensures ∙ sym c.as_slice.ensures) in
+    let count = rw (c.as_slice-in-LineFeed.ensures, sym c.as_slice.ensures) at c.in_ok-bytes.ensures in
     record {
       going = subst (λ n. Going c.args.reader.now c.next_line.new.reader c.next_line.new.lines
           c.args.desk.now c.restore_line.new.desk n) (sym count)
