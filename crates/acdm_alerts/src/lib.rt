@@ -7,4 +7,4 @@ mod names;
 
 pub use alert_set::AlertSet;
 pub use conditions::builtin;
-pub use names::{names_of, push_names, write_names};
+pub use names::{name_of, names_of, push_names, write_names};

@@ -7,8 +7,9 @@ use crate::alert_set::AlertSet;
 use arrayvec::ArrayVec;
 use std::io::{self, Write};
 
-// The name of a bit. Bit 6 has none, and no set has it.
-fn name_of(bit: u32) -> &'static str
+/// The name of an alert by its bit, such as `CDM07a`; empty where no set has the bit (0, 6, and from 32
+/// on).
+pub fn name_of(bit: u32) -> &'static str
     ensures name { result.now ≡ name_in_table bit }
     ensures short { length result.now ≤ 6 }
 {

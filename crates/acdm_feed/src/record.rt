@@ -4,7 +4,6 @@ ghost use Rattle.std.specs.List.{flat_map, list_all};
 ghost use Rattle.acdm_record.specs.Fields.{number_of, text_of};
 ghost use Rattle.acdm_record.specs.Place.{width_of};
 ghost use Rattle.acdm_milestones.specs.Tables.{has_reached as is_reached};
-ghost use Rattle.acdm_alerts.specs.Names.{name_of};
 ghost use Rattle.acdm_feed.specs.Records.{alert_token, alerts_member, all_times, arrival_times};
 ghost use Rattle.acdm_feed.specs.Records.{bound_members, deicing_members, deicing_times, destinations};
 ghost use Rattle.acdm_feed.specs.Records.{registrations};
@@ -15,6 +14,7 @@ ghost use Rattle.acdm_feed.specs.Records.{target_times};
 ghost use Rattle.acdm_feed.specs.Names.{list_member, number_member, text_member, time_member};
 
 use crate::tokens::{push_number, push_printable, push_text, push_time};
+use acdm_alerts::name_of;
 use acdm_milestones::has_reached;
 use acdm_record::{Field, Record, TextField};
 use json::Writer;
@@ -266,7 +266,7 @@ fn push_alert(line: &mut Writer, word: u64, bit: u32) -> Result<(), AllocError>
     ensures adds { OnOk result (line.new.tokens ≡ line.old.tokens ++ alert_token word bit) }
 {
     if (word >> bit) % 2 == 1 {
-        return line.string(alert_name(bit));
+        return line.string(name_of(bit));
     }
     Ok(())
 }
@@ -303,45 +303,6 @@ fn push_alerts(line: &mut Writer, record: &Record) -> Result<(), AllocError>
         ],
     )?;
     line.end_array()
-}
-
-// The name of a bit.
-fn alert_name(bit: u32) -> &'static str
-    ensures { result.now ≡ name_of bit }
-{
-    match bit {
-        1 => "CDM01",
-        2 => "CDM02",
-        3 => "CDM03",
-        4 => "CDM04",
-        5 => "CDM05",
-        7 => "CDM07",
-        8 => "CDM08",
-        9 => "CDM09",
-        10 => "CDM10",
-        11 => "CDM11",
-        12 => "CDM12",
-        13 => "CDM13",
-        14 => "CDM14",
-        15 => "CDM07a",
-        16 => "LOC00",
-        17 => "LOC01",
-        18 => "LOC02",
-        19 => "LOC03",
-        20 => "LOC04",
-        21 => "LOC05",
-        22 => "LOC06",
-        23 => "LOC07",
-        24 => "LOC08",
-        25 => "LOC09",
-        26 => "LOC10",
-        27 => "LOC11",
-        28 => "LOC12",
-        29 => "LOC13",
-        30 => "LOC14",
-        31 => "LOC15",
-        _ => "",
-    }
 }
 
 // Its minutes, its stand, its milestones and its alerts.

@@ -146,8 +146,19 @@ impl Slots {
         if !program.sigs().is_same(&self.sigs) {
             return Err(SlotError::OtherSignatures);
         }
-        self.programs[place_of(milestone, kind)] = Some(program);
+        self.put(milestone, kind, program);
         Ok(())
+    }
+
+    /// Loads a program in place of what stands there, as `load`, where its length and signatures are
+    /// known to be those of the board, and compares neither. It takes no memory.
+    pub fn put(&mut self, milestone: Milestone, kind: Kind, program: Checked)
+        requires long { program.record_length ≡ self.old.record_length }
+        requires same { program.sigs ≡ self.old.sigs }
+        ensures { self.new ≡ with_program self.old milestone kind (Some program) }
+    {
+        let _own = program.sigs();
+        self.programs[place_of(milestone, kind)] = Some(program);
     }
 
     /// Takes a program out and drops it. It takes no memory.

@@ -241,11 +241,7 @@ impl Core {
                 self.flights.migrate_all();
                 self.slots = slots;
             }
-            Change::Load(milestone, kind, program) => {
-                if self.slots.load(milestone, kind, program).is_err() {
-                    unreachable!();
-                }
-            }
+            Change::Load(milestone, kind, program) => self.slots.put(milestone, kind, program),
             Change::Unload(milestone, kind) => {
                 if self.slots.unload(milestone, kind).is_err() {
                     unreachable!();
