@@ -16,11 +16,11 @@ use Rattle.acdm_judging.specs.declared.auditing.Finding.TheVariants.{Legal, Faul
 use Rattle.acdm_judging.specs.declared.verifying.ProgramVerdict.{ProgramVerdict}
 use Rattle.acdm_lines.specs.Counted.{SinkView, SourceView}
 use Rattle.acdm_telling.specs.Told.{Gives, Told}
-use Rattle.acdm_commands.specs.Completed.{ExplainsLine, IsUnread, IsUnwritten, read_from}
+use Rattle.acdm_commands.specs.Completed.{ExplainsLine, InFile, IsUnread, IsUnwritten, read_from}
 use Rattle.acdm_commands.specs.Completed.{KeepsLine, Places, RunsLine, ServesKeptLine, ServesLine, Settles}
 use Rattle.acdm_commands.specs.Completed.{written_to}
 use Rattle.acdm_board.specs.Desk.{DeskView}
-use Rattle.acdm_commands.specs.Keeping.{KeepsTo, ServesKeptTo}
+use Rattle.acdm_commands.specs.Keeping.{KeepsTo, ServesKeptTo, ServesKeptWords, StopsFrom}
 use Rattle.acdm_commands.specs.Served.{FailsToSave, IsSaved, Runs, RunsTo, empty_desk}
 use Rattle.acdm_commands.specs.Partners.{SavesSo, ServesNamed, ServesWords, ServesWordsTo, Telling}
 
@@ -301,62 +301,79 @@ served_any sigs capacity words old new file later (Err failure) (inr (said, p)) 
           (λ J. saves_any said J file later failure) p,
     )
 
--- `run` with a file that takes its place
-pub ran_line : {R W F E : Type 0} (sigs : List (ℕ × Promise)) (journal : ℕ) (path : Option (List ℕ)) (file later : Option (SinkView F))
-    (input input_after : SourceView R) (output output_after : SinkView W) (work given : Result ℕ Failure)
-    (status : ℕ) (errors last : SinkView E) → IsUnwritten path file
+-- a command with a file that takes its place, whatever the file is
+in_file : {F E : Type 0} (path : Option (List ℕ)) (file later : Option (SinkView F))
+    (Own : Result ℕ Failure → Type 0)
+    (Comes : Option (SinkView (Unit {0})) → Option (SinkView (Unit {0})) → Result ℕ Failure → Type 0)
+    (Untouched : Type 0)
+    → ((work : Result ℕ Failure) → Own work
+    → Comes (option_map written_to file) (option_map written_to later) work)
+    → (work given : Result ℕ Failure) (status : ℕ) (errors last : SinkView E) → IsUnwritten path file
+    → Own work → Settles path work given → Ends given status errors last
+    → EndsBy (InFile path Comes Untouched) status errors last
+in_file path file later Own Comes Untouched seen work given status errors last made came settles ends =
+    record {
+      work = given;
+      comes = inl (
+        option_map written_to file,
+        option_map written_to later,
+        unwritten_any path file made,
+        placed_any path Own (Comes (option_map written_to file) (option_map written_to later)) seen given
+            (settled path Own work given came settles),
+      );
+      ends = ends;
+    }
+
+-- `run`
+pub ran_line : {R W F E : Type 0} (sigs : List (ℕ × Promise)) (journal : ℕ) (path : Option (List ℕ))
+    (file later : Option (SinkView F)) (input input_after : SourceView R) (output output_after : SinkView W)
+    (work given : Result ℕ Failure) (status : ℕ) (errors last : SinkView E) → IsUnwritten path file
     → RunsTo sigs journal input input_after output output_after file later work
     → Settles path work given → Ends given status errors last
     → EndsBy (RunsLine sigs journal path input input_after output output_after) status errors last
-ran_line sigs journal path file later input input_after output output_after work given status errors last made
-    ran settles ends =
-    record {
-      work = given;
-      comes = inl (
-        option_map written_to file,
-        option_map written_to later,
-        unwritten_any path file made,
-        placed_any path (RunsTo sigs journal input input_after output output_after file later)
-            (RunsTo sigs journal input input_after output output_after (option_map written_to file)
-            (option_map written_to later))
-            (runs_any sigs journal input input_after output output_after file later) given
-            (settled path (RunsTo sigs journal input input_after output output_after file later) work
-            given ran settles),
-      );
-      ends = ends;
-    }
+ran_line sigs journal path file later input input_after output output_after =
+    in_file path file later (RunsTo sigs journal input input_after output output_after file later)
+    (RunsTo sigs journal input input_after output output_after)
+    ((input_after ≡ input) × (output_after ≡ output))
+    (runs_any sigs journal input input_after output output_after file later)
 
--- `serve`, the same
-pub served_line : {W F E : Type 0} (sigs : List (ℕ × Promise)) (journal : ℕ) (path : Option (List ℕ)) (partners : List (List ℕ))
-    (file later : Option (SinkView F)) (output output_after : SinkView W) (work given : Result ℕ Failure)
-    (status : ℕ) (errors last : SinkView E) → IsUnwritten path file
+-- `serve`
+pub served_line : {W F E : Type 0} (sigs : List (ℕ × Promise)) (journal : ℕ) (path : Option (List ℕ))
+    (partners : List (List ℕ)) (file later : Option (SinkView F)) (output output_after : SinkView W)
+    (work given : Result ℕ Failure) (status : ℕ) (errors last : SinkView E) → IsUnwritten path file
     → ServesWordsTo sigs journal partners output output_after file later work
     → Settles path work given → Ends given status errors last
     → EndsBy (ServesLine sigs journal path partners output output_after) status errors last
-served_line sigs journal path partners file later output output_after work given status errors last made served
-    settles ends =
-    record {
-      work = given;
-      comes = inl (
-        option_map written_to file,
-        option_map written_to later,
-        unwritten_any path file made,
-        placed_any path (ServesWordsTo sigs journal partners output output_after file later)
-            (ServesWordsTo sigs journal partners output output_after (option_map written_to file)
-            (option_map written_to later))
-            (served_any sigs journal partners output output_after file later) given
-            (settled path (ServesWordsTo sigs journal partners output output_after file later) work given
-            served settles),
-      );
-      ends = ends;
-    }
+served_line sigs journal path partners file later output output_after =
+    in_file path file later (ServesWordsTo sigs journal partners output output_after file later)
+    (ServesWordsTo sigs journal partners output output_after) (output_after ≡ output)
+    (served_any sigs journal partners output output_after file later)
 
-keeps_any : {R F : Type 0} (sigs : List (ℕ × Promise)) (journal : ℕ) (input input_after : SourceView R)
-    (file later : Option (SinkView F)) (work : Result ℕ Failure)
-    → KeepsTo sigs journal input input_after file later work
-    → KeepsTo sigs journal input input_after (option_map written_to file)
+unsaved_any : {F : Type 0} {P Q : Type 0} (file later : Option (SinkView F)) (failure : Failure)
+    → P ⊎ (Q × FailsToSave file later failure)
+    → P ⊎ (Q × FailsToSave (option_map written_to file) (option_map written_to later) failure)
+unsaved_any file later failure (inl p) = inl p
+unsaved_any file later failure (inr p) = inr (p.0, fails_any file later failure p.1)
+
+stops_any : {R F : Type 0} (sigs : List (ℕ × Promise)) (journal : ℕ) (input input_after : SourceView R)
+    (file later : Option (SinkView F)) (failure : Failure)
+    → StopsFrom sigs journal input input_after file later failure
+    → StopsFrom sigs journal input input_after (option_map written_to file)
+    (option_map written_to later) failure
+stops_any sigs journal input input_after file later failure p = record {
+  opening = p.opening;
+  desk = p.desk;
+  room = p.room;
+  helpers = p.helpers;
+  why = unsaved_any file later failure p.why;
+}
+
+keeps_any : {R W F : Type 0} (sigs : List (ℕ × Promise)) (journal : ℕ) (input input_after : SourceView R)
+    (output output_after : SinkView W) (file later : Option (SinkView F)) (work : Result ℕ Failure)
+    → KeepsTo sigs journal input input_after output output_after file later work
+    → KeepsTo sigs journal input input_after output output_after (option_map written_to file)
     (option_map written_to later) work
-keeps_any sigs journal input input_after file later (Ok status) (inl p) = inl (
+keeps_any sigs journal input input_after output output_after file later (Ok status) (inl p) = inl (
   record {
     opening = p.0.opening;
     desk = p.0.desk;
@@ -367,32 +384,42 @@ keeps_any sigs journal input input_after file later (Ok status) (inl p) = inl (
   },
   p.1,
 )
-keeps_any sigs journal input input_after file later (Ok status) (inr p) = inr p
-keeps_any sigs journal input input_after file later (Err failure) p = tt
+keeps_any sigs journal input input_after output output_after file later (Ok status) (inr p) = inr p
+keeps_any sigs journal input input_after output output_after file later (Err failure) (inl p) = inl p
+keeps_any sigs journal input input_after output output_after file later (Err failure) (inr (inl p)) =
+    inr (inl p)
+keeps_any sigs journal input input_after output output_after file later (Err failure) (inr (inr p)) =
+    inr (inr (stops_any sigs journal input input_after file later failure p))
 
--- `run --keep`, the same
-pub kept_line : {R F E : Type 0} (sigs : List (ℕ × Promise)) (journal : ℕ) (path : Option (List ℕ))
-    (file later : Option (SinkView F)) (input input_after : SourceView R) (work given : Result ℕ Failure)
-    (status : ℕ) (errors last : SinkView E) → IsUnwritten path file
-    → KeepsTo sigs journal input input_after file later work
+-- `run --keep`
+pub kept_line : {R W F E : Type 0} (sigs : List (ℕ × Promise)) (journal : ℕ) (path : Option (List ℕ))
+    (file later : Option (SinkView F)) (input input_after : SourceView R) (output output_after : SinkView W)
+    (work given : Result ℕ Failure) (status : ℕ) (errors last : SinkView E) → IsUnwritten path file
+    → KeepsTo sigs journal input input_after output output_after file later work
     → Settles path work given → Ends given status errors last
-    → EndsBy (KeepsLine sigs journal path input input_after) status errors last
-kept_line sigs journal path file later input input_after work given status errors last made keeps settles
-    ends =
-    record {
-      work = given;
-      comes = inl (
-        option_map written_to file,
-        option_map written_to later,
-        unwritten_any path file made,
-        placed_any path (KeepsTo sigs journal input input_after file later)
-            (KeepsTo sigs journal input input_after (option_map written_to file)
-            (option_map written_to later))
-            (keeps_any sigs journal input input_after file later) given
-            (settled path (KeepsTo sigs journal input input_after file later) work given keeps settles),
-      );
-      ends = ends;
-    }
+    → EndsBy (KeepsLine sigs journal path input input_after output output_after) status errors last
+kept_line sigs journal path file later input input_after output output_after =
+    in_file path file later (KeepsTo sigs journal input input_after output output_after file later)
+    (KeepsTo sigs journal input input_after output output_after)
+    ((input_after ≡ input) × (output_after ≡ output))
+    (keeps_any sigs journal input input_after output output_after file later)
+
+kept_words_any : {W F : Type 0} (opening : DeskView) (words : List (List ℕ)) (old new : SinkView W)
+    (file later : Option (SinkView F)) (failure : Failure)
+    → ServesKeptWords {T = Unit {0}} opening words old new file later (Err failure)
+    → ServesKeptWords {T = Unit {0}} opening words old new (option_map written_to file)
+    (option_map written_to later) (Err failure)
+kept_words_any opening words old new file later failure (inl p) = inl p
+kept_words_any opening words old new file later failure (inr (inl p)) = inr (inl p)
+kept_words_any opening words old new file later failure (inr (inr (said, p))) =
+    inr (inr (
+      said,
+      named_as opening words old new said
+          (λ J. SavesSo {T = Unit {0}} said J file later (Err failure))
+          (λ J. SavesSo {T = Unit {0}} said J (option_map written_to file) (option_map written_to later)
+          (Err failure))
+          (λ J. saves_any said J file later failure) p,
+    ))
 
 serves_kept_any : {W F : Type 0} (sigs : List (ℕ × Promise)) (capacity : ℕ) (words : List (List ℕ)) (old new : SinkView W)
     (file later : Option (SinkView F)) (work : Result ℕ Failure)
@@ -411,29 +438,24 @@ serves_kept_any sigs capacity words old new file later (Ok status) (inl p) = inl
   p.1,
 )
 serves_kept_any sigs capacity words old new file later (Ok status) (inr p) = inr p
-serves_kept_any sigs capacity words old new file later (Err failure) p = tt
+serves_kept_any sigs capacity words old new file later (Err failure) (inl p) = inl p
+serves_kept_any sigs capacity words old new file later (Err failure) (inr (inl p)) = inr (inl p)
+serves_kept_any sigs capacity words old new file later (Err failure) (inr (inr p)) =
+    inr (inr (record {
+      opening = p.opening;
+      room = p.room;
+      helpers = p.helpers;
+      why = kept_words_any p.opening words old new file later failure p.why;
+    }))
 
--- `serve --keep`, the same
+-- `serve --keep`
 pub served_kept_line : {W F E : Type 0} (sigs : List (ℕ × Promise)) (journal : ℕ) (path : Option (List ℕ))
     (partners : List (List ℕ)) (file later : Option (SinkView F)) (output output_after : SinkView W)
     (work given : Result ℕ Failure) (status : ℕ) (errors last : SinkView E) → IsUnwritten path file
     → ServesKeptTo sigs journal partners output output_after file later work
     → Settles path work given → Ends given status errors last
     → EndsBy (ServesKeptLine sigs journal path partners output output_after) status errors last
-served_kept_line sigs journal path partners file later output output_after work given status errors last made
-    served settles ends =
-    record {
-      work = given;
-      comes = inl (
-        option_map written_to file,
-        option_map written_to later,
-        unwritten_any path file made,
-        placed_any path (ServesKeptTo sigs journal partners output output_after file later)
-            (ServesKeptTo sigs journal partners output output_after (option_map written_to file)
-            (option_map written_to later))
-            (serves_kept_any sigs journal partners output output_after file later) given
-            (settled path (ServesKeptTo sigs journal partners output output_after file later) work given
-            served settles),
-      );
-      ends = ends;
-    }
+served_kept_line sigs journal path partners file later output output_after =
+    in_file path file later (ServesKeptTo sigs journal partners output output_after file later)
+    (ServesKeptTo sigs journal partners output output_after) (output_after ≡ output)
+    (serves_kept_any sigs journal partners output output_after file later)

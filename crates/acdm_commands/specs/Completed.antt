@@ -85,23 +85,29 @@ IsNotMade path (Err failure) = FailsToMake path failure
 
 -- ---- commands
 
--- `run`: its file was made, and the run came so and the file took its place, or the file could not be
--- made, and nothing was done
+-- A command that saves a journal: its file was made, and it came so and the file took its place; or the file
+-- could not be made, and nothing was done.
+abbrev pub InFile : Option (List ℕ)
+    → (Option (SinkView ⊤) → Option (SinkView ⊤) → Result ℕ Failure → Type 0) → Type 0
+    → Result ℕ Failure → Type 0
+InFile path Comes Untouched work =
+    ((saved saved_after : Option (SinkView ⊤)) × IsUnwritten path saved
+    × Places path (Comes saved saved_after) work)
+    ⊎ (IsNotMade path work × Untouched)
+
+-- `run`
 abbrev pub RunsLine : {R W : Type 0} → List (ℕ × Promise) → ℕ → Option (List ℕ) → SourceView R
     → SourceView R → SinkView W → SinkView W → Result ℕ Failure → Type 0
 RunsLine sigs journal path input input_after output output_after work =
-    ((saved saved_after : Option (SinkView ⊤)) × IsUnwritten path saved
-    × Places path (RunsTo sigs journal input input_after output output_after saved saved_after) work)
-    ⊎ (IsNotMade path work × (input_after ≡ input) × (output_after ≡ output))
+    InFile path (RunsTo sigs journal input input_after output output_after)
+    ((input_after ≡ input) × (output_after ≡ output)) work
 
--- `run` with a journal that is kept: the file that the journal is saved in was made, and it came so and the file took its place, or the file
--- could not be made, and nothing was done
-abbrev pub KeepsLine : {R : Type 0} → List (ℕ × Promise) → ℕ → Option (List ℕ) → SourceView R → SourceView R
-    → Result ℕ Failure → Type 0
-KeepsLine sigs journal path input input_after work =
-    ((saved saved_after : Option (SinkView ⊤)) × IsUnwritten path saved
-    × Places path (KeepsTo sigs journal input input_after saved saved_after) work)
-    ⊎ (IsNotMade path work × (input_after ≡ input))
+-- the same with a journal that is kept
+abbrev pub KeepsLine : {R W : Type 0} → List (ℕ × Promise) → ℕ → Option (List ℕ) → SourceView R
+    → SourceView R → SinkView W → SinkView W → Result ℕ Failure → Type 0
+KeepsLine sigs journal path input input_after output output_after work =
+    InFile path (KeepsTo sigs journal input input_after output output_after)
+    ((input_after ≡ input) × (output_after ≡ output)) work
 
 -- `run`, with a journal that is kept in the file of this path, if there is one
 abbrev pub RunsWords : {R W E : Type 0} → List (ℕ × Promise) → ℕ → Option (List ℕ) → Option (List ℕ)
@@ -109,23 +115,19 @@ abbrev pub RunsWords : {R W E : Type 0} → List (ℕ × Promise) → ℕ → Op
 RunsWords sigs journal path None input input_after output output_after status errors errors_after =
     EndsBy (RunsLine sigs journal path input input_after output output_after) status errors errors_after
 RunsWords sigs journal path (Some kept) input input_after output output_after status errors errors_after =
-    EndsBy (KeepsLine sigs journal path input input_after) status errors errors_after
+    EndsBy (KeepsLine sigs journal path input input_after output output_after) status errors errors_after
 
--- `serve`, as `run`
+-- `serve`
 abbrev pub ServesLine : {W : Type 0} → List (ℕ × Promise) → ℕ → Option (List ℕ) → List (List ℕ)
     → SinkView W → SinkView W → Result ℕ Failure → Type 0
 ServesLine sigs journal path partners output output_after work =
-    ((saved saved_after : Option (SinkView ⊤)) × IsUnwritten path saved
-    × Places path (ServesWordsTo sigs journal partners output output_after saved saved_after) work)
-    ⊎ (IsNotMade path work × (output_after ≡ output))
+    InFile path (ServesWordsTo sigs journal partners output output_after) (output_after ≡ output) work
 
 -- the same with a journal that is kept
 abbrev pub ServesKeptLine : {W : Type 0} → List (ℕ × Promise) → ℕ → Option (List ℕ) → List (List ℕ)
     → SinkView W → SinkView W → Result ℕ Failure → Type 0
 ServesKeptLine sigs journal path partners output output_after work =
-    ((saved saved_after : Option (SinkView ⊤)) × IsUnwritten path saved
-    × Places path (ServesKeptTo sigs journal partners output output_after saved saved_after) work)
-    ⊎ (IsNotMade path work × (output_after ≡ output))
+    InFile path (ServesKeptTo sigs journal partners output output_after) (output_after ≡ output) work
 
 -- `serve`, with a journal that is kept in the file of this path, if there is one
 abbrev pub ServesLines : {W E : Type 0} → List (ℕ × Promise) → ℕ → Option (List ℕ) → Option (List ℕ)

@@ -3,18 +3,19 @@ use Rattle.std.specs.Prelude.{ℕ, ◌≡◌, ◌⊎◌, [], List, Option, Some,
 use Rattle.bpf_helpers.specs.Promise.{Promise}
 use Rattle.acdm_board.specs.Desk.{DeskView}
 use Rattle.acdm_failures.specs.declared.failure.Failure.{Failure}
-use Rattle.acdm_judging.specs.Findings.{status_of}
+use Rattle.acdm_judging.specs.Findings.{Tells, status_of}
 use Rattle.acdm_judging.specs.declared.auditing.Finding.{Finding}
 use Rattle.acdm_lines.specs.Counted.{SinkView, SourceView}
 use Rattle.acdm_sessions.specs.Run.{serving_desk}
-use Rattle.acdm_failures.specs.declared.failure.Failure.TheVariants.{Keep}
+use Rattle.acdm_failures.specs.declared.failure.Failure.TheVariants.{InUse, Keep, Memory, Read, Room}
+use Rattle.acdm_failures.specs.declared.failure.Failure.TheVariants.{Write}
 use Rattle.acdm_milestones.specs.declared.role.Role.{Role}
 use Rattle.acdm_sessions.specs.Sessions.{SessionStart}
-use Rattle.acdm_sessions.specs.Stream.{AnswersAll}
+use Rattle.acdm_sessions.specs.Stream.{AnswersAll, AnswersPart, AnswersWhole}
 use Rattle.acdm_commands.specs.Partners.{FailsServed, FailsToServe, FailsToServeAll, ServesNamed}
 use Rattle.acdm_commands.specs.Partners.{ServesPartners, Telling}
 use Rattle.acdm_step.specs.Commands.{History}
-use Rattle.acdm_commands.specs.Served.{IsSaved}
+use Rattle.acdm_commands.specs.Served.{FailsToSave, IsSaved}
 
 -- A desk that had no entry has those of a kept journal, and the rest of it is as it was; or something is
 -- to be told of the journal, with the status 1.
@@ -39,14 +40,70 @@ pub record KeepsAll {R F : Type 0} (sigs : List (ℕ × Promise)) (capacity : �
   pub serves : ServesKept opening desk read read_after
   pub saves : IsSaved desk.history saved saved_after
 
--- What comes of it: all was done, with the status 0; or the kept journal is not legal, with the status 1,
--- and no line was read; or something failed.
-abbrev pub KeepsTo : {R F : Type 0} → List (ℕ × Promise) → ℕ → SourceView R → SourceView R
-    → Option (SinkView F) → Option (SinkView F) → Result ℕ Failure → Type 0
-KeepsTo sigs capacity read read_after saved saved_after (Ok status) =
+-- why a kept journal was not gone on from: its file could not be opened, read or cut off, somebody else
+-- keeps it, it has more entries than there is room for, or memory was refused
+abbrev pub FailsToGoOn : Failure → Type 0
+FailsToGoOn Keep = Unit {0}
+FailsToGoOn InUse = Unit {0}
+FailsToGoOn Room = Unit {0}
+FailsToGoOn Read = Unit {0}
+FailsToGoOn Memory = Unit {0}
+FailsToGoOn failure = ⊥
+
+-- a kept journal is not legal, and that was told with this, or could not be
+abbrev pub TellsFault : {W : Type 0} → SinkView W → SinkView W → Result ℕ Failure → Type 0
+TellsFault written written_after work =
+    (finding : Finding) × (status_of finding ≡ 1) × Tells finding written written_after work
+
+-- why not all lines that a reader gave were answered by a desk, and which were
+abbrev pub StopsAnswering : {R : Type 0} → DeskView → DeskView → SourceView R → SourceView R → Failure
+    → Type 0
+StopsAnswering before after read read_after Read =
+    (replies : List ℕ) × AnswersWhole serving_desk read.log read_after.log read.faults
+    read_after.faults before after [] replies
+StopsAnswering before after read read_after Write =
+    (replies : List ℕ) × AnswersPart serving_desk read.log read_after.log before after [] replies
+StopsAnswering before after read read_after Memory = (read_after ≡ read) × (after ≡ before)
+StopsAnswering before after read read_after failure = ⊥
+
+-- all lines were answered by a desk, or those before something failed
+abbrev pub AnswersSome : {R : Type 0} → DeskView → DeskView → SourceView R → SourceView R → Type 0
+AnswersSome before after read read_after =
+    ServesKept before after read read_after
+    ⊎ ((failure : Failure) × StopsAnswering before after read read_after failure)
+
+-- Why lines were not answered by a desk that is kept, or not all, and which were; or some were, and what
+-- they made was not kept.
+abbrev pub StopsKept : {R : Type 0} → DeskView → DeskView → SourceView R → SourceView R → Failure → Type 0
+StopsKept before after read read_after failure =
+    (FailsToGoOn failure × (read_after ≡ read) × (after ≡ before))
+    ⊎ StopsAnswering before after read read_after failure
+    ⊎ ((failure ≡ Keep) × AnswersSome before after read read_after)
+
+-- A desk with room for so many entries went on from a kept journal. Not all lines were answered or kept; or
+-- all were, and what the desk had then was not saved.
+pub record StopsFrom {R F : Type 0} (sigs : List (ℕ × Promise)) (capacity : ℕ)
+    (read read_after : SourceView R) (saved saved_after : Option (SinkView F)) (failure : Failure)
+    : Type 0 where
+  pub opening : DeskView
+  pub desk : DeskView
+  pub room : opening.capacity ≡ capacity
+  pub helpers : opening.sigs ≡ sigs
+  pub why : StopsKept opening desk read read_after failure
+      ⊎ (ServesKept opening desk read read_after × FailsToSave saved saved_after failure)
+
+-- What comes of it: all was done, with the status 0; or the kept journal is not legal, which was told, with
+-- the status 1; or the journal was not gone on from, or that could not be told. No line was read then. Or
+-- lines were read, and something failed.
+abbrev pub KeepsTo : {R W F : Type 0} → List (ℕ × Promise) → ℕ → SourceView R → SourceView R
+    → SinkView W → SinkView W → Option (SinkView F) → Option (SinkView F) → Result ℕ Failure → Type 0
+KeepsTo sigs capacity read read_after written written_after saved saved_after (Ok status) =
     (KeepsAll sigs capacity read read_after saved saved_after × (status ≡ 0))
-    ⊎ ((status ≡ 1) × (read_after ≡ read))
-KeepsTo sigs capacity read read_after saved saved_after (Err failure) = Unit {0}
+    ⊎ (TellsFault written written_after (Ok status) × (read_after ≡ read))
+KeepsTo sigs capacity read read_after written written_after saved saved_after (Err failure) =
+    (FailsToGoOn failure × (written_after ≡ written) × (read_after ≡ read))
+    ⊎ (TellsFault written written_after (Err failure) × (read_after ≡ read))
+    ⊎ StopsFrom sigs capacity read read_after saved saved_after failure
 
 -- ---- `serve`
 
@@ -87,12 +144,27 @@ pub record ServesFrom {W : Type 0} (sigs : List (ℕ × Promise)) (capacity : �
   pub helpers : opening.sigs ≡ sigs
   pub serves : ServesNamed opening words written written_after told Kept
 
--- What comes of it: all was done, with the status 0; or the kept journal is not legal, with the status 1;
--- or something failed.
+-- That desk went on so, and its partners were not served to their end, or what they made was not kept or
+-- saved, or not told.
+pub record StopsServing {W F : Type 0} (sigs : List (ℕ × Promise)) (capacity : ℕ)
+    (words : List (List ℕ)) (written written_after : SinkView W) (saved saved_after : Option (SinkView F))
+    (failure : Failure) : Type 0 where
+  pub opening : DeskView
+  pub room : opening.capacity ≡ capacity
+  pub helpers : opening.sigs ≡ sigs
+  pub why : ServesKeptWords {T = Unit {0}} opening words written written_after saved saved_after
+      (Err failure)
+
+-- What comes of it: all was done, with the status 0; or the kept journal is not legal, which was told, with
+-- the status 1; or it was not gone on from, or that could not be told, and nobody was served; or something
+-- failed then.
 abbrev pub ServesKeptTo : {W F : Type 0} → List (ℕ × Promise) → ℕ → List (List ℕ) → SinkView W
     → SinkView W → Option (SinkView F) → Option (SinkView F) → Result ℕ Failure → Type 0
 ServesKeptTo sigs capacity words written written_after saved saved_after (Ok status) =
     (ServesFrom sigs capacity words written written_after (Ok tt) (λ J. IsSaved J saved saved_after)
     × (status ≡ 0))
-    ⊎ (status ≡ 1)
-ServesKeptTo sigs capacity words written written_after saved saved_after (Err failure) = Unit {0}
+    ⊎ TellsFault written written_after (Ok status)
+ServesKeptTo sigs capacity words written written_after saved saved_after (Err failure) =
+    (FailsToGoOn failure × (written_after ≡ written))
+    ⊎ TellsFault written written_after (Err failure)
+    ⊎ StopsServing sigs capacity words written written_after saved saved_after failure

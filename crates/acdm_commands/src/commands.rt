@@ -34,7 +34,8 @@ use std::time::Clock;
 /// The status is that of the command, and 2 where the words ask for none or their file can't be
 /// opened. What `--save` names is written beside it, in a file that is made before anything is
 /// answered, and that takes its place once all of it is on the disk: what was there stays until
-/// then, and where the command fails. What is wrong is told on the errors' writer; where that fails, the status alone says it.
+/// then, and where the command fails, but for one that could only not tell how its partners ended.
+/// What is wrong is told on the errors' writer; where that fails, the status alone says it.
 pub fn complete<
     Rt: Files<File = File>
         + Net<Listener = TcpListener, Stream = TcpStream>

@@ -1,7 +1,9 @@
 //! The command `run` with a journal that is kept in a file.
-ghost use Rattle.std.specs.Prelude.{◌-◌, ◌^◌, ◌<◌, ◌≡◌, [], IfErr, IfOk, OnOk, option_map};
+ghost use Rattle.std.specs.Prelude.{◌-◌, ◌^◌, ◌<◌, ◌≡◌, [], IfErr, IfOk, OnOk, length, option_map};
+ghost use Rattle.acdm_board.specs.Desk.{row_of};
 ghost use Rattle.acdm_commands.specs.Completed.{KeepsLine};
-ghost use Rattle.acdm_commands.specs.Keeping.{GoesOn, KeepsTo, ServesKept};
+ghost use Rattle.acdm_commands.specs.Keeping.{FailsToGoOn, GoesOn, KeepsTo, ServesKept, StopsAnswering};
+ghost use Rattle.acdm_commands.specs.Keeping.{StopsKept};
 ghost use Rattle.acdm_failures.specs.Failures.{EndsBy};
 ghost use Rattle.acdm_tables.specs.Helpers.{helpers_by};
 
@@ -50,8 +52,8 @@ pub(crate) fn keep_line<Rt: Files<File = File>, R: Read, W: Write, E: Write>(
     errors: &mut Sink<E>,
 ) -> u8
     requires reads { input.old.faults < 2 ^ 64 - 1 }
-    ensures { EndsBy (KeepsLine (helpers_by tables) journal (option_map (λ s. s.now) saved.entry) input.old input.new)
-        result errors.old errors.new }
+    ensures { EndsBy (KeepsLine (helpers_by tables) journal (option_map (λ s. s.now) saved.entry) input.old
+        input.new output.old output.new) result errors.old errors.new }
 {
     match saving_in(rt, alloc, saved) {
         Ok(mut saving) => {
@@ -73,11 +75,17 @@ pub(crate) fn keep_line<Rt: Files<File = File>, R: Read, W: Write, E: Write>(
 
 /// Opens the file in which a journal is kept. `Keep` where it can't be opened, or where it is that of a
 /// standard stream; `InUse` where somebody else keeps a journal there.
-pub(crate) fn open_kept<Rt: Files<File = File>>(rt: &Rt, path: &str) -> Result<File, Failure> {
+pub(crate) fn open_kept<Rt: Files<File = File>>(rt: &Rt, path: &str) -> Result<File, Failure>
+    ensures fails { IfErr result FailsToGoOn }
+{
     if is_standard(rt, path) {
         return Err(Failure::Keep);
     }
-    open(rt, path)
+    match open(rt, path) {
+        Ok(file) => Ok(file),
+        Err(Failure::InUse) => Err(Failure::InUse),
+        Err(_) => Err(Failure::Keep),
+    }
 }
 
 // Opens the file, and answers.
@@ -92,7 +100,8 @@ fn run_kept<Rt: Files<File = File>, R: Read, W: Write, F: Write + Drop>(
     saved: &mut Option<Sink<F>>,
 ) -> Result<u8, Failure>
     requires reads { input.old.faults < 2 ^ 64 - 1 }
-    ensures { KeepsTo (helpers_by tables) journal input.old input.new saved.old saved.new result }
+    ensures { KeepsTo (helpers_by tables) journal input.old input.new output.old output.new saved.old
+        saved.new result }
 {
     let file = open_kept(rt, keep.path)?;
     let helpers = KnownHelpers::new(alloc, tables);
@@ -114,7 +123,8 @@ fn keep_with<H: Helpers + Drop, R: Read, W: Write, F: Write + Drop>(
     saved: &mut Option<Sink<F>>,
 ) -> Result<u8, Failure>
     requires reads { input.old.faults < 2 ^ 64 - 1 }
-    ensures { KeepsTo (H.entries helpers) journal input.old input.new saved.old saved.new result }
+    ensures { KeepsTo (H.entries helpers) journal input.old input.new output.old output.new saved.old
+        saved.new result }
 {
     let mut buffer = buffer_for(alloc, saved)?;
     let mut desk = Desk::new(alloc, helpers, journal)?;
@@ -124,15 +134,15 @@ fn keep_with<H: Helpers + Drop, R: Read, W: Write, F: Write + Drop>(
             Err(failure) => Err(failure),
         };
     }
-    serve_from(
-        alloc,
-        &mut desk,
-        Synced::new(file, is_synced),
-        input,
-        output,
-    )?;
-    save(&mut buffer, &mut desk, saved)?;
-    Ok(0)
+    let file = Synced::new(file, is_synced);
+    match serve_from(alloc, &mut desk, file, input, output) {
+        Ok(()) => {}
+        Err(failure) => return Err(failure),
+    }
+    match save(&mut buffer, &mut desk, saved) {
+        Ok(()) => Ok(0),
+        Err(failure) => Err(failure),
+    }
 }
 
 /// Puts the journal of a file into a desk, and takes a rest without a line feed off the file. Answers
@@ -144,6 +154,7 @@ pub(crate) fn go_on<H: Helpers + Drop>(
 ) -> Result<Option<Finding>, Failure>
     requires empty { desk.old.history ≡ [] }
     ensures goes { IfOk result (GoesOn desk.old desk.new) }
+    ensures fails { IfErr result FailsToGoOn }
 {
     let Ok(reader) = file.try_clone() else {
         return Err(Failure::Keep);
@@ -161,13 +172,37 @@ pub(crate) fn go_on<H: Helpers + Drop>(
 }
 
 // Takes off a file what is behind so many bytes.
-fn cut(file: &File, bytes: u64) -> Result<(), Failure> {
+fn cut(file: &File, bytes: u64) -> Result<(), Failure>
+    ensures fails { IfErr result FailsToGoOn }
+{
     match file.metadata() {
         Ok(found) if found.len() == bytes => Ok(()),
         Ok(_) => match file.set_len(bytes) {
             Ok(()) => Ok(()),
             Err(_) => Err(Failure::Keep),
         },
+        Err(_) => Err(Failure::Keep),
+    }
+}
+
+/// A keeper of what a desk has, all of which is kept already. `Keep` where that is not in sight, `Memory`
+/// where it was refused.
+pub(crate) fn keeper_of<H: Helpers + Drop>(
+    alloc: Global,
+    desk: &Desk<H>,
+    writer: Synced,
+) -> Result<Keeper<Synced>, Failure>
+    ensures row { IfOk result (λ k. k.row ≡ row_of desk.now) }
+    ensures all { IfOk result (λ k. length k.seen ≡ length desk.now.history) }
+    ensures fresh { IfOk result (λ k. k.writer.log ≡ []) }
+    ensures fails { IfErr result FailsToGoOn }
+{
+    let Ok(mut keeper) = Keeper::new(alloc, desk.row(), Sink::new(writer)) else {
+        return Err(Failure::Memory);
+    };
+    match keeper.pass_over(desk.len()) {
+        Ok(()) => Ok(keeper),
+        Err(Failure::Memory) => Err(Failure::Memory),
         Err(_) => Err(Failure::Keep),
     }
 }
@@ -182,9 +217,9 @@ fn serve_from<H: Helpers + Drop, R: Read, W: Write>(
 ) -> Result<(), Failure>
     requires reads { input.old.faults < 2 ^ 64 - 1 }
     ensures serves { OnOk result (ServesKept desk.old desk.new input.old input.new) }
+    ensures stops { IfErr result (StopsKept desk.old desk.new input.old input.new) }
 {
-    let mut keeper = Keeper::new(alloc, desk.row(), Sink::new(file))?;
-    keeper.pass_over(desk.len())?;
+    let mut keeper = keeper_of(alloc, desk, file)?;
     let served = serve_behind(alloc, desk, &mut keeper, input, output);
     if keeper.keep().is_err() {
         return Err(Failure::Keep);
@@ -202,6 +237,7 @@ fn serve_behind<H: Helpers + Drop, R: Read, W: Write, F: Write + Drop>(
 ) -> Result<(), Failure>
     requires reads { input.old.faults < 2 ^ 64 - 1 }
     ensures serves { OnOk result (ServesKept desk.old desk.new input.old input.new) }
+    ensures stops { IfErr result (StopsAnswering desk.old desk.new input.old input.new) }
 {
     let kept = Kept::new(keeper, output);
     let Ok(buffered) = BufWriter::with_capacity(alloc, BUFFER, kept) else {

@@ -7,7 +7,7 @@ ghost use Rattle.acdm_tables.specs.Helpers.{helpers_by};
 ghost use Rattle.acdm_sessions.specs.Sessions.{new_session};
 
 use crate::host::Host;
-use crate::keeping::{KeepIn, go_on, open_kept};
+use crate::keeping::{KeepIn, go_on, keeper_of, open_kept};
 use crate::lasting::{FileKeeper, Service, serve_again};
 use crate::partners::Served;
 use crate::saving::{buffer_for, save_served};
@@ -88,6 +88,8 @@ fn serve_shared<
     keeper: Keeper<Synced>,
     terms: Terms,
     control: Option<Control>,
+    closing: Arc<AtomicBool>,
+    buffer: &mut Vec<u8>,
     writer: &mut Sink<W>,
     saved: &mut Option<Sink<F>>,
 ) -> Result<(), Failure>
@@ -100,8 +102,6 @@ fn serve_shared<
         (map (λ p. new_session p.0 (C.gives p.2)) partners.items) writer.old writer.new saved.old
         saved.new result }
 {
-    let mut buffer = buffer_for(alloc, saved)?;
-    let closing = Arc::new(alloc, AtomicBool::new(false))?;
     let shared: FileKeeper<J> = SharedKeeper::new(keeper, desk.row(), &closing)?;
     let served = desk_after(
         rt, alloc, partners, desk, terms, control, closing, &shared, writer,
@@ -112,28 +112,8 @@ fn serve_shared<
         Err(error) => return Err(Failure::from(error)),
     };
     match kept {
-        Ok(_keeper) => save_served(&mut buffer, &mut after, told, saved),
+        Ok(_keeper) => save_served(buffer, &mut after, told, saved),
         Err(_) => Err(Failure::Keep),
-    }
-}
-
-// A keeper of what a desk has, all of which is kept already.
-fn keeper_of<H: Helpers + Drop>(
-    alloc: Global,
-    desk: &Desk<H>,
-    writer: Synced,
-) -> Result<Keeper<Synced>, Failure>
-    ensures row { IfOk result (λ k. k.row ≡ row_of desk.now) }
-    ensures all { IfOk result (λ k. length k.seen ≡ length desk.now.history) }
-    ensures fresh { IfOk result (λ k. k.writer.log ≡ []) }
-{
-    let mut keeper = match Keeper::new(alloc, desk.row(), Sink::new(writer)) {
-        Ok(keeper) => keeper,
-        Err(failure) => return Err(failure),
-    };
-    match keeper.pass_over(desk.len()) {
-        Ok(()) => Ok(keeper),
-        Err(failure) => Err(failure),
     }
 }
 
@@ -146,6 +126,8 @@ fn serve_kept_at<Rt: Host, H: Helpers + Drop + Send, W: Write, F: Write + Drop>(
     audience: Audience<'_>,
     service: Service<'_>,
     words: &[&str],
+    closing: Arc<AtomicBool>,
+    buffer: &mut Vec<u8>,
     writer: &mut Sink<W>,
     saved: &mut Option<Sink<F>>,
 ) -> Result<(), Failure>
@@ -159,7 +141,7 @@ fn serve_kept_at<Rt: Host, H: Helpers + Drop + Send, W: Write, F: Write + Drop>(
     let (partners, displays) = opened(rt, alloc, desk.row(), audience, words)?;
     let terms = service.terms();
     let ended = serve_shared::<Brand, Rt, H, _, W, F>(
-        rt, alloc, partners, desk, keeper, terms, control, writer, saved,
+        rt, alloc, partners, desk, keeper, terms, control, closing, buffer, writer, saved,
     );
     close_all(rt, displays);
     ended
@@ -182,6 +164,8 @@ fn serve_kept_with<Rt: Host, H: Helpers + Drop + Send, W: Write, F: Write + Drop
     ensures { ServesKeptTo (H.entries helpers) journal (map (λ w. w.now) words.now) writer.old
         writer.new saved.old saved.new result }
 {
+    let mut buffer = buffer_for(alloc, saved)?;
+    let closing = Arc::new(alloc, AtomicBool::new(false))?;
     let mut desk = Desk::new(alloc, helpers, journal)?;
     if let Some(finding) = go_on(alloc, &file, &mut desk)? {
         return match finding.tell(writer) {
@@ -191,7 +175,17 @@ fn serve_kept_with<Rt: Host, H: Helpers + Drop + Send, W: Write, F: Write + Drop
     }
     let keeper = keeper_of(alloc, &desk, Synced::new(file, is_synced))?;
     serve_kept_at(
-        rt, alloc, desk, keeper, audience, service, words, writer, saved,
+        rt,
+        alloc,
+        desk,
+        keeper,
+        audience,
+        service,
+        words,
+        closing,
+        &mut buffer,
+        writer,
+        saved,
     )?;
     Ok(0)
 }

@@ -11,6 +11,6 @@ returns-in-Ok g c =
 pub returns-in-Err : goal.returns-in-Err
 returns-in-Err g c = record {
   work = Err c.in-Err.failure;
-  comes = inr (c.in-Err.ensures.fails, refl, refl);
+  comes = inr (c.in-Err.ensures.fails, (refl, refl));
   ends = c.ended-in-Err.ensures;
 }
