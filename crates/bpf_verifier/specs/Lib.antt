@@ -1,4 +1,5 @@
 pub mod Explained
+pub mod OpKinds
 pub mod Reading
 pub mod Rows
 pub mod Runs
