@@ -22,7 +22,7 @@ use acdm_sessions::{Clock, Closed, Gate, Session, Sink, Source};
 use acdm_wire::LONGEST_REQUEST;
 use bpf_helpers::Helpers;
 use std::alloc::{AllocError, Global};
-use std::io::{BufWriter, Eprint, Read, Write};
+use std::io::{BufWriter, Eprint, Write};
 use std::net::{Net, TcpListener, TcpStream};
 use std::sync::atomic::AtomicBool;
 use std::sync::{Arc, Wait};
@@ -337,24 +337,24 @@ fn opened<'r, J: Opening, Rt: Wait + SystemClock, C: Clock + Drop, W: Write>(
 
 // Serves the sessions while partners are accepted.
 fn served_while<
+    'r,
+    J: Opening + Send + Sync,
     Rt: Host,
     H: Helpers + Drop + Send,
-    R: Read + Drop + Send,
-    S: Write + Drop + Send,
     C: Clock + Drop + Send,
 >(
-    rt: &Rt,
+    rt: &'r Rt,
     alloc: Global,
     desk: Desk<H>,
-    sessions: Vec<Session<R, S, C>>,
+    sessions: Vec<Session<Reading<'r, Rt>, Writing<'r, J, Rt>, C>>,
     addresses: Addresses,
     control: Option<Control>,
     closing: Arc<AtomicBool>,
     again: bool,
-) -> Result<Closed<H, R, S, C>, ServeError>
+) -> Result<Closed<H, Reading<'r, Rt>, Writing<'r, J, Rt>, C>, ServeError>
     requires few { vec_len sessions ≤ 64 }
     ensures serves { IfOk result (λ c. ServesSessions desk c.desk
-        (map (λ s. session_start s.role s.reader s.writer (C.gives s.clock)) sessions.items)
+        (map (λ s. session_start s.role s.reader s.writer (C.gives s.clock)) sessions.entry.items)
         (map (λ e. session_told e.number e.role e.calls e.end e.torn e.reader e.writer e.pass)
         c.sessions.items)) }
     ensures fails { IfErr result IsOfAccepting }
