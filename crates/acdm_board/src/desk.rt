@@ -1,13 +1,14 @@
 //! The desk: helpers, the core and the journal of what changed it.
 ghost use Rattle.std.specs.Prelude.{◌≡◌, ◌≢◌, ◌<◌, ◌≤◌, ◌↔◌, [], ◌∷◌, true, false, length, reverse};
 ghost use Rattle.std.specs.Prelude.{take};
-ghost use Rattle.std.specs.Prelude.{slice_get, IfOk, OnOk, OnErr, Some, None};
+ghost use Rattle.std.specs.Prelude.{slice_get, IfOk, IfErr, OnOk, OnErr, Some, None};
 ghost use Rattle.std.specs.Option.{option_copied};
 ghost use Rattle.acdm_step.specs.History.{IsChecked, IsLegal, replay};
 ghost use Rattle.acdm_step.specs.Prepared.{Fits, after_change};
 ghost use Rattle.std.specs.Arc.{arc_value};
 ghost use Rattle.acdm_row.specs.Views.{IsSameCaller};
-ghost use Rattle.acdm_board.specs.Desk.{CallsDesk, DeskView, Extends, is_foreign, row_of, with_entry};
+ghost use Rattle.acdm_board.specs.Desk.{CallsDesk, DeskView, Enters, Extends, is_foreign, row_of};
+ghost use Rattle.acdm_board.specs.Desk.{with_entry};
 
 use crate::book::Book;
 use crate::error::DeskError;
@@ -170,6 +171,30 @@ impl<H: Helpers + Drop> Desk<H> {
         None
     }
 
+    // Makes the entry of a command that is not refused. `Memory` is then the only error.
+    fn enter(&mut self, pass: &mut Pass, moment: u32, command: Command) -> Result<Reply, DeskError>
+        requires row { pass.old.row ≡ row_of self.old }
+        requires moment_given { 1 ≤ moment }
+        requires place { length self.old.history < self.old.capacity }
+        requires checked { IsChecked self.old.sigs command }
+        ensures entry { IfOk result (λ reply. Enters self.old pass.old.session pass.old.role moment
+            command self.new reply.outcome) }
+        ensures number { IfOk result (λ reply. reply.number ≡ length self.old.history) }
+        ensures pass { OnOk result (Extends self.old self.new pass.old pass.new) }
+        ensures caller { IsSameCaller pass.old pass.new }
+        ensures memory { IfErr result (λ error. error ≡ DeskError.Memory) }
+        ensures err { OnErr result ((self.new ≡ self.old) × (pass.new ≡ pass.old)) }
+    {
+        let number = self.book.len();
+        let room = self.book.answers_room(&command);
+        let live = Live::new(self.book.alloc(), &self.helpers, room)?;
+        let outcome = self.book.enter(live, pass, moment, command)?;
+        Ok(Reply {
+            number: number as u64,
+            outcome,
+        })
+    }
+
     /// One event: a command of a pass at a moment (minutes since 1970-01-01T00:00Z, from 1) becomes
     /// the next entry, with the pass's session and role, what came of the command and the answers
     /// that its programs used. What the pass had seen was the beginning of the journal; it has seen
@@ -193,17 +218,10 @@ impl<H: Helpers + Drop> Desk<H> {
         ensures caller { IsSameCaller pass.old pass.new }
         ensures err { OnErr result (pass.new ≡ pass.old) }
     {
-        let number = self.book.len();
         if let Some(error) = self.refusal(&command) {
             return Err(error);
         }
-        let room = self.book.answers_room(&command);
-        let live = Live::new(self.book.alloc(), &self.helpers, room)?;
-        let outcome = self.book.enter(live, pass, moment, command)?;
-        Ok(Reply {
-            number: number as u64,
-            outcome,
-        })
+        self.enter(pass, moment, command)
     }
 
     /// The same for a session, from 1 to 64, in a role, by a pass that the desk keeps for the two.
@@ -223,7 +241,7 @@ impl<H: Helpers + Drop> Desk<H> {
             return Err(error);
         }
         let mut pass = self.passes.take(session, role)?;
-        let result = self.call(&mut pass, moment, command);
+        let result = self.enter(&mut pass, moment, command);
         self.passes.put(pass);
         result
     }
