@@ -253,11 +253,7 @@ named_as opening words old new said Kept Known knows named =
       partners = record {
         closed = all.closed;
         sessions = all.sessions;
-        sum = all.sum;
-        begins = all.begins;
-        ended = all.ended;
-        served = all.served;
-        shown = all.shown;
+        serves = all.serves;
         kept = knows all.closed.history all.kept;
         tells = all.tells;
       };
