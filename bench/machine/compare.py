@@ -23,7 +23,7 @@ sys.path.insert(0, str(ROOT / "bench" / "model"))
 from programs import Fault, accepted  # noqa: E402
 from random_programs import Programs  # noqa: E402
 
-BELOW = "acdm_record acdm_milestones bpf_decode bpf_helpers bpf_semantics bpf_words bpf_places bpf_regstate bpf_verifier bpf_run bpf_machine".split()
+BELOW = "acdm_record acdm_milestones bpf_decode bpf_helpers bpf_semantics bpf_regstate bpf_verifier bpf_run bpf_machine".split()
 
 
 def prepared(folder):

@@ -31,8 +31,7 @@ from random_programs import Programs  # noqa: E402
 
 from speed_programs import PROGRAMS  # noqa: E402
 
-BELOW = ("bpf_decode", "bpf_helpers", "bpf_semantics", "bpf_words", "bpf_places", "bpf_regstate")
-BELOW += ("bpf_verifier",)
+BELOW = ("bpf_decode", "bpf_helpers", "bpf_semantics", "bpf_regstate", "bpf_verifier")
 
 
 def built(folder):

@@ -1,11 +1,11 @@
 -- Why something was not done, by the result of a call.
 use Rattle.std.proofs.Common.{Result, Ok, Err, IfErr, OnOk}
-use Rattle.acdm_failures.specs.declared.failure.Failure.{Failure}
-use Rattle.acdm_failures.specs.declared.failure.Failure.TheVariants as failures
-use Rattle.acdm_failures.specs.declared.failure.ServeError.{ServeError}
-use Rattle.acdm_failures.specs.declared.failure.ServeError.TheVariants as serve_errors
+use Rattle.acdm_judging.specs.declared.failure.Failure.{Failure}
+use Rattle.acdm_judging.specs.declared.failure.Failure.TheVariants as failures
+use Rattle.acdm_judging.specs.declared.failure.ServeError.{ServeError}
+use Rattle.acdm_judging.specs.declared.failure.ServeError.TheVariants as serve_errors
 use Rattle.acdm_lines.specs.Counted.{SinkView}
-use Rattle.acdm_failures.specs.Failures.{failure_of_serve}
+use Rattle.acdm_judging.specs.Failures.{failure_of_serve}
 use Rattle.acdm_commands.specs.Partners.{FailsToListen, FailsToOpen, FailsToServeAll, FailsToTell}
 use Rattle.acdm_commands.specs.Partners.{IsOfAccepting}
 use Rattle.std.proofs.Common.{List, ℕ}

@@ -4,9 +4,9 @@ use Rattle.std.proofs.Common.{inl, inr, sym, subst}
 use Rattle.bpf_helpers.specs.Promise.{Promise}
 use Rattle.bpf_regstate.specs.declared.length.Length.{Length}
 use Rattle.acdm_step.specs.Commands.{History}
-use Rattle.acdm_failures.specs.Failures.{Ends, EndsBy}
-use Rattle.acdm_failures.specs.declared.failure.Failure.{Failure}
-use Rattle.acdm_failures.specs.declared.failure.Failure.TheVariants as failures
+use Rattle.acdm_judging.specs.Failures.{Ends, EndsBy}
+use Rattle.acdm_judging.specs.declared.failure.Failure.{Failure}
+use Rattle.acdm_judging.specs.declared.failure.Failure.TheVariants as failures
 use Rattle.acdm_judging.specs.Explained.{Explains, FailsToRead}
 use Rattle.acdm_judging.specs.Findings.{Audited, Finds}
 use Rattle.acdm_judging.specs.Gave.{GaveBytes, most_bytes}

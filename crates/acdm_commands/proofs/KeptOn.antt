@@ -9,7 +9,7 @@ use Rattle.acdm_commands.specs.Minutes.{is_minute}
 use Rattle.acdm_commands.specs.Partners.{SavesSo, ServesPartners, Telling, role_in}
 use Rattle.acdm_commands.specs.Served.{IsSaved}
 use Rattle.acdm_commands.proofs.Told.{serves_named}
-use Rattle.acdm_failures.specs.declared.failure.Failure.{Failure}
+use Rattle.acdm_judging.specs.declared.failure.Failure.{Failure}
 use Rattle.acdm_step.specs.Commands.{History}
 
 module _ {W : Type 0} (desk : DeskView) (roles : List Role) (starts : List SessionStart)

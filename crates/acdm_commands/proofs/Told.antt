@@ -17,7 +17,7 @@ use Rattle.acdm_commands.specs.Partners.{Announces, SavesSo, Telling, TellsPartn
 use Rattle.acdm_commands.specs.Partners.{closed_text}
 use Rattle.acdm_commands.specs.Partners.{listen_text, listens_text, role_in, told_text}
 use Rattle.acdm_commands.specs.Served.{IsSaved}
-use Rattle.acdm_failures.specs.declared.failure.Failure.{Failure}
+use Rattle.acdm_judging.specs.declared.failure.Failure.{Failure}
 use Rattle.acdm_step.specs.Commands.{History}
 
 -- the lines of listeners, and that of one more

@@ -1,8 +1,8 @@
 -- By which tables a command works (this project's profile).
 use Rattle.std.specs.Prelude.{ℕ, ◌≡◌, ◌⊎◌, ⊤, List, [], ◌∷◌, ◌++◌, codes, Option, Some, None, Ok, Err}
 use Rattle.std.specs.Fmt.{decimal}
-use Rattle.acdm_failures.specs.Failures.{Complains, failure_text}
-use Rattle.acdm_failures.specs.declared.failure.Failure.TheVariants.{Memory}
+use Rattle.acdm_judging.specs.Failures.{Complains, failure_text}
+use Rattle.acdm_judging.specs.declared.failure.Failure.TheVariants.{Memory}
 use Rattle.acdm_judging.specs.Explained.{TellsUnread}
 use Rattle.acdm_judging.specs.Gave.{GaveBytes}
 use Rattle.acdm_lines.specs.Counted.{SinkView, SourceView}

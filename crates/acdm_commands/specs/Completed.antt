@@ -6,9 +6,9 @@ use Rattle.bpf_regstate.specs.declared.length.Length.{Length}
 use Rattle.acdm_command_line.specs.declared.command_line.Subcommand.{Subcommand}
 use Rattle.acdm_command_line.specs.declared.command_line.Subcommand.TheVariants.{Audit, Explain, Run, Serve}
 use Rattle.acdm_command_line.specs.declared.command_line.Subcommand.TheVariants.{Tell, Verify}
-use Rattle.acdm_failures.specs.Failures.{EndsBy}
-use Rattle.acdm_failures.specs.declared.failure.Failure.{Failure}
-use Rattle.acdm_failures.specs.declared.failure.Failure.TheVariants.{Memory, Read, Save, Untold}
+use Rattle.acdm_judging.specs.Failures.{EndsBy}
+use Rattle.acdm_judging.specs.declared.failure.Failure.{Failure}
+use Rattle.acdm_judging.specs.declared.failure.Failure.TheVariants.{Memory, Read, Save, Untold}
 use Rattle.acdm_judging.specs.Explained.{Explains, TellsUnread}
 use Rattle.acdm_judging.specs.Findings.{Audited}
 use Rattle.acdm_judging.specs.Verdicts.{Verifies}

@@ -2,13 +2,13 @@
 use Rattle.std.specs.Prelude.{ℕ, ◌≡◌, ◌⊎◌, [], List, Option, Some, None, Result, Ok, Err}
 use Rattle.bpf_helpers.specs.Promise.{Promise}
 use Rattle.acdm_board.specs.Desk.{DeskView}
-use Rattle.acdm_failures.specs.declared.failure.Failure.{Failure}
+use Rattle.acdm_judging.specs.declared.failure.Failure.{Failure}
 use Rattle.acdm_judging.specs.Findings.{Tells, status_of}
 use Rattle.acdm_judging.specs.declared.auditing.Finding.{Finding}
 use Rattle.acdm_lines.specs.Counted.{SinkView, SourceView}
 use Rattle.acdm_sessions.specs.Run.{serving_desk}
-use Rattle.acdm_failures.specs.declared.failure.Failure.TheVariants.{InUse, Keep, Memory, Read, Room}
-use Rattle.acdm_failures.specs.declared.failure.Failure.TheVariants.{Write}
+use Rattle.acdm_judging.specs.declared.failure.Failure.TheVariants.{InUse, Keep, Memory, Read, Room}
+use Rattle.acdm_judging.specs.declared.failure.Failure.TheVariants.{Write}
 use Rattle.acdm_milestones.specs.declared.role.Role.{Role}
 use Rattle.acdm_sessions.specs.Sessions.{SessionStart}
 use Rattle.acdm_sessions.specs.Stream.{AnswersAll, AnswersPart, AnswersWhole}

@@ -9,10 +9,10 @@ use Rattle.bpf_helpers.specs.Promise.{Promise}
 use Rattle.acdm_milestones.specs.Names.{role_name, role_named}
 use Rattle.acdm_milestones.specs.declared.role.Role.{Role}
 use Rattle.acdm_board.specs.Desk.{DeskView}
-use Rattle.acdm_failures.specs.declared.failure.Failure.{Failure}
-use Rattle.acdm_failures.specs.declared.failure.Failure.TheVariants as failures
-use Rattle.acdm_failures.specs.declared.failure.ServeError.{ServeError}
-use Rattle.acdm_failures.specs.declared.failure.ServeError.TheVariants as serve_errors
+use Rattle.acdm_judging.specs.declared.failure.Failure.{Failure}
+use Rattle.acdm_judging.specs.declared.failure.Failure.TheVariants as failures
+use Rattle.acdm_judging.specs.declared.failure.ServeError.{ServeError}
+use Rattle.acdm_judging.specs.declared.failure.ServeError.TheVariants as serve_errors
 use Rattle.acdm_lines.specs.Counted.{SinkView, faults_after}
 use Rattle.acdm_lines.specs.declared.run_error.RunError.{RunError}
 use Rattle.acdm_wire.specs.Writes.{Writes, Wrote}

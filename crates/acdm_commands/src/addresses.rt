@@ -4,7 +4,7 @@ ghost use Rattle.acdm_commands.specs.Partners.{AddsNamed, FailsToListen, FailsTo
 ghost use Rattle.acdm_commands.specs.Partners.{role_in};
 
 use crate::minutes::SystemMinutes;
-use acdm_failures::Failure;
+use acdm_judging::Failure;
 use acdm_milestones::Role;
 use std::alloc::Global;
 use std::net::{Net, SocketAddr, TcpListener, TcpStream};

@@ -3,7 +3,7 @@ ghost use Rattle.std.specs.Prelude.{◌≡◌, ◌-◌, ◌^◌, ◌<◌, map, o
 ghost use Rattle.acdm_commands.specs.Asked.{Completes};
 ghost use Rattle.acdm_commands.specs.Completed.{AuditsLine, Does, ExplainsLine, RunsLine, RunsWords};
 ghost use Rattle.acdm_commands.specs.Completed.{ServesKeptLine, ServesLine, ServesLines, TellsLine, VerifiesLine};
-ghost use Rattle.acdm_failures.specs.Failures.{EndsBy};
+ghost use Rattle.acdm_judging.specs.Failures.{EndsBy};
 ghost use Rattle.acdm_tables.specs.Helpers.{helpers_by};
 
 use crate::host::Host;
@@ -15,8 +15,7 @@ use crate::serve_keeping::serve_kept;
 use crate::serving::run_by;
 use crate::tables::tables_of;
 use acdm_command_line::{Invocation, Subcommand, asked};
-use acdm_failures::{Failure, ended};
-use acdm_judging::{audit_on, explain_on, unread, verify_on};
+use acdm_judging::{Failure, audit_on, ended, explain_on, unread, verify_on};
 use acdm_sessions::{Sink, Source};
 use acdm_tables::Tables;
 use acdm_telling::tell_on;

@@ -4,14 +4,13 @@ ghost use Rattle.acdm_board.specs.Desk.{row_of};
 ghost use Rattle.acdm_commands.specs.Completed.{KeepsLine};
 ghost use Rattle.acdm_commands.specs.Keeping.{FailsToGoOn, GoesOn, KeepsTo, ServesKept, StopsAnswering};
 ghost use Rattle.acdm_commands.specs.Keeping.{StopsKept};
-ghost use Rattle.acdm_failures.specs.Failures.{EndsBy};
+ghost use Rattle.acdm_judging.specs.Failures.{EndsBy};
 ghost use Rattle.acdm_tables.specs.Helpers.{helpers_by};
 
 use crate::saving::{buffer_for, save, saving_in, settle};
 use crate::standard::is_standard;
 use acdm_board::Desk;
-use acdm_failures::{Failure, ended};
-use acdm_judging::Finding;
+use acdm_judging::{Failure, Finding, ended};
 use acdm_keeping::{Keeper, Kept, Synced, open};
 use acdm_restoring::{RestoreError, restore};
 use acdm_sessions::{Sink, Source, run};

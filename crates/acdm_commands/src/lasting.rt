@@ -10,7 +10,7 @@ ghost use Rattle.acdm_sessions.specs.Sessions.{session_told};
 use crate::host::Host;
 use crate::partners::{REPLIES_HELD, Served, announce, served_by, tell};
 use acdm_board::Desk;
-use acdm_failures::{Failure, ServeError};
+use acdm_judging::{Failure, ServeError};
 use acdm_keeping::{Opening, Replies as Behind, SharedKeeper, Synced};
 use acdm_milestones::Role;
 use acdm_partners::{

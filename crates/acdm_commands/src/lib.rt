@@ -16,8 +16,7 @@ mod serving;
 mod standard;
 mod tables;
 
-pub use acdm_failures::{Failure, ServeError};
-pub use acdm_judging::{audit_on, explain_on, verify_on};
+pub use acdm_judging::{Failure, ServeError, audit_on, explain_on, verify_on};
 pub use commands::complete;
 pub use partners::serve_on;
 pub use serving::run_on;

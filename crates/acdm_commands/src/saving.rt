@@ -1,7 +1,7 @@
 //! The saving of a desk's journal, as text.
 ghost use Rattle.std.specs.Prelude.{◌≡◌, ◌≤◌, true, false, IfOk, IfErr, OnOk, Some, option_map};
 ghost use Rattle.acdm_board.specs.Desk.{row_of};
-ghost use Rattle.acdm_failures.specs.declared.failure.Failure.TheVariants.{Memory};
+ghost use Rattle.acdm_judging.specs.declared.failure.Failure.TheVariants.{Memory};
 ghost use Rattle.acdm_commands.specs.Completed.{FailsToMake, IsDone, IsUnwritten, Settles};
 ghost use Rattle.acdm_commands.specs.Partners.{SavesSo};
 ghost use Rattle.acdm_commands.specs.Served.{FailsToSave, IsSaved};
@@ -9,8 +9,8 @@ ghost use Rattle.acdm_journal.specs.Whole.{Saves};
 
 use crate::standard::is_standard;
 use acdm_board::Desk;
-use acdm_failures::Failure;
 use acdm_journal::{MOST_KEPT, write_entry_by};
+use acdm_judging::Failure;
 use acdm_row::Row;
 use acdm_sessions::{RunError, Sink};
 use bpf_helpers::Helpers;

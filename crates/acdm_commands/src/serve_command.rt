@@ -12,7 +12,7 @@ use crate::partners::serve_on;
 use crate::saving::{buffer_for, save_served};
 use acdm_board::Desk;
 use acdm_displays::{Displays, Form};
-use acdm_failures::Failure;
+use acdm_judging::Failure;
 use acdm_keeping::Opening;
 use acdm_milestones::Role;
 use acdm_partners::{Control, Terms};

@@ -13,7 +13,7 @@ use crate::partners::Served;
 use crate::saving::{buffer_for, save_served};
 use crate::serve_command::{Audience, close_all, opened};
 use acdm_board::Desk;
-use acdm_failures::{Failure, ServeError};
+use acdm_judging::{Failure, ServeError};
 use acdm_keeping::{Keeper, Opening, SharedKeeper, Synced};
 use acdm_milestones::Role;
 use acdm_partners::{Control, Terms};

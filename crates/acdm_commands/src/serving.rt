@@ -1,12 +1,12 @@
 //! The command `run`, over the reader and the writers that it is handed.
 ghost use Rattle.std.specs.Prelude.{◌-◌, ◌^◌, ◌<◌, IfOk, IfErr, Ok};
 ghost use Rattle.acdm_commands.specs.Served.{RunsTo, ServesFromEmpty, Stops};
-ghost use Rattle.acdm_failures.specs.Failures.{EndsBy};
+ghost use Rattle.acdm_judging.specs.Failures.{EndsBy};
 ghost use Rattle.acdm_tables.specs.Helpers.{helpers_by};
 
 use crate::saving::{buffer_for, save};
 use acdm_board::Desk;
-use acdm_failures::{Failure, ended};
+use acdm_judging::{Failure, ended};
 use acdm_sessions::{Sink, Source, run};
 use acdm_tables::{KnownHelpers, Tables};
 use bpf_helpers::Helpers;

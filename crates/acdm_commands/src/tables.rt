@@ -1,11 +1,10 @@
 //! The tables by which a command works.
 ghost use Rattle.std.specs.Prelude.{◌≡◌, ◌⊎◌, IfNone, IfOk, IfSome, OnSome, Some, option_map};
 ghost use Rattle.acdm_commands.specs.ByTables.{AreTables, GivesNone, ReadsTables, RefusesTables, refusal_text};
-ghost use Rattle.acdm_failures.specs.Failures.{Complains, failure_text};
-ghost use Rattle.acdm_failures.specs.declared.failure.Failure.TheVariants.{Memory};
+ghost use Rattle.acdm_judging.specs.Failures.{Complains, failure_text};
+ghost use Rattle.acdm_judging.specs.declared.failure.Failure.TheVariants.{Memory};
 
-use acdm_failures::Failure;
-use acdm_judging::{BytesError, bytes_of, unread};
+use acdm_judging::{BytesError, Failure, bytes_of, unread};
 use acdm_sessions::{Sink, Source};
 use acdm_tables::{MOST_TEXT, Tables, TablesError, read_tables};
 use acdm_wire::write_out;

@@ -8,7 +8,7 @@ use crate::browsing::{answer, follow_events};
 use crate::following::{Form, MOST_REFUSALS, Shown, follow, follow_changes};
 use crate::leaving::has_left;
 use crate::places::{Place, Shared};
-use acdm_failures::Failure;
+use acdm_judging::Failure;
 use acdm_lines::{Sink, Source};
 use acdm_row::Row;
 use acdm_web::{PAGE, Wanted, first_wanted};

@@ -6,9 +6,9 @@ ghost use Rattle.acdm_step.specs.declared.entry.Entry.{Entry as AnEntry};
 ghost use Rattle.acdm_journal.specs.Whole.{Saves};
 ghost use Rattle.acdm_displays.specs.Displayed.{Adds, Begun, CutsShort, EventsFrom, TellsFrom};
 
-use acdm_failures::Failure;
 use acdm_feed::{Known, tell_next};
 use acdm_journal::push_entry;
+use acdm_judging::Failure;
 use acdm_row::Row;
 use acdm_watch::Watch;
 use acdm_web::push_event;

@@ -1,5 +1,5 @@
 pub mod Explained
+pub mod Failures
 pub mod Findings
 pub mod Gave
 pub mod Verdicts
-pub use Rattle.acdm_failures.specs.Failures

@@ -1,6 +1,6 @@
 //! The file in which a journal is kept.
 
-use acdm_failures::Failure;
+use acdm_judging::Failure;
 use std::fs::{File, Files, OpenOptions, TryLockError};
 
 /// Opens the file in which a journal is kept, for reading and for writing at its end. It is made where

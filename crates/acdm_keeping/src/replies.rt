@@ -5,7 +5,7 @@ ghost use Rattle.std.specs.Io.KnownBytes.{Keeps, WriteAppends};
 
 use crate::receipt::{Opening, Receipt};
 use crate::shared::SharedKeeper;
-use acdm_failures::Failure;
+use acdm_judging::Failure;
 use std::io::{self, ErrorKind, Write};
 use std::sync::Wait;
 

@@ -1,7 +1,7 @@
 //! Ranges as text: numbers, addresses and times.
 
 use bpf_helpers::Range;
-use bpf_places::{RECORD_BASE, STACK_BASE, STACK_LENGTH};
+use bpf_semantics::{RECORD_BASE, STACK_BASE, STACK_LENGTH};
 use jiff::Timestamp;
 use std::fmt;
 

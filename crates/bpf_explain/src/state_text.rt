@@ -2,8 +2,8 @@
 
 use crate::range_text::{Bound, Span, Words, in_stack};
 use bpf_decode::{Op, Register};
-use bpf_places::STACK_LENGTH;
 use bpf_regstate::{Reg, State};
+use bpf_semantics::STACK_LENGTH;
 use std::io::{self, Write};
 
 /// Writes what is known before a slot, in lines of their own, and nothing of a second slot.

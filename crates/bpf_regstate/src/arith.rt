@@ -13,7 +13,7 @@ ghost use Rattle.bpf_decode.specs.declared.op.Width.TheVariants.{W32, W64};
 use crate::single::single;
 use bpf_decode::{Code, Width};
 use bpf_helpers::Range;
-use bpf_words::operate;
+use bpf_semantics::operate;
 
 /// Every word of the width.
 pub fn all_of(width: Width) -> Range

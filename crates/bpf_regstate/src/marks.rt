@@ -6,7 +6,7 @@ ghost use Rattle.std.specs.List.{list_all};
 ghost use Rattle.bpf_regstate.specs.Joins.{join_marks};
 ghost use Rattle.bpf_regstate.specs.Marks.{is_marked, marks_of};
 
-use bpf_places::STACK_LENGTH;
+use bpf_semantics::STACK_LENGTH;
 
 /// Whether a byte is marked.
 fn is_marked(words: &[u64], place: usize) -> bool

@@ -1,11 +1,11 @@
 //! Where loads and stores at a range of addresses go.
 
 ghost use Rattle.std.specs.Prelude.{◌≤◌, ◌<◌, ◌^◌, ◌+◌, ◌-◌};
-ghost use Rattle.bpf_places.specs.Places.{PlaceIs};
+ghost use Rattle.bpf_semantics.specs.Places.{PlaceIs};
 ghost use Rattle.bpf_regstate.specs.Effect.{access};
 
 use bpf_helpers::Range;
-use bpf_places::{Place, STACK_LENGTH, place_at};
+use bpf_semantics::{Place, STACK_LENGTH, place_at};
 
 /// How many bytes a record has.
 pub const RECORD_LENGTH: usize = 128;

@@ -8,7 +8,7 @@ ghost use Rattle.bpf_decode.specs.Words.{count_of, part_bits};
 use crate::arith::{all_of, reduce};
 use bpf_decode::{ByteOrder, Bytes, Part, Width};
 use bpf_helpers::Range;
-use bpf_words::{extend, negate, order_bytes};
+use bpf_semantics::{extend, negate, order_bytes};
 
 /// The range that has this word alone.
 pub fn single(word: u64) -> Range

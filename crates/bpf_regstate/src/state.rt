@@ -19,7 +19,7 @@ use crate::single::{extend_words, negate_words, order_words, single};
 use crate::words::{forget, is_word, join_kept, keep, word_at};
 use bpf_decode::{Condition, Op, Operand, Register, Size, Width};
 use bpf_helpers::{Range, Sigs};
-use bpf_places::{Place, RECORD_BASE, STACK_BASE, STACK_LENGTH, byte_count};
+use bpf_semantics::{Place, RECORD_BASE, STACK_BASE, STACK_LENGTH, byte_count};
 use std::alloc::{AllocError, Global};
 use std::marker::Model;
 

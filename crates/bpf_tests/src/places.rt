@@ -3,7 +3,7 @@
 
 use crate::programs::same_count;
 use bpf_decode::{Part, Size};
-use bpf_places::{
+use bpf_semantics::{
     Place, RECORD_BASE, STACK_BASE, STACK_LENGTH, byte_count, part_byte_count, place_at,
 };
 use std::process::Abort;

@@ -8,8 +8,8 @@ use self::Second::{Number, Of};
 use crate::fixtures::{no_sigs, range, taxi_sigs};
 use bpf_decode::{ByteOrder, Bytes, Code, Condition, Op, Operand, Part, Register, Size, Width};
 use bpf_helpers::{Range, Sigs};
-use bpf_places::Place;
 use bpf_regstate::{Length, Reg, State, place_of_access};
+use bpf_semantics::Place;
 use std::alloc::Global;
 use std::process::Abort;
 

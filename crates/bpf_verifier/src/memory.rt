@@ -1,7 +1,7 @@
 //! Faults of loads and stores: where they may go, and what they may find there.
 
 ghost use Rattle.std.specs.Prelude.{◌≡◌, ◌<◌, ◌≤◌, ◌^◌, ◌+◌, ◌-◌};
-ghost use Rattle.bpf_places.specs.Places.{PlaceIs};
+ghost use Rattle.bpf_semantics.specs.Places.{PlaceIs};
 ghost use Rattle.bpf_regstate.specs.Shape.{known};
 ghost use Rattle.bpf_regstate.specs.Effect.{access, range_of};
 ghost use Rattle.bpf_regstate.specs.Faults.{access_of, is_nowhere, is_unmarked, loads_unmarked};
@@ -9,8 +9,8 @@ ghost use Rattle.bpf_regstate.specs.Faults.{stores_in_record};
 
 use crate::reads::range_of;
 use bpf_decode::{Op, Register};
-use bpf_places::{Place, byte_count, part_byte_count};
 use bpf_regstate::{State, place_of_access};
+use bpf_semantics::{Place, byte_count, part_byte_count};
 
 /// Where all addresses lie that so many bytes at a register plus the offset may have.
 fn place_at(record_length: usize, state: &State, base: Register, offset: i32, count: usize) -> Place

@@ -10,7 +10,7 @@ mod unreliable;
 
 use acdm_board::Desk;
 use acdm_commands::{complete, run_on, verify_on};
-use acdm_failures::Failure;
+use acdm_judging::Failure;
 use acdm_sessions::{Sink, Source, run};
 use acdm_tables::Tables;
 use bpf_helpers::{Bank, Helpers};

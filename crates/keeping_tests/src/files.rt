@@ -1,6 +1,6 @@
 //! What is written to a file in which a journal is kept, where flushes wait for the disk and where they
 //! do not. The file is in the folder that tests run in.
-use acdm_failures::Failure;
+use acdm_judging::Failure;
 use acdm_keeping::{Synced, open};
 use std::fs::{self, File, Files};
 use std::io::Write;

@@ -3,8 +3,8 @@
 ghost use Rattle.std.specs.Prelude.{◌≤◌};
 
 use bpf_decode::{Code, Op, Operand, Register};
-use bpf_places::{Place, byte_count, part_byte_count};
 use bpf_regstate::{Reg, State, place_of_access};
+use bpf_semantics::{Place, byte_count, part_byte_count};
 
 /// Whether an instruction begins at a slot.
 fn is_entry(ops: &[Op], slot: Option<usize>) -> bool {

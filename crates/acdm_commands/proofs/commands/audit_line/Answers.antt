@@ -1,5 +1,5 @@
 use Rattle.std.proofs.Common.{Err, inl, inr, refl, ap}
-use Rattle.acdm_failures.specs.declared.failure.Failure.TheVariants.{Read}
+use Rattle.acdm_judging.specs.declared.failure.Failure.TheVariants.{Read}
 use Rattle.acdm_tables.specs.Helpers.{helpers_by}
 use Rattle.acdm_commands.specs.Completed.{read_from}
 use Rattle.acdm_commands.proofs.Files.{audited_any}

@@ -2,8 +2,8 @@
 use Rattle.std.specs.Prelude.{◌≡◌, ℕ, ◌+◌, ◌≤◌}
 use Rattle.bpf_semantics.specs.Machine as machine
 use Rattle.bpf_semantics.specs.Machine.{InRecord, InStack}
-use Rattle.bpf_places.specs.declared.place.Place.{Place}
-use Rattle.bpf_places.specs.declared.place.Place.TheVariants.{Record, Stack, Nowhere}
+use Rattle.bpf_semantics.specs.declared.place.Place.{Place}
+use Rattle.bpf_semantics.specs.declared.place.Place.TheVariants.{Record, Stack, Nowhere}
 
 -- the place is this one, and so many bytes from it on lie in its region
 abbrev pub PlaceIs : Place → ℕ → ℕ → machine.Place → Type 0

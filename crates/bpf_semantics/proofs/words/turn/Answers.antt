@@ -1,6 +1,6 @@
 use Rattle.std.proofs.Common.{◌≡◌, ◌%◌, ◌^◌, ap, sym, ◌∙◌, arith}
 use Rattle.std.specs.Int.{swap_bytes, w64}
-use Rattle.bpf_words.proofs.words.turn.Goals as goal
+use Rattle.bpf_semantics.proofs.words.turn.Goals as goal
 
 pub returns-in-Eight : goal.returns-in-Eight
 returns-in-Eight c =

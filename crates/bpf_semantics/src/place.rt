@@ -2,7 +2,7 @@
 
 ghost use Rattle.std.specs.Prelude.{◌≡◌, ◌<◌, ◌^◌, ◌+ℤ◌, pos};
 ghost use Rattle.bpf_semantics.specs.Machine.{place_of};
-ghost use Rattle.bpf_places.specs.Places.{PlaceIs};
+ghost use Rattle.bpf_semantics.specs.Places.{PlaceIs};
 
 /// The first address of the record.
 pub const RECORD_BASE: u64 = 0x1_0000_0000;
