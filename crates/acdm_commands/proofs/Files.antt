@@ -351,12 +351,12 @@ unsaved_any : {F : Type 0} {P Q : Type 0} (file later : Option (SinkView F)) (fa
 unsaved_any file later failure (inl p) = inl p
 unsaved_any file later failure (inr p) = inr (p.0, fails_any file later failure p.1)
 
-stops_any : {R F : Type 0} (sigs : List (ℕ × Promise)) (journal : ℕ) (input input_after : SourceView R)
-    (file later : Option (SinkView F)) (failure : Failure)
-    → StopsFrom sigs journal input input_after file later failure
-    → StopsFrom sigs journal input input_after (option_map written_to file)
+stops_any : {R W F : Type 0} (sigs : List (ℕ × Promise)) (journal : ℕ) (input input_after : SourceView R)
+    (output output_after : SinkView W) (file later : Option (SinkView F)) (failure : Failure)
+    → StopsFrom sigs journal input input_after output output_after file later failure
+    → StopsFrom sigs journal input input_after output output_after (option_map written_to file)
     (option_map written_to later) failure
-stops_any sigs journal input input_after file later failure p = record {
+stops_any sigs journal input input_after output output_after file later failure p = record {
   opening = p.opening;
   desk = p.desk;
   room = p.room;
@@ -385,7 +385,7 @@ keeps_any sigs journal input input_after output output_after file later (Err fai
 keeps_any sigs journal input input_after output output_after file later (Err failure) (inr (inl p)) =
     inr (inl p)
 keeps_any sigs journal input input_after output output_after file later (Err failure) (inr (inr p)) =
-    inr (inr (stops_any sigs journal input input_after file later failure p))
+    inr (inr (stops_any sigs journal input input_after output output_after file later failure p))
 
 -- `run --keep`
 pub kept_line : {R W F E : Type 0} (sigs : List (ℕ × Promise)) (journal : ℕ) (path : Option (List ℕ))

@@ -1,11 +1,13 @@
 -- What `run` does with a journal that is kept in a file.
-use Rattle.std.specs.Prelude.{ℕ, ◌≡◌, ◌⊎◌, [], List, Option, Some, None, Result, Ok, Err}
+use Rattle.std.specs.Prelude.{ℕ, ◌≡◌, ◌<◌, ◌⊎◌, [], List, Option, Some, None, Result, Ok, Err}
 use Rattle.bpf_helpers.specs.Promise.{Promise}
 use Rattle.acdm_board.specs.Desk.{DeskView}
 use Rattle.acdm_judging.specs.declared.failure.Failure.{Failure}
 use Rattle.acdm_judging.specs.Findings.{Tells, status_of}
 use Rattle.acdm_judging.specs.declared.auditing.Finding.{Finding}
 use Rattle.acdm_lines.specs.Counted.{SinkView, SourceView}
+use Rattle.acdm_lines.specs.declared.run_error.RunError.{RunError}
+use Rattle.acdm_lines.specs.declared.run_error.RunError.TheVariants as errors
 use Rattle.acdm_sessions.specs.Run.{serving_desk}
 use Rattle.acdm_judging.specs.declared.failure.Failure.TheVariants.{InUse, Keep, Memory, Read, Room}
 use Rattle.acdm_judging.specs.declared.failure.Failure.TheVariants.{Write}
@@ -55,41 +57,62 @@ abbrev pub TellsFault : {W : Type 0} → SinkView W → SinkView W → Result �
 TellsFault written written_after work =
     (finding : Finding) × (status_of finding ≡ 1) × Tells finding written written_after work
 
--- why not all lines that a reader gave were answered by a desk, and which were
-abbrev pub StopsAnswering : {R : Type 0} → DeskView → DeskView → SourceView R → SourceView R → Failure
-    → Type 0
-StopsAnswering before after read read_after Read =
+-- lines were answered by a desk up to one whose reply, or up to where all replies, could not be handed on
+abbrev pub AnswersUpTo : {R : Type 0} → DeskView → DeskView → SourceView R → SourceView R → Type 0
+AnswersUpTo before after read read_after =
+    (replies : List ℕ) × AnswersPart serving_desk read.log read_after.log before after [] replies
+
+-- what comes of the lines that a reader gave where their replies go by way of a keeper
+abbrev pub AnswersBehind : {R T : Type 0} → DeskView → DeskView → SourceView R → SourceView R
+    → Result T RunError → Type 0
+AnswersBehind before after read read_after (Ok x) = ServesKept before after read read_after
+AnswersBehind before after read read_after (Err errors.Read) =
     (replies : List ℕ) × AnswersWhole serving_desk read.log read_after.log read.faults
     read_after.faults before after [] replies
-StopsAnswering before after read read_after Write =
-    (replies : List ℕ) × AnswersPart serving_desk read.log read_after.log before after [] replies
-StopsAnswering before after read read_after Memory = (read_after ≡ read) × (after ≡ before)
-StopsAnswering before after read read_after failure = ⊥
+AnswersBehind before after read read_after (Err errors.Write) = AnswersUpTo before after read read_after
+AnswersBehind before after read read_after (Err errors.Memory) =
+    (read_after ≡ read) × (after ≡ before)
+
+-- Why not all lines that a reader gave were answered by a desk, and which were: that a reply was not
+-- written is said only where the writer failed, and else that the journal was not kept.
+abbrev pub StopsAnswering : {R W : Type 0} → DeskView → DeskView → SourceView R → SourceView R
+    → SinkView W → SinkView W → Failure → Type 0
+StopsAnswering before after read read_after written written_after Read =
+    AnswersBehind {T = Unit {0}} before after read read_after (Err errors.Read)
+StopsAnswering before after read read_after written written_after Write =
+    AnswersUpTo before after read read_after × (written.faults < written_after.faults)
+StopsAnswering before after read read_after written written_after Keep =
+    AnswersUpTo before after read read_after
+StopsAnswering before after read read_after written written_after Memory =
+    (read_after ≡ read) × (after ≡ before)
+StopsAnswering before after read read_after written written_after failure = ⊥
 
 -- all lines were answered by a desk, or those before something failed
-abbrev pub AnswersSome : {R : Type 0} → DeskView → DeskView → SourceView R → SourceView R → Type 0
-AnswersSome before after read read_after =
+abbrev pub AnswersSome : {R W : Type 0} → DeskView → DeskView → SourceView R → SourceView R
+    → SinkView W → SinkView W → Type 0
+AnswersSome before after read read_after written written_after =
     ServesKept before after read read_after
-    ⊎ ((failure : Failure) × StopsAnswering before after read read_after failure)
+    ⊎ ((failure : Failure) × StopsAnswering before after read read_after written written_after failure)
 
 -- Why lines were not answered by a desk that is kept, or not all, and which were; or some were, and what
 -- they made was not kept.
-abbrev pub StopsKept : {R : Type 0} → DeskView → DeskView → SourceView R → SourceView R → Failure → Type 0
-StopsKept before after read read_after failure =
-    (FailsToGoOn failure × (read_after ≡ read) × (after ≡ before))
-    ⊎ StopsAnswering before after read read_after failure
-    ⊎ ((failure ≡ Keep) × AnswersSome before after read read_after)
+abbrev pub StopsKept : {R W : Type 0} → DeskView → DeskView → SourceView R → SourceView R
+    → SinkView W → SinkView W → Failure → Type 0
+StopsKept before after read read_after written written_after failure =
+    (FailsToGoOn failure × (read_after ≡ read) × (after ≡ before) × (written_after ≡ written))
+    ⊎ StopsAnswering before after read read_after written written_after failure
+    ⊎ ((failure ≡ Keep) × AnswersSome before after read read_after written written_after)
 
 -- A desk with room for so many entries went on from a kept journal. Not all lines were answered or kept; or
 -- all were, and what the desk had then was not saved.
-pub record StopsFrom {R F : Type 0} (sigs : List (ℕ × Promise)) (capacity : ℕ)
-    (read read_after : SourceView R) (saved saved_after : Option (SinkView F)) (failure : Failure)
-    : Type 0 where
+pub record StopsFrom {R W F : Type 0} (sigs : List (ℕ × Promise)) (capacity : ℕ)
+    (read read_after : SourceView R) (written written_after : SinkView W)
+    (saved saved_after : Option (SinkView F)) (failure : Failure) : Type 0 where
   pub opening : DeskView
   pub desk : DeskView
   pub room : opening.capacity ≡ capacity
   pub helpers : opening.sigs ≡ sigs
-  pub why : StopsKept opening desk read read_after failure
+  pub why : StopsKept opening desk read read_after written written_after failure
       ⊎ (ServesKept opening desk read read_after × FailsToSave saved saved_after failure)
 
 -- What comes of it: all was done, with the status 0; or the kept journal is not legal, which was told, with
@@ -103,7 +126,7 @@ KeepsTo sigs capacity read read_after written written_after saved saved_after (O
 KeepsTo sigs capacity read read_after written written_after saved saved_after (Err failure) =
     (FailsToGoOn failure × (written_after ≡ written) × (read_after ≡ read))
     ⊎ (TellsFault written written_after (Err failure) × (read_after ≡ read))
-    ⊎ StopsFrom sigs capacity read read_after saved saved_after failure
+    ⊎ StopsFrom sigs capacity read read_after written written_after saved saved_after failure
 
 -- ---- `serve`
 

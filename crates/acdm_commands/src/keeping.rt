@@ -2,8 +2,8 @@
 ghost use Rattle.std.specs.Prelude.{◌-◌, ◌^◌, ◌<◌, ◌≡◌, [], IfErr, IfOk, OnOk, length, option_map};
 ghost use Rattle.acdm_board.specs.Desk.{row_of};
 ghost use Rattle.acdm_commands.specs.Completed.{KeepsLine};
-ghost use Rattle.acdm_commands.specs.Keeping.{FailsToGoOn, GoesOn, KeepsTo, ServesKept, StopsAnswering};
-ghost use Rattle.acdm_commands.specs.Keeping.{StopsKept};
+ghost use Rattle.acdm_commands.specs.Keeping.{AnswersBehind, FailsToGoOn, GoesOn, KeepsTo, ServesKept};
+ghost use Rattle.acdm_commands.specs.Keeping.{StopsAnswering, StopsKept};
 ghost use Rattle.acdm_judging.specs.Failures.{EndsBy};
 ghost use Rattle.acdm_tables.specs.Helpers.{helpers_by};
 
@@ -13,7 +13,7 @@ use acdm_board::Desk;
 use acdm_judging::{Failure, Finding, ended};
 use acdm_keeping::{Keeper, Kept, Synced, open};
 use acdm_restoring::{RestoreError, restore};
-use acdm_sessions::{Sink, Source, run};
+use acdm_sessions::{RunError, Sink, Source, run};
 use acdm_tables::{KnownHelpers, Tables};
 use bpf_helpers::Helpers;
 use std::alloc::Global;
@@ -216,7 +216,7 @@ fn serve_from<H: Helpers + Drop, R: Read, W: Write>(
 ) -> Result<(), Failure>
     requires reads { input.old.faults < 2 ^ 64 - 1 }
     ensures serves { OnOk result (ServesKept desk.old desk.new input.old input.new) }
-    ensures stops { IfErr result (StopsKept desk.old desk.new input.old input.new) }
+    ensures stops { IfErr result (StopsKept desk.old desk.new input.old input.new output.old output.new) }
 {
     let mut keeper = keeper_of(alloc, desk, file)?;
     let served = serve_behind(alloc, desk, &mut keeper, input, output);
@@ -226,7 +226,8 @@ fn serve_from<H: Helpers + Drop, R: Read, W: Write>(
     served
 }
 
-// Answers the lines of a reader on a writer, behind a keeper.
+// Answers the lines of a reader on a writer, behind a keeper. Where they could not be handed on and the
+// writer has not failed, it is the keeper that has.
 fn serve_behind<H: Helpers + Drop, R: Read, W: Write, F: Write + Drop>(
     alloc: Global,
     desk: &mut Desk<H>,
@@ -236,13 +237,38 @@ fn serve_behind<H: Helpers + Drop, R: Read, W: Write, F: Write + Drop>(
 ) -> Result<(), Failure>
     requires reads { input.old.faults < 2 ^ 64 - 1 }
     ensures serves { OnOk result (ServesKept desk.old desk.new input.old input.new) }
-    ensures stops { IfErr result (StopsAnswering desk.old desk.new input.old input.new) }
+    ensures stops { IfErr result (StopsAnswering desk.old desk.new input.old input.new output.old
+        output.new) }
+{
+    let faults = output.faults();
+    match run_behind(alloc, desk, keeper, input, output) {
+        Ok(()) => Ok(()),
+        Err(RunError::Read) => Err(Failure::Read),
+        Err(RunError::Memory) => Err(Failure::Memory),
+        Err(RunError::Write) => {
+            if faults < output.faults() {
+                return Err(Failure::Write);
+            }
+            Err(Failure::Keep)
+        }
+    }
+}
+
+// Answers the lines of a reader by way of a buffer and a keeper.
+fn run_behind<H: Helpers + Drop, R: Read, W: Write, F: Write + Drop>(
+    alloc: Global,
+    desk: &mut Desk<H>,
+    keeper: &mut Keeper<F>,
+    input: &mut Source<R>,
+    output: &mut Sink<W>,
+) -> Result<(), RunError>
+    requires reads { input.old.faults < 2 ^ 64 - 1 }
+    ensures { AnswersBehind desk.old desk.new input.old input.new result }
 {
     let kept = Kept::new(keeper, output);
     let Ok(buffered) = BufWriter::with_capacity(alloc, BUFFER, kept) else {
-        return Err(Failure::Memory);
+        return Err(RunError::Memory);
     };
     let mut writer = Sink::new(buffered);
-    run(alloc, input, &mut writer, desk)?;
-    Ok(())
+    run(alloc, input, &mut writer, desk)
 }
