@@ -22,7 +22,8 @@ use Rattle.acdm_commands.specs.Completed.{written_to}
 use Rattle.acdm_board.specs.Desk.{DeskView}
 use Rattle.acdm_commands.specs.Keeping.{KeepsTo, ServesKeptTo, ServesKeptWords, StopsFrom}
 use Rattle.acdm_commands.specs.Served.{FailsToSave, IsSaved, Runs, RunsTo, empty_desk}
-use Rattle.acdm_commands.specs.Partners.{SavesSo, ServesNamed, ServesWords, ServesWordsTo, Telling}
+use Rattle.acdm_commands.specs.Partners.{SavesSo, ServesNamed, ServesWords, ServesWordsTo}
+use Rattle.acdm_serving.specs.Partners.{Telling}
 
 -- ---- files that are read
 

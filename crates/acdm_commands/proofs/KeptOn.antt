@@ -6,7 +6,8 @@ use Rattle.acdm_board.specs.Desk.{DeskView}
 use Rattle.acdm_sessions.specs.Sessions.{SessionStart, new_session}
 use Rattle.acdm_commands.specs.Keeping.{ServesKeptAt, ServesKeptWords}
 use Rattle.acdm_commands.specs.Minutes.{is_minute}
-use Rattle.acdm_commands.specs.Partners.{SavesSo, ServesPartners, Telling, role_in}
+use Rattle.acdm_commands.specs.Partners.{SavesSo, ServesPartners, role_in}
+use Rattle.acdm_serving.specs.Partners.{Telling}
 use Rattle.acdm_commands.specs.Served.{IsSaved}
 use Rattle.acdm_commands.proofs.Told.{serves_named}
 use Rattle.acdm_judging.specs.declared.failure.Failure.{Failure}

@@ -1,6 +1,4 @@
-pub mod Crossing
 pub mod Saved
-mod EndRows
 mod Done
 mod Failing
 mod Files

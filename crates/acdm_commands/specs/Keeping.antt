@@ -15,7 +15,8 @@ use Rattle.acdm_milestones.specs.declared.role.Role.{Role}
 use Rattle.acdm_sessions.specs.Sessions.{SessionStart}
 use Rattle.acdm_sessions.specs.Stream.{AnswersAll, AnswersPart, AnswersWhole}
 use Rattle.acdm_commands.specs.Partners.{FailsServed, FailsToServe, FailsToServeAll, ServesNamed}
-use Rattle.acdm_commands.specs.Partners.{ServesPartners, Telling}
+use Rattle.acdm_commands.specs.Partners.{ServesPartners}
+use Rattle.acdm_serving.specs.Partners.{Telling}
 use Rattle.acdm_step.specs.Commands.{History}
 use Rattle.acdm_commands.specs.Served.{FailsToSave, IsSaved}
 

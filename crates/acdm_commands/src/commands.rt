@@ -6,16 +6,16 @@ ghost use Rattle.acdm_commands.specs.Completed.{ServesKeptLine, ServesLine, Serv
 ghost use Rattle.acdm_judging.specs.Failures.{EndsBy};
 ghost use Rattle.acdm_tables.specs.Helpers.{helpers_by};
 
-use crate::host::Host;
 use crate::keeping::{KeepIn, keep_line};
-use crate::lasting::Service;
 use crate::saving::{saving_in, settle};
 use crate::serve_command::{Audience, serve_words};
 use crate::serve_keeping::serve_kept;
+use crate::service::Service;
 use crate::serving::run_by;
 use crate::tables::tables_of;
 use acdm_command_line::{Invocation, Subcommand, asked};
 use acdm_judging::{Failure, audit_on, ended, explain_on, unread, verify_on};
+use acdm_serving::Host;
 use acdm_sessions::{Sink, Source};
 use acdm_tables::Tables;
 use acdm_telling::tell_on;

@@ -2,21 +2,21 @@
 ghost use Rattle.std.specs.Prelude.{◌≡◌, ◌≤◌, [], IfErr, IfOk, length, map, vec_len};
 ghost use Rattle.acdm_board.specs.Desk.{row_of};
 ghost use Rattle.acdm_commands.specs.Keeping.{ServesKeptAt, ServesKeptTo, ServesKeptWords};
-ghost use Rattle.acdm_commands.specs.Partners.{FailsToTell, ServesPartners};
+ghost use Rattle.acdm_commands.specs.Partners.{ServesPartners};
+ghost use Rattle.acdm_serving.specs.Partners.{FailsToTell};
 ghost use Rattle.acdm_tables.specs.Helpers.{helpers_by};
 ghost use Rattle.acdm_sessions.specs.Sessions.{new_session};
 
-use crate::host::Host;
 use crate::keeping::{KeepIn, go_on, keeper_of, open_kept};
-use crate::lasting::{FileKeeper, Service, serve_again};
-use crate::partners::Served;
 use crate::saving::{buffer_for, save_served};
 use crate::serve_command::{Audience, close_all, opened};
+use crate::service::Service;
 use acdm_board::Desk;
 use acdm_judging::{Failure, ServeError};
 use acdm_keeping::{Keeper, Opening, SharedKeeper, Synced};
 use acdm_milestones::Role;
 use acdm_partners::{Control, Terms};
+use acdm_serving::{FileKeeper, Host, Served, serve_again};
 use acdm_sessions::{Clock, RunError, Sink};
 use acdm_tables::{KnownHelpers, Tables};
 use bpf_helpers::Helpers;

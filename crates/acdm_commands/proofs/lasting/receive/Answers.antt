@@ -1,7 +1,0 @@
-use denote.Exit.{no}
-use denote.Param.Send.{param_send, arg_send}
-use Rattle.acdm_commands.proofs.Crossing.{tally_send}
-use Rattle.acdm_commands.proofs.lasting.receive.Goals as goal
-
-pub begin-requires-send-S : goal.begin-requires-send-S
-begin-requires-send-S g c κs within = param_send 2 _ (arg_send _ no _ tally_send)

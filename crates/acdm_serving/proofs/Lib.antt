@@ -1,0 +1,4 @@
+pub mod Crossing
+mod EndRows
+mod Failing
+mod Told

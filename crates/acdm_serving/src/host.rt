@@ -1,0 +1,35 @@
+//! What serving needs of the system.
+
+use std::io::Eprint;
+use std::net::{Net, TcpListener, TcpStream};
+use std::sync::Wait;
+use std::thread::Threads;
+use std::time::Clock;
+
+/// Connections, the clock, standard error, and threads that share all of it. It is each runtime that
+/// has them. (`complete` of `acdm_commands` names them one by one: who calls it with a
+/// runtime needs their types.)
+pub trait Host: Net<Listener = TcpListener, Stream = TcpStream>
+    + Clock
+    + Eprint
+    + Threads
+    + Wait
+    + Clone
+    + Drop
+    + Send
+    + Sync
+    + 'static {}
+
+impl<Rt> Host for Rt
+where
+    Rt: Net<Listener = TcpListener, Stream = TcpStream>
+        + Clock
+        + Eprint
+        + Threads
+        + Wait
+        + Clone
+        + Drop
+        + Send
+        + Sync
+        + 'static,
+{}

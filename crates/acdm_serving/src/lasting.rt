@@ -1,0 +1,383 @@
+//! Partners who come and go, and a control address.
+ghost use Rattle.std.specs.Prelude.{◌≡◌, ◌+◌, ◌≤◌, IfOk, IfErr, OnOk, length, map};
+ghost use Rattle.std.specs.Prelude.{vec_len};
+ghost use Rattle.std.specs.List.{flat_map};
+ghost use Rattle.acdm_serving.specs.Partners.{Announces, FailsToTell, IsOfAccepting, TellsPartners};
+ghost use Rattle.acdm_serving.specs.Partners.{session_text};
+ghost use Rattle.acdm_sessions.specs.Sessions.{ServesSessions, new_session, session_start};
+ghost use Rattle.acdm_sessions.specs.Sessions.{session_told};
+
+use crate::host::Host;
+use crate::partners::{REPLIES_HELD, Served, announce, served_by, tell};
+use acdm_board::Desk;
+use acdm_judging::ServeError;
+use acdm_keeping::{Opening, Replies as Behind, SharedKeeper, Synced};
+use acdm_milestones::Role;
+use acdm_partners::{
+    Acceptor, Arriving, Connection, Control, Door, Place, Reception, Replies, Standing, Terms,
+    WholeLines, wait_for_all,
+};
+use acdm_row::Row;
+use acdm_sessions::{Clock, Closed, Gate, Session, Sink, Source};
+use acdm_wire::LONGEST_REQUEST;
+use bpf_helpers::Helpers;
+use std::alloc::{AllocError, Global};
+use std::io::{BufWriter, Eprint, Write};
+use std::net::TcpListener;
+use std::sync::atomic::AtomicBool;
+use std::sync::{Arc, Wait};
+use std::time::Clock as SystemClock;
+
+// One byte more than the longest line has, so that a longer one is told by what is kept of it.
+const MOST_KEPT: usize = LONGEST_REQUEST + 1;
+
+/// What the lines of a session come from: all its connections.
+pub type Reading<'r, Rt> = WholeLines<Arriving<'r, Rt>, Connection, MOST_KEPT>;
+
+/// Who keeps the journal, where it is kept, for all whose replies wait.
+pub type FileKeeper<J> = SharedKeeper<Synced, J>;
+
+/// What its replies go to: the connection whose lines they answer, once their entries are kept, where
+/// the journal is.
+pub type Writing<'r, J, Rt> = BufWriter<Behind<'r, Synced, J, Replies<'r, Rt>, Rt>>;
+
+// Where partners connect, in the order of their sessions.
+#[derive(Drop)]
+struct Addresses {
+    doors: Vec<Door>,
+    places: Vec<Arc<Place>>,
+}
+
+impl Addresses {
+    fn new(alloc: Global) -> Addresses {
+        Addresses {
+            doors: Vec::new(alloc),
+            places: Vec::new(alloc),
+        }
+    }
+
+    // Opens the address of a session, and says where its partner connects.
+    fn add(
+        &mut self,
+        alloc: Global,
+        number: usize,
+        role: Role,
+        listener: TcpListener,
+        terms: Terms,
+        closing: &Arc<AtomicBool>,
+    ) -> Result<Arc<Place>, ServeError>
+        ensures fails { IfErr result IsOfAccepting }
+    {
+        let Ok(place) = Place::new(alloc, terms, closing) else {
+            return Err(ServeError::Memory);
+        };
+        let (Ok(kept), Ok(given)) = (Arc::try_clone(&place), Arc::try_clone(&place)) else {
+            return Err(ServeError::Memory);
+        };
+        let Some(door) = Door::new(number, role.name(), place, listener) else {
+            return Err(ServeError::Accept(number));
+        };
+        if self.doors.push(door).is_err() || self.places.push(kept).is_err() {
+            return Err(ServeError::Memory);
+        }
+        Ok(given)
+    }
+}
+
+// Has nobody served where a session has ended. It holds nobody up.
+#[derive(Drop)]
+struct Places<'r, Rt> {
+    rt: &'r Rt,
+    places: Vec<Arc<Place>>,
+}
+
+impl<Rt: Wait> Gate for Places<'_, Rt> {
+    fn enter(&self, _session: u8, _call: u64) {}
+
+    fn answered(&self, _session: u8, _call: u64) {}
+
+    fn ended(&self, session: u8) {
+        if let Some(place) = self.places.get(usize::from(session).saturating_sub(1)) {
+            place.finish(self.rt);
+        }
+    }
+}
+
+// What is told of the journal in a row.
+#[derive(Drop)]
+struct Tally {
+    row: Arc<Row>,
+}
+
+impl Tally {
+    // The minute of an entry, if it is there.
+    fn moment(&self, at: usize) -> Option<u32> {
+        if at >= self.row.len() {
+            return None;
+        }
+        let mut note = self.row.note(at);
+        let published = self.row.look(at, &mut note)?;
+        Some(published.entry.moment)
+    }
+}
+
+impl Standing for Tally {
+    fn used(&self) -> usize {
+        let room = self.row.len();
+        for at in 0..room {
+            if self.moment(at).is_none() {
+                return at;
+            }
+        }
+        room
+    }
+
+    fn has(&self, count: usize) -> bool {
+        match count.checked_sub(1) {
+            Some(last) => self.moment(last).is_some(),
+            None => true,
+        }
+    }
+
+    fn room(&self) -> usize {
+        self.row.len()
+    }
+
+    fn last(&self) -> Option<u32> {
+        self.moment(self.used().checked_sub(1)?)
+    }
+}
+
+// A session over all connections at a place.
+fn session_at<'r, J: Opening, Rt: Wait + SystemClock, C: Clock + Drop>(
+    rt: &'r Rt,
+    alloc: Global,
+    role: Role,
+    place: Arc<Place>,
+    keeper: Option<&'r FileKeeper<J>>,
+    clock: C,
+) -> Result<Session<Reading<'r, Rt>, Writing<'r, J, Rt>, C>, ServeError>
+    ensures role { IfOk result (λ session. session.role ≡ role) }
+    ensures start { IfOk result (λ s. session_start s.role s.reader s.writer (C.gives s.clock)
+        ≡ new_session role (C.gives clock)) }
+    ensures fails { IfErr result IsOfAccepting }
+{
+    let Ok(same) = Arc::try_clone(&place) else {
+        return Err(ServeError::Memory);
+    };
+    let Ok(reader) = WholeLines::new(alloc, Arriving::new(rt, same)) else {
+        return Err(ServeError::Memory);
+    };
+    let replies = Behind::new(rt, keeper, Replies::new(rt, place));
+    let Ok(writer) = BufWriter::with_capacity(alloc, REPLIES_HELD, replies) else {
+        return Err(ServeError::Memory);
+    };
+    Ok(Session {
+        role,
+        reader: Source::new(reader),
+        writer: Sink::new(writer),
+        clock,
+    })
+}
+
+// Opens the address of a partner, and its session.
+fn open<'r, J: Opening, Rt: Wait + SystemClock, C: Clock + Drop>(
+    rt: &'r Rt,
+    alloc: Global,
+    number: usize,
+    partner: (Role, TcpListener, C),
+    terms: Terms,
+    closing: &Arc<AtomicBool>,
+    keeper: Option<&'r FileKeeper<J>>,
+    addresses: &mut Addresses,
+) -> Result<Session<Reading<'r, Rt>, Writing<'r, J, Rt>, C>, ServeError>
+    ensures role { IfOk result (λ session. session.role ≡ partner.0) }
+    ensures start { IfOk result (λ s. session_start s.role s.reader s.writer (C.gives s.clock)
+        ≡ new_session partner.0 (C.gives partner.2)) }
+    ensures fails { IfErr result IsOfAccepting }
+{
+    let (role, listener, clock) = partner;
+    let place = addresses.add(alloc, number, role, listener, terms, closing)?;
+    session_at(rt, alloc, role, place, keeper, clock)
+}
+
+// Opens the address of each partner, in order, and its session.
+fn open_all<'r, J: Opening, Rt: Wait + SystemClock, C: Clock + Drop>(
+    rt: &'r Rt,
+    alloc: Global,
+    partners: Vec<(Role, TcpListener, C)>,
+    terms: Terms,
+    closing: &Arc<AtomicBool>,
+    keeper: Option<&'r FileKeeper<J>>,
+    addresses: &mut Addresses,
+) -> Result<Vec<Session<Reading<'r, Rt>, Writing<'r, J, Rt>, C>>, ServeError>
+    ensures len { IfOk result (λ sessions. vec_len sessions ≡ vec_len partners) }
+    ensures roles { IfOk result (λ sessions. map (λ s. s.role) sessions.items
+        ≡ map (λ p. p.0) partners.items) }
+    ensures starts { IfOk result (λ sessions. map (λ s. session_start s.role s.reader s.writer
+        (C.gives s.clock)) sessions.items
+        ≡ map (λ p. new_session p.0 (C.gives p.2)) partners.items) }
+    ensures fails { IfErr result IsOfAccepting }
+{
+    let Ok(mut sessions) = Vec::with_capacity(alloc, partners.len()) else {
+        return Err(ServeError::Memory);
+    };
+    for partner in partners {
+        let number = sessions.len() + 1;
+        let session = open(
+            rt, alloc, number, partner, terms, closing, keeper, addresses,
+        )?;
+        sessions.push_reserved(session);
+    }
+    Ok(sessions)
+}
+
+// Who accepts partners and answers at the control address.
+fn acceptor_of<Rt: Wait + SystemClock + Eprint + Clone + Drop>(
+    rt: &Rt,
+    alloc: Global,
+    doors: Vec<Door>,
+    control: Option<Control>,
+    row: &Arc<Row>,
+    closing: Arc<AtomicBool>,
+) -> Result<Acceptor<Rt, Tally>, AllocError> {
+    let own = rt.clone()?;
+    let row = Arc::try_clone(row)?;
+    Acceptor::new(own, alloc, doors, control, Tally { row }, closing)
+}
+
+// Starts the thread that accepts partners and answers at the control address.
+fn receive<Rt: Host>(
+    rt: &Rt,
+    alloc: Global,
+    doors: Vec<Door>,
+    control: Option<Control>,
+    row: &Arc<Row>,
+    closing: Arc<AtomicBool>,
+) -> Result<Reception, ServeError>
+    ensures fails { IfErr result IsOfAccepting }
+{
+    let Ok(acceptor) = acceptor_of(rt, alloc, doors, control, row, closing) else {
+        return Err(ServeError::Memory);
+    };
+    match Reception::begin(rt, acceptor) {
+        Ok(reception) => Ok(reception),
+        Err(_) => Err(ServeError::Memory),
+    }
+}
+
+// Tells of the listeners, and opens the sessions of their partners.
+fn opened<'r, J: Opening, Rt: Wait + SystemClock, C: Clock + Drop, W: Write>(
+    rt: &'r Rt,
+    alloc: Global,
+    partners: Vec<(Role, TcpListener, C)>,
+    terms: Terms,
+    closing: &Arc<AtomicBool>,
+    keeper: Option<&'r FileKeeper<J>>,
+    addresses: &mut Addresses,
+    writer: &mut Sink<W>,
+) -> Result<Vec<Session<Reading<'r, Rt>, Writing<'r, J, Rt>, C>>, ServeError>
+    requires few { vec_len partners ≤ 64 }
+    ensures len { IfOk result (λ sessions. vec_len sessions ≡ vec_len partners) }
+    ensures roles { IfOk result (λ sessions. map (λ s. s.role) sessions.items
+        ≡ map (λ p. p.0) partners.items) }
+    ensures starts { IfOk result (λ sessions. map (λ s. session_start s.role s.reader s.writer
+        (C.gives s.clock)) sessions.items
+        ≡ map (λ p. new_session p.0 (C.gives p.2)) partners.items) }
+    ensures tells { OnOk result (Announces (map (λ p. p.0) partners.items) writer.old writer.new) }
+    ensures fails { IfErr result (FailsToTell writer.old writer.new) }
+{
+    announce(alloc, partners.as_slice(), writer)?;
+    open_all(rt, alloc, partners, terms, closing, keeper, addresses)
+}
+
+// Serves the sessions while partners are accepted.
+fn served_while<
+    'r,
+    J: Opening + Send + Sync,
+    Rt: Host,
+    H: Helpers + Drop + Send,
+    C: Clock + Drop + Send,
+>(
+    rt: &'r Rt,
+    alloc: Global,
+    desk: Desk<H>,
+    sessions: Vec<Session<Reading<'r, Rt>, Writing<'r, J, Rt>, C>>,
+    addresses: Addresses,
+    control: Option<Control>,
+    closing: Arc<AtomicBool>,
+    again: bool,
+) -> Result<Closed<H, Reading<'r, Rt>, Writing<'r, J, Rt>, C>, ServeError>
+    requires few { vec_len sessions ≤ 64 }
+    ensures serves { IfOk result (λ c. ServesSessions desk c.desk
+        (map (λ s. session_start s.role s.reader s.writer (C.gives s.clock)) sessions.entry.items)
+        (map (λ e. session_told e.number e.role e.calls e.end e.torn e.reader e.writer e.pass)
+        c.sessions.items)) }
+    ensures fails { IfErr result IsOfAccepting }
+{
+    let Addresses { doors, places } = addresses;
+    let reception = receive(rt, alloc, doors, control, desk.row(), closing)?;
+    if !again {
+        wait_for_all(rt, places.as_slice());
+    }
+    let closed = served_by(rt, alloc, desk, sessions, &Places { rt, places });
+    reception.end(rt);
+    closed
+}
+
+/// Serves a partner on each listener, all at once against one desk, as `serve_on`, by these terms: who
+/// connects is served at once, and where they say so, each session goes on with the next who connects.
+/// At the control address the board can be closed, as by the word: all sessions end then. Replies wait
+/// for the keeper, if there is one.
+///
+/// `Accept` where a listener has no address or can't be asked; `Write` where the writer failed before the
+/// sessions; `Memory` where it was refused before they began, or no thread could be made.
+pub fn serve_again<
+    'r,
+    J: Opening + Send + Sync,
+    Rt: Host,
+    H: Helpers + Drop + Send,
+    C: Clock + Drop + Send,
+    W: Write,
+>(
+    rt: &'r Rt,
+    alloc: Global,
+    partners: Vec<(Role, TcpListener, C)>,
+    terms: Terms,
+    control: Option<Control>,
+    closing: Arc<AtomicBool>,
+    keeper: Option<&'r FileKeeper<J>>,
+    desk: Desk<H>,
+    writer: &mut Sink<W>,
+) -> Result<Served<H, Reading<'r, Rt>, Writing<'r, J, Rt>, C>, ServeError>
+    requires few { vec_len partners ≤ 64 }
+    ensures serves { IfOk result (λ c. ServesSessions desk c.desk
+        (map (λ p. new_session p.0 (C.gives p.2)) partners.items)
+        (map (λ e. session_told e.number e.role e.calls e.end e.torn e.reader e.writer e.pass)
+        c.sessions.items)) }
+    ensures tells { IfOk result (λ c. TellsPartners (map (λ p. p.0) partners.items)
+        (flat_map (λ e. session_text e.number e.calls e.end e.torn) c.sessions.items)
+        (length c.desk.history) writer.old writer.new c.told) }
+    ensures fails { IfErr result (FailsToTell writer.old writer.new) }
+{
+    let mut addresses = Addresses::new(alloc);
+    let open = &mut addresses;
+    let sessions = opened(rt, alloc, partners, terms, &closing, keeper, open, writer)?;
+    let closed = served_while(
+        rt,
+        alloc,
+        desk,
+        sessions,
+        addresses,
+        control,
+        closing,
+        terms.again,
+    )?;
+    let told = tell(&closed, writer);
+    let Closed { desk, sessions } = closed;
+    Ok(Served {
+        desk,
+        sessions,
+        told,
+    })
+}

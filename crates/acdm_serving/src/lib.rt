@@ -1,0 +1,12 @@
+//! Partners of a desk, who are accepted at the listeners that are handed, and served to their end; and what
+//! is told of them. It is a crate of its own so that it is proved while displays and the commands that judge
+//! a file are.
+#![tactic(auto)]
+
+mod host;
+mod lasting;
+mod partners;
+
+pub use host::Host;
+pub use lasting::{FileKeeper, Reading, Writing, serve_again};
+pub use partners::{ReplyWriter, Served, serve_on};
