@@ -12,7 +12,8 @@ returns-in_err-write_whole g c =
     let left = ap (flat_map next) c.in-Some.ensures.cases.0 in
     let p = err_from_is_err_and c.from_residual.result c.from_residual.ensures.1 in
     rw (p.1, p.2)
-    (piece-part _ _ _ c.loop-item.invariant.done (flat_map next c.loop-item.rest.now)
+    (piece-part c.args.writer.now c.loop-item.writer c.write_whole.new.writer
+    c.loop-item.invariant.done (flat_map next c.loop-item.rest.now)
     (next c.in-Some.item.now) (flat_map next c.in-Some.more.now)
     (flat_map next c.args.items.now) _
     c.loop-item.invariant.wrote c.loop-item.invariant.whole left
