@@ -28,24 +28,13 @@ published_sync = declared_sync published.the_type (
 )
 
 pub row_send : IsSend row.the_row
-row_send = search (
-  published_send,
-  published_sync,
-  cell.the_send,
-  cell.the_sync,
-  sigs.the_send,
-  sigs.the_sync,
-  sendable,
-  crosses,
-) depth 20
+row_send = search (published_send, cell.the_send, sigs.the_send, sendable, crosses) depth 20
 
 pub row_sync : IsSync row.the_row
 row_sync = search (
   published_send,
   published_sync,
-  cell.the_send,
   cell.the_sync,
-  sigs.the_send,
   sigs.the_sync,
   sendable,
   crosses,

@@ -1,6 +1,6 @@
 -- The entries of a pass, in a journal that grows.
 use Rattle.std.proofs.Common.{◌≡◌, ℕ, zero, suc, ◌<◌, ◌≤◌, List, [], ◌∷◌, ◌++◌, length, take, drop}
-use Rattle.std.proofs.Common.{subst, refl, sym, ap, ◌∙◌, arith, append_assoc, Some, length-append}
+use Rattle.std.proofs.Common.{subst, refl, sym, ap, ◌∙◌, arith, append_assoc, Some}
 use Rattle.std.specs.Prelude.{slice_get, option_to_list, reverse}
 use Rattle.std.proofs.lemmas.List.{take-append-le, take-append-drop}
 use Rattle.acdm_step.specs.declared.entry.Entry.{Entry}
