@@ -1,13 +1,13 @@
-use Rattle.std.proofs.Common.{◌≡◌, true, ◌||◌, refl, ap, sym, subst, ◌∙◌}
+use Rattle.std.proofs.Common.{◌≡◌, true, ◌||◌, refl, ap, sym, subst}
 use Rattle.bpf_helpers.proofs.OracleLemmas.{unasked}
 use Rattle.bpf_helpers.specs.Oracles.{OracleView}
 use Rattle.acdm_step.specs.declared.command.Command.{Command}
 use Rattle.acdm_step.specs.declared.outcome.Outcome.TheVariants as outcomes
 use Rattle.acdm_step.specs.Commands.{is_accepted, is_alerts}
-use Rattle.acdm_step.specs.Verdicts.{load_obstacle, load_verdict, show_verdict, outcome_with}
+use Rattle.acdm_step.specs.Verdicts.{load_obstacle, load_verdict}
 use Rattle.acdm_step.specs.Verdicts.{migrate_obstacle, migrate_verdict}
 use Rattle.acdm_step.specs.History.{Board}
-use Rattle.acdm_step.specs.Board.{is_there, record_on, board_loads}
+use Rattle.acdm_step.specs.Board.{board_loads}
 use Rattle.acdm_step.specs.Prepared.{Fits}
 use Rattle.acdm_step.proofs.Steps.{comes_left, comes_show, comes_alerts, loading, migrating}
 use Rattle.acdm_step.proofs.Steps.{on_err}
@@ -80,9 +80,7 @@ returns-in-Show-clause-comes g c =
     comes_left b c.args.self.now c.args.role c.args.moment _ c.args.command.now at at c.show.result
     c.self.view_is c.in-Show.is
     (comes_show b c.args.role c.args.moment at at c.show.result (unasked at) c.in-Show.flight
-    (c.show.ensures
-    ∙ ap (λ f. outcome_with (outcomes.Shown (record_on b f))
-    (show_verdict (is_there b.records f))) c.get.ensures.value))
+    (rw c.get.ensures.value at c.show.ensures))
 
 pub returns-in_ok-list-in-Alerts-clause-comes : goal.returns-in_ok-list-in-Alerts-clause-comes
 returns-in_ok-list-in-Alerts-clause-comes g c =
