@@ -1,13 +1,16 @@
 -- How whole lines are told.
 use Rattle.std.proofs.Common.{◌≡◌, ℕ, List, [], ◌∷◌, ◌++◌, refl, sym, ap, ◌∙◌}
-use Rattle.std.proofs.Common.{append_assoc, append-nil, subst, ◌+◌, ◌≤◌, length, take, drop}
+use Rattle.std.proofs.Common.{append_assoc, append-nil, subst, ◌+◌, ◌≤◌, length, take, drop, map}
+use Rattle.std.proofs.Common.{Option, None}
 use Rattle.std.proofs.lemmas.List.{drop-append-le, take-append-le, drop-drop, take-append-drop}
+use Rattle.std.proofs.lemmas.List.{map-append}
 use Rattle.std.specs.List.{flat_map}
 use Rattle.std.proofs.lemmas.Grind.{flat_map-append}
 use Rattle.std.proofs.lemmas.List.{append_cancel_right}
+use Rattle.acdm_lines.specs.Counted.{SourceView}
 use Rattle.acdm_lines.specs.Lines.{IsLine, kept}
 use Rattle.acdm_partners.specs.Heard.{HearingView, Leaves, TellsOn, told, told_by, told_line}
-use Rattle.acdm_partners.specs.Heard.{whole_lines}
+use Rattle.acdm_partners.specs.Heard.{text_of, whole_lines}
 
 -- a part of a line has no whole line
 pub whole_lines-part : (part : List ℕ) → IsLine part → whole_lines part ≡ []
@@ -77,6 +80,16 @@ tells-rest most text held read all gave l h =
       was = told-leaves most text held l;
       is = ap (told most) gave ∙ ap (flat_map (told_line most)) lines ∙ sym (append-nil front);
     }
+
+-- a connection has ended: its text is the last of theirs, and none is heard
+pub texts-ended : {R S : Type 0} (log : S → List ℕ) (past now : List S) (last : S)
+    (heard : Option (SourceView R)) (text : List ℕ)
+    → now ≡ past ++ last ∷ [] → heard ≡ None → log last ≡ text
+    → map log now ++ text_of heard ≡ map log past ++ text ∷ []
+texts-ended log past now last heard text pushed gone is =
+    rw (pushed, gone)
+    (append-nil (map log (past ++ last ∷ [])) ∙ map-append log past (last ∷ [])
+    ∙ ap (λ t. map log past ++ t ∷ []) is)
 
 -- behind connections that have ended
 pub tells-behind : (most : ℕ) (old : HearingView) (past : List (List ℕ)) (text held more bytes later : List ℕ)

@@ -1,8 +1,7 @@
-use Rattle.std.proofs.Common.{[], ◌∷◌, ◌++◌, ◌≡◌, map, ap, sym, ◌∙◌, append-nil}
-use Rattle.std.proofs.lemmas.List.{map-append}
+use Rattle.std.proofs.Common.{[], ◌++◌, map, ap, sym, ◌∙◌}
 use Rattle.acdm_lines.specs.Counted.{SourceView}
 use Rattle.acdm_partners.specs.Heard.{HearingView, text_of, told, told_by}
-use Rattle.acdm_partners.proofs.Telling.{tells-behind}
+use Rattle.acdm_partners.proofs.Telling.{tells-behind, texts-ended}
 use Rattle.acdm_partners.proofs.hearing.Hearing.take_line.Goals as goal
 
 pub returns-then-take_from-clause-taken : goal.returns-then-take_from-clause-taken
@@ -17,13 +16,10 @@ returns-then-take_from-clause-taken g c = λ e given h.
 pub returns-clause-over : goal.returns-clause-over
 returns-clause-over g c = λ e given h.
     let past = map (λ s. s.value.log) c.self.inside.past.items in
-    let texts : map (λ s. s.value.log) c.push_reserved.new.self.items ++ text_of c.take.new.self
-    ≡ past ++ c.take_from.new.source.log ∷ [] =
-    ap (λ o. map (λ s. s.value.log) c.push_reserved.new.self.items ++ text_of o) c.take.ensures.after
-    ∙ append-nil (map (λ s. s.value.log) c.push_reserved.new.self.items)
-    ∙ ap (map (λ s. s.value.log)) c.push_reserved.ensures.items
-    ∙ map-append (λ s. s.value.log) c.self.inside.past.items (c.of.result ∷ [])
-    ∙ ap (λ (v : SourceView g.row.R.Denot). past ++ v.log ∷ []) c.of.ensures in
+    let texts = texts-ended (λ s. s.value.log) c.self.inside.past.items
+    c.push_reserved.new.self.items c.of.result c.take.new.self c.take_from.new.source.log
+    c.push_reserved.ensures.items c.take.ensures.after
+    (ap (λ (v : SourceView g.row.R.Denot). v.log) c.of.ensures) in
     ap (λ w. (given ++ []) ++ told g.row.MOST w) (c.take_from.ensures.none c.if-take_from.false)
     ∙ tells-behind g.row.MOST c.args.self.now past _ _ _ _ _
     (sym (ap (λ (v : HearingView). v.texts) c.self.view_is)
