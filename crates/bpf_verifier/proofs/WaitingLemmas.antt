@@ -16,14 +16,13 @@ empty_rows : (n : ℕ) → rows_of (replicate n empty) ≡ replicate n None
 empty_rows zero = refl
 empty_rows (suc n) = ap (λ l. None ∷ l) (empty_rows n)
 
--- one state waits before rows without any
-pub first_waits : (rows : List (Option (Box Shape Global))) (b : Box Shape Global) (s : Shape)
-    (n : ℕ)
-    → rows ≡ (Some b ∷ []) ++ replicate n None → b.value ≡ s
-    → rows_of rows ≡ Some s ∷ replicate n None
-first_waits rows b s n all one =
-    ap rows_of all ∙ ap (λ l. Some b.value ∷ l) (empty_rows n)
-    ∙ ap (λ v. Some v ∷ replicate n None) one
+-- one state was pushed onto no rows, and then rows without any: it waits before them
+pub first_waits : (rows pushed before : List (Option (Box Shape Global))) (b : Box Shape Global)
+    (s : Shape) (n count : ℕ)
+    → rows ≡ pushed ++ replicate count None → count ≡ n → pushed ≡ before ++ Some b ∷ []
+    → before ≡ [] → b.value ≡ s → rows_of rows ≡ Some s ∷ replicate n None
+first_waits rows pushed before b s n count all counted pushes none one =
+    rw (all, pushes, none, counted, one) (ap (λ l. Some s ∷ l) (empty_rows n))
 
 -- what waited is taken, joined and put back
 pub put_back : (now after : List (Option Shape)) (to : ℕ) (known : Option Shape) (s both : Shape)
