@@ -21,10 +21,10 @@ returns-in-Some-clause-verdict c =
 
 pub returns-in-Some-clause-states : goal.returns-in-Some-clause-states
 returns-in-Some-clause-states c =
-    c.in_ok-push.ensures.items
-    ∙ one_known c.args.record_length c.args.ops.now c.args.sigs.now c.loop-slot.slot c.loop-slot.waiting
+    rw c.in_ok-push.ensures.items
+    (one_known c.args.record_length c.args.ops.now c.args.sigs.now c.loop-slot.slot c.loop-slot.waiting
     c.loop-slot.known.items c.in_ok-copy.field-0 c.loop-slot.invariant.0 c.loop-slot-test.true
-    c.loop-slot.invariant.1 c.in_ok-copy.ensures
+    c.loop-slot.invariant.1 c.in_ok-copy.ensures)
 
 pub loop-slot-preserved : goal.loop-slot-preserved
 loop-slot-preserved c =
@@ -37,8 +37,8 @@ loop-slot-preserved c =
       rw (passes.sent_all none)
           (goes_on c.args.record_length c.args.ops.now c.args.sigs.now c.loop-slot.slot c.loop-slot.waiting at.0 step
           c.loop-slot.invariant.0 c.loop-slot-test.true at.1 (sym passes.found ∙ none)),
-      c.in_ok-push.ensures.items
-          ∙ one_known c.args.record_length c.args.ops.now c.args.sigs.now c.loop-slot.slot c.loop-slot.waiting
+      rw c.in_ok-push.ensures.items
+          (one_known c.args.record_length c.args.ops.now c.args.sigs.now c.loop-slot.slot c.loop-slot.waiting
           c.loop-slot.known.items c.in_ok-copy.field-0 c.loop-slot.invariant.0 c.loop-slot-test.true
-          c.loop-slot.invariant.1 c.in_ok-copy.ensures,
+          c.loop-slot.invariant.1 c.in_ok-copy.ensures),
     )
