@@ -4,12 +4,12 @@ use Rattle.std.proofs.Common.{length, drop, refl, sym, ap, subst, ◌∙◌, app
 use Rattle.std.proofs.Common.{length-append}
 use Rattle.std.specs.Prelude.{◌&&◌}
 use Rattle.std.specs.List.{AllByRecursion}
-use Rattle.std.proofs.lemmas.List.{append-nil, drop_at, nil_from_length}
+use Rattle.std.proofs.lemmas.List.{append-nil, drop_at}
 use Rattle.std.proofs.lemmas.Grind.{flat_map-append}
 use Rattle.bpf_decode.specs.declared.op.Op.{Op}
 use Rattle.bpf_decode.specs.declared.op.Op.TheVariants.{Wide, Tail}
 use Rattle.bpf_decode.specs.Encoding.{is_tail, is_wide, same, tails_fit, IsInstruction, FitsSlot}
-use Rattle.bpf_decode.specs.Encoding.{AreWhole, Encodes, AreSlots, FirstFault, StartFault, behind}
+use Rattle.bpf_decode.specs.Encoding.{AreWhole, AreSlots, FirstFault, StartFault, behind}
 use Rattle.bpf_decode.specs.Encoding.{encoding, encoding_of}
 use Rattle.bpf_decode.specs.declared.fault.DecodeError.{DecodeError}
 use Rattle.bpf_decode.specs.declared.fault.DecodeError.TheVariants.{Refused, Memory}
