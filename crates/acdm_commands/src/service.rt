@@ -1,4 +1,5 @@
 //! How `serve` is asked to serve its partners.
+ghost use Rattle.std.specs.Prelude.{◌≡◌, IfErr};
 
 use acdm_judging::Failure;
 use acdm_partners::{Control, Terms};
