@@ -1,4 +1,4 @@
-use Rattle.std.proofs.Common.{◌≤◌, ◌∙◌, length, sym, ap, subst, arith}
+use Rattle.std.proofs.Common.{◌∙◌, sym, ap, arith}
 use Rattle.std.specs.Vec.Iter.{into_iter_items}
 use Rattle.acdm_sessions.proofs.Seats.{all_taken_as, longer_by_one, taken_as}
 use denote.Exit.{no}
@@ -25,8 +25,7 @@ loop-seat-preserved g c =
           c.loop-seat.invariant.0.0,
           longer_by_one c.loop-seat.crew.jobs c.add.new.self.jobs _ added,
         ),
-        subst (λ n. length c.args.seats.items ≤ n) (sym (ap (λ k. k.room) c.add.ensures))
-            c.loop-seat.invariant.0.1,
+        rw c.add.ensures c.loop-seat.invariant.0.1,
       ),
       taken_as (λ work. work.seat) c.loop-seat.crew.jobs c.add.new.self.jobs _
           (into_iter_items c.loop-seat.seat-iterator) (into_iter_items c.next.new.self)

@@ -57,7 +57,7 @@ loop-one-preserved g c =
       count = search rules;
       room = search rules;
       parts = search rules;
-      same = c.left_by.ensures.desk ∙ c.loop-one.invariant.same;
+      same = rw c.left_by.ensures.desk c.loop-one.invariant.same;
       shown = subst (λ es. All (λ e. IsShown g.J.Naming.start c.args.desk.now e.number e.role
           e.calls e.torn e.pass) es) (sym items)
           (All-push (λ e. IsShown g.J.Naming.start c.args.desk.now e.number e.role e.calls e.torn

@@ -1,5 +1,4 @@
-use Rattle.std.proofs.Common.{◌≡◌, [], map, sym, ap, ◌∙◌, rules}
-use Rattle.std.proofs.Common.{◌+◌}
+use Rattle.std.proofs.Common.{◌≡◌, ◌+◌, [], map, refl, sym, ◌∙◌, rules}
 use Rattle.std.specs.Vec.Iter.{into_iter_items}
 use Rattle.acdm_sessions.specs.Sessions.{numbered, session_start}
 use Rattle.acdm_sessions.proofs.Seats.{all_numbered, count_on, empty_of, few_so_far, len_of_all}
@@ -38,10 +37,10 @@ loop-session-preserved g c =
     let steps = c.in-Some.ensures.steps in
     record {
       count = count_on n _ _ _ steps.1 before.count;
-      seats = pushed.len ∙ ap (λ k. k + 1) before.seats;
+      seats = rw (pushed.len, before.seats) refl;
       room = rw pushed.capacity before.room;
-      parts = part_less n _ _ _ given.share.0 before.parts;
-      amount = given.share.1 ∙ before.amount;
+      parts = part_less n c.seat_for.new.all.parts _ _ given.share.0 before.parts;
+      amount = rw given.share.1 before.amount;
       places = taken_numbered (λ s. (s.number, s.role)) (λ s. s.role) (n + 1)
           c.loop-session.seats.items c.push_reserved.new.self.items one c.in-Some.session
           (into_iter_items c.loop-session.session-iterator) (into_iter_items c.next.new.self)
