@@ -1,4 +1,4 @@
-use Rattle.std.proofs.Common.{Err, inl, inr, refl, ap}
+use Rattle.std.proofs.Common.{Err, inl, inr, refl}
 use Rattle.acdm_judging.specs.declared.failure.Failure.TheVariants.{Read}
 use Rattle.acdm_tables.specs.Helpers.{helpers_by}
 use Rattle.acdm_commands.specs.Completed.{read_from}
@@ -15,11 +15,7 @@ returns-in-Ok g c =
       comes = inl (
         read_from file,
         read_from later,
-        (
-          ap (λ s. s.log) c.new.ensures,
-          ap (λ s. s.faults) c.new.ensures,
-          ap (λ s. s.ended) c.new.ensures,
-        ),
+        rw c.new.ensures (refl, refl, refl),
         verified_any (helpers_by c.args.tables.now) file later _ _ _ e.work e.comes,
       );
       ends = e.ends;

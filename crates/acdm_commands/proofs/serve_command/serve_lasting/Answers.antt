@@ -9,9 +9,11 @@ pub returns : goal.returns
 returns g c =
     let done = c.in_ok-served.ensures in
     let served = c.in_ok-served.served in
-    comes_served _ _ _ _ _ _ _ served.desk.history served.told c.save_served.result
+    comes_served _ _ _ c.args.writer.now c.serve_again.new.writer _ _ served.desk.history served.told
+    c.save_served.result
     (serves_partners (λ e. session_told e.number e.role e.calls e.end e.torn e.reader e.writer e.pass)
-    served.sessions.items _ served.desk _ _ _ _ done.serves served.told done.tells) c.save_served.ensures
+    served.sessions.items _ served.desk _ _ c.args.writer.now c.serve_again.new.writer done.serves
+    served.told done.tells) c.save_served.ensures
 
 pub returns-in_err-served : goal.returns-in_err-served
 returns-in_err-served g c =

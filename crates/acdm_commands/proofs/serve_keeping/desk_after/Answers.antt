@@ -8,5 +8,5 @@ returns-clause-serves g c =
     let done = c.in_ok-desk.ensures in
     let closed = c.in_ok-desk.field-0 in
     serves_partners (λ e. session_told e.number e.role e.calls e.end e.torn e.reader e.writer e.pass)
-    closed.sessions.items _ closed.desk _ _ _ _ done.serves closed.told done.tells
-    (λ J. J ≡ closed.desk.history) refl
+    closed.sessions.items _ closed.desk _ _ c.args.writer.now c.serve_again.new.writer done.serves
+    closed.told done.tells (λ J. J ≡ closed.desk.history) refl
