@@ -8,42 +8,71 @@ mod words;
 use acdm_commands::{Failure, complete};
 use acdm_lines::{Sink, Source};
 use resumed::Resumed;
-use std::io::BufWriter;
+use std::alloc::Global;
+use std::env::Env;
+use std::fs::{File, Files};
+use std::io::{BufWriter, Eprint, Read, Write};
+use std::net::{Net, TcpListener, TcpStream};
 use std::process::ExitCode;
+use std::sync::Wait;
+use std::thread::Threads;
+use std::time::Clock;
 
 // How many bytes of replies are written at once at most: a reply of no more goes in one write.
 const BUFFER: usize = 65_536;
 
 fn main(rt: HostRuntime) -> ExitCode {
-    let alloc = rt.alloc();
-    let mut errors = Sink::new(Resumed::new(rt.stderr()));
-    let Ok(_fillers) = streams::fill(&rt) else {
-        return ExitCode::from(Failure::Stream.complain(&mut errors));
+    let (input, output, errors) = (rt.stdin(), rt.stdout(), rt.stderr());
+    ExitCode::from(status(&rt, rt.alloc(), input, output, errors))
+}
+
+// Does what the program was started for, over these streams. (It stands apart from `main`, whose proof
+// spells out the types of all that it names.)
+fn status<
+    Rt: Files<File = File>
+        + Net<Listener = TcpListener, Stream = TcpStream>
+        + Env
+        + AllocGlobal
+        + Clock
+        + Eprint
+        + Threads
+        + Wait
+        + Clone
+        + Drop
+        + Send
+        + Sync
+        + 'static,
+    R: Read + Drop,
+    W: Write + Drop,
+    E: Write + Drop,
+>(rt: &Rt, alloc: Global, input: R, output: W, errors: E) -> u8 {
+    let mut errors = Sink::new(Resumed::new(errors));
+    let Ok(_fillers) = streams::fill(rt) else {
+        return Failure::Stream.complain(&mut errors);
     };
-    let words = match words::given(&rt) {
+    let words = match words::given(rt) {
         Ok(words) => words,
-        Err(failure) => return ExitCode::from(failure.complain(&mut errors)),
+        Err(failure) => return failure.complain(&mut errors),
     };
     let Ok(words) = words
         .iter()
         .map(|word| word.as_str())
         .collect::<Vec<&str>>(alloc)
     else {
-        return ExitCode::from(Failure::Memory.complain(&mut errors));
+        return Failure::Memory.complain(&mut errors);
     };
-    let output = Sink::new(Resumed::new(rt.stdout()));
+    let output = Sink::new(Resumed::new(output));
     let Ok(output) = BufWriter::with_capacity(alloc, BUFFER, output) else {
-        return ExitCode::from(Failure::Memory.complain(&mut errors));
+        return Failure::Memory.complain(&mut errors);
     };
-    let mut input = Source::new(Resumed::new(rt.stdin()));
+    let mut input = Source::new(Resumed::new(input));
     let mut output = Sink::new(output);
-    let status = complete(
+    complete(
         alloc,
-        &rt,
+        rt,
         words.as_slice(),
         &mut input,
         &mut output,
         &mut errors,
-    );
-    ExitCode::from(status)
+    )
 }

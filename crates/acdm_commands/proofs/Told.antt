@@ -1,5 +1,5 @@
 -- Partners who were served, by what was told of them.
-use Rattle.std.proofs.Common.{◌≡◌, ℕ, List, [], ◌∷◌, ◌++◌, length, map, refl, sym, ap}
+use Rattle.std.proofs.Common.{◌≡◌, ℕ, List, [], ◌∷◌, ◌++◌, length, map, refl, ap}
 use Rattle.std.proofs.Common.{Some, Option, Result, Ok, Err, inl, inr, ◌∙◌, subst}
 use Rattle.std.specs.List.{flat_map}
 use Rattle.acdm_milestones.specs.declared.role.Role.{Role}

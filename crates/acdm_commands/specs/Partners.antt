@@ -13,7 +13,7 @@ use Rattle.acdm_judging.specs.declared.failure.Failure.TheVariants as failures
 use Rattle.acdm_lines.specs.Counted.{SinkView, faults_after}
 use Rattle.acdm_sessions.specs.Sessions.{ServesSessions, SessionStart, SessionTold, new_session}
 use Rattle.acdm_step.specs.Commands.{History}
-use Rattle.acdm_serving.specs.Partners.{Telling, TellsPartners, closed_text, told_text}
+use Rattle.acdm_serving.specs.Partners.{Telling, TellsPartners, told_text}
 use Rattle.acdm_commands.specs.Minutes.{is_minute}
 use Rattle.acdm_commands.specs.Served.{FailsToSave, IsSaved, empty_desk}
 

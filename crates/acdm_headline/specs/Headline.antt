@@ -9,7 +9,7 @@ use Rattle.bpf_semantics.specs.Machine.{Machine, action}
 use Rattle.bpf_semantics.specs.Runs.{IsTrapped}
 use Rattle.bpf_regstate.specs.States.{instruction_count}
 use Rattle.bpf_verifier.specs.Verdict.{Verified}
-use Rattle.bpf_verifier.specs.Runs.{GoesToItsEnd, IsInput, Leads, MayRun}
+use Rattle.bpf_verifier.specs.Runs.{GoesToItsEnd, IsInput, Leads}
 use Rattle.acdm_milestones.specs.declared.milestone.Milestone.{Milestone}
 use Rattle.acdm_slots.specs.declared.kind.Kind.{Kind}
 use Rattle.acdm_step.specs.declared.entry.Entry.{Entry}

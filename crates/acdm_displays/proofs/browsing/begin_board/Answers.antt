@@ -2,7 +2,6 @@ use Rattle.std.proofs.Common.{◌≡◌, ◌++◌, ℕ, List, ap, sym, length, �
 use Rattle.std.specs.Prelude.{reverse}
 use Rattle.std.proofs.lemmas.List.{length-reverse}
 use Rattle.acdm_feed.specs.Resumed.{board_text}
-use Rattle.acdm_web.specs.Events.{event_text}
 use Rattle.acdm_displays.proofs.Written.{board_event_told}
 use Rattle.acdm_displays.proofs.browsing.begin_board.Goals as goal
 
@@ -20,6 +19,6 @@ returns-clause-begins g c =
     (◌∙◌ {A = List ℕ}
     (ap (λ t. t ++ board_text c.len.result (reverse seen)) c.new-line.ensures.items)
     (ap (λ r. board_text r (reverse seen)) c.len.ensures))))
-    (◌∙◌ {A = List ℕ} c.as_slice-2.ensures.value (◌∙◌ {A = List ℕ} c.in_ok-push_event.ensures
-    (ap (λ t. t ++ event_text c.len-entries.result c.as_slice.result.now) c.new-text.ensures.items)))
+    (◌∙◌ {A = List ℕ} c.as_slice-2.ensures.value
+    (rw c.new-text.ensures.items at c.in_ok-push_event.ensures))
     c.in_ok-write_whole.ensures.takes
