@@ -1,6 +1,5 @@
 use denote.Exit.{no}
 use denote.Param.Send.{IsSend, param_send, arg_send, sendable}
-use denote.Param.SendFields.{declared_send}
 use Rattle.std.proofs.Crossing.{crosses}
 use Rattle.keeping_tests.specs.contracts.sharing.Paper as paper
 use Rattle.keeping_tests.specs.contracts.sharing.PaperWrite.TheImpl as kept
