@@ -104,6 +104,16 @@ def limited(size):
     return limit
 
 
+def full_output(cases, program, room):
+    """Where the output fails and the kept file does not, it is the output that is told of; what was replied to is kept."""
+    file = room / "full-output"
+    with open("/dev/full", "wb") as full:
+        it = subprocess.run([str(program), "run", "--keep", str(file)], input=text(DAY).encode(), stdout=full,
+                            stderr=subprocess.PIPE, timeout=60, check=False)
+    cases.expect("a full output", (it.returncode, it.stderr) == (2, b"acdm: write failed\n"), it)
+    cases.expect("a full output", bool(whole_of(file)) and legal(program, file, room), file.read_bytes())
+
+
 def full_disk(cases, program, room):
     whole = len(text(DAY_JOURNAL))
     for size in [*range(0, whole, 17), whole - 1]:
@@ -223,7 +233,7 @@ def main():
     cases = Cases()
     with tempfile.TemporaryDirectory(prefix="acdm-keep-") as folder:
         room = pathlib.Path(folder)
-        for part in (gone_on, faulty, in_use, saved, onto_streams, full_disk):
+        for part in (gone_on, faulty, in_use, saved, onto_streams, full_output, full_disk):
             part(cases, given.program, room)
         kills(cases, given.program, room, given.kills, given.seed)
     return cases.end()
