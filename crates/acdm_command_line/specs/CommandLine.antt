@@ -49,6 +49,10 @@ changes_rule = record (new_rule (codes "changes")) { long = Some (codes "changes
 abbrev pub web_rule : Rule
 web_rule = record (new_rule (codes "web")) { long = Some (codes "web"); value_names = 1 }
 
+-- `--web-name NAME`
+abbrev pub web_name_rule : Rule
+web_name_rule = record (new_rule (codes "web-name")) { long = Some (codes "web-name"); value_names = 1 }
+
 -- `--again`, `--control ADDR`, `--pace N`
 abbrev pub again_rule : Rule
 again_rule = record (new_rule (codes "again")) { long = Some (codes "again"); action = Some SetTrue }
@@ -76,7 +80,7 @@ abbrev pub run_app : App
 run_app = keeping_app (codes "run")
 
 -- `serve [--journal N] [--save FILE] [--keep FILE] [--sync] [--tables FILE] [--watch ADDR] [--changes ADDR]
--- [--web ADDR] [--again] [--control ADDR] [--pace N] ROLE=ADDR...`, of at least one partner
+-- [--web ADDR] [--web-name NAME] [--again] [--control ADDR] [--pace N] ROLE=ADDR...`, of at least one partner
 abbrev pub partners_rule : Rule
 partners_rule = record (new_rule (codes "partners")) {
   value_names = 1;
@@ -86,7 +90,8 @@ partners_rule = record (new_rule (codes "partners")) {
 
 abbrev pub serve_options_app : App
 serve_options_app =
-    with_rule (with_rule (with_rule (keeping_app (codes "serve")) watch_rule) changes_rule) web_rule
+    with_rule (with_rule (with_rule (with_rule (keeping_app (codes "serve")) watch_rule) changes_rule) web_rule)
+    web_name_rule
 
 abbrev pub lasting_app : App
 lasting_app = with_rule (with_rule (with_rule serve_options_app again_rule) control_rule) pace_rule
@@ -238,7 +243,7 @@ Asks found (Run journal save keep sync) =
     × (option_map (λ s. s.now) save ≡ value_in (codes "run") (codes "save") found)
     × (option_map (λ s. s.now) keep ≡ value_in (codes "run") (codes "keep") found)
     × (sync ≡ is_set_in (codes "run") (codes "sync") found)
-Asks found (Serve journal save keep sync watch changes web again control pace partners) =
+Asks found (Serve journal save keep sync watch changes web web_name again control pace partners) =
     (text : Text) × Serves found text × IsJournal text × (journal ≡ number_of text)
     × (option_map (λ s. s.now) save ≡ value_in (codes "serve") (codes "save") found)
     × (option_map (λ s. s.now) keep ≡ value_in (codes "serve") (codes "keep") found)
@@ -246,6 +251,7 @@ Asks found (Serve journal save keep sync watch changes web again control pace pa
     × (option_map (λ s. s.now) watch ≡ value_in (codes "serve") (codes "watch") found)
     × (option_map (λ s. s.now) changes ≡ value_in (codes "serve") (codes "changes") found)
     × (option_map (λ s. s.now) web ≡ value_in (codes "serve") (codes "web") found)
+    × (option_map (λ s. s.now) web_name ≡ value_in (codes "serve") (codes "web-name") found)
     × (again ≡ is_set_in (codes "serve") (codes "again") found)
     × (option_map (λ s. s.now) control ≡ value_in (codes "serve") (codes "control") found)
     × HasPace found pace

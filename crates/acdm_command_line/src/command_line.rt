@@ -11,7 +11,7 @@ ghost use Rattle.acdm_command_line.specs.CommandLine.{AnswersJudged, length_name
 ghost use Rattle.acdm_command_line.specs.CommandLine.{bare_app, run_app, running_app, serve_app};
 ghost use Rattle.acdm_command_line.specs.CommandLine.{serve_options_app, serving_app};
 ghost use Rattle.acdm_command_line.specs.CommandLine.{changes_rule, journal_rule, keep_rule, save_rule, sync_rule};
-ghost use Rattle.acdm_command_line.specs.CommandLine.{is_set_in, watch_rule, web_rule};
+ghost use Rattle.acdm_command_line.specs.CommandLine.{is_set_in, watch_rule, web_name_rule, web_rule};
 ghost use Rattle.acdm_command_line.specs.CommandLine.{journal_app, tables_in, tables_rule};
 ghost use Rattle.acdm_command_line.specs.CommandLine.{again_rule, control_rule, lasting_app, pace_rule};
 ghost use Rattle.acdm_command_line.specs.CommandLine.{AnswersPace, IsPace};
@@ -41,7 +41,7 @@ pub enum Subcommand<'a> {
     },
     /// `serve`, with room for so many entries in the journal, from 1 to 1,000,000, which is to be
     /// saved in this file, and kept as that of `run`, may be watched at this address, whose changes are told at that one, and for
-    /// which browsers have a page at a third, for the partners of these words, as they stand: who may
+    /// which browsers have a page at a third, by this name beside its addresses, for the partners of these words, as they stand: who may
     /// come again where `again` is true, of whom so many lines are taken in a minute; it is closed at the
     /// control address.
     Serve {
@@ -52,6 +52,7 @@ pub enum Subcommand<'a> {
         watch: Option<&'a str>,
         changes: Option<&'a str>,
         web: Option<&'a str>,
+        web_name: Option<&'a str>,
         again: bool,
         control: Option<&'a str>,
         pace: Option<u32>,
@@ -172,6 +173,17 @@ fn web<'a>(alloc: Global) -> Arg<'a>
     )
 }
 
+// `--web-name NAME`.
+fn web_name<'a>(alloc: Global) -> Arg<'a>
+    ensures rule { rule_of result ≡ web_name_rule }
+    ensures optional { (result.required ≡ false) × (result.global ≡ false) }
+{
+    Arg::new(alloc, "web-name")
+        .long("web-name")
+        .value_name("NAME")
+        .help("With --web: the name by which browsers ask for the page, beside its addresses")
+}
+
 // `--again`.
 fn again<'a>(alloc: Global) -> Arg<'a>
     ensures rule { rule_of result ≡ again_rule }
@@ -244,7 +256,8 @@ fn serve_options<'a>(alloc: Global) -> Result<Command<'a>, AllocError>
     keeping(alloc, "serve", about)?
         .arg(watch(alloc))?
         .arg(changes(alloc))?
-        .arg(web(alloc))
+        .arg(web(alloc))?
+        .arg(web_name(alloc))
 }
 
 // `serve` with what holds it open, without its partners.
@@ -548,6 +561,7 @@ fn serve_of<'a>(
     let watch = value(matches, "serve", "watch");
     let changes = value(matches, "serve", "changes");
     let web = value(matches, "serve", "web");
+    let web_name = value(matches, "serve", "web-name");
     let again = is_set(matches, "serve", "again");
     let control = value(matches, "serve", "control");
     let Some(pace) = pace_for(matches) else {
@@ -562,6 +576,7 @@ fn serve_of<'a>(
         watch,
         changes,
         web,
+        web_name,
         again,
         control,
         pace,

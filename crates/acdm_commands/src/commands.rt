@@ -7,7 +7,7 @@ ghost use Rattle.acdm_judging.specs.Failures.{EndsBy};
 ghost use Rattle.acdm_tables.specs.Helpers.{helpers_by};
 
 use crate::keeping::{KeepIn, keep_line};
-use crate::saving::{saving_in, settle};
+use crate::saving::{Others, saving_in, settle};
 use crate::serve_command::{Audience, serve_words};
 use crate::serve_keeping::serve_kept;
 use crate::service::Service;
@@ -63,21 +63,25 @@ pub fn complete<
     ensures { Completes (map (λ w. w.now) words.entry.now) input.old input.new output.old output.new
         result errors.old errors.new }
 {
-    let Invocation { subcommand, tables } = match asked(alloc, words, errors) {
+    let Invocation {
+        subcommand,
+        tables: named,
+    } = match asked(alloc, words, errors) {
         Ok(invocation) => invocation,
         Err(_) => return 2,
     };
-    match tables_of(rt, alloc, tables, errors) {
-        Some(tables) => complete_by(alloc, rt, tables, subcommand, input, output, errors),
+    match tables_of(rt, alloc, named, errors) {
+        Some(tables) => complete_by(alloc, rt, tables, named, subcommand, input, output, errors),
         None => 2,
     }
 }
 
-// Does what is asked for, by these tables.
+// Does what is asked for, by these tables, which a file has where one is named.
 fn complete_by<Rt: Host + Files<File = File>, R: Read, W: Write, E: Write>(
     alloc: Global,
     rt: &Rt,
     tables: Tables,
+    named: Option<&str>,
     subcommand: Subcommand<'_>,
     input: &mut Source<R>,
     output: &mut Sink<W>,
@@ -95,7 +99,7 @@ fn complete_by<Rt: Host + Files<File = File>, R: Read, W: Write, E: Write>(
             keep,
             sync,
         } => run_words(
-            rt, alloc, tables, journal, save, keep, sync, input, output, errors,
+            rt, alloc, tables, named, journal, save, keep, sync, input, output, errors,
         ),
         Subcommand::Serve {
             journal,
@@ -105,6 +109,7 @@ fn complete_by<Rt: Host + Files<File = File>, R: Read, W: Write, E: Write>(
             watch,
             changes,
             web,
+            web_name,
             again,
             control,
             pace,
@@ -113,6 +118,7 @@ fn complete_by<Rt: Host + Files<File = File>, R: Read, W: Write, E: Write>(
             rt,
             alloc,
             tables,
+            named,
             journal,
             save,
             keep,
@@ -121,6 +127,7 @@ fn complete_by<Rt: Host + Files<File = File>, R: Read, W: Write, E: Write>(
                 journal: watch,
                 changes,
                 web,
+                web_name,
             },
             Service {
                 again,
@@ -147,6 +154,7 @@ fn run_words<Rt: Files<File = File>, R: Read, W: Write, E: Write>(
     rt: &Rt,
     alloc: Global,
     tables: Tables,
+    named: Option<&str>,
     journal: usize,
     save: Option<&str>,
     keep: Option<&str>,
@@ -166,20 +174,24 @@ fn run_words<Rt: Files<File = File>, R: Read, W: Write, E: Write>(
             let keep = KeepIn {
                 path,
                 is_synced: sync,
+                tables: named,
             };
             keep_line(
                 rt, alloc, tables, journal, save, keep, input, output, errors,
             )
         }
-        None => run_line(rt, alloc, tables, journal, save, input, output, errors),
+        None => run_line(
+            rt, alloc, tables, named, journal, save, input, output, errors,
+        ),
     }
 }
 
 // `run`, with the file that the journal is to be saved in.
-fn run_line<Rt: Files, R: Read, W: Write, E: Write>(
+fn run_line<Rt: Files<File = File>, R: Read, W: Write, E: Write>(
     rt: &Rt,
     alloc: Global,
     tables: Tables,
+    named: Option<&str>,
     journal: usize,
     save: Option<&str>,
     input: &mut Source<R>,
@@ -191,7 +203,11 @@ fn run_line<Rt: Files, R: Read, W: Write, E: Write>(
     ensures { EndsBy (RunsLine (helpers_by tables) journal (option_map (λ s. s.now) save.entry) input.old input.new output.old
         output.new) result errors.old errors.new }
 {
-    match saving_in(rt, alloc, save) {
+    let others = Others {
+        kept: None,
+        tables: named,
+    };
+    match saving_in(rt, alloc, save, others) {
         Ok(mut saving) => {
             let saved = &mut saving.file;
             let work = run_by(alloc, tables, journal, input, output, saved);
@@ -202,10 +218,11 @@ fn run_line<Rt: Files, R: Read, W: Write, E: Write>(
 }
 
 // `serve`, with the file that the journal is to be saved in.
-fn serve_line<Rt: Host + Files, W: Write, E: Write>(
+fn serve_line<Rt: Host + Files<File = File>, W: Write, E: Write>(
     rt: &Rt,
     alloc: Global,
     tables: Tables,
+    named: Option<&str>,
     journal: usize,
     save: Option<&str>,
     audience: Audience<'_>,
@@ -217,7 +234,11 @@ fn serve_line<Rt: Host + Files, W: Write, E: Write>(
     ensures { EndsBy (ServesLine (helpers_by tables) journal (option_map (λ s. s.now) save.entry)
         (map (λ w. w.now) partners.now) output.old output.new) result errors.old errors.new }
 {
-    match saving_in(rt, alloc, save) {
+    let others = Others {
+        kept: None,
+        tables: named,
+    };
+    match saving_in(rt, alloc, save, others) {
         Ok(mut saving) => {
             let saved = &mut saving.file;
             let work = serve_words(
@@ -234,6 +255,7 @@ fn serve_lines<Rt: Host + Files<File = File>, W: Write, E: Write>(
     rt: &Rt,
     alloc: Global,
     tables: Tables,
+    named: Option<&str>,
     journal: usize,
     save: Option<&str>,
     keep: Option<&str>,
@@ -253,13 +275,14 @@ fn serve_lines<Rt: Host + Files<File = File>, W: Write, E: Write>(
             let keep = KeepIn {
                 path,
                 is_synced: sync,
+                tables: named,
             };
             serve_kept_line(
                 rt, alloc, tables, journal, save, keep, audience, service, partners, output, errors,
             )
         }
         None => serve_line(
-            rt, alloc, tables, journal, save, audience, service, partners, output, errors,
+            rt, alloc, tables, named, journal, save, audience, service, partners, output, errors,
         ),
     }
 }
@@ -281,7 +304,7 @@ fn serve_kept_line<Rt: Host + Files<File = File>, W: Write, E: Write>(
     ensures { EndsBy (ServesKeptLine (helpers_by tables) journal (option_map (λ s. s.now) save.entry)
         (map (λ w. w.now) partners.now) output.old output.new) result errors.old errors.new }
 {
-    match saving_in(rt, alloc, save) {
+    match saving_in(rt, alloc, save, keep.others()) {
         Ok(mut saving) => {
             let saved = &mut saving.file;
             let work = serve_kept(

@@ -7,11 +7,11 @@ ghost use Rattle.acdm_commands.specs.Keeping.{StopsAnswering, StopsKept};
 ghost use Rattle.acdm_judging.specs.Failures.{EndsBy};
 ghost use Rattle.acdm_tables.specs.Helpers.{helpers_by};
 
-use crate::saving::{buffer_for, save, saving_in, settle};
+use crate::saving::{Others, buffer_for, is_one, save, saving_in, settle};
 use crate::standard::is_standard;
 use acdm_board::Desk;
 use acdm_judging::{Failure, Finding, ended};
-use acdm_keeping::{Keeper, Kept, Synced, open};
+use acdm_keeping::{Keeper, Kept, Synced, open, renew};
 use acdm_restoring::{RestoreError, restore};
 use acdm_sessions::{RunError, Sink, Source, run};
 use acdm_tables::{KnownHelpers, Tables};
@@ -30,6 +30,18 @@ pub(crate) struct KeepIn<'a> {
     pub(crate) path: &'a str,
     /// Whether what is kept stands on the disk before it is replied to.
     pub(crate) is_synced: bool,
+    /// The file of the tables, if one is named.
+    pub(crate) tables: Option<&'a str>,
+}
+
+impl<'a> KeepIn<'a> {
+    /// What the words name beside a file that the journal is to be saved in.
+    pub(crate) fn others(&self) -> Others<'a> {
+        Others {
+            kept: Some(self.path),
+            tables: self.tables,
+        }
+    }
 }
 
 /// Answers the lines of a reader on a writer, as `run`, by a desk that goes on from the journal in a
@@ -54,7 +66,7 @@ pub(crate) fn keep_line<Rt: Files<File = File>, R: Read, W: Write, E: Write>(
     ensures { EndsBy (KeepsLine (helpers_by tables) journal (option_map (λ s. s.now) saved.entry) input.old
         input.new output.old output.new) result errors.old errors.new }
 {
-    match saving_in(rt, alloc, saved) {
+    match saving_in(rt, alloc, saved, keep.others()) {
         Ok(mut saving) => {
             let served = run_kept(
                 rt,
@@ -73,14 +85,14 @@ pub(crate) fn keep_line<Rt: Files<File = File>, R: Read, W: Write, E: Write>(
 }
 
 /// Opens the file in which a journal is kept. `Keep` where it can't be opened, or where it is that of a
-/// standard stream; `InUse` where somebody else keeps a journal there.
-pub(crate) fn open_kept<Rt: Files<File = File>>(rt: &Rt, path: &str) -> Result<File, Failure>
+/// standard stream or of the tables; `InUse` where somebody else keeps a journal there.
+pub(crate) fn open_kept<Rt: Files<File = File>>(rt: &Rt, keep: KeepIn<'_>) -> Result<File, Failure>
     ensures fails { IfErr result FailsToGoOn }
 {
-    if is_standard(rt, path) {
+    if is_standard(rt, keep.path) || is_one(rt, keep.path, keep.tables) {
         return Err(Failure::Keep);
     }
-    match open(rt, path) {
+    match open(rt, keep.path) {
         Ok(file) => Ok(file),
         Err(Failure::InUse) => Err(Failure::InUse),
         Err(_) => Err(Failure::Keep),
@@ -102,21 +114,21 @@ fn run_kept<Rt: Files<File = File>, R: Read, W: Write, F: Write + Drop>(
     ensures { KeepsTo (helpers_by tables) journal input.old input.new output.old output.new saved.old
         saved.new result }
 {
-    let file = open_kept(rt, keep.path)?;
+    let file = open_kept(rt, keep)?;
     let helpers = KnownHelpers::new(alloc, tables);
-    let is_synced = keep.is_synced;
     keep_with(
-        alloc, helpers, journal, file, is_synced, input, output, saved,
+        rt, alloc, helpers, journal, file, keep, input, output, saved,
     )
 }
 
 // Goes on from the file, serves, and saves the journal.
-fn keep_with<H: Helpers + Drop, R: Read, W: Write, F: Write + Drop>(
+fn keep_with<Rt: Files<File = File>, H: Helpers + Drop, R: Read, W: Write, F: Write + Drop>(
+    rt: &Rt,
     alloc: Global,
     helpers: H,
     journal: usize,
     file: File,
-    is_synced: bool,
+    keep: KeepIn<'_>,
     input: &mut Source<R>,
     output: &mut Sink<W>,
     saved: &mut Option<Sink<F>>,
@@ -127,13 +139,14 @@ fn keep_with<H: Helpers + Drop, R: Read, W: Write, F: Write + Drop>(
 {
     let mut buffer = buffer_for(alloc, saved)?;
     let mut desk = Desk::new(alloc, helpers, journal)?;
-    if let Some(finding) = go_on(alloc, &file, &mut desk)? {
+    let (file, found) = go_on(rt, alloc, keep.path, file, &mut desk)?;
+    if let Some(finding) = found {
         return match finding.tell(output) {
             Ok(status) => Ok(status),
             Err(failure) => Err(failure),
         };
     }
-    let file = Synced::new(file, is_synced);
+    let file = Synced::new(file, keep.is_synced);
     match serve_from(alloc, &mut desk, file, input, output) {
         Ok(()) => {}
         Err(failure) => return Err(failure),
@@ -144,40 +157,53 @@ fn keep_with<H: Helpers + Drop, R: Read, W: Write, F: Write + Drop>(
     }
 }
 
-/// Puts the journal of a file into a desk, and takes a rest without a line feed off the file. Answers
-/// what is to be told of a journal that is not legal.
-pub(crate) fn go_on<H: Helpers + Drop>(
+/// Puts the journal of the file of a path into a desk, and a new file in the place of that, which has what was
+/// read but a rest without a line feed, and all of it on the disk. Answers the file, and what is to be told of a
+/// journal that is not legal, whose file stays.
+pub(crate) fn go_on<Rt: Files<File = File>, H: Helpers + Drop>(
+    rt: &Rt,
     alloc: Global,
-    file: &File,
+    path: &str,
+    file: File,
     desk: &mut Desk<H>,
-) -> Result<Option<Finding>, Failure>
+) -> Result<(File, Option<Finding>), Failure>
     requires empty { desk.old.history ≡ [] }
-    ensures goes { IfOk result (GoesOn desk.old desk.new) }
+    ensures goes { IfOk result (λ went. GoesOn desk.old desk.new went.1) }
     ensures fails { IfErr result FailsToGoOn }
 {
     let Ok(reader) = file.try_clone() else {
         return Err(Failure::Keep);
     };
     match restore(alloc, &mut Source::new(reader), desk) {
-        Ok(bytes) => {
-            cut(file, bytes)?;
-            Ok(None)
+        Ok(bytes) => match renewed(rt, alloc, path, file, bytes) {
+            Ok(file) => Ok((file, None)),
+            Err(failure) => Err(failure),
+        },
+        Err(RestoreError::Faulty { entry, clause }) => {
+            Ok((file, Some(Finding::Faulty { entry, clause })))
         }
-        Err(RestoreError::Faulty { entry, clause }) => Ok(Some(Finding::Faulty { entry, clause })),
         Err(RestoreError::Full) => Err(Failure::Room),
         Err(RestoreError::Read) => Err(Failure::Read),
         Err(RestoreError::Memory) => Err(Failure::Memory),
     }
 }
 
-// Takes off a file what is behind so many bytes.
-fn cut(file: &File, bytes: u64) -> Result<(), Failure>
+// Puts the first bytes of a file, so many, into a new one in its place, where it has any. What the system holds
+// of a file may be more than what is on the disk, where a write of it failed before.
+fn renewed<Rt: Files<File = File>>(
+    rt: &Rt,
+    alloc: Global,
+    path: &str,
+    file: File,
+    bytes: u64,
+) -> Result<File, Failure>
     ensures fails { IfErr result FailsToGoOn }
 {
     match file.metadata() {
-        Ok(found) if found.len() == bytes => Ok(()),
-        Ok(_) => match file.set_len(bytes) {
-            Ok(()) => Ok(()),
+        Ok(found) if found.len() == 0 => Ok(file),
+        Ok(_) => match renew(rt, alloc, path, &file, bytes) {
+            Ok(file) => Ok(file),
+            Err(Failure::Memory) => Err(Failure::Memory),
             Err(_) => Err(Failure::Keep),
         },
         Err(_) => Err(Failure::Keep),

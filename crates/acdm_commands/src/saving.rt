@@ -11,122 +11,142 @@ use crate::standard::is_standard;
 use acdm_board::Desk;
 use acdm_journal::{MOST_KEPT, write_entry_by};
 use acdm_judging::Failure;
+use acdm_keeping::{Replacement, is_special, leads_to};
 use acdm_row::Row;
 use acdm_sessions::{RunError, Sink};
 use bpf_helpers::Helpers;
-use std::alloc::{AllocError, Global};
-use std::fs::{self, Files, OpenFile};
+use std::alloc::Global;
+use std::fs::{self, File, Files, TryLockError};
 use std::io::{self, BufWriter, Write};
-use std::path::Path;
 use std::sync::Arc;
 
 /// How many bytes are written at once at most.
 const BUFFER: usize = 65_536;
 
-/// The file that a journal is saved in. It is written beside the one of its path, which it takes the
-/// place of once all of it is on the disk; where the path is that of a device or a pipe, it is that.
+/// The file that a journal is saved in. It is written beside the one of its path, by a name that nothing had
+/// before, and takes the place of that once all of it is on the disk; where the path is that of a device or a
+/// pipe, it is that.
 #[derive(Drop)]
 pub(crate) struct Saving<F: Write + Drop> {
     pub file: Option<Sink<BufWriter<F>>>,
-    names: Option<Names>,
+    replacement: Option<Replacement>,
 }
 
-// The name of the file beside, and of the one that it takes the place of.
-#[derive(Drop)]
-struct Names {
-    part: String,
-    whole: String,
+/// What else the words of a command name: the file that its journal is kept in, and that of the tables.
+#[derive(Clone, Copy)]
+pub(crate) struct Others<'a> {
+    pub(crate) kept: Option<&'a str>,
+    pub(crate) tables: Option<&'a str>,
 }
 
-// Whether a path is that of something else than a file, or than nothing.
-fn is_special<Rt: Files>(rt: &Rt, path: &str) -> bool {
+/// Whether two paths are one, or lead to one file.
+pub(crate) fn is_one<Rt: Files>(rt: &Rt, path: &str, other: Option<&str>) -> bool {
+    let Some(other) = other else {
+        return false;
+    };
+    if path == other {
+        return true;
+    }
     match fs::metadata(rt, path) {
-        Ok(found) => !found.is_file(),
+        Ok(found) => found.is_file() && leads_to(rt, other, &found),
         Err(_) => false,
     }
 }
 
-// The file that a path leads to, by links or not.
-fn target_of<Rt: Files>(rt: &Rt, alloc: Global, path: &str) -> Result<String, AllocError> {
-    match rt.canonicalize(alloc, path) {
-        Ok(found) => String::from_str(alloc, found.as_str()),
-        Err(_) => String::from_str(alloc, path),
-    }
-}
-
-// The names for a path, if a file is to be written beside it.
-fn names_of<Rt: Files>(rt: &Rt, alloc: Global, path: &str) -> Result<Option<Names>, AllocError> {
+// Whether a board keeps its journal in the file of a path.
+fn is_kept<Rt: Files<File = File>>(rt: &Rt, path: &str) -> bool {
     if is_special(rt, path) {
-        return Ok(None);
+        return false;
     }
-    let whole = target_of(rt, alloc, path)?;
-    let mut part = String::from_str(alloc, whole.as_str())?;
-    part.push_str(".part")?;
-    Ok(Some(Names { part, whole }))
+    let Ok(file) = fs::open(rt, path) else {
+        return false;
+    };
+    matches!(file.try_lock(), Err(TryLockError::WouldBlock))
 }
 
-// Makes the file to be written.
-fn create<Rt: Files>(rt: &Rt, path: &str, names: &Option<Names>) -> io::Result<Rt::File> {
-    match names {
-        Some(names) => fs::create(rt, names.part.as_str()),
-        None => fs::create(rt, path),
+// Whether a path is that of something that a journal may not take the place of.
+fn is_taken<Rt: Files<File = File>>(rt: &Rt, path: &str, others: Others<'_>) -> bool {
+    is_standard(rt, path)
+        || is_one(rt, path, others.kept)
+        || is_one(rt, path, others.tables)
+        || is_kept(rt, path)
+}
+
+// Makes the file to be written. `None` where it can't be made.
+fn create<Rt: Files<File = File>>(
+    rt: &Rt,
+    alloc: Global,
+    path: &str,
+    others: Others<'_>,
+) -> Result<Option<(File, Option<Replacement>)>, Failure>
+    ensures fails { IfErr result (λ e. e ≡ Memory) }
+{
+    if is_special(rt, path) {
+        return match fs::create(rt, path) {
+            Ok(file) => Ok(Some((file, None))),
+            Err(_) => Ok(None),
+        };
+    }
+    match Replacement::create(rt, alloc, path, others.kept) {
+        Ok(Some((file, replacement))) => Ok(Some((file, Some(replacement)))),
+        Ok(None) => Ok(None),
+        Err(_) => Err(Failure::Memory),
     }
 }
 
 /// Makes the file that a journal is to be saved in by this path, if there is one, and leaves the one
 /// that is there. `Save` where it can't be made, or where the one that is there is that of a standard
-/// stream; `Memory` where that was refused.
-pub(crate) fn saving_in<Rt: Files>(
+/// stream or of what else the words name, or another board keeps its journal there; `Memory` where that was
+/// refused.
+pub(crate) fn saving_in<Rt: Files<File = File>>(
     rt: &Rt,
     alloc: Global,
     path: Option<&str>,
-) -> Result<Saving<Rt::File>, Failure>
+    others: Others<'_>,
+) -> Result<Saving<File>, Failure>
     ensures made { IfOk result (λ s. IsUnwritten (option_map (λ p. p.now) path.entry) s.file) }
     ensures fails { IfErr result (FailsToMake (option_map (λ p. p.now) path.entry)) }
 {
     let Some(path) = path else {
         return Ok(Saving {
             file: None,
-            names: None,
+            replacement: None,
         });
     };
-    if is_standard(rt, path) {
+    if is_taken(rt, path, others) {
         return Err(Failure::Save);
     }
-    let Ok(names) = names_of(rt, alloc, path) else {
+    let Ok(made) = create(rt, alloc, path, others) else {
         return Err(Failure::Memory);
     };
-    let Ok(file) = create(rt, path, &names) else {
+    let Some((file, replacement)) = made else {
         return Err(Failure::Save);
     };
     match BufWriter::with_capacity(alloc, BUFFER, file) {
         Ok(writer) => Ok(Saving {
             file: Some(Sink::new(writer)),
-            names,
+            replacement,
         }),
-        Err(_) => Err(Failure::Memory),
+        Err(_) => {
+            if let Some(replacement) = replacement {
+                replacement.remove(rt);
+            }
+            Err(Failure::Memory)
+        }
     }
 }
 
-// Has the folder of a file on the disk, with the file's name.
-fn settle_folder<Rt: Files>(rt: &Rt, whole: &str) -> io::Result<()> {
-    let folder = match Path::new(whole).parent() {
-        Some(folder) if !folder.as_str().is_empty() => folder.as_str(),
-        _ => ".",
-    };
-    fs::open(rt, folder)?.sync_all()
-}
-
-// Puts a file that was written in its place, once all of it is on the disk.
-fn put_in_place<Rt: Files>(
+// Puts a file that was written in its place, where no board keeps its journal by now.
+fn put_in_place<Rt: Files<File = File>>(
     rt: &Rt,
-    file: Sink<BufWriter<Rt::File>>,
-    names: &Names,
+    path: &str,
+    file: Sink<BufWriter<File>>,
+    replacement: &Replacement,
 ) -> io::Result<()> {
-    let writer = file.into_inner();
-    writer.get_ref().sync_all()?;
-    fs::rename(rt, names.part.as_str(), names.whole.as_str())?;
-    settle_folder(rt, names.whole.as_str())
+    if is_kept(rt, path) {
+        return Err(io::Error::from(io::ErrorKind::WouldBlock));
+    }
+    replacement.put_in_place(rt, file.into_inner().get_ref())
 }
 
 // Whether a command's work was done, and the journal written.
@@ -138,32 +158,32 @@ fn is_done(work: Result<u8, Failure>) -> bool
 
 /// Puts the file of a command whose work came so in its place, where its journal was written; else what
 /// was there stays. `Save` where that failed.
-pub(crate) fn settle<Rt: Files>(
+pub(crate) fn settle<Rt: Files<File = File>>(
     rt: &Rt,
     path: Option<&str>,
-    saving: Saving<Rt::File>,
+    saving: Saving<File>,
     work: Result<u8, Failure>,
 ) -> Result<u8, Failure>
     ensures { Settles (option_map (λ p. p.now) path.entry) work result }
 {
-    if path.is_none() {
+    let Some(target) = path else {
         return work;
-    }
-    let Saving { file, names } = saving;
-    let Some(names) = names else {
+    };
+    let Saving { file, replacement } = saving;
+    let Some(replacement) = replacement else {
         return work;
     };
     let Some(file) = file else {
         return work;
     };
     if !is_done(work) {
-        let _ = fs::remove_file(rt, names.part.as_str());
+        replacement.remove(rt);
         return work;
     }
-    if put_in_place(rt, file, &names).is_ok() {
+    if put_in_place(rt, target, file, &replacement).is_ok() {
         return work;
     }
-    let _ = fs::remove_file(rt, names.part.as_str());
+    replacement.remove(rt);
     Err(Failure::Save)
 }
 

@@ -29,12 +29,13 @@ use std::thread::Threads;
 use std::time::Clock as SystemClock;
 
 /// Where displays are sent the journal, where they are told what it changes, and where browsers have
-/// the board as a page: an IP address and a port each, or nowhere.
+/// the board as a page: an IP address and a port each, or nowhere. And by which name browsers may ask for it.
 #[derive(Clone, Copy)]
 pub(crate) struct Audience<'a> {
     pub(crate) journal: Option<&'a str>,
     pub(crate) changes: Option<&'a str>,
     pub(crate) web: Option<&'a str>,
+    pub(crate) web_name: Option<&'a str>,
 }
 
 /// Serves a partner for each word `ROLE=ADDR`, at most 64, all at once, with room for so many
@@ -143,9 +144,10 @@ fn add_outlet<Rt: Host>(
     row: &Arc<Row>,
     form: Form,
     address: Option<&str>,
+    name: Option<&str>,
     outlets: &mut Outlets,
 ) -> Result<(), Failure> {
-    match Displays::open_as(rt, alloc, form, address, row)? {
+    match Displays::open_as(rt, alloc, form, address, name, row)? {
         Some(displays) => Ok(outlets.open.push(displays)?),
         None => Ok(()),
     }
@@ -159,9 +161,15 @@ fn add_outlets<Rt: Host>(
     audience: Audience<'_>,
     outlets: &mut Outlets,
 ) -> Result<(), Failure> {
-    add_outlet(rt, alloc, row, Form::Journal, audience.journal, outlets)?;
-    add_outlet(rt, alloc, row, Form::Changes, audience.changes, outlets)?;
-    add_outlet(rt, alloc, row, Form::Web, audience.web, outlets)
+    let Audience {
+        journal,
+        changes,
+        web,
+        web_name,
+    } = audience;
+    add_outlet(rt, alloc, row, Form::Journal, journal, None, outlets)?;
+    add_outlet(rt, alloc, row, Form::Changes, changes, None, outlets)?;
+    add_outlet(rt, alloc, row, Form::Web, web, web_name, outlets)
 }
 
 // Listens for all displays of a row, or for none. The room for them is there before the first.

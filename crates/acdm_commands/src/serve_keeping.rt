@@ -148,13 +148,18 @@ fn serve_kept_at<Rt: Host, H: Helpers + Drop + Send, W: Write, F: Write + Drop>(
 }
 
 // Goes on from the file, serves, and saves the journal.
-fn serve_kept_with<Rt: Host, H: Helpers + Drop + Send, W: Write, F: Write + Drop>(
+fn serve_kept_with<
+    Rt: Host + Files<File = File>,
+    H: Helpers + Drop + Send,
+    W: Write,
+    F: Write + Drop,
+>(
     rt: &Rt,
     alloc: Global,
     helpers: H,
     journal: usize,
     file: File,
-    is_synced: bool,
+    keep: KeepIn<'_>,
     audience: Audience<'_>,
     service: Service<'_>,
     words: &[&str],
@@ -167,14 +172,15 @@ fn serve_kept_with<Rt: Host, H: Helpers + Drop + Send, W: Write, F: Write + Drop
     let mut buffer = buffer_for(alloc, saved)?;
     let closing = Arc::new(alloc, AtomicBool::new(false))?;
     let mut desk = Desk::new(alloc, helpers, journal)?;
-    if let Some(finding) = go_on(alloc, &file, &mut desk)? {
+    let (file, found) = go_on(rt, alloc, keep.path, file, &mut desk)?;
+    if let Some(finding) = found {
         return match finding.tell(writer) {
             Ok(status) => Ok(status),
             Err(failure) => Err(failure),
         };
     }
-    let keeper = keeper_of(alloc, &desk, Synced::new(file, is_synced))?;
-    serve_kept_at(
+    let keeper = keeper_of(alloc, &desk, Synced::new(file, keep.is_synced))?;
+    match serve_kept_at(
         rt,
         alloc,
         desk,
@@ -186,13 +192,16 @@ fn serve_kept_with<Rt: Host, H: Helpers + Drop + Send, W: Write, F: Write + Drop
         &mut buffer,
         writer,
         saved,
-    )?;
+    ) {
+        Ok(()) => {}
+        Err(failure) => return Err(failure),
+    }
     Ok(0)
 }
 
 /// Serves a partner for each word `ROLE=ADDR`, as `serve_words`, by a desk that goes on from the journal
 /// in a file, in which it is kept: a reply is sent once its entry stands there. Each partner is served
-/// from the moment on that it connects.
+/// from its first line on, whoever else is there.
 ///
 /// The status is 0 where all was told and the journal was kept and saved; 1 where what the file has is
 /// no legal journal, which is told as an audit tells it, and nobody is served.
@@ -211,19 +220,9 @@ pub(crate) fn serve_kept<Rt: Host + Files<File = File>, W: Write, F: Write + Dro
     ensures { ServesKeptTo (helpers_by tables) journal (map (λ w. w.now) words.now) writer.old writer.new
         saved.old saved.new result }
 {
-    let file = open_kept(rt, keep.path)?;
+    let file = open_kept(rt, keep)?;
     let helpers = KnownHelpers::new(alloc, tables);
     serve_kept_with(
-        rt,
-        alloc,
-        helpers,
-        journal,
-        file,
-        keep.is_synced,
-        audience,
-        service,
-        words,
-        writer,
-        saved,
+        rt, alloc, helpers, journal, file, keep, audience, service, words, writer, saved,
     )
 }

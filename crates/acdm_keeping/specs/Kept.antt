@@ -1,7 +1,7 @@
 -- What is kept of a journal.
 use Rattle.std.specs.Prelude.{Bool, ℕ, ◌++◌, List, reverse}
 use Rattle.acdm_judging.specs.declared.failure.Failure.{Failure}
-use Rattle.acdm_judging.specs.declared.failure.Failure.TheVariants.{Memory, Save}
+use Rattle.acdm_judging.specs.declared.failure.Failure.TheVariants.{InUse, Keep, Memory, Save}
 use Rattle.acdm_journal.specs.Whole.{Saves}
 use Rattle.acdm_lines.specs.Counted.{SinkView}
 use Rattle.acdm_row.specs.Views.{RowView}
@@ -29,3 +29,15 @@ abbrev pub CutsShort : Failure → Type 0
 CutsShort Save = Unit {0}
 CutsShort Memory = Unit {0}
 CutsShort _ = ⊥
+
+-- why the file in which a journal is kept is not opened
+abbrev pub FailsToOpen : Failure → Type 0
+FailsToOpen Keep = Unit {0}
+FailsToOpen InUse = Unit {0}
+FailsToOpen _ = ⊥
+
+-- why no new file is put in its place
+abbrev pub FailsToRenew : Failure → Type 0
+FailsToRenew Keep = Unit {0}
+FailsToRenew Memory = Unit {0}
+FailsToRenew _ = ⊥

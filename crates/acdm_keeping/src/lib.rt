@@ -6,14 +6,16 @@ mod keeper;
 mod kept;
 mod progress;
 mod receipt;
+mod replacement;
 mod replies;
 mod shared;
 mod synced;
 
-pub use file::open;
+pub use file::{open, renew};
 pub use keeper::Keeper;
 pub use kept::Kept;
 pub use receipt::{Opening, Receipt};
+pub use replacement::{Replacement, is_same, is_special, leads_to, sync_folder};
 pub use replies::Replies;
 pub use shared::SharedKeeper;
 pub use synced::Synced;

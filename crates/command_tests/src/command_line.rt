@@ -196,6 +196,7 @@ fn asks_to_serve(alloc: Global, words: &[&str], wanted: usize, words_wanted: &[&
                     watch,
                     changes,
                     web,
+                    web_name,
                     again: false,
                     control: None,
                     pace: None,
@@ -209,6 +210,7 @@ fn asks_to_serve(alloc: Global, words: &[&str], wanted: usize, words_wanted: &[&
                 && watch.is_none()
                 && changes.is_none()
                 && web.is_none()
+                && web_name.is_none()
                 && partners.as_slice() == words_wanted
         }
         _ => false,
@@ -265,15 +267,15 @@ fn partners_make_a_journal_that_is_kept_where_it_is_said(rt: HostRuntime) {
     assert!(rt; is_refused(alloc, &["acdm", "audit", "--sync", "day.txt"]));
 }
 
-// Whether these words ask for a page for browsers at an address.
-fn asks_for_page(alloc: Global, words: &[&str], address: &str) -> bool {
+// Whether these words ask for a page for browsers at an address, by a name beside it.
+fn asks_for_page(alloc: Global, words: &[&str], address: &str, name: Option<&str>) -> bool {
     match parse(alloc, words) {
         Ok(
             Invocation {
-                subcommand: Subcommand::Serve { web, .. },
+                subcommand: Subcommand::Serve { web, web_name, .. },
                 ..
             },
-        ) => web == Some(address),
+        ) => web == Some(address) && web_name == name,
         _ => false,
     }
 }
@@ -282,6 +284,16 @@ fn asks_for_page(alloc: Global, words: &[&str], address: &str) -> bool {
 fn browsers_have_a_page_where_it_is_said(rt: HostRuntime) {
     let alloc = rt.alloc();
     let words = ["acdm", "serve", "--web", "127.0.0.1:8080", "NM=127.0.0.1:0"];
-    assert!(rt; asks_for_page(alloc, &words, "127.0.0.1:8080"));
+    assert!(rt; asks_for_page(alloc, &words, "127.0.0.1:8080", None));
+    let named = [
+        "acdm",
+        "serve",
+        "--web",
+        "127.0.0.1:8080",
+        "--web-name=board.example",
+        "NM=127.0.0.1:0",
+    ];
+    assert!(rt; asks_for_page(alloc, &named, "127.0.0.1:8080", Some("board.example")));
+    assert!(rt; is_refused(alloc, &["acdm", "serve", "--web-name", "NM=127.0.0.1:0"]));
     assert!(rt; is_refused(alloc, &["acdm", "run", "--web", "127.0.0.1:8080"]));
 }

@@ -1,6 +1,8 @@
 //! Partners that come and go: the words for them, and the reader over their connections.
 use acdm_command_line::{Invocation, Subcommand, parse};
-use acdm_partners::{Arrivals, WholeLines};
+use acdm_partners::{
+    Arrivals, ControlRequest, FirstLine, WholeLines, control_request, judge_first,
+};
 use std::alloc::Global;
 use std::io::Read;
 
@@ -33,8 +35,7 @@ impl Arrivals<&'static [u8]> for Visits {
 // Some whole lines and a cut one; nothing; a cut one; and one behind it.
 static TEXTS: [&[u8]; 4] = [b"one\n\ntwo\nthr", b"", b"fo", b"five\nsix\n"];
 
-// What a reader gives over these connections, by reads of so many bytes, where it admits so many looks for
-// a line.
+// What a reader gives over these connections, by reads of so many bytes, where so many lines are admitted.
 fn whole_lines<const MOST: usize>(alloc: Global, size: usize, admitted: u32) -> Option<Vec<u8>> {
     let arrivals = Visits {
         texts: TEXTS,
@@ -68,9 +69,55 @@ fn whole_lines_of_connections_are_given_and_nothing_else(rt: HostRuntime) {
     assert!(rt; gives::<10>(alloc, 16, 100, b"one\n\ntwo\nfive\nsix\n"));
     assert!(rt; gives::<10>(alloc, 1, 100, b"one\n\ntwo\nfive\nsix\n"));
     assert!(rt; gives::<3>(alloc, 2, 100, b"one\n\ntwo\nfiv\nsix\n"));
-    // (the first look finds no connection yet)
-    assert!(rt; gives::<10>(alloc, 16, 1, b""));
-    assert!(rt; gives::<10>(alloc, 3, 3, b"one\n\n"));
+    // (each line is asked for once, and no connection is)
+    assert!(rt; gives::<10>(alloc, 16, 0, b""));
+    assert!(rt; gives::<10>(alloc, 16, 1, b"one\n"));
+    assert!(rt; gives::<10>(alloc, 3, 3, b"one\n\ntwo\n"));
+    assert!(rt; gives::<10>(alloc, 16, 4, b"one\n\ntwo\nfive\n"));
+}
+
+// What came of a connection, whether that is all, and what it says of it where a line has at most 8 bytes.
+static FIRST: [(&[u8], bool, FirstLine); 16] = [
+    (b"", false, FirstLine::Waits),
+    (b"{", false, FirstLine::Waits),
+    (b"GET", false, FirstLine::Waits),
+    (b"{\n", false, FirstLine::Command),
+    (b" \t\r{}\n", false, FirstLine::Command),
+    (b"{}\nGET", false, FirstLine::Command),
+    (b"\n{}\n", false, FirstLine::Foreign),
+    (b" \r\n", false, FirstLine::Foreign),
+    (b"[1]\n", false, FirstLine::Foreign),
+    (b"GET / \n", false, FirstLine::Foreign),
+    (b"{234567", false, FirstLine::Waits),
+    (b"{2345678", false, FirstLine::Command),
+    (b"x2345678", false, FirstLine::Foreign),
+    (b"{}", true, FirstLine::Command),
+    (b"x", true, FirstLine::Foreign),
+    (b"  ", true, FirstLine::Foreign),
+];
+
+#[test]
+fn a_newcomer_is_judged_by_its_first_line(rt: HostRuntime) {
+    for (text, is_all, wanted) in &FIRST {
+        assert!(rt; judge_first(8, *is_all, *text) == *wanted);
+    }
+}
+
+static REQUESTS: [(&[u8], ControlRequest); 7] = [
+    (b"close", ControlRequest::Close),
+    (b"status", ControlRequest::Status),
+    (b"close ", ControlRequest::Nothing),
+    (b"CLOSE", ControlRequest::Nothing),
+    (b"clos", ControlRequest::Nothing),
+    (b"", ControlRequest::Nothing),
+    (b"POST / HTTP/1.1", ControlRequest::Nothing),
+];
+
+#[test]
+fn a_line_at_the_control_address_is_a_request_or_none(rt: HostRuntime) {
+    for (line, wanted) in &REQUESTS {
+        assert!(rt; control_request(*line) == *wanted);
+    }
 }
 
 // Whether these words ask to serve so.
