@@ -39,7 +39,7 @@ parts_send A R n d a r =
       search (a, sendable) depth 8,
       (
         as_row_send (hearing.the_field R (number n) d) (hearing_send R n d r),
-        (search sendable depth 8, (search sendable depth 8, tt)),
+        (search sendable depth 8, (search sendable depth 8, (search sendable depth 8, tt))),
       ),
     )
 

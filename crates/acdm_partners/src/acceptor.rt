@@ -1,10 +1,11 @@
 //! The thread that accepts partners, and answers at the control address.
+use crate::console::Console;
 use crate::control::{Control, Standing};
 use crate::doors::Door;
 use crate::levels::Levels;
+use crate::reporter::Reporter;
 use crate::times::{LAST_PAUSES, PAUSE};
 use std::alloc::{AllocError, Global};
-use std::io::Eprint;
 use std::net::Shutdown;
 use std::sync::atomic::{AtomicBool, Ordering};
 use std::sync::{Arc, Wait};
@@ -15,8 +16,7 @@ use std::time::{Clock, Duration};
 /// and answers at the control address.
 #[derive(Drop)]
 pub struct Acceptor<K: Drop, S: Drop> {
-    rt: K,
-    alloc: Global,
+    reporter: Reporter<K>,
     doors: Vec<Door>,
     control: Option<Control>,
     standing: S,
@@ -25,11 +25,12 @@ pub struct Acceptor<K: Drop, S: Drop> {
     done: Arc<AtomicBool>,
 }
 
-impl<K: Wait + Clock + Eprint + Drop, S: Standing + Drop> Acceptor<K, S> {
-    /// One for these addresses. The word tells that the board closes.
+impl<K: Wait + Clock + Drop, S: Standing + Drop> Acceptor<K, S> {
+    /// One for these addresses, which tells by this console. The word tells that the board closes.
     pub fn new(
         rt: K,
         alloc: Global,
+        console: Console,
         doors: Vec<Door>,
         control: Option<Control>,
         standing: S,
@@ -37,8 +38,7 @@ impl<K: Wait + Clock + Eprint + Drop, S: Standing + Drop> Acceptor<K, S> {
     ) -> Result<Acceptor<K, S>, AllocError> {
         let done = Arc::new(alloc, AtomicBool::new(false))?;
         Ok(Acceptor {
-            rt,
-            alloc,
+            reporter: Reporter::new(rt, alloc, console),
             doors,
             control,
             standing,
@@ -57,12 +57,13 @@ impl<K: Wait + Clock + Eprint + Drop, S: Standing + Drop> Acceptor<K, S> {
     }
 
     fn pause(&self) {
-        thread::sleep(&self.rt, Duration::from_millis(PAUSE));
+        thread::sleep(&self.reporter.rt, Duration::from_millis(PAUSE));
     }
 
     fn run(mut self) {
         self.serve();
         self.close();
+        self.finish();
     }
 
     // Accepts and answers until the board closes or all sessions have ended.
@@ -78,11 +79,14 @@ impl<K: Wait + Clock + Eprint + Drop, S: Standing + Drop> Acceptor<K, S> {
 
     fn look(&mut self) {
         for door in self.doors.as_mut_slice() {
-            door.look(&self.rt, self.alloc);
+            door.look(&self.reporter);
         }
-        self.levels.look(&self.rt, self.alloc, &self.standing);
+        self.levels.look(&self.reporter, &self.standing);
+        // Where the clock tells no time nobody is too late.
+        let now = self.reporter.passed().unwrap_or(0);
         if let Some(control) = &mut self.control {
-            if control.look(self.alloc, self.doors.as_slice(), &self.standing) {
+            let alloc = self.reporter.alloc;
+            if control.look(alloc, self.doors.as_slice(), &self.standing, now) {
                 self.closing.store(true, Ordering::SeqCst);
             }
         }
@@ -93,13 +97,13 @@ impl<K: Wait + Clock + Eprint + Drop, S: Standing + Drop> Acceptor<K, S> {
     fn close(&mut self) {
         for door in self.doors.as_mut_slice() {
             door.shut();
-            door.place().stop(&self.rt, Shutdown::Read);
+            door.place().stop(&self.reporter.rt, Shutdown::Read);
         }
         for pause in 0..u64::MAX {
             // What tells the end is read before the last look.
             let is_last = self.is_done();
             for door in self.doors.as_mut_slice() {
-                door.look_after(&self.rt, self.alloc);
+                door.look_after(&self.reporter);
             }
             if is_last {
                 return;
@@ -111,9 +115,15 @@ impl<K: Wait + Clock + Eprint + Drop, S: Standing + Drop> Acceptor<K, S> {
         }
     }
 
+    // Tells what is left to be told.
+    fn finish(&mut self) {
+        self.levels.look(&self.reporter, &self.standing);
+        self.reporter.end();
+    }
+
     fn cut_off(&self) {
         for door in self.doors.as_slice() {
-            door.place().stop(&self.rt, Shutdown::Both);
+            door.place().stop(&self.reporter.rt, Shutdown::Both);
         }
     }
 }
@@ -129,7 +139,7 @@ impl Reception {
     /// Starts the thread of an acceptor. `Err` where memory was refused, or no thread could be made.
     pub fn begin<
         Rt: Threads,
-        K: Wait + Clock + Eprint + Drop + Send + 'static,
+        K: Wait + Clock + Drop + Send + 'static,
         S: Standing + Drop + Send + 'static,
     >(rt: &Rt, acceptor: Acceptor<K, S>) -> Result<Reception, AllocError> {
         let done = Arc::try_clone(&acceptor.done)?;

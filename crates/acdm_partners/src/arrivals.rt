@@ -2,7 +2,7 @@
 
 /// Who connects at an address, one connection after the other.
 pub trait Arrivals<R> {
-    /// Whether a further line may be taken. It may wait until one may.
+    /// Whether the line that was taken last may be given, of which it is asked once. It may wait until it may.
     fn admits(&mut self) -> bool;
 
     /// The next connection, which it may wait for; none where no more is to come. The one before has

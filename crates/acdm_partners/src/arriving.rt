@@ -1,7 +1,7 @@
 //! The connections of a place, one after the other.
 use crate::arrivals::Arrivals;
 use crate::connection::Connection;
-use crate::pace::Pace;
+use crate::pace::{Pace, Stopwatch};
 use crate::places::Place;
 use crate::times::PAUSE;
 use std::sync::{Arc, Wait};
@@ -13,21 +13,38 @@ use std::time::{Clock, Duration};
 pub struct Arriving<'r, Rt> {
     rt: &'r Rt,
     place: Arc<Place>,
-    pace: Pace,
+    // How many lines are taken in a minute, if that is bounded, and what that is measured by.
+    pace: Option<Pace>,
+    stopwatch: Stopwatch,
 }
 
 impl<'r, Rt: Wait + Clock> Arriving<'r, Rt> {
     /// Who connects at this place.
     pub fn new(rt: &'r Rt, place: Arc<Place>) -> Arriving<'r, Rt> {
-        let pace = Pace::new(place.terms.pace);
-        Arriving { rt, place, pace }
+        let stopwatch = Stopwatch::begin(rt);
+        let pace = place.terms.pace.map(|most| Pace::new(most, 0));
+        Arriving {
+            rt,
+            place,
+            pace,
+            stopwatch,
+        }
+    }
+
+    // Whether a line may be taken now. Where the clock tells no time each may.
+    fn is_in_pace(&mut self) -> bool {
+        let now = self.stopwatch.passed(self.rt);
+        match (&mut self.pace, now) {
+            (Some(pace), Some(now)) => pace.admits(now),
+            _ => true,
+        }
     }
 
     // The next connection, if one waits.
     fn arrived(&self) -> Option<Connection> {
-        let (stream, number) = self.place.take(self.rt)?;
+        let arrived = self.place.take(self.rt)?;
         let place = Arc::try_clone(&self.place).ok()?;
-        Some(Connection::new(place, stream, number))
+        Some(Connection::new(place, arrived))
     }
 
     fn pause(&self) {
@@ -41,7 +58,7 @@ impl<'r, Rt: Wait + Clock> Arrivals<Connection> for Arriving<'r, Rt> {
             if self.place.is_closing() {
                 return false;
             }
-            if self.pace.admits(self.rt) {
+            if self.is_in_pace() {
                 return true;
             }
             self.pause();

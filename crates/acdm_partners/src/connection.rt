@@ -1,12 +1,12 @@
 //! One connection of a place, as a reader.
 ghost use Rattle.std.specs.Prelude.{◌≤◌, length};
 
-use crate::places::Place;
+use crate::places::{Arrived, Place};
 use std::io::{self, ErrorKind, Read};
 use std::net::TcpStream;
 use std::sync::Arc;
 
-/// One connection of a place. It ends where its partner ends it, where a newer one is there, and where the
+/// One connection of a place, from its first line on. It ends where its partner ends it, where a newer one is there, and where the
 /// board closes. Where its session serves no further one, a last line that lacks its line feed is given
 /// one.
 #[derive(Drop)]
@@ -14,6 +14,9 @@ pub struct Connection {
     place: Arc<Place>,
     stream: TcpStream,
     number: u64,
+    // What was read of it before it took the place, and how much of that was given.
+    text: Vec<u8>,
+    given: usize,
     // Whether a line was begun and has not ended.
     in_line: bool,
 }
@@ -24,13 +27,38 @@ pub(crate) fn is_passing(error: &io::Error) -> bool {
 }
 
 impl Connection {
-    /// The connection of this number at a place.
-    pub(crate) fn new(place: Arc<Place>, stream: TcpStream, number: u64) -> Connection {
+    /// A connection that took a place.
+    pub(crate) fn new(place: Arc<Place>, arrived: Arrived) -> Connection {
+        let Arrived {
+            stream,
+            text,
+            number,
+        } = arrived;
         Connection {
             place,
             stream,
             number,
+            text,
+            given: 0,
             in_line: false,
+        }
+    }
+
+    // Gives what was read before it took the place, as far as it was not given.
+    fn give_first(&mut self, buf: &mut [u8]) -> usize
+        ensures { result ≤ length buf.new }
+    {
+        let rest = self.text.as_slice().get(self.given..).unwrap_or(&[]);
+        let count = rest.len().min(buf.len());
+        buf[..count].copy_from_slice(&rest[..count]);
+        self.given = self.given.saturating_add(count);
+        count
+    }
+
+    // What a read gave ends so.
+    fn note(&mut self, given: &[u8]) {
+        if let Some(last) = given.last() {
+            self.in_line = *last != b'\n';
         }
     }
 
@@ -58,10 +86,15 @@ impl Read for Connection {
             if self.place.is_past(self.number) {
                 return Ok(0);
             }
+            let first = self.give_first(buf);
+            if first > 0 {
+                self.note(&buf[..first]);
+                return Ok(first);
+            }
             match self.stream.read(buf) {
                 Ok(0) => return Ok(self.end(buf)),
                 Ok(count) => {
-                    self.in_line = buf.get(count - 1) != Some(&b'\n');
+                    self.note(&buf[..count]);
                     return Ok(count);
                 }
                 Err(error) if is_passing(&error) => {}

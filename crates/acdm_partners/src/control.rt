@@ -1,15 +1,22 @@
 //! The control address: who connects there may ask for the state of the board, and have it close.
+ghost use Rattle.std.specs.Prelude.{◌≡◌, ◌<◌, vec_len};
+
 use crate::connection::is_passing;
 use crate::doors::Door;
+use crate::request::{ControlRequest, control_request};
 use crate::stamp::moment_text;
 use std::alloc::{AllocError, Global};
 use std::io::{Read, Write};
 use std::net::{Net, SocketAddr, TcpListener, TcpStream};
 
-/// How many may be connected there at once. One more is let go at once.
+/// How many may be connected there at once. For one more, the one that has asked for nothing for the longest
+/// time is let go.
 const MOST_CALLERS: usize = 8;
 
-/// How many bytes a line has at most. One that has more is let go.
+/// How many milliseconds one has for a whole line. Who takes longer is let go.
+const PATIENCE: u64 = 10_000;
+
+/// How many bytes a line has at most. Who sends one that has more is let go.
 const LONGEST_LINE: usize = 64;
 
 /// What is told of the journal.
@@ -27,18 +34,19 @@ pub trait Standing {
     fn last(&self) -> Option<u32>;
 }
 
-// Who is connected, and the line that he has begun.
+// Who is connected, the line that was begun, and when the one before was answered, in milliseconds.
 #[derive(Drop)]
 struct Caller {
     stream: TcpStream,
     line: Vec<u8>,
+    since: u64,
 }
 
 /// The control address.
 #[derive(Drop)]
 pub struct Control {
     listener: TcpListener,
-    callers: Vec<Option<Caller>>,
+    callers: Vec<Caller>,
 }
 
 // An address: an IP address and a port, or a port of the loopback interface.
@@ -69,12 +77,16 @@ fn status<S: Standing>(alloc: Global, doors: &[Door], standing: &S) -> Result<St
 }
 
 impl Caller {
-    fn new(alloc: Global, stream: TcpStream) -> Option<Caller> {
+    fn new(alloc: Global, stream: TcpStream, since: u64) -> Option<Caller> {
         if stream.set_nonblocking(true).is_err() {
             return None;
         }
         let line = Vec::with_capacity(alloc, LONGEST_LINE).ok()?;
-        Some(Caller { stream, line })
+        Some(Caller {
+            stream,
+            line,
+            since,
+        })
     }
 
     // Sends a text at once, and says whether all of it went.
@@ -95,7 +107,7 @@ impl Caller {
         }
     }
 
-    // Answers a line. Says whether he stays.
+    // Answers a line. Says whether the caller stays: not where the line asks for nothing that there is.
     fn answer<S: Standing>(
         &mut self,
         alloc: Global,
@@ -103,26 +115,29 @@ impl Caller {
         standing: &S,
         closes: &mut bool,
     ) -> bool {
-        let line = self.line.as_slice();
-        if line == b"close".as_slice() {
-            *closes = true;
-            return self.send(b"closing\n");
-        }
-        if line == b"status".as_slice() {
-            return match status(alloc, doors, standing) {
+        match control_request(self.line.as_slice()) {
+            ControlRequest::Close => {
+                *closes = true;
+                self.send(b"closing\n")
+            }
+            ControlRequest::Status => match status(alloc, doors, standing) {
                 Ok(text) => self.send(text.as_bytes()),
                 Err(_) => false,
-            };
+            },
+            ControlRequest::Nothing => {
+                let _ = self.send(b"unknown\n");
+                false
+            }
         }
-        self.send(b"unknown\n")
     }
 
-    // Answers the lines that have come. Says whether he stays.
+    // Answers the lines that have come by this moment. Says whether the caller stays.
     fn look<S: Standing>(
         &mut self,
         alloc: Global,
         doors: &[Door],
         standing: &S,
+        now: u64,
         closes: &mut bool,
     ) -> bool {
         let mut buf = [0u8; LONGEST_LINE];
@@ -135,11 +150,12 @@ impl Caller {
                     return false;
                 }
                 self.line.clear();
+                self.since = now;
             } else if *byte != b'\r' && !self.add(*byte) {
                 return false;
             }
         }
-        true
+        now.saturating_sub(self.since) < PATIENCE
     }
 
     // Goes on with the line. Says whether it fits.
@@ -161,10 +177,7 @@ impl Control {
         if listener.set_nonblocking(true).is_err() {
             return None;
         }
-        let mut callers = Vec::new(alloc);
-        for _ in 0..MOST_CALLERS {
-            callers.push(None).ok()?;
-        }
+        let callers = Vec::with_capacity(alloc, MOST_CALLERS).ok()?;
         Some(Control { listener, callers })
     }
 
@@ -173,33 +186,56 @@ impl Control {
         self.listener.local_addr().ok()
     }
 
-    // Accepts who waits, where there is a place.
-    fn admit(&mut self, alloc: Global) {
+    // Accepts who waits, in the place of the longest idle one where there are eight.
+    fn admit(&mut self, alloc: Global, now: u64) {
         let Ok((stream, _)) = self.listener.accept() else {
             return;
         };
-        for place in self.callers.as_mut_slice() {
-            if place.is_none() {
-                *place = Caller::new(alloc, stream);
-                return;
-            }
+        let Some(caller) = Caller::new(alloc, stream, now) else {
+            return;
+        };
+        if self.callers.len() >= MOST_CALLERS {
+            let idle = self.longest_idle();
+            let _gone = self.callers.remove(idle);
         }
+        let _ = self.callers.push(caller);
     }
 
-    /// Accepts who waits, and answers the lines that have come. Says whether the board is to close.
+    // The place of the caller that has asked for nothing for the longest time, where there is one.
+    fn longest_idle(&self) -> usize
+        ensures { 0 < vec_len self.now.callers → result < vec_len self.now.callers }
+    {
+        let mut found = 0;
+        let mut since = u64::MAX;
+        for (at, caller) in self.callers.iter().enumerate() {
+            if caller.since < since {
+                found = at;
+                since = caller.since;
+            }
+        }
+        found
+    }
+
+    /// Accepts who waits, and answers the lines that have come by this moment, in milliseconds. Says whether
+    /// the board is to close.
     pub(crate) fn look<S: Standing>(
         &mut self,
         alloc: Global,
         doors: &[Door],
         standing: &S,
+        now: u64,
     ) -> bool {
         let mut closes = false;
-        self.admit(alloc);
-        for place in self.callers.as_mut_slice() {
-            if let Some(mut caller) = place.take() {
-                if caller.look(alloc, doors, standing, &mut closes) {
-                    *place = Some(caller);
-                }
+        let mut at = 0;
+        self.admit(alloc, now);
+        for _ in 0..MOST_CALLERS {
+            if at >= self.callers.len() {
+                break;
+            }
+            if self.callers[at].look(alloc, doors, standing, now, &mut closes) {
+                at += 1;
+            } else {
+                let _left = self.callers.remove(at);
             }
         }
         closes

@@ -2,9 +2,8 @@
 ghost use Rattle.std.specs.Prelude.{◌≡◌, ◌+◌, ◌*◌, ◌/◌, ◌≤◌};
 
 use crate::control::Standing;
-use crate::stamp::now_text;
-use std::alloc::{AllocError, Global};
-use std::io::Eprint;
+use crate::reporter::Reporter;
+use std::sync::Wait;
 use std::time::Clock;
 
 /// Of which shares of its room it is told that they are used, in per cent.
@@ -30,43 +29,28 @@ impl Levels {
         Levels { reached: 0 }
     }
 
-    /// Tells of a level that was reached since the last look: of the highest, where there are several.
-    pub(crate) fn look<K: Clock + Eprint, S: Standing>(
+    /// Tells of each level that was reached since the last look.
+    pub(crate) fn look<K: Wait + Clock + Drop, S: Standing>(
         &mut self,
-        rt: &K,
-        alloc: Global,
+        reporter: &Reporter<K>,
         standing: &S,
     ) {
-        if let Some(percent) = self.next(standing) {
-            let _ = tell(rt, alloc, percent, standing);
+        for _ in LEVELS.iter() {
+            let Some(percent) = self.next(standing) else {
+                return;
+            };
+            reporter.tell_room(percent, standing.used(), standing.room());
         }
     }
 
-    // The highest level that was reached since the last look.
+    // The lowest level that is reached and was not at the last look.
     fn next<S: Standing>(&mut self, standing: &S) -> Option<usize> {
-        let mut found = None;
         for percent in LEVELS.iter() {
             if *percent > self.reached && standing.has(entries_at(*percent, standing.room())) {
                 self.reached = *percent;
-                found = Some(*percent);
+                return Some(*percent);
             }
         }
-        found
+        None
     }
-}
-
-// `room PERCENT ENTRIES of ROOM MOMENT`
-fn tell<K: Clock + Eprint, S: Standing>(
-    rt: &K,
-    alloc: Global,
-    percent: usize,
-    standing: &S,
-) -> Result<(), AllocError> {
-    let used = standing.used();
-    let room = standing.room();
-    let moment = now_text(rt, alloc)?;
-    let mut line = String::new(alloc);
-    write!(line, "room {percent} {used} of {room} {moment}")?;
-    let _ = rt.eprintln(line.as_str());
-    Ok(())
 }

@@ -1,35 +1,44 @@
 //! How many lines are taken in a minute.
+ghost use Rattle.std.specs.Prelude.{◌≡◌, ◌*◌, ◌≤◌, max};
+ghost use Rattle.acdm_partners.specs.Paced.{admits, grown, spent, whole};
+
 use std::time::{Clock, Instant};
 
-// What a line costs of the credit: the microseconds of a minute.
-const COST: u64 = 60_000_000;
+/// What a line costs of the credit: the milliseconds of a minute.
+const COST: u64 = 60_000;
 
-/// How many lines of a session are taken in a minute at most, if that is bounded. The credit grows by as
-/// much as so many lines cost in each minute, and no further: so after a silence so many lines are taken
-/// at once.
-#[derive(Drop)]
+/// How many lines are taken in a minute at most. The credit grows by as much as so many lines cost in each
+/// minute, and no further: so after a silence so many lines are taken at once.
+#[derive(Clone, Copy)]
 pub(crate) struct Pace {
-    most: Option<u32>,
+    most: u32,
     credit: u64,
-    counted: Option<Instant>,
+    counted: u64,
+    ghost bound: { credit ≤ whole most },
 }
 
 impl Pace {
-    /// With the whole credit.
-    pub(crate) fn new(most: Option<u32>) -> Pace {
+    /// With the whole credit at this moment, in milliseconds.
+    pub(crate) fn new(most: u32, now: u64) -> Pace
+        ensures most { result.most ≡ most }
+        ensures credit { result.credit ≡ whole most }
+        ensures counted { result.counted ≡ now }
+    {
         Pace {
             most,
-            credit: 0,
-            counted: None,
+            credit: u64::from(most) * COST,
+            counted: now,
         }
     }
 
-    /// Whether a line may be taken now. It takes its cost then.
-    pub(crate) fn admits<Rt: Clock>(&mut self, rt: &Rt) -> bool {
-        let Some(most) = self.most else {
-            return true;
-        };
-        self.grow(rt, u64::from(most));
+    /// Whether a line may be taken at this moment, in milliseconds. It takes its cost then.
+    pub(crate) fn admits(&mut self, now: u64) -> bool
+        ensures most { self.new.most ≡ self.old.most }
+        ensures counted { self.new.counted ≡ max self.old.counted now }
+        ensures admitted { result ≡ admits (grown self.old.most self.old.credit self.old.counted now) }
+        ensures credit { self.new.credit ≡ spent (grown self.old.most self.old.credit self.old.counted now) }
+    {
+        self.grow(now);
         if self.credit < COST {
             return false;
         }
@@ -37,20 +46,38 @@ impl Pace {
         true
     }
 
-    // Adds what has grown since it was counted last. Where the clock tells no time, the credit is whole.
-    fn grow<Rt: Clock>(&mut self, rt: &Rt, most: u64) {
-        let whole = COST.saturating_mul(most);
-        let now = Instant::now(rt).ok();
-        let passed = match (self.counted, now) {
-            (Some(counted), Some(now)) => now.checked_duration_since(counted),
-            _ => None,
-        };
-        self.counted = now;
-        let grown = match passed {
-            Some(passed) => u64::try_from(passed.as_micros()).unwrap_or(u64::MAX),
-            None => COST,
-        };
-        let credit = self.credit.saturating_add(grown.saturating_mul(most));
-        self.credit = credit.min(whole);
+    // Adds what has grown since it was counted last. A clock that goes back adds nothing.
+    fn grow(&mut self, now: u64)
+        ensures most { self.new.most ≡ self.old.most }
+        ensures counted { self.new.counted ≡ max self.old.counted now }
+        ensures credit { self.new.credit ≡ grown self.old.most self.old.credit self.old.counted now }
+    {
+        let passed = now.saturating_sub(self.counted).min(COST);
+        let most = u64::from(self.most);
+        let credit = self.credit + passed * most;
+        self.credit = credit.min(most * COST);
+        self.counted = self.counted.max(now);
+    }
+}
+
+/// Milliseconds since a clock was first read.
+#[derive(Drop)]
+pub(crate) struct Stopwatch {
+    begun: Option<Instant>,
+}
+
+impl Stopwatch {
+    /// From now on.
+    pub(crate) fn begin<Rt: Clock>(rt: &Rt) -> Stopwatch {
+        Stopwatch {
+            begun: Instant::now(rt).ok(),
+        }
+    }
+
+    /// The milliseconds that have passed, where the clock tells time.
+    pub(crate) fn passed<Rt: Clock>(&self, rt: &Rt) -> Option<u64> {
+        let now = Instant::now(rt).ok()?;
+        let passed = now.saturating_duration_since(self.begun?).as_millis();
+        u64::try_from(passed).ok()
     }
 }

@@ -1,11 +1,10 @@
 //! The places where partners connect, and what the threads share of them.
-use crate::times::{LONGEST_READ, PATIENCE, PAUSE};
+use crate::times::{LONGEST_READ, PATIENCE};
 use std::alloc::{AllocError, Global};
 use std::net::{Shutdown, TcpStream};
 use std::sync::atomic::{AtomicBool, AtomicU64, Ordering};
 use std::sync::{Arc, Mutex, Wait};
-use std::thread;
-use std::time::{Clock, Duration};
+use std::time::Duration;
 
 /// How partners are served at their places.
 #[derive(Clone, Copy, Debug, PartialEq, Eq)]
@@ -16,11 +15,19 @@ pub struct Terms {
     pub pace: Option<u32>,
 }
 
-// The connections of a place: the newest, which its session has not taken yet, with its number from 1;
-// and the one that the session serves, as what it is cut off by and as what its replies go to.
+/// A connection that takes a place: what was read of it already, and its number there, from 1.
+#[derive(Drop)]
+pub(crate) struct Arrived {
+    pub(crate) stream: TcpStream,
+    pub(crate) text: Vec<u8>,
+    pub(crate) number: u64,
+}
+
+// The connections of a place: the newest, which its session has not taken yet; and the one that the session
+// serves, as what it is cut off by and as what its replies go to.
 #[derive(Drop)]
 struct Held {
-    arrived: Option<(TcpStream, u64)>,
+    arrived: Option<Arrived>,
     open: Option<TcpStream>,
     replies: Option<TcpStream>,
 }
@@ -82,11 +89,6 @@ impl Place {
         self.ended.load(Ordering::SeqCst) >= number
     }
 
-    /// Whether somebody has connected.
-    pub(crate) fn has_arrived(&self) -> bool {
-        self.newest.load(Ordering::SeqCst) > 0
-    }
-
     /// The number of the connection that is served.
     pub(crate) fn served(&self) -> u64 {
         self.served.load(Ordering::SeqCst)
@@ -98,15 +100,21 @@ impl Place {
         let _ = stream.set_nodelay(true);
         let read = Some(Duration::from_millis(LONGEST_READ));
         let write = Some(Duration::from_millis(PATIENCE));
-        stream.set_read_timeout(read).is_ok() && stream.set_write_timeout(write).is_ok()
+        stream.set_nonblocking(false).is_ok()
+            && stream.set_read_timeout(read).is_ok()
+            && stream.set_write_timeout(write).is_ok()
     }
 
-    /// Has a connection take the place of the one that is here. It is told its number. Only one thread
-    /// calls it.
-    pub(crate) fn arrive<Rt: Wait>(&self, rt: &Rt, stream: TcpStream) -> u64 {
+    /// Has a connection, of which this was read already, take the place of the one that is here. It is told
+    /// its number. Only one thread calls it.
+    pub(crate) fn arrive<Rt: Wait>(&self, rt: &Rt, stream: TcpStream, text: Vec<u8>) -> u64 {
         let number = self.newest.load(Ordering::SeqCst).saturating_add(1);
         let mut held = self.held.lock(rt);
-        held.arrived = Some((stream, number));
+        held.arrived = Some(Arrived {
+            stream,
+            text,
+            number,
+        });
         self.newest.store(number, Ordering::SeqCst);
         if let Some(open) = &held.open {
             let _ = open.shutdown(Shutdown::Both);
@@ -115,18 +123,18 @@ impl Place {
     }
 
     /// Takes the newest connection, where there is one that was not taken, and serves it from now on.
-    pub(crate) fn take<Rt: Wait>(&self, rt: &Rt) -> Option<(TcpStream, u64)> {
+    pub(crate) fn take<Rt: Wait>(&self, rt: &Rt) -> Option<Arrived> {
         let mut held = self.held.lock(rt);
-        let (stream, number) = held.arrived.take()?;
-        held.open = stream.try_clone().ok();
-        held.replies = stream.try_clone().ok();
+        let arrived = held.arrived.take()?;
+        held.open = arrived.stream.try_clone().ok();
+        held.replies = arrived.stream.try_clone().ok();
         if held.open.is_none() || held.replies.is_none() {
             held.open = None;
-            self.ended.store(number, Ordering::SeqCst);
+            self.ended.store(arrived.number, Ordering::SeqCst);
             return None;
         }
-        self.served.store(number, Ordering::SeqCst);
-        Some((stream, number))
+        self.served.store(arrived.number, Ordering::SeqCst);
+        Some(arrived)
     }
 
     /// What the replies to the connection that is served go to; nothing where they were asked for before.
@@ -161,23 +169,5 @@ impl Place {
         if let Some(open) = &held.open {
             let _ = open.shutdown(how);
         }
-    }
-
-    /// Waits until somebody has connected, or the board closes.
-    pub(crate) fn wait<Rt: Wait + Clock>(&self, rt: &Rt) {
-        for _ in rt.forever() {
-            if self.has_arrived() || self.is_closing() {
-                return;
-            }
-            thread::sleep(rt, Duration::from_millis(PAUSE));
-        }
-        unreachable!()
-    }
-}
-
-/// Waits until somebody has connected at each place, or the board closes.
-pub fn wait_for_all<Rt: Wait + Clock>(rt: &Rt, places: &[Arc<Place>]) {
-    for place in places {
-        place.wait(rt);
     }
 }

@@ -21,6 +21,8 @@ pub struct WholeLines<A: Drop, R: Read + Drop, const MOST: usize> {
     arrivals: A,
     hearing: Hearing<R, MOST>,
     in_hand: bool,
+    // Whether the line in the hand may be given.
+    is_admitted: bool,
     at: usize,
     ghost inside: { in_hand ≡ true → at ≤ length hearing.line },
 }
@@ -60,6 +62,7 @@ impl<A: Arrivals<R> + Drop, R: Read + Drop, const MOST: usize> WholeLines<A, R, 
             arrivals,
             hearing,
             in_hand: false,
+            is_admitted: false,
             at: 0,
         })
     }
@@ -71,11 +74,9 @@ impl<A: Arrivals<R> + Drop, R: Read + Drop, const MOST: usize> WholeLines<A, R, 
         ensures taken { result ≡ self.new.in_line }
     {
         for _ in 0..u64::MAX {
-            if !self.arrivals.admits() {
-                return false;
-            }
             if self.hearing.take_line() {
                 self.in_hand = true;
+                self.is_admitted = false;
                 self.at = 0;
                 return true;
             }
@@ -87,6 +88,20 @@ impl<A: Arrivals<R> + Drop, R: Read + Drop, const MOST: usize> WholeLines<A, R, 
             }
         }
         false
+    }
+
+    // Has a line in the hand that may be given. Says whether there is one.
+    fn has_line(&mut self) -> bool
+        ensures goes { GoesOn MOST self.old self.new [] }
+        ensures taken { result ≡ true → self.new.in_line ≡ true }
+    {
+        if !self.in_hand && !self.take_line() {
+            return false;
+        }
+        if !self.is_admitted {
+            self.is_admitted = self.arrivals.admits();
+        }
+        self.is_admitted
     }
 
     // Gives what there is room for of the line in the hand.
@@ -118,7 +133,7 @@ impl<A: Arrivals<R> + Drop, R: Read + Drop, const MOST: usize> Read for WholeLin
         if buf.is_empty() {
             return Ok(0);
         }
-        if !self.in_hand && !self.take_line() {
+        if !self.has_line() {
             return Ok(0);
         }
         Ok(self.give(buf))

@@ -14,15 +14,15 @@ use acdm_judging::ServeError;
 use acdm_keeping::{Opening, Replies as Behind, SharedKeeper, Synced};
 use acdm_milestones::Role;
 use acdm_partners::{
-    Acceptor, Arriving, Connection, Control, Door, Place, Reception, Replies, Standing, Terms,
-    WholeLines, wait_for_all,
+    Acceptor, Arriving, Connection, Console, Control, Door, Place, Reception, Replies, Standing,
+    Terms, WholeLines,
 };
 use acdm_row::Row;
 use acdm_sessions::{Clock, Closed, Gate, Session, Sink, Source};
 use acdm_wire::LONGEST_REQUEST;
 use bpf_helpers::Helpers;
 use std::alloc::{AllocError, Global};
-use std::io::{BufWriter, Eprint, Write};
+use std::io::{BufWriter, Write};
 use std::net::TcpListener;
 use std::sync::atomic::AtomicBool;
 use std::sync::{Arc, Wait};
@@ -74,7 +74,10 @@ impl Addresses {
         let (Ok(kept), Ok(given)) = (Arc::try_clone(&place), Arc::try_clone(&place)) else {
             return Err(ServeError::Memory);
         };
-        let Some(door) = Door::new(number, role.name(), place, listener) else {
+        let Ok(door) = Door::new(alloc, number, role.name(), MOST_KEPT, place, listener) else {
+            return Err(ServeError::Memory);
+        };
+        let Some(door) = door else {
             return Err(ServeError::Accept(number));
         };
         if self.doors.push(door).is_err() || self.places.push(kept).is_err() {
@@ -233,7 +236,7 @@ fn open_all<'r, J: Opening, Rt: Wait + SystemClock, C: Clock + Drop>(
 }
 
 // Who accepts partners and answers at the control address.
-fn acceptor_of<Rt: Wait + SystemClock + Eprint + Clone + Drop>(
+fn acceptor_of<Rt: Host>(
     rt: &Rt,
     alloc: Global,
     doors: Vec<Door>,
@@ -242,8 +245,10 @@ fn acceptor_of<Rt: Wait + SystemClock + Eprint + Clone + Drop>(
     closing: Arc<AtomicBool>,
 ) -> Result<Acceptor<Rt, Tally>, AllocError> {
     let own = rt.clone()?;
+    let writing = rt.clone()?;
     let row = Arc::try_clone(row)?;
-    Acceptor::new(own, alloc, doors, control, Tally { row }, closing)
+    let console = Console::begin(rt, writing, alloc)?;
+    Acceptor::new(own, alloc, console, doors, control, Tally { row }, closing)
 }
 
 // Starts the thread that accepts partners and answers at the control address.
@@ -306,7 +311,6 @@ fn served_while<
     addresses: Addresses,
     control: Option<Control>,
     closing: Arc<AtomicBool>,
-    again: bool,
 ) -> Result<Closed<H, Reading<'r, Rt>, Writing<'r, J, Rt>, C>, ServeError>
     requires few { vec_len sessions ≤ 64 }
     ensures serves { IfOk result (λ c. ServesSessions desk c.desk
@@ -317,16 +321,14 @@ fn served_while<
 {
     let Addresses { doors, places } = addresses;
     let reception = receive(rt, alloc, doors, control, desk.row(), closing)?;
-    if !again {
-        wait_for_all(rt, places.as_slice());
-    }
     let closed = served_by(rt, alloc, desk, sessions, &Places { rt, places });
     reception.end(rt);
     closed
 }
 
 /// Serves a partner on each listener, all at once against one desk, as `serve_on`, by these terms: who
-/// connects is served at once, and where they say so, each session goes on with the next who connects.
+/// connects is served once its first line is there and begins with `{`, whoever else is there; who sends
+/// another is answered `bad 101` and closed. Where the terms say so, each session goes on with the next who connects.
 /// At the control address the board can be closed, as by the word: all sessions end then. Replies wait
 /// for the keeper, if there is one.
 ///
@@ -363,16 +365,7 @@ pub fn serve_again<
     let mut addresses = Addresses::new(alloc);
     let open = &mut addresses;
     let sessions = opened(rt, alloc, partners, terms, &closing, keeper, open, writer)?;
-    let closed = served_while(
-        rt,
-        alloc,
-        desk,
-        sessions,
-        addresses,
-        control,
-        closing,
-        terms.again,
-    )?;
+    let closed = served_while(rt, alloc, desk, sessions, addresses, control, closing)?;
     let told = tell(&closed, writer);
     let Closed { desk, sessions } = closed;
     Ok(Served {
