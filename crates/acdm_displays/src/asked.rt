@@ -1,9 +1,9 @@
 //! What a display asks for first.
 ghost use Rattle.std.specs.Prelude.{◌≡◌, IfSome};
 ghost use Rattle.acdm_displays.specs.Asked.{Names};
-ghost use Rattle.acdm_web.specs.Wanted.{IsNamed};
 
 use crate::leaving::is_passing;
+use acdm_web::number_in;
 use std::io::Read;
 
 /// How many bytes the first line of a display has at most.
@@ -21,18 +21,8 @@ pub enum Start {
     Board,
 }
 
-// The number that a text names.
-fn number_in(text: &str) -> Option<u64>
-    ensures { IfSome result (IsNamed text.now) }
-{
-    match text.parse::<u64>() {
-        Ok(number) => Some(number),
-        Err(_) => None,
-    }
-}
-
-/// What a first line asks for, without its line feed: `from N`, of a decimal number below 2^64, before
-/// which a plus sign may stand, or `board`. No other line asks for anything.
+/// What a first line asks for, without its line feed: `from N`, of a decimal number below 2^64 with no sign
+/// and no zero before it, or `board`. No other line asks for anything.
 pub fn start_named(line: &[u8]) -> Option<Start>
     ensures { IfSome result (Names line.now) }
 {
@@ -43,7 +33,7 @@ pub fn start_named(line: &[u8]) -> Option<Start>
         return Some(Start::Board);
     }
     let digits = line.strip_prefix("from ")?;
-    let number = number_in(digits)?;
+    let number = number_in(digits.as_bytes())?;
     Some(Start::Entry(number))
 }
 

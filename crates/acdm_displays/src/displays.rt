@@ -64,13 +64,14 @@ impl Task for Showing {
             place,
             stream,
         } = self;
-        show(alloc, &row, form, &place.shared.closing, stream);
+        show(alloc, &row, form, &place.shared, stream);
         drop(place);
     }
 }
 
 // Sends a display the entries in a form, until it leaves or has all of them.
-fn show(alloc: Global, row: &Arc<Row>, form: Form, closing: &AtomicBool, stream: TcpStream) {
+fn show(alloc: Global, row: &Arc<Row>, form: Form, shared: &Shared, stream: TcpStream) {
+    let closing = &shared.closing;
     match form {
         Form::Journal => {
             let _ = show_journal(alloc, row, closing, stream);
@@ -79,7 +80,7 @@ fn show(alloc: Global, row: &Arc<Row>, form: Form, closing: &AtomicBool, stream:
             let _ = show_changes(alloc, row, closing, stream);
         }
         Form::Web => {
-            let _ = show_web(alloc, row, closing, stream);
+            let _ = show_web(alloc, row, shared, stream);
         }
     }
 }
@@ -166,11 +167,12 @@ fn show_page(
 fn show_web(
     alloc: Global,
     row: &Arc<Row>,
-    closing: &AtomicBool,
+    shared: &Shared,
     stream: TcpStream,
 ) -> Result<(), Failure> {
+    let closing = &shared.closing;
     let mut reader = Source::new(reader_of(&stream)?);
-    let Some(wanted) = first_wanted(alloc, &mut reader) else {
+    let Some(wanted) = first_wanted(alloc, &mut reader, shared.name()) else {
         return Err(Failure::Watch);
     };
     let reader = reader.into_inner();
@@ -288,11 +290,12 @@ impl Displays {
         address: Option<&str>,
         row: &Arc<Row>,
     ) -> Result<Option<Displays>, Failure> {
-        Displays::open_as(rt, alloc, Form::Journal, address, row)
+        Displays::open_as(rt, alloc, Form::Journal, address, None, row)
     }
 
     /// Listens for displays at an address, an IP address and a port, if there is one, and has each
-    /// sent the entries of a row in a form, from the first one on. `Watch` where it can't be listened there,
+    /// sent the entries of a row in a form, from the first one on. Browsers may ask for the board by this
+    /// name, if there is one, beside its addresses. `Watch` where it can't be listened there,
     /// `Memory` where that was refused.
     pub fn open_as<
         Rt: Net<Listener = TcpListener, Stream = TcpStream>
@@ -307,6 +310,7 @@ impl Displays {
         alloc: Global,
         form: Form,
         address: Option<&str>,
+        name: Option<&str>,
         row: &Arc<Row>,
     ) -> Result<Option<Displays>, Failure> {
         let Some(address) = address else {
@@ -318,7 +322,7 @@ impl Displays {
         let Ok(listener) = TcpListener::bind(rt, address) else {
             return Err(Failure::Watch);
         };
-        Ok(Some(Displays::start_as(rt, alloc, form, listener, row)?))
+        Ok(Some(Displays::start_as(rt, alloc, form, listener, name, row)?))
     }
 
     /// Has each display that a listener accepts sent the entries of a row from the first one on.
@@ -328,7 +332,7 @@ impl Displays {
         listener: TcpListener,
         row: &Arc<Row>,
     ) -> Result<Displays, Failure> {
-        Displays::start_as(rt, alloc, Form::Journal, listener, row)
+        Displays::start_as(rt, alloc, Form::Journal, listener, None, row)
     }
 
     /// Has each display that a listener accepts sent the entries of a row in a form, from the first one on.
@@ -337,12 +341,13 @@ impl Displays {
         alloc: Global,
         form: Form,
         listener: TcpListener,
+        name: Option<&str>,
         row: &Arc<Row>,
     ) -> Result<Displays, Failure> {
         if listener.set_nonblocking(true).is_err() {
             return Err(Failure::Watch);
         }
-        let shared = Shared::new(alloc)?;
+        let shared = Shared::new(alloc, name)?;
         let admission = Admission {
             rt: rt.clone()?,
             alloc,

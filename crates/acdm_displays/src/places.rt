@@ -13,16 +13,31 @@ pub(crate) struct Shared {
     pub(crate) closing: AtomicBool,
     /// How many places are taken.
     pub(crate) taken: AtomicU64,
+    // The name by which browsers may ask for the board, beside its addresses.
+    name: Option<String>,
 }
 
 impl Shared {
     /// No place is taken, and entries are to be made yet.
-    pub(crate) fn new(alloc: Global) -> Result<Arc<Shared>, AllocError> {
+    pub(crate) fn new(alloc: Global, name: Option<&str>) -> Result<Arc<Shared>, AllocError> {
+        let name = match name {
+            Some(name) => Some(String::from_str(alloc, name)?),
+            None => None,
+        };
         let shared = Shared {
             closing: AtomicBool::new(false),
             taken: AtomicU64::new(0),
+            name,
         };
         Ok(Arc::new(alloc, shared)?)
+    }
+
+    /// The name by which browsers may ask for the board, if it has one.
+    pub(crate) fn name(&self) -> Option<&str> {
+        match &self.name {
+            Some(name) => Some(name.as_str()),
+            None => None,
+        }
     }
 }
 

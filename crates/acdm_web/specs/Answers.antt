@@ -2,7 +2,7 @@
 use Rattle.std.specs.Prelude.{ℕ, List, [], ◌∷◌, ◌++◌, codes, length}
 use Rattle.std.specs.Fmt.{decimal}
 use Rattle.acdm_web.specs.declared.request.Wanted.{Wanted}
-use Rattle.acdm_web.specs.declared.request.Wanted.TheVariants.{Page, Events, Nothing, OtherMethod, NoRequest}
+use Rattle.acdm_web.specs.declared.request.Wanted.TheVariants.{Page, Events, Nothing, OtherMethod, Misdirected, NoRequest}
 
 -- a line of a head
 abbrev pub head_line : List ℕ → List ℕ
@@ -42,4 +42,5 @@ answer_text (Events _) page = events_head
 answer_text Nothing page = refusal (codes "HTTP/1.1 404 Not Found") []
 answer_text OtherMethod page =
     refusal (codes "HTTP/1.1 405 Method Not Allowed") (head_line (codes "Allow: GET"))
+answer_text Misdirected page = refusal (codes "HTTP/1.1 421 Misdirected Request") []
 answer_text NoRequest page = refusal (codes "HTTP/1.1 400 Bad Request") []

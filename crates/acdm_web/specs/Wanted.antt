@@ -1,25 +1,33 @@
 -- What a browser asks for by the head of a request (RFC 9112; the HTML standard, "Server-sent events"; the paths
 -- and the ids: this project's profile).
-use Rattle.std.specs.Prelude.{ℕ, ◌≡◌, ◌≢◌, ◌<◌, ◌^◌, Bool, IsUtf8, List, [], ◌∷◌, Option, Some, None, if◌then◌else◌, codes, map, ⊤}
+use Rattle.std.specs.Prelude.{ℕ, ◌≡◌, ◌+◌, ◌==◌, ◌≢◌, ◌<◌, ◌^◌, nat_le, Bool, true, false, ◌&&◌, ◌||◌, not, IsUtf8}
+use Rattle.std.specs.Prelude.{List, [], ◌∷◌, length, take, drop, Option, Some, None, if◌then◌else◌, codes, map, ⊤}
 use Rattle.std.specs.Str.{str_eq_ignore_ascii_case}
 use Rattle.std.specs.Str.Parse.{IsNumeral, digits_value, without_leading_plus}
 use Rattle.httparse.specs.Grammar.{ReadsRequest, RequestHead}
 use Rattle.httparse.specs.Spans.{RequestOverflows, name_and_value}
 use Rattle.acdm_web.specs.declared.request.Wanted.{Wanted}
-use Rattle.acdm_web.specs.declared.request.Wanted.TheVariants.{Page, Events, Nothing, OtherMethod, NoRequest}
+use Rattle.acdm_web.specs.declared.request.Wanted.TheVariants.{Page, Events, Nothing, OtherMethod, Misdirected, NoRequest}
 
--- the number that a text names, as Rust reads one
+-- a text with no sign before its digits, and no zero but that of 0
+abbrev pub is_plain : List ℕ → Bool
+is_plain [] = true
+is_plain (b ∷ []) = true
+is_plain (b ∷ c ∷ cs) = not (b == 43 || b == 48)
+
+-- the number that a text names: its digits, with nothing before them
 abbrev pub IsNamed : List ℕ → ℕ → Type 0
-IsNamed text n = IsNumeral 10 (without_leading_plus text)
+IsNamed text n = (is_plain text ≡ true) × IsNumeral 10 (without_leading_plus text)
     × (digits_value 10 (without_leading_plus text) ≡ n)
 
-abbrev pub is_last_id : List ℕ → Bool
-is_last_id name = str_eq_ignore_ascii_case name (codes "last-event-id")
+-- two names are one, in whatever case
+abbrev pub is_name : List ℕ → List ℕ → Bool
+is_name = str_eq_ignore_ascii_case
 
--- of names and values, the value of the first with the name `Last-Event-ID`, in whatever case
-abbrev pub value_of : List (List ℕ × List ℕ) → Option (List ℕ)
-value_of [] = None
-value_of (f ∷ fields) = if is_last_id f.0 then Some f.1 else value_of fields
+-- of names and values, the value of the first with a name, in whatever case
+abbrev pub value_of : List ℕ → List (List ℕ × List ℕ) → Option (List ℕ)
+value_of name [] = None
+value_of name (f ∷ fields) = if is_name f.0 name then Some f.1 else value_of name fields
 
 -- no number below 2^64 is named by a text
 abbrev pub NamesNone : List ℕ → Type 0
@@ -32,16 +40,77 @@ IsLast (Some text) None = NamesNone text
 IsLast None (Some n) = ⊥
 IsLast None None = ⊤
 
--- what a head asks for
-abbrev pub Asks : RequestHead → Wanted → Type 0
-Asks h Page = (h.method ≡ codes "GET") × (h.target ≡ codes "/")
-Asks h (Events last) = (h.method ≡ codes "GET") × (h.target ≡ codes "/events")
-    × IsLast (value_of (map name_and_value h.fields)) last
-Asks h Nothing = (h.method ≡ codes "GET") × (h.target ≢ codes "/") × (h.target ≢ codes "/events")
-Asks h OtherMethod = h.method ≢ codes "GET"
-Asks h NoRequest = ⊥
+-- ---- of whom it is asked (RFC 9110, section 7.4; which hosts there are: this project's profile)
+
+-- how many bytes stand before the first colon
+abbrev pub before_colon : List ℕ → ℕ
+before_colon [] = 0
+before_colon (b ∷ bs) = if b == 58 then 0 else 1 + before_colon bs
+
+-- an authority without its port
+abbrev pub host_of : List ℕ → List ℕ
+host_of authority = take (before_colon authority) authority
+
+-- digits and dots alone, as of an IPv4 address (the URL standard, "ends in a number")
+abbrev pub is_numeric : List ℕ → Bool
+is_numeric [] = true
+is_numeric (b ∷ bs) = (b == 46 || (nat_le 48 b && nat_le b 57)) && is_numeric bs
+
+-- it begins with a bracket, as an IPv6 address does
+abbrev pub is_bracketed : List ℕ → Bool
+is_bracketed [] = false
+is_bracketed (b ∷ bs) = b == 91
+
+abbrev pub is_given : Option (List ℕ) → List ℕ → Bool
+is_given None host = false
+is_given (Some name) host = is_name host name
+
+-- an authority names this board: by an address, as `localhost`, or by the name that it was given
+abbrev pub is_own : Option (List ℕ) → List ℕ → Bool
+is_own name authority = is_bracketed authority || (is_numeric (host_of authority)
+    || (is_name (host_of authority) (codes "localhost") || is_given name (host_of authority)))
+
+-- so does the field `Host`, where there is one
+abbrev pub is_own_host : Option (List ℕ) → Option (List ℕ) → Bool
+is_own_host name None = true
+is_own_host name (Some authority) = is_own name authority
+
+-- a text is a scheme and behind it an authority
+abbrev pub is_at : List ℕ → List ℕ → List ℕ → Bool
+is_at origin scheme authority = nat_le (length scheme) (length origin)
+    && (is_name (take (length scheme) origin) scheme
+    && is_name (drop (length scheme) origin) authority)
+
+-- a page of this site asks: there is no field `Origin`, or it has the authority of the field `Host`
+abbrev pub is_same_site : Option (List ℕ) → Option (List ℕ) → Bool
+is_same_site None host = true
+is_same_site (Some origin) None = false
+is_same_site (Some origin) (Some authority) =
+    is_at origin (codes "http://") authority || is_at origin (codes "https://") authority
+
+abbrev pub is_meant : Option (List ℕ) → List (List ℕ × List ℕ) → Bool
+is_meant name fields = is_own_host name (value_of (codes "host") fields)
+    && is_same_site (value_of (codes "origin") fields) (value_of (codes "host") fields)
+
+abbrev pub last_of : List (List ℕ × List ℕ) → Option (List ℕ)
+last_of fields = value_of (codes "last-event-id") fields
+
+-- ---- what a head asks for, of a board with this name
+
+abbrev pub IsFor : Option (List ℕ) → RequestHead → Type 0
+IsFor name h = is_meant name (map name_and_value h.fields) ≡ true
+
+abbrev pub Asks : Option (List ℕ) → RequestHead → Wanted → Type 0
+Asks name h Page = IsFor name h × (h.method ≡ codes "GET") × (h.target ≡ codes "/")
+Asks name h (Events last) = IsFor name h × (h.method ≡ codes "GET") × (h.target ≡ codes "/events")
+    × IsLast (last_of (map name_and_value h.fields)) last
+Asks name h Nothing = IsFor name h × (h.method ≡ codes "GET") × (h.target ≢ codes "/")
+    × (h.target ≢ codes "/events")
+Asks name h OtherMethod = IsFor name h × (h.method ≢ codes "GET")
+Asks name h Misdirected = is_meant name (map name_and_value h.fields) ≡ false
+Asks name h NoRequest = ⊥
 
 -- What bytes ask for: the head at their front does, or none with at most 64 fields can come of them.
-abbrev pub Wants : List ℕ → Wanted → Type 0
-Wants bytes NoRequest = RequestOverflows 64 bytes
-Wants bytes wanted = (h : RequestHead) × (rest : List ℕ) × ReadsRequest bytes h rest × Asks h wanted
+abbrev pub Wants : Option (List ℕ) → List ℕ → Wanted → Type 0
+Wants name bytes NoRequest = RequestOverflows 64 bytes
+Wants name bytes wanted = (h : RequestHead) × (rest : List ℕ) × ReadsRequest bytes h rest × Asks name h wanted

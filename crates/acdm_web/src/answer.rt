@@ -106,8 +106,8 @@ fn push_other_method(text: &mut Vec<u8>) -> Result<(), AllocError>
 }
 
 /// Adds what a browser is answered (RFC 9110, RFC 9112; this project's profile): the page, the head of
-/// the events, 404 for another path, 405 for another method than `GET`, and 400 for what is no
-/// request. `Err` only where memory was refused.
+/// the events, 404 for another path, 405 for another method than `GET`, 421 for what is asked of another
+/// host or by a page of another site, and 400 for what is no request. `Err` only where memory was refused.
 pub fn push_answer(text: &mut Vec<u8>, wanted: Wanted, page: &str) -> Result<(), AllocError>
     ensures { OnOk result (text.new.items ≡ text.old.items ++ answer_text wanted page.now) }
 {
@@ -116,6 +116,7 @@ pub fn push_answer(text: &mut Vec<u8>, wanted: Wanted, page: &str) -> Result<(),
         Wanted::Events(_) => push_events_head(text),
         Wanted::Nothing => push_refusal(text, "HTTP/1.1 404 Not Found"),
         Wanted::OtherMethod => push_other_method(text),
+        Wanted::Misdirected => push_refusal(text, "HTTP/1.1 421 Misdirected Request"),
         Wanted::NoRequest => push_refusal(text, "HTTP/1.1 400 Bad Request"),
     }
 }

@@ -1,5 +1,5 @@
 //! The hearing of a request.
-ghost use Rattle.std.specs.Prelude.{◌≡◌, [], IfSome};
+ghost use Rattle.std.specs.Prelude.{◌≡◌, [], IfSome, option_map};
 ghost use Rattle.acdm_web.specs.Wanted.{Wants};
 
 use crate::request::{Wanted, wanted_in};
@@ -16,12 +16,16 @@ const PIECE: usize = 512;
 /// How often is read at most. A reader that waits for 25 milliseconds at most has 10 seconds so.
 const MOST_READS: u64 = 400;
 
-/// What a browser asks for. `None` where it ends before its head is whole, where that has more than
+/// What a browser asks for, of a board with this name, if it has one. `None` where it ends before its head is whole, where that has more than
 /// 8,192 bytes or is not there after 400 reads, where the reader fails, and where memory is refused. A
 /// read that nothing came of in its time, or that a signal interrupted, is made again.
-pub fn first_wanted<R: Read>(alloc: Global, reader: &mut Source<R>) -> Option<Wanted>
+pub fn first_wanted<R: Read>(
+    alloc: Global,
+    reader: &mut Source<R>,
+    name: Option<&str>,
+) -> Option<Wanted>
     requires { reader.old.log ≡ [] }
-    ensures { IfSome result (Wants reader.new.log) }
+    ensures { IfSome result (Wants (option_map (λ n. n.now) name.entry) reader.new.log) }
 {
     let mut bytes = Vec::new(alloc);
     for _ in 0..MOST_READS {
@@ -39,7 +43,7 @@ pub fn first_wanted<R: Read>(alloc: Global, reader: &mut Source<R>) -> Option<Wa
         if bytes.len() > LONGEST_HEAD {
             return None;
         }
-        if let Some(wanted) = wanted_in(bytes.as_slice()) {
+        if let Some(wanted) = wanted_in(bytes.as_slice(), name) {
             return Some(wanted);
         }
     }

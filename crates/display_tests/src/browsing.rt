@@ -10,8 +10,8 @@ use std::fmt::Write;
 use std::process::Abort;
 use std::sync::atomic::AtomicBool;
 
-// The bytes of a request's head, and what they ask for.
-static REQUESTS: [(&str, Option<Wanted>); 16] = [
+// The bytes of a request's head, and what they ask for of a board that is named `board`.
+static REQUESTS: [(&str, Option<Wanted>); 18] = [
     ("GET / HTTP/1.1\r\nHost: board\r\n\r\n", Some(Wanted::Page)),
     ("GET / HTTP/1.0\r\n\r\n", Some(Wanted::Page)),
     ("GET /events HTTP/1.1\r\n\r\n", Some(Wanted::Events(None))),
@@ -35,6 +35,14 @@ static REQUESTS: [(&str, Option<Wanted>); 16] = [
         "GET /events HTTP/1.1\r\nLast-Event-ID: x\r\n\r\n",
         Some(Wanted::Events(None)),
     ),
+    (
+        "GET /events HTTP/1.1\r\nLast-Event-ID: +1\r\n\r\n",
+        Some(Wanted::Events(None)),
+    ),
+    (
+        "GET /events HTTP/1.1\r\nLast-Event-ID: 01\r\n\r\n",
+        Some(Wanted::Events(None)),
+    ),
     ("GET /events?x HTTP/1.1\r\n\r\n", Some(Wanted::Nothing)),
     ("GET /favicon.ico HTTP/1.1\r\n\r\n", Some(Wanted::Nothing)),
     ("POST / HTTP/1.1\r\n\r\n", Some(Wanted::OtherMethod)),
@@ -48,14 +56,82 @@ static REQUESTS: [(&str, Option<Wanted>); 16] = [
 #[test]
 fn requests_are_told_apart(rt: HostRuntime) {
     for (bytes, wanted) in &REQUESTS {
-        assert!(rt; wanted_in(bytes.as_bytes()) == *wanted);
+        assert!(rt; wanted_in(bytes.as_bytes(), Some("board")) == *wanted);
     }
+}
+
+// The fields of a request for the page, and whether a board that is named `board.example` is meant by them.
+static FIELDS: [(&str, bool); 22] = [
+    ("Host: 127.0.0.1:8080\r\n", true),
+    ("Host: 10.0.0.1\r\n", true),
+    ("Host: [::1]:8080\r\n", true),
+    ("Host: localhost:8080\r\n", true),
+    ("HOST: LocalHost\r\n", true),
+    ("Host: board.example\r\n", true),
+    ("Host: BOARD.example:8443\r\n", true),
+    ("Host:\r\n", true),
+    ("", true),
+    ("Host: rebind.example:8080\r\n", false),
+    ("Host: localhost.example\r\n", false),
+    ("Host: 127.0.0.1.example\r\n", false),
+    ("Host: board.example.\r\n", false),
+    ("Host: rebind.example\r\nHost: localhost\r\n", false),
+    (
+        "Host: localhost:8080\r\nOrigin: http://localhost:8080\r\n",
+        true,
+    ),
+    (
+        "Host: board.example\r\nOrigin: https://Board.example\r\n",
+        true,
+    ),
+    (
+        "Host: localhost:8080\r\nOrigin: http://localhost:8081\r\n",
+        false,
+    ),
+    (
+        "Host: localhost:8080\r\nOrigin: http://evil.example\r\n",
+        false,
+    ),
+    ("Host: localhost:8080\r\nOrigin: null\r\n", false),
+    (
+        "Host: localhost:8080\r\nOrigin: ftp://localhost:8080\r\n",
+        false,
+    ),
+    (
+        "Host: localhost\r\nOrigin: http://localhost.example\r\n",
+        false,
+    ),
+    ("Origin: http://localhost\r\n", false),
+];
+
+// What a request for the page with these fields asks for.
+fn asked_with(alloc: Global, fields: &str, name: Option<&str>) -> Option<Wanted> {
+    let mut head = String::new(alloc);
+    if write!(head, "GET / HTTP/1.1\r\n{fields}\r\n").is_err() {
+        return None;
+    }
+    wanted_in(head.as_bytes(), name)
+}
+
+#[test]
+fn a_board_is_asked_by_its_own_names_alone(rt: HostRuntime) {
+    let alloc = rt.alloc();
+    for (fields, is_meant) in &FIELDS {
+        let wanted = if *is_meant {
+            Wanted::Page
+        } else {
+            Wanted::Misdirected
+        };
+        assert!(rt; asked_with(alloc, fields, Some("board.example")) == Some(wanted));
+    }
+    let named = "Host: board.example\r\n";
+    assert!(rt; asked_with(alloc, named, None) == Some(Wanted::Misdirected));
 }
 
 // What is heard of these bytes.
 fn heard(alloc: Global, mut bytes: &[u8]) -> Option<Wanted> {
     let mut reader = Source::new(&mut bytes);
-    first_wanted(alloc, &mut reader)
+    first_wanted(alloc, &mut reader, None)
 }
 
 #[test]
@@ -74,7 +150,7 @@ fn answered(rt: &impl Abort, alloc: Global, wanted: Wanted) -> Vec<u8> {
 }
 
 // How an answer begins and ends.
-static ANSWERS: [(Wanted, &str, &str); 4] = [
+static ANSWERS: [(Wanted, &str, &str); 5] = [
     (
         Wanted::Page,
         "HTTP/1.1 200 OK\r\nContent-Type: text/html; charset=utf-8\r\nContent-Length: 4\r\n",
@@ -88,6 +164,11 @@ static ANSWERS: [(Wanted, &str, &str); 4] = [
     (
         Wanted::OtherMethod,
         "HTTP/1.1 405 Method Not Allowed\r\nAllow: GET\r\nContent-Length: 0\r\n",
+        "\r\n\r\n",
+    ),
+    (
+        Wanted::Misdirected,
+        "HTTP/1.1 421 Misdirected Request\r\nContent-Length: 0\r\n",
         "\r\n\r\n",
     ),
     (

@@ -60,7 +60,7 @@ fn a_display_is_told_what_it_asked_for(rt: HostRuntime) {
 }
 
 // First lines, and what they ask for.
-static LINES: [(&[u8], Option<Start>); 13] = [
+static LINES: [(&[u8], Option<Start>); 16] = [
     (b"board", Some(Start::Board)),
     (b"from 0", Some(Start::Entry(0))),
     (b"from 7", Some(Start::Entry(7))),
@@ -73,6 +73,9 @@ static LINES: [(&[u8], Option<Start>); 13] = [
     (b"from", None),
     (b"from ", None),
     (b"from -1", None),
+    (b"from +7", None),
+    (b"from 07", None),
+    (b"from 00", None),
     (b"from 7 ", None),
     (b"FROM 7", None),
     (b"boards", None),
