@@ -1,32 +1,121 @@
 #!/usr/bin/env python3
 """Asks at the control address of `acdm serve --control ADDR`.
 
-    clients/control.py [HOST:]PORT status       prints who is here, how many entries there are, and the last one's moment
-    clients/control.py [HOST:]PORT close        closes the board in good order, and waits for its end
+    clients/control.py [HOST:]PORT status       prints who is here, how many entries there are, and when the last was
+    clients/control.py [HOST:]PORT close        closes the board in good order, and waits until the program has ended
+
+The end is that of the process, where the board runs on this machine; of one elsewhere it can't be seen, which is said,
+with status 1. Another address of a board on this machine is told as that, without a connection to it. At an address of
+which nothing is known `status` is sent, and nothing more where the answer is none of a board. Status 2 where the board
+can't be asked. Outside what is proved.
 """
+import os
+import re
+import select
 import socket
 import sys
+from typing import BinaryIO
+
+from feed import Address, Arguments, parse_address, shortened
+from listeners import Listener, listener_at, purpose
+
+ANSWER = 5
+# (at the end partners are given 5 seconds and displays 5; a large journal is saved in less than the rest)
+END = 120
+LINE = re.compile(rb"(session \d+ [A-Z]+ (here|gone)|entries \d+ of \d+|last )[ -~]*\n")
 
 
-def main(words):
-    if len(words) != 2 or words[1] not in ("status", "close"):
-        print(__doc__, file=sys.stderr)
-        return 2
-    host, _, port = words[0].rpartition(":")
+class Fault(Exception):
+    """Why the board is not asked, or what it does not do."""
+
+
+class Unseen(Exception):
+    """The board closes, and when its program has ended can't be seen."""
+
+
+def status(stream: socket.socket, lines: BinaryIO) -> str:
+    """What is told of the board."""
+    stream.sendall(b"status\n")
+    found = b""
+    while not found.rpartition(b"\n")[0].rpartition(b"\n")[2].startswith(b"last "):
+        line = lines.readline(200)
+        if not LINE.fullmatch(line):
+            said = f"answers {shortened(line.decode('ascii', 'replace'))!r}" if line else "closes the connection"
+            raise Fault(f"is no control address of a board: it {said}")
+        found += line
+    return found.decode("ascii")
+
+
+def close(stream: socket.socket, lines: BinaryIO) -> str:
+    """Closes the board; its last word."""
+    stream.sendall(b"close\n")
+    stream.settimeout(END)
+    answer = lines.readline(200)
+    if answer != b"closing\n":
+        raise Fault("did not say that the board closes")
+    while lines.read(1 << 12):
+        pass
+    return answer.decode("ascii")
+
+
+def wait_for_end(listener: Listener | None, handle: int | None) -> None:
+    """Waits for the end of the process that listened."""
+    if listener is None or handle is None:
+        raise Unseen("closes, and when its program has ended can't be seen from here")
+    if not select.select([handle], [], [], END)[0]:
+        raise Unseen(f"closes, and its program, process {listener.process}, has not ended after {END} seconds")
+
+
+def handle_of(listener: Listener | None) -> int | None:
+    """What tells the end of the process of a board."""
     try:
-        with socket.create_connection((host.strip("[]") or "127.0.0.1", port), timeout=10) as it:
-            it.sendall(f"{words[1]}\n".encode())
-            if words[1] == "status":
-                it.shutdown(socket.SHUT_WR)
-            else:
-                it.settimeout(60)
-            with it.makefile(encoding="utf-8") as replies:
-                print(replies.read(), end="")
-    except OSError as error:
-        print(f"control.py: {words[0]}: {error}", file=sys.stderr)
+        return os.pidfd_open(listener.process) if listener and listener.is_board() else None
+    except OSError:
+        return None
+
+
+def checked(where: Address) -> Listener | None:
+    """Who listens there, where that can be seen; where it is a board, this may be its control address."""
+    listener = listener_at(where)
+    if listener and listener.is_board() and not listener.may_be("--control", where[1]):
+        word = listener.word(where[1])
+        raise Fault(f"is {purpose(word) if word else 'of a board'}, and no control address")
+    return listener
+
+
+def ask(where: Address, word: str) -> None:
+    """Prints what the board answers; after `close` its program has ended."""
+    listener = checked(where)
+    handle = handle_of(listener)
+    try:
+        with socket.create_connection(where, timeout=ANSWER) as stream, stream.makefile("rb") as lines:
+            answer = status(stream, lines)
+            print(answer if word == "status" else close(stream, lines), end="", flush=True)
+        if word == "close":
+            wait_for_end(listener, handle)
+    finally:
+        if handle is not None:
+            os.close(handle)
+
+
+def main() -> int:
+    words = Arguments(description="Asks at the control address of acdm serve.")
+    words.add_argument("address", type=parse_address, metavar="[HOST:]PORT")
+    words.add_argument("word", choices=["status", "close"])
+    given = words.parse_args()
+    name = f"{given.address[0]}:{given.address[1]}"
+    try:
+        ask(given.address, given.word)
+        return 0
+    except Unseen as why:
+        print(f"control.py: {name} {why}", file=sys.stderr)
         return 1
-    return 0
+    except Fault as why:
+        print(f"control.py: {name} {why}", file=sys.stderr)
+    except OSError as error:
+        print(f"control.py: {name}: {error.strerror or error}", file=sys.stderr)
+    return 2
 
 
 if __name__ == "__main__":
-    sys.exit(main(sys.argv[1:]))
+    sys.exit(main())

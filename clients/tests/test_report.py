@@ -1,0 +1,79 @@
+"""What report.py makes of a feed that is written by hand, of a journal, and of what is neither."""
+import tempfile
+import unittest
+from pathlib import Path
+
+from boards import TOP, needs_program, ran
+from feeds import entry, record
+
+SCHEDULE = {"cmd": "schedule", "flight": 7}
+REPORT = {"cmd": "report", "flight": 7}
+TOBT = "2025-02-20T10:00:00Z"
+
+
+def page(*lines: str) -> str:
+    done = ran("report.py", "-", given="".join(line + "\n" for line in lines))
+    assert (done.returncode, done.stderr) == (0, ""), done
+    return done.stdout
+
+
+class Report(unittest.TestCase):
+    def test_figures(self) -> None:
+        """A flight without a plan for 8 minutes; a TOBT at 10:00 and off-block at 10:07; one refusal."""
+        text = page(
+            entry(0, "09:00", "1 APT", SCHEDULE, record(7, callsign="DLH7", sobt=TOBT, reached=[0], alerts=["CDM13"])),
+            entry(1, "09:08", "2 NM", REPORT, record(7, callsign="DLH7", sobt=TOBT, eobt=TOBT, reached=[0, 1])),
+            entry(2, "09:10", "4 AO", {**REPORT, "milestone": 6, "time": "2025-02-20T09:09:00Z"}, code=201),
+            entry(3, "10:08", "1 APT", REPORT, record(7, sobt=TOBT, tobt=TOBT, aobt="2025-02-20T10:07:00Z")),
+        )
+        self.assertIn("A legal journal of 4 entries. 1 flights, 1 commands refused.", text)
+        self.assertIn("2025-02-20 09:00 to 2025-02-20 10:08 (UTC)", text)
+        rows = [
+            '<td>session 1 APT</td><td class="number">2</td><td class="number">0</td>',
+            '<td>session 4 AO</td><td class="number">0</td><td class="number">1</td>',
+            '<td>AOBT after TOBT</td><td class="number">1</td><td>7</td><td>7 to 7</td><td>0 %</td>',
+            '<td>CDM13</td><td>no flight plan</td><td class="number">1</td><td class="number">1</td><td>8</td>',
+            "<td>report 7 6 09:09</td><td>201: the role does not own the command</td>",
+        ]
+        for row in rows:
+            self.assertIn(row, text)
+
+    def test_texts_are_no_html(self) -> None:
+        bad = record(7, callsign="<b>7</b>", plan_type='"><', alerts=["<script>1</script>"])
+        text = page(entry(0, "09:00", "1 <i>", {"cmd": "schedule", "flight": 7, "reg": "<u>"}, bad, code=201))
+        for tag in ("<b>", "<script>1", "<i>", "<u>", '"><"'):
+            self.assertNotIn(tag, text)
+        self.assertIn("&lt;script&gt;1&lt;/script&gt;", text)
+
+    def test_a_faulty_entry(self) -> None:
+        text = page(entry(0, "09:00", "1 APT", {"cmd": "tick"}), "entry 1 405", entry(2, "09:00", "1 APT", SCHEDULE))
+        self.assertIn("Entry 1 breaks clause 405; nothing after it is shown. 0 flights, 0 commands refused.", text)
+
+    def test_what_is_no_feed(self) -> None:
+        for line in ("{", '{"entry":0}', "[]", entry(0, "9:00", "1 APT", SCHEDULE), "GET / HTTP/1.1"):
+            done = ran("report.py", "-", given=entry(0, "09:00", "1 APT", {"cmd": "tick"}) + "\n" + line + "\n")
+            said = "report.py: -: line 2 is no line of the feed of changes\n"
+            self.assertEqual((2, "", said), (done.returncode, done.stdout, done.stderr))
+        done = ran("report.py", "/nowhere/day.journal")
+        said = "report.py: /nowhere/day.journal: No such file or directory\n"
+        self.assertEqual((2, "", said), (done.returncode, done.stdout, done.stderr))
+        done = ran("report.py", "-", "seven")
+        self.assertEqual((2, 1), (done.returncode, done.stderr.count("\n")))
+
+    @needs_program
+    def test_a_journal(self) -> None:
+        journal = TOP / "examples" / "journal" / "day.journal"
+        entries = len(journal.read_text(encoding="ascii").splitlines())
+        done = ran("report.py", journal)
+        self.assertEqual((0, ""), (done.returncode, done.stderr))
+        self.assertIn(f"A legal journal of {entries} entries. 5 flights,", done.stdout)
+        with tempfile.TemporaryDirectory() as folder:
+            cut = Path(folder) / "cut.journal"
+            cut.write_text("0 1 nonsense\n", encoding="ascii")
+            done = ran("report.py", cut)
+            self.assertEqual((0, ""), (done.returncode, done.stderr))
+            self.assertIn("Entry 0 breaks clause 401; nothing after it is shown.", done.stdout)
+
+
+if __name__ == "__main__":
+    unittest.main()

@@ -1,0 +1,257 @@
+"""What control.py, load.py, partner.py and carry.py do at a board that serves, and at addresses that are none."""
+import json
+import re
+import shutil
+import socket
+import subprocess
+import tempfile
+import unittest
+from pathlib import Path
+from typing import Any
+
+from boards import LIMIT, PROGRAM, TOP, Caller, Serving, free_port, needs_program, ran
+from feeds import Sending
+
+RULES = TOP / "examples" / "rules"
+TWO = """#include "helpers.h"
+#define RULE __attribute__((section("entry")))
+RULE u64 first(const struct flight *flight, u64 length, u64 now, u64 milestone) { return 0; }
+RULE u64 second(const struct flight *flight, u64 length, u64 now, u64 milestone) { return 1; }
+"""
+UNSET = """#include "helpers.h"
+__attribute__((section("entry")))
+u64 rule(const struct flight *flight, u64 length, u64 now, u64 milestone)
+{
+    u64 others;
+    return flight->alerts + others;
+}
+"""
+SCHEDULE: dict[str, Any] = {
+    "cmd": "schedule",
+    "flight": 7,
+    "callsign": "DLH7",
+    "type": "A320",
+    "reg": "DAIBC",
+    "dest": "EDDM",
+    "sobt": "2025-02-20T10:00:00Z",
+    "mttt": 40,
+    "exit": 5,
+    "exot": 10,
+    "stand": 12,
+}
+
+
+@needs_program
+class Control(unittest.TestCase):
+    def test_status(self) -> None:
+        with Serving(("APT", "NM")) as board:
+            caller = Caller(board.ports[1])
+            self.assertEqual("no 0 201", caller.ask({"cmd": "tick"}))
+            done = ran("control.py", board.control, "status")
+            caller.close()
+        lines = done.stdout.splitlines()
+        self.assertEqual((0, "", 4), (done.returncode, done.stderr, len(lines)))
+        self.assertEqual(["session 1 APT gone", "entries 1 of 5000"], [lines[0], lines[2]])
+        self.assertRegex(lines[1], r"^session 2 NM here 127\.0\.0\.1:\d+$")
+        self.assertRegex(lines[3], r"^last \d{4}-\d\d-\d\dT\d\d:\d\d:00Z$")
+
+    def test_a_start_right_after_the_close(self) -> None:
+        """The same words again, with a display that holds the end up, and a kept journal."""
+        with tempfile.TemporaryDirectory() as folder:
+            control, changes, airport = free_port(), free_port(), free_port()
+            words = [PROGRAM, "serve", "--again", "--keep", f"{folder}/day", "--control", control]
+            words += ["--changes", f"127.0.0.1:{changes}", f"APT=127.0.0.1:{airport}"]
+            for turn in range(3):
+                command = [str(word) for word in words]
+                with subprocess.Popen(command, stdout=subprocess.PIPE, stderr=subprocess.PIPE, text=True) as process:
+                    assert process.stdout
+                    self.assertEqual(f"listen 1 APT 127.0.0.1:{airport}\n", process.stdout.readline())
+                    caller = Caller(airport)
+                    self.assertEqual(f"ok {turn}", caller.ask({"cmd": "tick"}))
+                    display = socket.create_connection(("127.0.0.1", changes), timeout=LIMIT)
+                    display.sendall(b"board\n")
+                    done = ran("control.py", control, "close")
+                    self.assertEqual((0, "closing\n", ""), (done.returncode, done.stdout, done.stderr))
+                    self.assertEqual(0, process.wait(1), "its program has ended")
+                    caller.close()
+                    display.close()
+
+    def test_wrong_addresses_are_left_alone(self) -> None:
+        """Nobody is thrown off, no entry is made, and nothing is sent to a page or a feed."""
+        control, airport, tower, changes, web = (free_port() for _ in range(5))
+        words = ["serve", "--again", "--control", control, "--changes", f"127.0.0.1:{changes}"]
+        words += ["--web", f"127.0.0.1:{web}", f"APT=127.0.0.1:{airport}", f"ATC=127.0.0.1:{tower}"]
+        command = [str(PROGRAM), *map(str, words)]
+        with subprocess.Popen(command, stdout=subprocess.PIPE, stderr=subprocess.DEVNULL, text=True) as process:
+            assert process.stdout
+            for _ in range(2):
+                process.stdout.readline()
+            caller = Caller(tower)
+            self.assertEqual("alerts 0 -", caller.ask({"cmd": "alerts"}))
+            for port, what in ((tower, "the address of ATC"), (changes, "the feed of changes (--changes)")):
+                done = ran("control.py", port, "close")
+                said = f"control.py: 127.0.0.1:{port} is {what}, and no control address\n"
+                self.assertEqual((2, "", said), (done.returncode, done.stdout, done.stderr))
+                done = ran("load.py", RULES / "slot.c", "--milestone", 9, "--kind", "alert", port)
+                said = f"load.py: 127.0.0.1:{port} is {what}, and no address of APT\n"
+                self.assertEqual((2, "", said), (done.returncode, done.stdout, done.stderr))
+            done = ran("control.py", web, "status")
+            said = f"control.py: 127.0.0.1:{web} is the page for browsers (--web), and no control address\n"
+            self.assertEqual((2, said), (done.returncode, done.stderr))
+            self.assertEqual("alerts 1 -", caller.ask({"cmd": "alerts"}), "the tower is still connected")
+            self.assertEqual((0, "closing\n"), ((done := ran("control.py", control, "close")).returncode, done.stdout))
+            caller.close()
+
+
+class Elsewhere(unittest.TestCase):
+    """Servers of which nothing is known but what they answer."""
+
+    def test_control(self) -> None:
+        for data in (b"HTTP/1.1 400 Bad Request\r\n", b"bad 101\n", b"", b"entries\n"):
+            with Sending(data) as server:
+                done = ran("control.py", server.port, "close")
+            self.assertEqual((2, "", 1), (done.returncode, done.stdout, done.stderr.count("\n")), done.stderr)
+            self.assertIn(f"control.py: 127.0.0.1:{server.port} is no control address of a board: it ", done.stderr)
+        port = free_port()
+        done = ran("control.py", port, "status")
+        self.assertEqual((2, f"control.py: 127.0.0.1:{port}: Connection refused\n"), (done.returncode, done.stderr))
+
+    def test_a_board_elsewhere(self) -> None:
+        """The end of a board on another machine can't be seen, which is said."""
+        status = b"session 1 APT gone\nentries 0 of 10\nlast none\n"
+        with Sending(status + b"closing\n") as server:
+            done = ran("control.py", server.port, "close")
+        said = f"control.py: 127.0.0.1:{server.port} closes, and when its program has ended can't be seen from here\n"
+        self.assertEqual((1, "closing\n", said), (done.returncode, done.stdout, done.stderr))
+
+    def test_words(self) -> None:
+        for given in ("", "4199", "4199 stop", "nowhere status", "4199 status now"):
+            done = ran("control.py", *given.split())
+            self.assertEqual((2, "", 1), (done.returncode, done.stdout, done.stderr.count("\n")), done.stderr)
+
+    def test_partner(self) -> None:
+        for name in ["partner.py", "partner.mjs"] if shutil.which("node") else ["partner.py"]:
+            for data in (b"HTTP/1.1 400 Bad Request\r\n", b"ok\n"):
+                with Sending(data) as server:
+                    done = ran(name, f"127.0.0.1:{server.port}", given='{"cmd":"tick"}\n')
+                self.assertEqual((2, "", 1), (done.returncode, done.stdout, done.stderr.count("\n")), done.stderr)
+                self.assertIn(f"127.0.0.1:{server.port} answers ", done.stderr)
+            for words in ("", "nowhere", "127.0.0.1:1 --feed x", "127.0.0.1:1 --wrong"):
+                done = ran(name, *words.split())
+                self.assertEqual((2, "", 1), (done.returncode, done.stdout, done.stderr.count("\n")), done.stderr)
+            done = ran(name, "127.0.0.1:1", "--patience", "0.2", given='{"cmd":"tick"}\n')
+            self.assertEqual((2, ""), (done.returncode, done.stdout))
+            self.assertRegex(done.stderr, rf"^{re.escape(name)}: line 1 was not sent: 127\.0\.0\.1:1: .*\n$")
+
+
+@needs_program
+class Partner(unittest.TestCase):
+    def test_replies(self) -> None:
+        show = {"cmd": "show", "flight": 2**64 - 1}
+        lines = [
+            SCHEDULE,
+            {"cmd": "alerts"},
+            {**SCHEDULE, "flight": 2**64 - 1},
+            show,
+            {"cmd": "nothing"},
+            {"cmd": "tick"},
+        ]
+        given = "".join(json.dumps(line) + "\n\n" for line in lines)
+        for name in ["partner.py", "partner.mjs"] if shutil.which("node") else ["partner.py"]:
+            with self.subTest(client=name), Serving(("APT",)) as board:
+                done = ran(name, f"127.0.0.1:{board.ports[0]}", given=given)
+                self.assertEqual((1, ""), (done.returncode, done.stderr))
+                replies = done.stdout.splitlines()
+                self.assertEqual(
+                    ["ok 0", "alerts 1 7:CDM13", "ok 2", "rec 3 ffffffffffffffff", "bad 102", "ok 4"],
+                    [*replies[:3], replies[3][:22], *replies[4:]],
+                )
+                done = ran(name, f"127.0.0.1:{board.ports[0]}", "--feed", f"127.0.0.1:{board.changes}", given=given[:0])
+                self.assertEqual((0, "", ""), (done.returncode, done.stdout, done.stderr))
+
+
+@needs_program
+@unittest.skipUnless(shutil.which("clang") and shutil.which("llvm-objdump"), "there is no clang with LLVM's tools")
+class Load(unittest.TestCase):
+    def test_a_rule(self) -> None:
+        """docs/RULES-IN-C.md has these verdicts."""
+        done = ran("load.py", RULES / "slot.c")
+        self.assertEqual((0, "accepted 20\n", ""), (done.returncode, done.stdout, done.stderr))
+        done = ran("load.py", RULES / "slot-unbounded.c")
+        lines = done.stdout.splitlines()
+        self.assertEqual((1, "refused 313 9"), (done.returncode, lines[0]))
+        self.assertIn("fault 313 at slot 9", lines[1])
+        mend = "to mend 313: compare it last before the call; for sums write + (docs/RULES-IN-C.md, The numbers)"
+        self.assertEqual(mend, lines[-1])
+
+    def test_a_load(self) -> None:
+        with Serving(("APT", "APT")) as board:
+            words = ("--milestone", 9, "--kind", "alert", f"127.0.0.1:{board.ports[1]}", "--feed", board.changes)
+            done = ran("load.py", RULES / "slot.c", *words)
+            self.assertEqual((0, "accepted 20\nok 0\n", ""), (done.returncode, done.stdout, done.stderr))
+            command = board.entries()[0]["command"]
+        self.assertEqual({"cmd": "load", "milestone": 9, "kind": "alert", "instructions": 20, "length": 128}, command)
+
+    def test_sources_that_are_no_rule(self) -> None:
+        with tempfile.TemporaryDirectory() as folder:
+            source = Path(folder) / "rule.c"
+            source.write_text(TWO, encoding="ascii")
+            done = ran("load.py", source)
+            said = (
+                f"load.py: {source}: the section entry has the functions first and second, and takes one rule alone\n"
+            )
+            self.assertEqual((2, "", said), (done.returncode, done.stdout, done.stderr))
+            source.write_text("int other(void) { return 0; }\n", encoding="ascii")
+            done = ran("load.py", source)
+            said = f'load.py: {source}: no function has __attribute__((section("entry")))\n'
+            self.assertEqual((2, said), (done.returncode, done.stderr))
+            source.write_text(UNSET, encoding="ascii")
+            done = ran("load.py", source)
+            self.assertIn("warning: variable 'others' is uninitialized", done.stderr)
+            done = ran("load.py", Path(folder) / "none.c")
+            self.assertEqual((2, f"load.py: {folder}/none.c is no file\n"), (done.returncode, done.stderr))
+            done = ran("load.py", source, "4001")
+            self.assertEqual((2, "load.py: a load names --milestone and --kind\n"), (done.returncode, done.stderr))
+
+
+@needs_program
+class Carry(unittest.TestCase):
+    def test_open_flights(self) -> None:
+        """Of two flights one takes off; the other's commands stay, with the tick that raised its alert."""
+        first = [json.dumps({**SCHEDULE, "flight": flight}, separators=(",", ":")) for flight in (1, 2)]
+        plan = '{"cmd":"report","flight":%d,"milestone":1,"time":"2025-02-20T10:00:00Z",'
+        plan += '"callsign":"DLH7","type":"A320","reg":"DAIBC","dest":"EDDM"}'
+        report = '{"cmd":"report","flight":%d,"milestone":%d,"time":"2025-02-20T%s:00Z"}'
+        lines = [f"1 29000700 APT {first[0]}", f"1 29000700 APT {first[1]}", f"2 29000700 NM {plan % 1}"]
+        lines += [f"4 29000700 AO {report % (1, 9, '10:00')}", f"3 29000700 ATC {report % (1, 10, '10:00')}"]
+        lines += [f"3 29000755 ATC {report % (1, 13, '09:55')}", f"3 29000756 ATC {report % (1, 14, '09:56')}"]
+        lines += [f"3 29000757 ATC {report % (1, 15, '09:57')}", f"3 29000759 ATC {report % (1, 16, '09:59')}"]
+        lines += [
+            '1 29000760 APT {"cmd":"show","flight":2}',
+            f"2 29000761 NM {plan % 2}",
+            '1 29000762 APT {"cmd":"tick"}',
+        ]
+        with tempfile.TemporaryDirectory() as folder:
+            journal = Path(folder) / "day"
+            words = [str(PROGRAM), "run", "--save", str(journal)]
+            made = subprocess.run(words, input="\n".join(lines) + "\n", capture_output=True, text=True, check=True)
+            self.assertEqual(
+                ["ok"] * 9 + ["rec"] + ["ok"] * 2, [reply.split()[0] for reply in made.stdout.splitlines()]
+            )
+            done = ran("carry.py", journal)
+            self.assertEqual((0, ""), (done.returncode, done.stderr))
+            self.assertEqual([lines[1], lines[10]], done.stdout.splitlines())
+            done = ran("carry.py", journal, "--departed")
+            self.assertEqual([*lines[:9], lines[10]], done.stdout.splitlines())
+            journal.write_text("nothing\n", encoding="ascii")
+            done = ran("carry.py", journal)
+            self.assertEqual(
+                (1, "", f"carry.py: {journal}: entry 0 401\n"), (done.returncode, done.stdout, done.stderr)
+            )
+        done = ran("carry.py", "/nowhere/day")
+        self.assertEqual((2, "", 1), (done.returncode, done.stdout, done.stderr.count("\n")))
+        self.assertIn("/nowhere/day", done.stderr)
+
+
+if __name__ == "__main__":
+    unittest.main()
