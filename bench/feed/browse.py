@@ -13,7 +13,10 @@ import sys
 import time
 
 TOP = pathlib.Path(__file__).resolve().parents[2]
-PAGE = (TOP / "clients" / "web" / "page.html").read_bytes()
+sys.path.append(str(TOP / "clients" / "web"))
+from embed import page  # noqa: E402
+
+PAGE = page().encode()
 MOST_BROWSERS = 64
 SCHEDULE = {
     "cmd": "schedule", "flight": 18446744073709551615, "callsign": '<b>&"\'', "type": "A320", "reg": "DAIBC", "dest": "EGLL",
@@ -66,7 +69,7 @@ class Board:
 
 
 def get(path, *fields):
-    return "\r\n".join([f"GET {path} HTTP/1.1", "Host: board", *fields, "", ""]).encode()
+    return "\r\n".join([f"GET {path} HTTP/1.1", "Host: localhost", *fields, "", ""]).encode()
 
 
 def events(browser, count):
@@ -115,7 +118,7 @@ def answers(board):
     for path in ("/favicon.ico", "/events?from=1", "//", "/index.html"):
         yield f"{path} is not there", board.answer(get(path)).startswith(b"HTTP/1.1 404 ")
     for method in (b"POST", b"HEAD", b"PUT", b"OPTIONS"):
-        said = board.answer(method + b" / HTTP/1.1\r\nHost: board\r\n\r\n")
+        said = board.answer(method + b" / HTTP/1.1\r\nHost: localhost\r\n\r\n")
         yield f"{method.decode()} is refused", said.startswith(b"HTTP/1.1 405 ") and b"Allow: GET\r\n" in said
     for bytes_, name in ((b"GET / HTTP/2.0\r\n\r\n", "another version"), (b"\x16\x03\x01\x00\xa5", "TLS"), (b"hello\r\n\r\n", "words")):
         yield f"{name} is no request", board.answer(bytes_).startswith(b"HTTP/1.1 400 ")

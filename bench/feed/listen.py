@@ -26,7 +26,8 @@ import time
 from run import Cases
 
 TOP = pathlib.Path(__file__).resolve().parent.parent.parent
-# (there is a feed.py here too)
+# (there is a feed.py here too; that of clients/ stands on others there)
+sys.path.append(str(TOP / "clients"))
 SPEC = importlib.util.spec_from_file_location("clients_feed", TOP / "clients" / "feed.py")
 clients = importlib.util.module_from_spec(SPEC)
 SPEC.loader.exec_module(clients)
@@ -149,7 +150,7 @@ def other_clients(cases, port, ports, room):
     given = '{"cmd":"tick"}\n{"cmd":"alerts"}\n{"cmd":"show","flight":1}\n'
     commands = [("partner.py", [sys.executable, str(TOP / "clients" / "partner.py"), f"127.0.0.1:{ports[0]}"])]
     if shutil.which("node"):
-        commands.append(("partner.mjs", ["node", str(TOP / "clients" / "partner.mjs"), "127.0.0.1", str(ports[1])]))
+        commands.append(("partner.mjs", ["node", str(TOP / "clients" / "partner.mjs"), f"127.0.0.1:{ports[1]}"]))
     # (both at once: nobody is served before all are there)
     file = pathlib.Path(room) / "given"
     file.write_text(given, encoding="ascii")

@@ -41,14 +41,20 @@ def numbers_of(replies):
     return [int(it.split()[1]) for it in replies.split("\n")[:-1] if not it.startswith("bad")]
 
 
+def text_of(file):
+    """What a kept journal has, which may not be there yet."""
+    return file.read_bytes() if file.exists() else b""
+
+
 def whole_of(file):
     """The whole lines of a kept journal."""
-    return file.read_bytes().rpartition(b"\n")[0].split(b"\n") if b"\n" in file.read_bytes() else []
+    data = text_of(file)
+    return data.rpartition(b"\n")[0].split(b"\n") if b"\n" in data else []
 
 
 def legal(program, file, room):
     """Whether the whole lines of a kept journal are legal, by an audit."""
-    data = file.read_bytes()
+    data = text_of(file)
     copy = room / "whole"
     copy.write_bytes(data[: data.rfind(b"\n") + 1])
     return came(ran(program, ["audit", copy])) == (0, f"legal {len(whole_of(file))}\n", "")
@@ -82,7 +88,7 @@ def kills(cases, program, room, count, seed):
     file, chance = room / "kept", random.Random(seed)
     last = 0
     for turn in range(count):
-        before = len(whole_of(file)) if file.exists() else 0
+        before = len(whole_of(file))
         replies = killed_once(program, file, chance)
         told = numbers_of(replies)
         after = len(whole_of(file))
@@ -182,9 +188,14 @@ def saved(cases, program, room):
         it.kill()
         it.wait()
         cases.expect("killed before the end", file.read_text() == old, file.read_text())
+        begun = pathlib.Path(f"{file}.part")
+        cases.expect("what was begun is left beside", begun.read_bytes() == b"")
+        begun.write_text("of somebody\n")
         done = came(ran(program, ["run", "--save", name], text(DAY).encode()))
         cases.expect("saved", done[0] == 0 and file.read_text() == text(DAY_JOURNAL), done)
-        cases.expect("nothing beside", not pathlib.Path(f"{file}.part").exists())
+        beside = sorted(room.glob("old.part*"))
+        cases.expect("what is beside is not touched", (beside, begun.read_text()) == ([begun], "of somebody\n"), beside)
+        begun.unlink()
     cases.expect("a link stays one", link.is_symlink())
     file.write_text(old)
     with open("/dev/full", "wb") as full:

@@ -206,18 +206,18 @@ def watched(cases, program, room):
 
 
 def nearly_full(cases, program, room):
-    """A board that goes on beyond 80 or 95 per cent of its room says so at once, of both the higher one."""
-    for begun, percent in ((15, None), (16, "80"), (18, "80"), (19, "95"), (20, "95")):
+    """A board that goes on beyond 80 or 95 per cent of its room says so at once, of each that it is beyond."""
+    for begun, levels in ((15, []), (16, ["80"]), (18, ["80"]), (19, ["80", "95"]), (20, ["80", "95"])):
         file = room / f"full-{begun}"
         file.write_text("".join(f"{it} 1 29000580 APT 0 0 tick\n" for it in range(begun)))
         board = Board(program, file, ["--journal", "20"], roles=["APT"])
         (stream,) = board.connect()
-        talk(stream, ["nothing"], [])
+        talk(stream, ["{}"], [])
         time.sleep(0.2)
         stream.close()
         _, _, errors = board.end()
         told = [it.split()[:5] for it in errors.splitlines()]
-        cases.expect(f"{begun} of 20 entries", told == ([["room", percent, str(begun), "of", "20"]] if percent else []), told)
+        cases.expect(f"{begun} of 20 entries", told == [["room", level, str(begun), "of", "20"] for level in levels], told)
 
 
 def main():

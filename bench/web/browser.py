@@ -138,7 +138,7 @@ def shown(board, page, folder):
     page.picture(folder, "day")
     page.driver.find_element(By.CSS_SELECTOR, "#one button").click()
     refused = board.ask("ATC", '{"cmd":"show","flight":999}')
-    yield "a refusal in words", refused.startswith("no ") and page.wait(lambda: "no such flight" in page.text("refused"))
+    yield "a refusal in words", refused.startswith("no ") and page.wait(lambda: "the flight is not on the board" in page.text("refused"))
 
 
 def many(board, page, folder):
