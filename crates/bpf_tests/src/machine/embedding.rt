@@ -1,5 +1,5 @@
 //! What `docs/EMBEDDING.md` shows, which are the lines here from `use` to the tests
-//! (`bench/newcomer/commands.py` compares them).
+//! (`tools/checks/commands.py` compares them).
 
 use acdm_milestones::Milestone;
 use bpf_helpers::Helper;
