@@ -2,12 +2,14 @@
 #![tactic(auto)]
 
 mod resumed;
+mod spared;
 mod streams;
 mod words;
 
-use acdm_commands::{Failure, complete};
+use acdm_commands::{Failure, Paths, complete, is_error_file};
 use acdm_lines::{Sink, Source};
 use resumed::Resumed;
+use spared::Spared;
 use std::alloc::Global;
 use std::env::Env;
 use std::fs::{File, Files};
@@ -30,6 +32,7 @@ fn main(rt: HostRuntime) -> ExitCode {
 // spells out the types of all that it names.)
 fn status<
     Rt: Files<File = File>
+        + Paths
         + Net<Listener = TcpListener, Stream = TcpStream>
         + Env
         + AllocGlobal
@@ -65,6 +68,8 @@ fn status<
     let Ok(output) = BufWriter::with_capacity(alloc, BUFFER, output) else {
         return Failure::Memory.complain(&mut errors);
     };
+    let is_spared = words.iter().skip(1).any(|word| is_error_file(rt, word));
+    let mut errors = Sink::new(Spared::new(errors, is_spared));
     let mut input = Source::new(Resumed::new(input));
     let mut output = Sink::new(output);
     complete(

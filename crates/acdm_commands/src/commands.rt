@@ -15,6 +15,7 @@ use crate::serving::run_by;
 use crate::tables::tables_of;
 use acdm_command_line::{Invocation, Subcommand, asked};
 use acdm_judging::{Failure, audit_on, ended, explain_on, unread, verify_on};
+use acdm_keeping::Paths;
 use acdm_serving::Host;
 use acdm_sessions::{Sink, Source};
 use acdm_tables::Tables;
@@ -37,6 +38,7 @@ use std::time::Clock;
 /// What is wrong is told on the errors' writer; where that fails, the status alone says it.
 pub fn complete<
     Rt: Files<File = File>
+        + Paths
         + Net<Listener = TcpListener, Stream = TcpStream>
         + Clock
         + Eprint
@@ -150,7 +152,7 @@ fn complete_by<Rt: Host + Files<File = File>, R: Read, W: Write, E: Write>(
 }
 
 // `run`, with the files that the journal is to be saved and kept in.
-fn run_words<Rt: Files<File = File>, R: Read, W: Write, E: Write>(
+fn run_words<Rt: Files<File = File> + Paths + Clone + Drop, R: Read, W: Write, E: Write>(
     rt: &Rt,
     alloc: Global,
     tables: Tables,

@@ -11,7 +11,7 @@ use crate::saving::{Others, buffer_for, is_one, save, saving_in, settle};
 use crate::standard::is_standard;
 use acdm_board::Desk;
 use acdm_judging::{Failure, Finding, ended};
-use acdm_keeping::{Keeper, Kept, Synced, open, renew};
+use acdm_keeping::{Keeper, Kept, Named, Paths, Synced, open, renew};
 use acdm_restoring::{RestoreError, restore};
 use acdm_sessions::{RunError, Sink, Source, run};
 use acdm_tables::{KnownHelpers, Tables};
@@ -51,7 +51,7 @@ impl<'a> KeepIn<'a> {
 /// The status is 0 where the input was read to its end and the journal was kept and saved; 1 where
 /// what the file has is no legal journal, which is told as an audit tells it; else 2, with a line on
 /// the errors' writer.
-pub(crate) fn keep_line<Rt: Files<File = File>, R: Read, W: Write, E: Write>(
+pub(crate) fn keep_line<Rt: Files<File = File> + Paths + Clone + Drop, R: Read, W: Write, E: Write>(
     rt: &Rt,
     alloc: Global,
     tables: Tables,
@@ -100,7 +100,7 @@ pub(crate) fn open_kept<Rt: Files<File = File>>(rt: &Rt, keep: KeepIn<'_>) -> Re
 }
 
 // Opens the file, and answers.
-fn run_kept<Rt: Files<File = File>, R: Read, W: Write, F: Write + Drop>(
+fn run_kept<Rt: Files<File = File> + Paths + Clone + Drop, R: Read, W: Write, F: Write + Drop>(
     rt: &Rt,
     alloc: Global,
     tables: Tables,
@@ -122,7 +122,13 @@ fn run_kept<Rt: Files<File = File>, R: Read, W: Write, F: Write + Drop>(
 }
 
 // Goes on from the file, serves, and saves the journal.
-fn keep_with<Rt: Files<File = File>, H: Helpers + Drop, R: Read, W: Write, F: Write + Drop>(
+fn keep_with<
+    Rt: Files<File = File> + Paths + Clone + Drop,
+    H: Helpers + Drop,
+    R: Read,
+    W: Write,
+    F: Write + Drop,
+>(
     rt: &Rt,
     alloc: Global,
     helpers: H,
@@ -146,8 +152,8 @@ fn keep_with<Rt: Files<File = File>, H: Helpers + Drop, R: Read, W: Write, F: Wr
             Err(failure) => Err(failure),
         };
     }
-    let file = Synced::new(file, keep.is_synced);
-    match serve_from(alloc, &mut desk, file, input, output) {
+    let (synced, _named) = synced_in(rt, alloc, keep, file)?;
+    match serve_from(alloc, &mut desk, synced, input, output) {
         Ok(()) => {}
         Err(failure) => return Err(failure),
     }
@@ -210,13 +216,32 @@ fn renewed<Rt: Files<File = File>>(
     }
 }
 
+/// The file in which a journal is kept, as a writer, and once more by its name. `Keep` where it can't be asked
+/// what it is, `Memory` where that was refused.
+pub(crate) fn synced_in<Rt: Paths + Clone + Drop>(
+    rt: &Rt,
+    alloc: Global,
+    keep: KeepIn<'_>,
+    file: File,
+) -> Result<(Synced<Rt>, Named), Failure>
+    ensures fails { IfErr result FailsToGoOn }
+{
+    let Ok(named) = Named::new(alloc, keep.path, &file) else {
+        return Err(Failure::Keep);
+    };
+    let Ok(same) = named.copy(alloc) else {
+        return Err(Failure::Memory);
+    };
+    Ok((Synced::new(rt.clone()?, file, named, keep.is_synced), same))
+}
+
 /// A keeper of what a desk has, all of which is kept already. `Keep` where that is not in sight, `Memory`
 /// where it was refused.
-pub(crate) fn keeper_of<H: Helpers + Drop>(
+pub(crate) fn keeper_of<H: Helpers + Drop, F: Write + Drop>(
     alloc: Global,
     desk: &Desk<H>,
-    writer: Synced,
-) -> Result<Keeper<Synced>, Failure>
+    writer: F,
+) -> Result<Keeper<F>, Failure>
     ensures row { IfOk result (λ k. k.row ≡ row_of desk.now) }
     ensures all { IfOk result (λ k. length k.seen ≡ length desk.now.history) }
     ensures fresh { IfOk result (λ k. k.writer.log ≡ []) }
@@ -233,10 +258,10 @@ pub(crate) fn keeper_of<H: Helpers + Drop>(
 }
 
 // Answers the lines of a reader on a writer, behind the keeping of their entries in a file.
-fn serve_from<H: Helpers + Drop, R: Read, W: Write>(
+fn serve_from<H: Helpers + Drop, R: Read, W: Write, F: Write + Drop>(
     alloc: Global,
     desk: &mut Desk<H>,
-    file: Synced,
+    file: F,
     input: &mut Source<R>,
     output: &mut Sink<W>,
 ) -> Result<(), Failure>

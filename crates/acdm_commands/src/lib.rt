@@ -15,6 +15,8 @@ mod standard;
 mod tables;
 
 pub use acdm_judging::{Failure, ServeError, audit_on, explain_on, verify_on};
+pub use acdm_keeping::Paths;
 pub use acdm_serving::serve_on;
 pub use commands::complete;
 pub use serving::run_on;
+pub use standard::is_error_file;

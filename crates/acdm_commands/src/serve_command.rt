@@ -11,11 +11,11 @@ use crate::service::Service;
 use acdm_board::Desk;
 use acdm_displays::{Displays, Form};
 use acdm_judging::Failure;
-use acdm_keeping::Opening;
+use acdm_keeping::{Opening, Reach};
 use acdm_milestones::Role;
-use acdm_partners::{Control, Terms};
+use acdm_partners::Control;
 use acdm_row::Row;
-use acdm_serving::{FileKeeper, Host, serve_again, serve_on};
+use acdm_serving::{FileKeeper, Host, Operation, serve_again, serve_on};
 use acdm_sessions::{Clock, Sink};
 use acdm_tables::{KnownHelpers, Tables};
 use bpf_helpers::Helpers;
@@ -99,7 +99,7 @@ fn serve_at<Rt: Host, H: Helpers + Drop + Send, W: Write, F: Write + Drop>(
         saved.new result }
 {
     let control = service.control(rt, alloc)?;
-    let (partners, displays) = opened(rt, alloc, desk.row(), audience, words)?;
+    let (partners, displays) = opened(rt, alloc, desk.row(), None, audience, words)?;
     let ended = serve_all(rt, alloc, partners, desk, service, control, writer, saved);
     close_all(rt, displays);
     ended
@@ -141,23 +141,27 @@ pub(crate) fn close_all<Rt: SystemClock + Threads>(rt: &Rt, outlets: Outlets) {
 fn add_outlet<Rt: Host>(
     rt: &Rt,
     alloc: Global,
-    row: &Arc<Row>,
     form: Form,
     address: Option<&str>,
     name: Option<&str>,
+    row: &Arc<Row>,
+    reach: Option<&Reach>,
     outlets: &mut Outlets,
 ) -> Result<(), Failure> {
-    match Displays::open_as(rt, alloc, form, address, name, row)? {
-        Some(displays) => Ok(outlets.open.push(displays)?),
-        None => Ok(()),
-    }
+    let Some(address) = address else {
+        return Ok(());
+    };
+    let displays = Displays::open(rt, alloc, form, address, name, row, reach)?;
+    outlets.open.push(displays)?;
+    Ok(())
 }
 
-// Listens for all displays of a row.
+// Listens for all displays of a row, which are shown it as far as it is kept where it is.
 fn add_outlets<Rt: Host>(
     rt: &Rt,
     alloc: Global,
     row: &Arc<Row>,
+    reach: Option<&Reach>,
     audience: Audience<'_>,
     outlets: &mut Outlets,
 ) -> Result<(), Failure> {
@@ -167,9 +171,9 @@ fn add_outlets<Rt: Host>(
         web,
         web_name,
     } = audience;
-    add_outlet(rt, alloc, row, Form::Journal, journal, None, outlets)?;
-    add_outlet(rt, alloc, row, Form::Changes, changes, None, outlets)?;
-    add_outlet(rt, alloc, row, Form::Web, web, web_name, outlets)
+    add_outlet(rt, alloc, Form::Journal, journal, None, row, reach, outlets)?;
+    add_outlet(rt, alloc, Form::Changes, changes, None, row, reach, outlets)?;
+    add_outlet(rt, alloc, Form::Web, web, web_name, row, reach, outlets)
 }
 
 // Listens for all displays of a row, or for none. The room for them is there before the first.
@@ -177,12 +181,13 @@ fn outlets_of<Rt: Host>(
     rt: &Rt,
     alloc: Global,
     row: &Arc<Row>,
+    reach: Option<&Reach>,
     audience: Audience<'_>,
 ) -> Result<Outlets, Failure> {
     let mut outlets = Outlets {
         open: Vec::with_capacity(alloc, 3)?,
     };
-    match add_outlets(rt, alloc, row, audience, &mut outlets) {
+    match add_outlets(rt, alloc, row, reach, audience, &mut outlets) {
         Ok(()) => Ok(outlets),
         Err(failure) => {
             close_all(rt, outlets);
@@ -196,6 +201,7 @@ pub(crate) fn opened<'r, Rt: Host>(
     rt: &'r Rt,
     alloc: Global,
     row: &Arc<Row>,
+    reach: Option<&Reach>,
     audience: Audience<'_>,
     words: &[&str],
 ) -> Result<(Vec<Partner<'r, Rt>>, Outlets), Failure>
@@ -205,7 +211,7 @@ pub(crate) fn opened<'r, Rt: Host>(
     ensures fails { IfErr result (FailsToOpen (map (λ w. w.now) words.now)) }
 {
     let partners = few_partners(rt, alloc, words)?;
-    match outlets_of(rt, alloc, row, audience) {
+    match outlets_of(rt, alloc, row, reach, audience) {
         Ok(displays) => Ok((partners, displays)),
         Err(Failure::Memory) => Err(Failure::Memory),
         Err(_) => Err(Failure::Watch),
@@ -231,14 +237,16 @@ fn serve_all<Rt: Host, H: Helpers + Drop + Send, C: Clock + Drop + Send, W: Writ
     if service.is_plain() {
         return serve_once(rt, alloc, partners, desk, writer, saved);
     }
-    let closing = Arc::new(alloc, AtomicBool::new(false))?;
-    let terms = service.terms();
-    serve_unkept::<Brand, Rt, H, C, W, F>(
-        rt, alloc, partners, desk, terms, control, closing, writer, saved,
-    )
+    let operation = Operation {
+        terms: service.terms(),
+        control,
+        closing: Arc::new(alloc, AtomicBool::new(false))?,
+        kept: None,
+    };
+    serve_unkept::<Brand, Rt, H, C, W, F>(rt, alloc, partners, desk, operation, writer, saved)
 }
 
-// Serves partners by these terms. The journal is not kept.
+// Serves partners who come and go, and saves what they made. The journal is not kept.
 fn serve_unkept<
     'r,
     J: Opening + Send + Sync + 'r,
@@ -252,9 +260,7 @@ fn serve_unkept<
     alloc: Global,
     partners: Vec<(Role, TcpListener, C)>,
     desk: Desk<H>,
-    terms: Terms,
-    control: Option<Control>,
-    closing: Arc<AtomicBool>,
+    operation: Operation,
     writer: &mut Sink<W>,
     saved: &mut Option<Sink<F>>,
 ) -> Result<(), Failure>
@@ -263,10 +269,11 @@ fn serve_unkept<
         (map (λ p. new_session p.0 (C.gives p.2)) partners.items) writer.old writer.new saved.old
         saved.new result }
 {
-    let keeper: Option<&'r FileKeeper<J>> = None;
-    serve_lasting(
-        rt, alloc, partners, desk, terms, control, closing, keeper, writer, saved,
-    )
+    let mut buffer = buffer_for(alloc, saved)?;
+    let keeper: Option<&'r FileKeeper<J, Rt>> = None;
+    let mut served = serve_again(rt, alloc, partners, operation, keeper, desk, writer)?;
+    let told = served.told;
+    save_served(&mut buffer, &mut served.desk, told, saved)
 }
 
 // Serves each partner to the end of its connection, and saves what they made.
@@ -291,41 +298,6 @@ fn serve_once<
 {
     let mut buffer = buffer_for(alloc, saved)?;
     let mut served = serve_on(rt, alloc, partners, desk, writer)?;
-    let told = served.told;
-    save_served(&mut buffer, &mut served.desk, told, saved)
-}
-
-// Serves partners by these terms, whose replies wait for the keeper, if there is one, and saves what they
-// made.
-fn serve_lasting<
-    'r,
-    J: Opening + Send + Sync,
-    Rt: Host,
-    H: Helpers + Drop + Send,
-    C: Clock + Drop + Send,
-    W: Write,
-    F: Write + Drop,
->(
-    rt: &'r Rt,
-    alloc: Global,
-    partners: Vec<(Role, TcpListener, C)>,
-    desk: Desk<H>,
-    terms: Terms,
-    control: Option<Control>,
-    closing: Arc<AtomicBool>,
-    keeper: Option<&'r FileKeeper<J>>,
-    writer: &mut Sink<W>,
-    saved: &mut Option<Sink<F>>,
-) -> Result<(), Failure>
-    requires { vec_len partners ≤ 64 }
-    ensures { ServesPartnersTo desk (map (λ p. p.0) partners.items)
-        (map (λ p. new_session p.0 (C.gives p.2)) partners.items) writer.old writer.new saved.old
-        saved.new result }
-{
-    let mut buffer = buffer_for(alloc, saved)?;
-    let mut served = serve_again(
-        rt, alloc, partners, terms, control, closing, keeper, desk, writer,
-    )?;
     let told = served.told;
     save_served(&mut buffer, &mut served.desk, told, saved)
 }

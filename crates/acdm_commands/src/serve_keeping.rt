@@ -7,16 +7,15 @@ ghost use Rattle.acdm_serving.specs.Partners.{FailsToTell};
 ghost use Rattle.acdm_tables.specs.Helpers.{helpers_by};
 ghost use Rattle.acdm_sessions.specs.Sessions.{new_session};
 
-use crate::keeping::{KeepIn, go_on, keeper_of, open_kept};
+use crate::keeping::{KeepIn, go_on, keeper_of, open_kept, synced_in};
 use crate::saving::{buffer_for, save_served};
 use crate::serve_command::{Audience, close_all, opened};
 use crate::service::Service;
 use acdm_board::Desk;
 use acdm_judging::{Failure, ServeError};
-use acdm_keeping::{Keeper, Opening, SharedKeeper, Synced};
+use acdm_keeping::{Keeper, Named, Opening, SharedKeeper, Synced};
 use acdm_milestones::Role;
-use acdm_partners::{Control, Terms};
-use acdm_serving::{FileKeeper, Host, Served, serve_again};
+use acdm_serving::{FileKeeper, Host, Operation, Served, serve_again};
 use acdm_sessions::{Clock, RunError, Sink};
 use acdm_tables::{KnownHelpers, Tables};
 use bpf_helpers::Helpers;
@@ -28,8 +27,8 @@ use std::net::TcpListener;
 use std::sync::Arc;
 use std::sync::atomic::AtomicBool;
 
-// Serves partners by these terms, whose replies wait for the keeper, and answers the desk once they are
-// gone, and how it went to tell how they ended.
+// Serves partners whose replies wait for the keeper, and answers the desk once they are gone, and how it went
+// to tell how they ended.
 fn desk_after<
     J: Opening + Send + Sync,
     Rt: Host,
@@ -41,10 +40,8 @@ fn desk_after<
     alloc: Global,
     partners: Vec<(Role, TcpListener, C)>,
     desk: Desk<H>,
-    terms: Terms,
-    control: Option<Control>,
-    closing: Arc<AtomicBool>,
-    keeper: &FileKeeper<J>,
+    operation: Operation,
+    keeper: &FileKeeper<J, Rt>,
     writer: &mut Sink<W>,
 ) -> Result<(Desk<H>, Result<(), RunError>), ServeError>
     requires few { vec_len partners ≤ 64 }
@@ -57,22 +54,12 @@ fn desk_after<
         desk,
         sessions,
         told,
-    } = serve_again(
-        rt,
-        alloc,
-        partners,
-        terms,
-        control,
-        closing,
-        Some(keeper),
-        desk,
-        writer,
-    )?;
+    } = serve_again(rt, alloc, partners, operation, Some(keeper), desk, writer)?;
     drop(sessions);
     Ok((desk, told))
 }
 
-// Shares the keeper among the partners, keeps what is left in the end, and saves what they made.
+// Serves partners who share the keeper, keeps what is left in the end, and saves what they made.
 fn serve_shared<
     J: Opening + Send + Sync,
     Rt: Host,
@@ -85,28 +72,19 @@ fn serve_shared<
     alloc: Global,
     partners: Vec<(Role, TcpListener, C)>,
     desk: Desk<H>,
-    keeper: Keeper<Synced>,
-    terms: Terms,
-    control: Option<Control>,
-    closing: Arc<AtomicBool>,
+    keeper: FileKeeper<J, Rt>,
+    operation: Operation,
     buffer: &mut Vec<u8>,
     writer: &mut Sink<W>,
     saved: &mut Option<Sink<F>>,
 ) -> Result<(), Failure>
     requires few { vec_len partners ≤ 64 }
-    requires desk { row_of desk ≡ J.desk_row }
-    requires row { keeper.row ≡ J.desk_row }
-    requires opening { keeper.seen ≡ J.opening }
-    requires fresh { keeper.writer.log ≡ [] }
     ensures { ServesKeptAt desk (map (λ p. p.0) partners.items)
         (map (λ p. new_session p.0 (C.gives p.2)) partners.items) writer.old writer.new saved.old
         saved.new result }
 {
-    let shared: FileKeeper<J> = SharedKeeper::new(keeper, desk.row(), &closing)?;
-    let served = desk_after(
-        rt, alloc, partners, desk, terms, control, closing, &shared, writer,
-    );
-    let kept = shared.into_keeper();
+    let served = desk_after(rt, alloc, partners, desk, operation, &keeper, writer);
+    let kept = keeper.into_keeper();
     let (mut after, told) = match served {
         Ok(left) => left,
         Err(error) => return Err(Failure::from(error)),
@@ -117,12 +95,55 @@ fn serve_shared<
     }
 }
 
+// Shares the keeper, and serves a desk at the addresses of the words and of displays, which are shown what is
+// kept.
+fn serve_named<
+    J: Opening + Send + Sync,
+    Rt: Host,
+    H: Helpers + Drop + Send,
+    W: Write,
+    F: Write + Drop,
+>(
+    rt: &Rt,
+    alloc: Global,
+    desk: Desk<H>,
+    keeper: Keeper<Synced<Rt>>,
+    audience: Audience<'_>,
+    operation: Operation,
+    words: &[&str],
+    buffer: &mut Vec<u8>,
+    writer: &mut Sink<W>,
+    saved: &mut Option<Sink<F>>,
+) -> Result<(), Failure>
+    requires desk { row_of desk ≡ J.desk_row }
+    requires row { keeper.row ≡ J.desk_row }
+    requires opening { keeper.seen ≡ J.opening }
+    requires fresh { keeper.writer.log ≡ [] }
+    ensures { ServesKeptWords desk (map (λ w. w.now) words.now) writer.old writer.new saved.old
+        saved.new result }
+{
+    let shared: FileKeeper<J, Rt> = SharedKeeper::new(
+        alloc,
+        keeper,
+        desk.row(),
+        &operation.closing,
+    )?;
+    let reach = shared.reach()?;
+    let (partners, displays) = opened(rt, alloc, desk.row(), Some(&reach), audience, words)?;
+    let ended = serve_shared(
+        rt, alloc, partners, desk, shared, operation, buffer, writer, saved,
+    );
+    close_all(rt, displays);
+    ended
+}
+
 // Serves a desk at the addresses of the words, and of displays. What its partners make is kept.
 fn serve_kept_at<Rt: Host, H: Helpers + Drop + Send, W: Write, F: Write + Drop>(
     rt: &Rt,
     alloc: Global,
     desk: Desk<H>,
-    keeper: Keeper<Synced>,
+    keeper: Keeper<Synced<Rt>>,
+    named: Named,
     audience: Audience<'_>,
     service: Service<'_>,
     words: &[&str],
@@ -137,23 +158,19 @@ fn serve_kept_at<Rt: Host, H: Helpers + Drop + Send, W: Write, F: Write + Drop>(
     ensures { ServesKeptWords desk (map (λ w. w.now) words.now) writer.old writer.new saved.old
         saved.new result }
 {
-    let control = service.control(rt, alloc)?;
-    let (partners, displays) = opened(rt, alloc, desk.row(), audience, words)?;
-    let terms = service.terms();
-    let ended = serve_shared::<Brand, Rt, H, _, W, F>(
-        rt, alloc, partners, desk, keeper, terms, control, closing, buffer, writer, saved,
-    );
-    close_all(rt, displays);
-    ended
+    let operation = Operation {
+        terms: service.terms(),
+        control: service.control(rt, alloc)?,
+        closing,
+        kept: Some(named),
+    };
+    serve_named::<Brand, Rt, H, W, F>(
+        rt, alloc, desk, keeper, audience, operation, words, buffer, writer, saved,
+    )
 }
 
 // Goes on from the file, serves, and saves the journal.
-fn serve_kept_with<
-    Rt: Host + Files<File = File>,
-    H: Helpers + Drop + Send,
-    W: Write,
-    F: Write + Drop,
->(
+fn serve_kept_with<Rt: Host + Files<File = File>, H: Helpers + Drop + Send, W: Write, F: Write + Drop>(
     rt: &Rt,
     alloc: Global,
     helpers: H,
@@ -179,12 +196,14 @@ fn serve_kept_with<
             Err(failure) => Err(failure),
         };
     }
-    let keeper = keeper_of(alloc, &desk, Synced::new(file, keep.is_synced))?;
+    let (synced, named) = synced_in(rt, alloc, keep, file)?;
+    let keeper = keeper_of(alloc, &desk, synced)?;
     match serve_kept_at(
         rt,
         alloc,
         desk,
         keeper,
+        named,
         audience,
         service,
         words,

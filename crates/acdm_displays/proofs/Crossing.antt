@@ -4,6 +4,7 @@ use denote.Param.Send.{IsSend, sendable}
 use denote.Param.SendFields.{declared_send}
 use Rattle.std.proofs.Crossing.{crosses}
 use Rattle.acdm_row.proofs.Crossing.{row_send, row_sync}
+use Rattle.acdm_keeping.proofs.reach.Reach.TheSendSync as reach
 use Rattle.acdm_displays.proofs.places.Shared.TheSendSync as shared
 use Rattle.acdm_displays.proofs.following.Form.TheSendSync as form
 use Rattle.acdm_displays.specs.contracts.displays.Admission as admission
@@ -22,8 +23,11 @@ showing_send =
       (
         search (row_send, row_sync, sendable, crosses) depth 20,
         (
-          search (form.the_send, sendable, crosses) depth 12,
-          (place_send, (search (sendable, crosses) depth 12, tt)),
+          search (reach.the_send, sendable, crosses) depth 20,
+          (
+            search (form.the_send, sendable, crosses) depth 12,
+            (place_send, (search (sendable, crosses) depth 12, tt)),
+          ),
         ),
       ),
     )
@@ -37,10 +41,13 @@ admission_send K k =
         (
           search (row_send, row_sync, sendable, crosses) depth 20,
           (
-            search (form.the_send, sendable, crosses) depth 12,
+            search (reach.the_send, sendable, crosses) depth 20,
             (
-              search (shared.the_send, shared.the_sync, sendable, crosses) depth 20,
-              (search (sendable, crosses) depth 12, tt),
+              search (form.the_send, sendable, crosses) depth 12,
+              (
+                search (shared.the_send, shared.the_sync, sendable, crosses) depth 20,
+                (search (sendable, crosses) depth 12, tt),
+              ),
             ),
           ),
         ),

@@ -17,6 +17,7 @@ use Rattle.acdm_web.specs.Events.{event_text}
 use Rattle.acdm_displays.specs.declared.following.Shown.{Shown}
 use Rattle.acdm_displays.specs.declared.asked.Start.{Start}
 use Rattle.acdm_displays.specs.declared.asked.Start.TheVariants as starts
+use Rattle.acdm_displays.specs.Within.{IsAsKept, IsWithin}
 
 -- Where what a teller tells has begun: behind these bytes, with the entry of this number, and after these
 -- entries.
@@ -42,14 +43,17 @@ abbrev pub Adds : {T : Type 0} → Telling T → T → T → List Entry → List
 Adds tells teller teller_after seen later old new = (before : List ℕ)
     → Follows tells teller teller_after seen later (before ++ old) (before ++ new)
 
--- A watch looks at this row, and what it has seen is legal. Behind the bytes that the writer had
--- taken before it took this text of that, and nothing else, and all of it was flushed.
-pub record Took {W : Type 0} (Says : List Entry → List ℕ → List ℕ → Type 0) (row : RowView)
-    (before : List ℕ) (shown : Shown W) : Type 0 where
+-- A watch looks at this row, and what it has seen is legal; where the row is kept, a receipt says that all of it
+-- is. Behind the bytes that the writer had taken before it took this text of that, and nothing else, and all of it
+-- was flushed.
+pub record Took {W X : Type 0} (Says : List Entry → List ℕ → List ℕ → Type 0) (row : RowView)
+    (reach : Option X) (before : List ℕ) (shown : Shown W) : Type 0 where
   pub same : shown.watch.row ≡ row
   pub legal : IsLegal row.sigs (reverse shown.watch.seen)
   pub text : Says shown.watch.seen before shown.writer.log
   pub flushed : shown.writer.waits ≡ false
+  pub kept : IsAsKept reach shown.receipt
+  pub within : IsWithin shown.receipt shown.watch.seen
 
 -- the text of the journal
 abbrev pub SaysJournal : List Entry → List ℕ → List ℕ → Type 0
@@ -88,14 +92,14 @@ SaysFeed room (starts.Entry n) seen before log = log ≡ before ++ feed_from n (
 SaysFeed room starts.Board seen before log = (K : History) × IsFront K (reverse seen)
     × (log ≡ (before ++ board_text room K) ++ feed_from (length K) (reverse seen))
 
-abbrev pub WasSent : {W : Type 0} → RowView → List ℕ → Shown W → Type 0
+abbrev pub WasSent : {W X : Type 0} → RowView → Option X → List ℕ → Shown W → Type 0
 WasSent = Took SaysJournal
 
-abbrev pub WasTold : {W : Type 0} → Start → RowView → List ℕ → Shown W → Type 0
+abbrev pub WasTold : {W X : Type 0} → Start → RowView → Option X → List ℕ → Shown W → Type 0
 WasTold start row = Took (SaysFeed (length row.cells) start) row
 
-abbrev pub WasToldSome : {W : Type 0} → RowView → List ℕ → Shown W → Type 0
-WasToldSome row before shown = (start : Start) × WasTold start row before shown
+abbrev pub WasToldSome : {W X : Type 0} → RowView → Option X → List ℕ → Shown W → Type 0
+WasToldSome row reach before shown = (start : Start) × WasTold start row reach before shown
 
 -- ---- events for browsers
 
@@ -151,8 +155,9 @@ SaysEvents room last seen before log = (K : History) × IsFront K (reverse seen)
     ⊎ (IsPast last (length K) × (log ≡ (before ++ board_event room K) ++ events_from (length K) (reverse seen))))
 
 -- the head of the events, and then these
-abbrev pub WasToldEvents : {W : Type 0} → Option ℕ → RowView → List ℕ → Shown W → Type 0
-WasToldEvents last row before = Took (SaysEvents (length row.cells) last) row (before ++ events_head)
+abbrev pub WasToldEvents : {W X : Type 0} → Option ℕ → RowView → Option X → List ℕ → Shown W → Type 0
+WasToldEvents last row reach before =
+    Took (SaysEvents (length row.cells) last) row reach (before ++ events_head)
 
 -- Sending ends early where the writer failed, or where memory was refused, and for nothing else.
 abbrev pub CutsShort : Failure → Type 0

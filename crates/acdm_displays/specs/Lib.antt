@@ -1,3 +1,4 @@
 pub mod Asked
 pub mod Displayed
 pub mod Leaving
+pub mod Within

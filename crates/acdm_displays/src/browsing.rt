@@ -5,9 +5,11 @@ ghost use Rattle.acdm_feed.specs.Knowing.{Knows};
 ghost use Rattle.acdm_web.specs.Answers.{answer_text};
 ghost use Rattle.acdm_displays.specs.Displayed.{BeginsEvents, CutsShort, EventsFrom, WasToldEvents};
 ghost use Rattle.acdm_displays.specs.Displayed.{at_board_event};
+ghost use Rattle.acdm_displays.specs.Within.{StaysWithin};
 
 use crate::beginning::pass_all;
-use crate::following::{MOST_REFUSALS, Shown, send_all, send_on};
+use crate::entries::{Entries, most_shown, seen_of};
+use crate::following::{MOST_REFUSALS, Shown, send_all, send_on, shown_of};
 use crate::telling::Events;
 use acdm_feed::{Known, push_board};
 use acdm_journal::write_whole;
@@ -18,8 +20,6 @@ use acdm_watch::Watch;
 use acdm_web::{Wanted, push_answer, push_event};
 use std::alloc::Global;
 use std::io::{Read, Write};
-use std::sync::Arc;
-use std::sync::atomic::AtomicBool;
 
 /// Answers what a browser asks for: the page, the head of the events, or a refusal.
 ///
@@ -74,13 +74,14 @@ fn begin_board<W: Write + Drop>(
 }
 
 // Begins with the events from the entry on that comes next for a browser, where all before it are in
-// sight, else with the board after all that are.
+// sight, else with the board after all that are. No more than so many are looked at.
 fn begin_events<W: Write + Drop>(
     alloc: Global,
     last: Option<u64>,
     teller: &mut Events,
     watch: &mut Watch,
     row: &Row,
+    most: usize,
     writer: &mut Sink<W>,
 ) -> Result<(), Failure>
     requires row { row.now ≡ watch.old.row }
@@ -89,14 +90,15 @@ fn begin_events<W: Write + Drop>(
     ensures row { watch.new.row ≡ watch.old.row }
     ensures begins { OnOk result (BeginsEvents (length row.now.cells) last teller.new.known teller.new.from
         watch.new.seen writer.old.log writer.new.log) }
+    ensures within { OnOk result (StaysWithin most watch.old.seen watch.new.seen) }
     ensures failed { IfErr result CutsShort }
 {
     let Some(next) = last else {
-        pass_all(watch, &mut teller.known, row)?;
+        pass_all(watch, &mut teller.known, row, most)?;
         return begin_board(alloc, teller, watch, row, writer);
     };
     teller.from = next;
-    send_all(alloc, teller, watch, row, writer)?;
+    send_all(alloc, teller, watch, row, most, writer)?;
     if next <= watch.len() as u64 {
         return Ok(());
     }
@@ -110,35 +112,31 @@ fn begin_events<W: Write + Drop>(
 /// those in sight, with the board of all entries in sight.
 pub fn follow_events<R: Read, W: Write + Drop>(
     alloc: Global,
-    row: &Arc<Row>,
+    entries: &Entries<'_>,
     last: Option<u64>,
-    closing: &AtomicBool,
     reader: &mut R,
     mut writer: Sink<W>,
 ) -> Result<Shown<W>, Failure>
-    ensures sent { IfOk result (WasToldEvents last (arc_value row.now) writer.log) }
+    ensures sent { IfOk result (WasToldEvents last (arc_value entries.now.row.now) entries.now.reach writer.log) }
     ensures failed { IfErr result CutsShort }
 {
     answer(alloc, Wanted::Events(last), "", &mut writer)?;
-    let mut seen = Watch::new(alloc, row)?;
+    let mut seen = seen_of(alloc, entries)?;
     let mut teller = Events {
         known: Known::new(alloc),
         from: 0,
         line: Vec::new(alloc),
     };
-    begin_events(alloc, last, &mut teller, &mut seen, row, &mut writer)?;
-    send_on(
+    let most = most_shown(seen.receipt);
+    begin_events(
         alloc,
+        last,
         &mut teller,
-        &mut seen,
-        row,
-        closing,
-        reader,
+        &mut seen.watch,
+        entries.row,
+        most,
         &mut writer,
     )?;
-    let _board = seen.board();
-    Ok(Shown {
-        watch: seen,
-        writer,
-    })
+    send_on(alloc, &mut teller, &mut seen, entries, reader, &mut writer)?;
+    Ok(shown_of(seen, writer))
 }

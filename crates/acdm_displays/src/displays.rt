@@ -5,26 +5,31 @@ ghost use Rattle.acdm_displays.specs.Displayed.{WasSent, WasToldEvents, WasToldS
 
 use crate::asked::first_asked;
 use crate::browsing::{answer, follow_events};
+use crate::entries::Entries;
 use crate::following::{Form, MOST_REFUSALS, Shown, follow, follow_changes};
 use crate::leaving::has_left;
 use crate::places::{Place, Shared};
 use acdm_judging::Failure;
+use acdm_keeping::Reach;
 use acdm_lines::{Sink, Source};
 use acdm_row::Row;
 use acdm_web::{PAGE, Wanted, first_wanted};
-use std::alloc::Global;
+use std::alloc::{AllocError, Global};
 use std::io::{self, ErrorKind};
 use std::net::{Net, Shutdown, SocketAddr, TcpListener, TcpStream};
 use std::sync::Arc;
-use std::sync::atomic::{AtomicBool, Ordering};
+use std::sync::atomic::Ordering;
 use std::thread::{self, JoinHandle, Threads};
-use std::time::{Clock as SystemClock, Duration};
+use std::time::{Clock as SystemClock, Duration, Instant};
 
 /// After how many milliseconds it is looked for more, and for a further display.
 const PAUSE: u64 = 25;
 
 /// For how many milliseconds a display may take nothing of what it is sent, until it is let go.
 const PATIENCE: u64 = 30_000;
+
+/// For how many milliseconds a browser is waited for until it has asked for something.
+const HEARING: u64 = 10_000;
 
 /// For how many pauses displays are waited for at the end: 5 seconds.
 const LAST_PAUSES: u64 = 200;
@@ -50,6 +55,7 @@ fn begin<Rt: Threads, T: Task + 'static>(rt: &Rt, task: T) -> Option<JoinHandle<
 struct Showing {
     alloc: Global,
     row: Arc<Row>,
+    reach: Option<Reach>,
     form: Form,
     place: Place,
     stream: TcpStream,
@@ -60,27 +66,32 @@ impl Task for Showing {
         let Showing {
             alloc,
             row,
+            reach,
             form,
             place,
             stream,
         } = self;
-        show(alloc, &row, form, &place.shared, stream);
+        let entries = Entries {
+            row: &row,
+            reach: reach.as_ref(),
+            closing: &place.shared.closing,
+        };
+        show(alloc, &entries, form, &place.shared, stream);
         drop(place);
     }
 }
 
 // Sends a display the entries in a form, until it leaves or has all of them.
-fn show(alloc: Global, row: &Arc<Row>, form: Form, shared: &Shared, stream: TcpStream) {
-    let closing = &shared.closing;
+fn show(alloc: Global, entries: &Entries<'_>, form: Form, shared: &Shared, stream: TcpStream) {
     match form {
         Form::Journal => {
-            let _ = show_journal(alloc, row, closing, stream);
+            let _ = show_journal(alloc, entries, stream);
         }
         Form::Changes => {
-            let _ = show_changes(alloc, row, closing, stream);
+            let _ = show_changes(alloc, entries, stream);
         }
         Form::Web => {
-            let _ = show_web(alloc, row, shared, stream);
+            let _ = show_web(alloc, entries, shared, stream);
         }
     }
 }
@@ -104,14 +115,13 @@ fn reader_of(stream: &TcpStream) -> Result<TcpStream, Failure> {
 // Sends a display the journal.
 fn show_journal(
     alloc: Global,
-    row: &Arc<Row>,
-    closing: &AtomicBool,
+    entries: &Entries<'_>,
     stream: TcpStream,
 ) -> Result<Shown<TcpStream>, Failure>
-    ensures { IfOk result (WasSent (arc_value row.now) []) }
+    ensures { IfOk result (WasSent (arc_value entries.now.row.now) entries.now.reach []) }
 {
     let mut reader = reader_of(&stream)?;
-    let shown = follow(alloc, row, closing, &mut reader, Sink::new(stream))?;
+    let shown = follow(alloc, entries, &mut reader, Sink::new(stream))?;
     part(&mut reader);
     Ok(shown)
 }
@@ -119,17 +129,16 @@ fn show_journal(
 // Sends a display the feed, as it asked by its first line. One that asked for nothing is let go.
 fn show_changes(
     alloc: Global,
-    row: &Arc<Row>,
-    closing: &AtomicBool,
+    entries: &Entries<'_>,
     stream: TcpStream,
 ) -> Result<Shown<TcpStream>, Failure>
-    ensures { IfOk result (WasToldSome (arc_value row.now) []) }
+    ensures { IfOk result (WasToldSome (arc_value entries.now.row.now) entries.now.reach []) }
 {
     let mut reader = reader_of(&stream)?;
     let Some(start) = first_asked(&mut reader) else {
         return Err(Failure::Watch);
     };
-    let shown = follow_changes(alloc, row, start, closing, &mut reader, Sink::new(stream))?;
+    let shown = follow_changes(alloc, entries, start, &mut reader, Sink::new(stream))?;
     part(&mut reader);
     Ok(shown)
 }
@@ -137,15 +146,14 @@ fn show_changes(
 // Sends a browser the events of the feed.
 fn show_events(
     alloc: Global,
-    row: &Arc<Row>,
+    entries: &Entries<'_>,
     last: Option<u64>,
-    closing: &AtomicBool,
     mut reader: TcpStream,
     stream: TcpStream,
 ) -> Result<Shown<TcpStream>, Failure>
-    ensures { IfOk result (WasToldEvents last (arc_value row.now) []) }
+    ensures { IfOk result (WasToldEvents last (arc_value entries.now.row.now) entries.now.reach []) }
 {
-    let shown = follow_events(alloc, row, last, closing, &mut reader, Sink::new(stream))?;
+    let shown = follow_events(alloc, entries, last, &mut reader, Sink::new(stream))?;
     part(&mut reader);
     Ok(shown)
 }
@@ -166,19 +174,19 @@ fn show_page(
 // Answers a browser what it asks for. One that asks for nothing in its time is let go.
 fn show_web(
     alloc: Global,
-    row: &Arc<Row>,
+    entries: &Entries<'_>,
     shared: &Shared,
     stream: TcpStream,
 ) -> Result<(), Failure> {
-    let closing = &shared.closing;
     let mut reader = Source::new(reader_of(&stream)?);
-    let Some(wanted) = first_wanted(alloc, &mut reader, shared.name()) else {
+    let limit = shared.limit(HEARING);
+    let Some(wanted) = first_wanted(alloc, &mut reader, shared.name(), &limit) else {
         return Err(Failure::Watch);
     };
     let reader = reader.into_inner();
     match wanted {
         Wanted::Events(last) => {
-            let _shown = show_events(alloc, row, last, closing, reader, stream)?;
+            let _shown = show_events(alloc, entries, last, reader, stream)?;
         }
         other => {
             let _writer = show_page(alloc, other, reader, stream)?;
@@ -200,12 +208,21 @@ fn part(stream: &mut TcpStream) {
     }
 }
 
+// How far entries are kept, once more.
+fn copy_of(reach: Option<&Reach>) -> Result<Option<Reach>, AllocError> {
+    match reach {
+        Some(reach) => Ok(Some(reach.copy()?)),
+        None => Ok(None),
+    }
+}
+
 // The accepting of displays.
 #[derive(Drop)]
 struct Admission<K: Drop> {
     rt: K,
     alloc: Global,
     row: Arc<Row>,
+    reach: Option<Reach>,
     form: Form,
     shared: Arc<Shared>,
     listener: TcpListener,
@@ -221,13 +238,26 @@ impl<K: SystemClock + Threads + Drop + Send> Task for Admission<K> {
 impl<K: SystemClock + Threads + Drop> Admission<K> {
     // Accepts displays until the last entry was made.
     fn admit(&self) {
+        let begun = Instant::now(&self.rt).ok();
         for _ in 0..u64::MAX {
+            self.tell_time(begun);
             if self.shared.closing.load(Ordering::SeqCst) {
                 return;
             }
             if self.accept().is_err() {
                 thread::sleep(&self.rt, Duration::from_millis(PAUSE));
             }
+        }
+    }
+
+    // Tells the threads of displays how much time has passed since this moment.
+    fn tell_time(&self, begun: Option<Instant>) {
+        let (Some(begun), Ok(now)) = (begun, Instant::now(&self.rt)) else {
+            return;
+        };
+        let passed = now.saturating_duration_since(begun).as_millis();
+        if let Ok(passed) = u64::try_from(passed) {
+            self.shared.passed.store(passed, Ordering::SeqCst);
         }
     }
 
@@ -256,6 +286,7 @@ impl<K: SystemClock + Threads + Drop> Admission<K> {
         let showing = Showing {
             alloc: self.alloc,
             row: Arc::try_clone(&self.row)?,
+            reach: copy_of(self.reach.as_ref())?,
             form: self.form,
             place,
             stream,
@@ -265,7 +296,7 @@ impl<K: SystemClock + Threads + Drop> Admission<K> {
     }
 }
 
-/// Displays that are sent the journal as text, by threads of their own.
+/// Displays that are sent the entries of a row in a form, by threads of their own.
 #[derive(Drop)]
 pub struct Displays {
     shared: Arc<Shared>,
@@ -273,9 +304,10 @@ pub struct Displays {
 }
 
 impl Displays {
-    /// Listens for displays at an address, an IP address and a port, if there is one, and has each
-    /// sent the entries of a row from the first one on. `Watch` where it can't be listened there,
-    /// `Memory` where that was refused.
+    /// Listens for displays at an address, an IP address and a port, and has each sent the entries of a row in a
+    /// form, from the first one on; where the row is kept, as far as it is. Browsers may ask for the board by this
+    /// name, if there is one, beside its addresses. `Watch` where it can't be listened there, `Memory` where that
+    /// was refused.
     pub fn open<
         Rt: Net<Listener = TcpListener, Stream = TcpStream>
             + SystemClock
@@ -287,62 +319,31 @@ impl Displays {
     >(
         rt: &Rt,
         alloc: Global,
-        address: Option<&str>,
-        row: &Arc<Row>,
-    ) -> Result<Option<Displays>, Failure> {
-        Displays::open_as(rt, alloc, Form::Journal, address, None, row)
-    }
-
-    /// Listens for displays at an address, an IP address and a port, if there is one, and has each
-    /// sent the entries of a row in a form, from the first one on. Browsers may ask for the board by this
-    /// name, if there is one, beside its addresses. `Watch` where it can't be listened there,
-    /// `Memory` where that was refused.
-    pub fn open_as<
-        Rt: Net<Listener = TcpListener, Stream = TcpStream>
-            + SystemClock
-            + Threads
-            + Clone
-            + Drop
-            + Send
-            + 'static,
-    >(
-        rt: &Rt,
-        alloc: Global,
         form: Form,
-        address: Option<&str>,
+        address: &str,
         name: Option<&str>,
         row: &Arc<Row>,
-    ) -> Result<Option<Displays>, Failure> {
-        let Some(address) = address else {
-            return Ok(None);
-        };
+        reach: Option<&Reach>,
+    ) -> Result<Displays, Failure> {
         let Ok(address) = address.parse::<SocketAddr>() else {
             return Err(Failure::Watch);
         };
         let Ok(listener) = TcpListener::bind(rt, address) else {
             return Err(Failure::Watch);
         };
-        Ok(Some(Displays::start_as(rt, alloc, form, listener, name, row)?))
+        Displays::start(rt, alloc, form, listener, name, row, reach)
     }
 
-    /// Has each display that a listener accepts sent the entries of a row from the first one on.
+    /// Has each display that a listener accepts sent the entries of a row in a form, from the first one on; where
+    /// the row is kept, as far as it is.
     pub fn start<Rt: SystemClock + Threads + Clone + Drop + Send + 'static>(
-        rt: &Rt,
-        alloc: Global,
-        listener: TcpListener,
-        row: &Arc<Row>,
-    ) -> Result<Displays, Failure> {
-        Displays::start_as(rt, alloc, Form::Journal, listener, None, row)
-    }
-
-    /// Has each display that a listener accepts sent the entries of a row in a form, from the first one on.
-    pub fn start_as<Rt: SystemClock + Threads + Clone + Drop + Send + 'static>(
         rt: &Rt,
         alloc: Global,
         form: Form,
         listener: TcpListener,
         name: Option<&str>,
         row: &Arc<Row>,
+        reach: Option<&Reach>,
     ) -> Result<Displays, Failure> {
         if listener.set_nonblocking(true).is_err() {
             return Err(Failure::Watch);
@@ -352,6 +353,7 @@ impl Displays {
             rt: rt.clone()?,
             alloc,
             row: Arc::try_clone(row)?,
+            reach: copy_of(reach)?,
             form,
             shared: Arc::try_clone(&shared)?,
             listener,

@@ -1,24 +1,27 @@
 //! The entries of a row as text, written while it grows.
-ghost use Rattle.std.specs.Prelude.{◌≡◌, ℕ, List, [], false, IfErr, IfOk, OnOk};
+ghost use Rattle.std.specs.Prelude.{◌≡◌, ℕ, List, [], false, reverse, IfErr, IfOk, OnOk};
 ghost use Rattle.std.specs.Arc.{arc_value};
 ghost use Rattle.acdm_step.specs.declared.entry.Entry.{Entry as AnEntry};
 ghost use Rattle.acdm_displays.specs.Displayed.{CutsShort, Follows};
 ghost use Rattle.acdm_displays.specs.Displayed.{WasSent, WasTold};
+ghost use Rattle.acdm_displays.specs.Within.{IsNoLess, IsWithin, StaysWithin};
+ghost use Rattle.acdm_step.specs.History.{IsLegal};
 
 use crate::asked::Start;
 use crate::beginning::begin;
+use crate::entries::{Entries, Seen, most_shown, seen_of};
 use crate::leaving::has_left;
 use crate::telling::{Changes, Journal, Telling};
 use acdm_feed::Known;
 use acdm_journal::write_whole;
 use acdm_judging::Failure;
+use acdm_keeping::Receipt;
 use acdm_lines::Sink;
 use acdm_row::Row;
 use acdm_watch::Watch;
 use std::alloc::Global;
 use std::io::{Read, Write};
-use std::sync::Arc;
-use std::sync::atomic::{AtomicBool, Ordering};
+use std::sync::atomic::Ordering;
 
 /// How many bytes are gathered until they are sent, where more entries are in sight.
 const BUFFER: usize = 65_536;
@@ -37,46 +40,56 @@ pub enum Form {
     Web,
 }
 
-/// What was shown to a display: the watch that saw it, and the writer that took it.
+/// What was shown to a display: the watch that saw it, the receipt that says that it is kept, where entries
+/// are kept, and the writer that took it.
 #[derive(Drop)]
 pub struct Shown<W: Write> {
     pub watch: Watch,
+    pub receipt: Option<Receipt>,
     pub writer: Sink<W>,
 }
 
 /// Writes the entries of a row as text, from the first one on and as they come, until the last one
-/// was made or the reader has ended. It takes no lock. It waits for the reader, which is read from
+/// was made or the reader has ended; where they are kept, none before it is. It takes no lock of the board's.
+/// It waits for the reader, which is read from
 /// after all entries in sight were written and flushed, and whose bytes are dropped; and for the
 /// writer, until that has taken nothing 120 times in a row, each time as long as its timeout is.
 ///
 /// It gives back the watch and the writer: the writer took the text of what the watch has seen, and
-/// nothing else, whatever writer it is, and all of it was flushed. What a pass of the same row has
+/// nothing else, whatever writer it is, and all of it was flushed. Where entries are kept, the watch has seen no
+/// more than the receipt says. What a pass of the same row has
 /// seen is the same as far as the shorter goes, which `Watch::meet` tells.
 ///
 /// `Save` where the writer failed, `Memory` where it was refused.
 pub fn follow<R: Read, W: Write + Drop>(
     alloc: Global,
-    row: &Arc<Row>,
-    closing: &AtomicBool,
+    entries: &Entries<'_>,
     reader: &mut R,
     mut writer: Sink<W>,
 ) -> Result<Shown<W>, Failure>
-    ensures sent { IfOk result (WasSent (arc_value row.now) writer.log) }
+    ensures sent { IfOk result (WasSent (arc_value entries.now.row.now) entries.now.reach writer.log) }
     ensures failed { IfErr result CutsShort }
 {
-    let mut watch = Watch::new(alloc, row)?;
+    let mut seen = seen_of(alloc, entries)?;
     let mut teller = Journal;
-    send_on(
-        alloc,
-        &mut teller,
-        &mut watch,
-        row,
-        closing,
-        reader,
-        &mut writer,
-    )?;
+    send_on(alloc, &mut teller, &mut seen, entries, reader, &mut writer)?;
+    Ok(shown_of(seen, writer))
+}
+
+/// What was shown. (That the board is asked for tells a proof that what was seen is legal.)
+pub(crate) fn shown_of<W: Write + Drop>(seen: Seen, writer: Sink<W>) -> Shown<W>
+    ensures watch { result.watch ≡ seen.watch }
+    ensures receipt { result.receipt ≡ seen.receipt }
+    ensures writer { result.writer ≡ writer }
+    ensures legal { IsLegal seen.watch.row.sigs (reverse seen.watch.seen) }
+{
+    let Seen { watch, receipt } = seen;
     let _board = watch.board();
-    Ok(Shown { watch, writer })
+    Shown {
+        watch,
+        receipt,
+        writer,
+    }
 }
 
 /// Writes the feed of a row, where `follow` writes its journal: what each entry says and changes, as
@@ -84,35 +97,31 @@ pub fn follow<R: Read, W: Write + Drop>(
 /// in sight, and then goes on with the entry that comes next.
 pub fn follow_changes<R: Read, W: Write + Drop>(
     alloc: Global,
-    row: &Arc<Row>,
+    entries: &Entries<'_>,
     start: Start,
-    closing: &AtomicBool,
     reader: &mut R,
     mut writer: Sink<W>,
 ) -> Result<Shown<W>, Failure>
-    ensures sent { IfOk result (WasTold start (arc_value row.now) writer.log) }
+    ensures sent { IfOk result (WasTold start (arc_value entries.now.row.now) entries.now.reach writer.log) }
     ensures failed { IfErr result CutsShort }
 {
-    let mut seen = Watch::new(alloc, row)?;
+    let mut seen = seen_of(alloc, entries)?;
     let mut teller = Changes {
         known: Known::new(alloc),
         from: 0,
     };
-    begin(alloc, start, &mut teller, &mut seen, row, &mut writer)?;
-    send_on(
+    let most = most_shown(seen.receipt);
+    begin(
         alloc,
+        start,
         &mut teller,
-        &mut seen,
-        row,
-        closing,
-        reader,
+        &mut seen.watch,
+        entries.row,
+        most,
         &mut writer,
     )?;
-    let _board = seen.board();
-    Ok(Shown {
-        watch: seen,
-        writer,
-    })
+    send_on(alloc, &mut teller, &mut seen, entries, reader, &mut writer)?;
+    Ok(shown_of(seen, writer))
 }
 
 /// Writes what a watch sees, as it comes, until the last entry was made or the reader has ended.
@@ -120,46 +129,77 @@ pub fn follow_changes<R: Read, W: Write + Drop>(
 pub(crate) fn send_on<T: Telling, R: Read, W: Write + Drop>(
     alloc: Global,
     teller: &mut T,
-    watch: &mut Watch,
-    row: &Row,
-    closing: &AtomicBool,
+    seen: &mut Seen,
+    entries: &Entries<'_>,
     reader: &mut R,
     writer: &mut Sink<W>,
 ) -> Result<(), Failure>
-    requires { row.now ≡ watch.old.row }
-    ensures row { watch.new.row ≡ watch.old.row }
-    ensures sent { OnOk result (Follows T.tells teller.old teller.new watch.old.seen watch.new.seen
-        writer.old.log writer.new.log) }
+    requires row { arc_value entries.now.row.now ≡ seen.old.watch.row }
+    requires within { IsWithin seen.old.receipt seen.old.watch.seen }
+    ensures row { seen.new.watch.row ≡ seen.old.watch.row }
+    ensures sent { OnOk result (Follows T.tells teller.old teller.new seen.old.watch.seen
+        seen.new.watch.seen writer.old.log writer.new.log) }
+    ensures within { OnOk result (IsWithin seen.new.receipt seen.new.watch.seen) }
+    ensures kept { OnOk result (IsNoLess seen.old.receipt seen.new.receipt) }
     ensures flushed { OnOk result (writer.new.waits ≡ false) }
     ensures failed { IfErr result CutsShort }
 {
     for _ in 0..u64::MAX {
-        let is_last = closing.load(Ordering::SeqCst);
-        send_all(alloc, teller, watch, row, writer)?;
+        let is_last = entries.closing.load(Ordering::SeqCst);
+        send_kept(alloc, teller, seen, entries, writer)?;
         if is_last || has_left(reader) {
             return Ok(());
         }
     }
-    send_all(alloc, teller, watch, row, writer)
+    send_kept(alloc, teller, seen, entries, writer)
 }
 
-/// Writes all entries that are in sight, and flushes them.
+// Writes all entries that are in sight, as far as they are kept by now, and flushes them.
+fn send_kept<T: Telling, W: Write + Drop>(
+    alloc: Global,
+    teller: &mut T,
+    seen: &mut Seen,
+    entries: &Entries<'_>,
+    writer: &mut Sink<W>,
+) -> Result<(), Failure>
+    requires row { arc_value entries.now.row.now ≡ seen.old.watch.row }
+    requires within { IsWithin seen.old.receipt seen.old.watch.seen }
+    ensures row { seen.new.watch.row ≡ seen.old.watch.row }
+    ensures sent { OnOk result (Follows T.tells teller.old teller.new seen.old.watch.seen
+        seen.new.watch.seen writer.old.log writer.new.log) }
+    ensures within { OnOk result (IsWithin seen.new.receipt seen.new.watch.seen) }
+    ensures kept { OnOk result (IsNoLess seen.old.receipt seen.new.receipt) }
+    ensures flushed { OnOk result (writer.new.waits ≡ false) }
+    ensures failed { IfErr result CutsShort }
+{
+    let receipt = entries.later(seen.receipt);
+    seen.receipt = receipt;
+    let most = most_shown(receipt);
+    send_all(alloc, teller, &mut seen.watch, entries.row, most, writer)
+}
+
+/// Writes all entries that are in sight, up to so many, and flushes them.
 pub(crate) fn send_all<T: Telling, W: Write + Drop>(
     alloc: Global,
     teller: &mut T,
     watch: &mut Watch,
     row: &Row,
+    most: usize,
     writer: &mut Sink<W>,
 ) -> Result<(), Failure>
     requires { row.now ≡ watch.old.row }
     ensures row { watch.new.row ≡ watch.old.row }
     ensures sent { OnOk result (Follows T.tells teller.old teller.new watch.old.seen watch.new.seen
         writer.old.log writer.new.log) }
+    ensures within { OnOk result (StaysWithin most watch.old.seen watch.new.seen) }
     ensures flushed { OnOk result (writer.new.waits ≡ false) }
     ensures failed { IfErr result CutsShort }
 {
     let mut text = Vec::new(alloc);
     for _ in watch.len()..row.len() {
+        if watch.len() >= most {
+            break;
+        }
         if !teller.add_next(watch, row, &mut text)? {
             break;
         }

@@ -1,4 +1,5 @@
 //! The places of displays, and what their threads share.
+use acdm_web::TimeLimit;
 use std::alloc::{AllocError, Global};
 use std::sync::Arc;
 use std::sync::atomic::{AtomicBool, AtomicU64, Ordering};
@@ -13,6 +14,8 @@ pub(crate) struct Shared {
     pub(crate) closing: AtomicBool,
     /// How many places are taken.
     pub(crate) taken: AtomicU64,
+    /// How many milliseconds have passed since displays are accepted, which the thread that accepts them tells.
+    pub(crate) passed: AtomicU64,
     // The name by which browsers may ask for the board, beside its addresses.
     name: Option<String>,
 }
@@ -27,9 +30,18 @@ impl Shared {
         let shared = Shared {
             closing: AtomicBool::new(false),
             taken: AtomicU64::new(0),
+            passed: AtomicU64::new(0),
             name,
         };
         Ok(Arc::new(alloc, shared)?)
+    }
+
+    /// A time that is over after so many milliseconds, from now on.
+    pub(crate) fn limit(&self, length: u64) -> Limit<'_> {
+        Limit {
+            shared: self,
+            until: self.passed.load(Ordering::SeqCst).saturating_add(length),
+        }
     }
 
     /// The name by which browsers may ask for the board, if it has one.
@@ -38,6 +50,20 @@ impl Shared {
             Some(name) => Some(name.as_str()),
             None => None,
         }
+    }
+}
+
+/// A time that is over at a moment, or once the last entry was made.
+#[derive(Drop)]
+pub(crate) struct Limit<'a> {
+    shared: &'a Shared,
+    until: u64,
+}
+
+impl TimeLimit for Limit<'_> {
+    fn is_over(&self) -> bool {
+        self.shared.closing.load(Ordering::SeqCst)
+            || self.shared.passed.load(Ordering::SeqCst) >= self.until
     }
 }
 

@@ -1,6 +1,6 @@
 //! What a display is told of each entry.
-ghost use Rattle.std.specs.Prelude.{◌≡◌, ℕ, List, [], ◌++◌, reverse, if◌then◌else◌, nat_lt, IfErr};
-ghost use Rattle.std.specs.Prelude.{OnOk};
+ghost use Rattle.std.specs.Prelude.{◌≡◌, ◌≤◌, ◌+◌, ℕ, List, [], ◌++◌, reverse, if◌then◌else◌, nat_lt, IfErr};
+ghost use Rattle.std.specs.Prelude.{OnOk, length};
 ghost use Rattle.acdm_web.specs.Events.{event_text};
 ghost use Rattle.acdm_step.specs.declared.entry.Entry.{Entry as AnEntry};
 ghost use Rattle.acdm_journal.specs.Whole.{Saves};
@@ -29,6 +29,7 @@ pub(crate) trait Telling {
         ensures row { watch.new.row ≡ watch.old.row }
         ensures added { OnOk result (Adds tells self.old self.new watch.old.seen watch.new.seen
             text.old.items text.new.items) }
+        ensures few { OnOk result (length watch.new.seen ≤ 1 + length watch.old.seen) }
         ensures failed { IfErr result CutsShort };
 }
 

@@ -70,6 +70,9 @@ pub fn pass_next(watch: &mut Watch, known: &mut Known, row: &Row) -> Result<bool
     requires { row.now ≡ watch.old.row }
     ensures row { watch.new.row ≡ watch.old.row }
     ensures passes { OnOk result (Passes watch.old watch.new known.old known.new) }
+    ensures took { IfOk result (λ took. took ≡ true
+        → (e : AnEntry) × (watch.new.seen ≡ watch.old.seen ++ e ∷ [])) }
+    ensures left { IfOk result (λ took. took ≡ false → watch.new ≡ watch.old) }
 {
     let Some(entry) = watch.take_next(row)? else {
         return Ok(false);

@@ -12,6 +12,7 @@ use Rattle.acdm_watch.proofs.Crossing.{sight_send}
 use Rattle.acdm_watch.specs.contracts.sight.Sight as sight
 use Rattle.acdm_keeping.specs.declared.receipt.Opening as opening
 use Rattle.acdm_keeping.proofs.progress.Progress.TheSendSync as progress
+use Rattle.acdm_keeping.proofs.reach.Reach.TheSendSync as reach
 use Rattle.acdm_keeping.specs.contracts.keeper.Keeper as keeper
 use Rattle.acdm_keeping.specs.contracts.keeper.Keeper.TheInside as keeper_inside
 use Rattle.acdm_keeping.specs.contracts.receipt.Writing as writing
@@ -60,10 +61,13 @@ shared_send F J o n f =
     declared_send (shared.the_type F J o n) (
       search (row_send, row_sync, sendable, crosses) depth 20,
       (
-        search (progress.the_send, sendable, crosses) depth 20,
+        search (reach.the_send, sendable, crosses) depth 20,
         (
-          search (sendable, crosses) depth 20,
-          (search (kept, sendable) depth 10, (search (sendable, crosses) depth 20, tt)),
+          search (progress.the_send, sendable, crosses) depth 20,
+          (
+            search (sendable, crosses) depth 20,
+            (search (kept, sendable) depth 10, (search (sendable, crosses) depth 20, tt)),
+          ),
         ),
       ),
     )
@@ -75,10 +79,13 @@ shared_sync F J o n f =
     declared_sync (shared.the_type F J o n) (
       search (row_send, row_sync, sendable, crosses) depth 20,
       (
-        search (progress.the_send, sendable, crosses) depth 20,
+        search (reach.the_sync, sendable, crosses) depth 20,
         (
-          search (sendable, crosses) depth 20,
-          (search (kept, sendable) depth 10, (search (sendable, crosses) depth 20, tt)),
+          search (progress.the_send, sendable, crosses) depth 20,
+          (
+            search (sendable, crosses) depth 20,
+            (search (kept, sendable) depth 10, (search (sendable, crosses) depth 20, tt)),
+          ),
         ),
       ),
     )

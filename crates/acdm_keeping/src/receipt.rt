@@ -17,6 +17,13 @@ pub struct Receipt {
 }
 
 impl Receipt {
+    /// The receipt that was given for so many, once more.
+    pub(crate) fn again(count: usize) -> Receipt
+        ensures { result.count ≡ count }
+    {
+        Receipt { count }
+    }
+
     /// How many entries are kept.
     pub fn count(self) -> usize
         ensures { result ≡ self.count }
@@ -122,18 +129,20 @@ impl<F: Write + Drop, J: Opening> Writing<F, J> {
         }
     }
 
-    /// The keeper, once all entries in sight are written. `Save` where that fails, or failed before.
-    pub(crate) fn into_keeper(self) -> Result<Keeper<F>, Failure>
-        ensures row { IfOk result (λ k. k.row ≡ J.desk_row) }
-        ensures kept { IfOk result (λ k. Keeps J.opening k.seen [] k.writer.log) }
-        ensures flushed { IfOk result (λ k. k.writer.waits ≡ false) }
+    /// The keeper, once all entries in sight are written, and the receipt for them. `Save` where that fails,
+    /// or failed before.
+    pub(crate) fn into_keeper(self) -> Result<(Keeper<F>, Receipt), Failure>
+        ensures row { IfOk result (λ k. k.0.row ≡ J.desk_row) }
+        ensures count { IfOk result (λ k. k.1.count ≡ length k.0.seen) }
+        ensures kept { IfOk result (λ k. Keeps J.opening k.0.seen [] k.0.writer.log) }
+        ensures flushed { IfOk result (λ k. k.0.writer.waits ≡ false) }
         ensures failed { IfErr result (λ e. e ≡ Save) }
     {
         let mut writing = self;
         match writing.write_on() {
-            Ok(_) => {
+            Ok(receipt) => {
                 let Writing { keeper, .. } = writing;
-                Ok(keeper)
+                Ok((keeper, receipt))
             }
             Err(failure) => Err(failure),
         }

@@ -7,9 +7,11 @@ ghost use Rattle.acdm_keeping.specs.Turns.{TellsKept};
 
 use crate::keeper::Keeper;
 use crate::progress::{Progress, Turn};
+use crate::reach::Reach;
 use crate::receipt::{Opening, Receipt, Writing};
 use acdm_judging::Failure;
 use acdm_row::Row;
+use std::alloc::{AllocError, Global};
 use std::io::Write;
 use std::sync::atomic::{AtomicBool, Ordering};
 use std::sync::{Arc, Condvar, Mutex, Wait};
@@ -23,6 +25,7 @@ use std::sync::{Arc, Condvar, Mutex, Wait};
 #[derive(Drop)]
 pub struct SharedKeeper<F: Write + Drop, J: Opening> {
     row: Arc<Row>,
+    reach: Reach,
     progress: Mutex<Progress>,
     changed: Condvar,
     writing: Mutex<Writing<F, J>>,
@@ -33,6 +36,7 @@ impl<F: Write + Drop, J: Opening> SharedKeeper<F, J> {
     /// Shares a keeper of this row, of which all that it has seen is kept already, and that has
     /// written nothing. The word is set once keeping has failed. `Err` only where memory was refused.
     pub fn new(
+        alloc: Global,
         keeper: Keeper<F>,
         row: &Arc<Row>,
         failed: &Arc<AtomicBool>,
@@ -51,6 +55,7 @@ impl<F: Write + Drop, J: Opening> SharedKeeper<F, J> {
         };
         Ok(SharedKeeper {
             row,
+            reach: Reach::new(alloc, receipt)?,
             progress: Mutex::new(Progress::new(receipt)),
             changed: Condvar::new(),
             writing: Mutex::new(writing),
@@ -82,8 +87,13 @@ impl<F: Write + Drop, J: Opening> SharedKeeper<F, J> {
         }
     }
 
-    /// The keeper, once nobody waits any more, and all entries in sight are kept. What it wrote is the
-    /// text of the entries behind those that had been kept before.
+    /// How far the row is kept, for those who show it. `Err` only where memory was refused.
+    pub fn reach(&self) -> Result<Reach, AllocError> {
+        self.reach.copy()
+    }
+
+    /// The keeper, once nobody waits any more, and all entries in sight are kept; those who show them are
+    /// told. What it wrote is the text of the entries behind those that had been kept before.
     ///
     /// `Save` where keeping has failed.
     pub fn into_keeper(self) -> Result<Keeper<F>, Failure>
@@ -92,8 +102,14 @@ impl<F: Write + Drop, J: Opening> SharedKeeper<F, J> {
         ensures flushed { IfOk result (λ k. k.writer.waits ≡ false) }
         ensures failed { IfErr result (λ e. e ≡ Save) }
     {
-        let SharedKeeper { writing, .. } = self;
-        writing.into_inner().into_keeper()
+        let SharedKeeper { writing, reach, .. } = self;
+        match writing.into_inner().into_keeper() {
+            Ok((keeper, receipt)) => {
+                reach.renew(receipt);
+                Ok(keeper)
+            }
+            Err(failure) => Err(failure),
+        }
     }
 
     // How many entries are in sight: those that are kept, and those behind them.
@@ -127,8 +143,9 @@ impl<F: Write + Drop, J: Opening> SharedKeeper<F, J> {
     {
         let written = self.write_on(rt);
         let ended = self.progress.lock(rt).end(written, count);
-        if ended.is_err() {
-            self.failed.store(true, Ordering::SeqCst);
+        match ended {
+            Ok(receipt) => self.reach.renew(receipt),
+            Err(_) => self.failed.store(true, Ordering::SeqCst),
         }
         self.changed.notify_all();
         ended

@@ -12,7 +12,10 @@ use std::sync::{Arc, Wait};
 use std::thread::{self, JoinHandle, Threads};
 use std::time::{Clock, Duration};
 
-/// Who accepts partners at all addresses, tells who comes and leaves and when the journal is nearly full,
+/// At how many looks it is looked once for the file of the journal: at about every half second.
+const LOOKS_A_FILE: u64 = 16;
+
+/// Who accepts partners at all addresses, looks after the file of the journal, tells who comes and leaves and when the journal is nearly full,
 /// and answers at the control address.
 #[derive(Drop)]
 pub struct Acceptor<K: Drop, S: Drop> {
@@ -21,6 +24,7 @@ pub struct Acceptor<K: Drop, S: Drop> {
     control: Option<Control>,
     standing: S,
     levels: Levels,
+    looks: u64,
     closing: Arc<AtomicBool>,
     done: Arc<AtomicBool>,
 }
@@ -43,6 +47,7 @@ impl<K: Wait + Clock + Drop, S: Standing + Drop> Acceptor<K, S> {
             control,
             standing,
             levels: Levels::new(),
+            looks: 0,
             closing,
             done,
         })
@@ -87,8 +92,21 @@ impl<K: Wait + Clock + Drop, S: Standing + Drop> Acceptor<K, S> {
         if let Some(control) = &mut self.control {
             let alloc = self.reporter.alloc;
             if control.look(alloc, self.doors.as_slice(), &self.standing, now) {
-                self.closing.store(true, Ordering::SeqCst);
+                self.close_board();
             }
+        }
+        self.look_after_file();
+    }
+
+    fn close_board(&self) {
+        self.closing.store(true, Ordering::SeqCst);
+    }
+
+    // Has the board close where the journal does not stand any more where it is kept.
+    fn look_after_file(&mut self) {
+        self.looks = self.looks.saturating_add(1);
+        if self.looks % LOOKS_A_FILE == 0 && !self.standing.stands() {
+            self.close_board();
         }
     }
 

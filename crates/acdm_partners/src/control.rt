@@ -32,6 +32,9 @@ pub trait Standing {
 
     /// The minute of its last entry since 1970-01-01T00:00Z, if it has one.
     fn last(&self) -> Option<u32>;
+
+    /// Whether it still stands where it is kept, if it is.
+    fn stands(&self) -> bool;
 }
 
 // Who is connected, the line that was begun, and when the one before was answered, in milliseconds.

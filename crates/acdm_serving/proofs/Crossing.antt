@@ -12,6 +12,7 @@ use Rattle.std.specs.contracts.alloc.Global as heap
 use Rattle.std.specs.contracts.impls.GlobalAllocator.TheImpl.{ghosts}
 use Rattle.acdm_row.proofs.Crossing.{row_send, row_sync}
 use Rattle.std.specs.declared.io.traits.Read as read
+use Rattle.std.specs.declared.io.traits.Write as write
 use Rattle.acdm_partners.proofs.arriving.Arriving.TheSendSync as arriving
 use Rattle.acdm_partners.proofs.connection.Connection.TheSendSync as connection
 use Rattle.acdm_partners.specs.contracts.arriving.Arriving as of_arriving
@@ -21,16 +22,22 @@ use Rattle.acdm_partners.proofs.Crossing.{reader_send}
 use Rattle.acdm_partners.proofs.replies.Replies.TheSendSync as replies
 use Rattle.acdm_partners.specs.contracts.replies.Replies as of_replies
 use Rattle.acdm_keeping.proofs.Crossing.{replies_send}
+use Rattle.acdm_keeping.proofs.named.Named.TheSendSync as named
 use Rattle.acdm_keeping.proofs.synced.Synced.TheSendSync as synced
 use Rattle.acdm_keeping.specs.contracts.synced.Synced as of_synced
-use Rattle.acdm_keeping.specs.contracts.synced.SyncedWrite.TheImpl as kept
 use Rattle.acdm_keeping.specs.contracts.replies.Replies as behind
 use Rattle.acdm_keeping.specs.declared.receipt.Opening as opening
 use Rattle.acdm_serving.specs.contracts.lasting.Tally as tally
 
-pub tally_send : IsSend tally.the_row
-tally_send = declared_send tally.the_type
-    (search (row_send, row_sync, sendable, crosses) depth 20, tt)
+pub tally_send : (K : RattleType) → IsSend K → IsSend (tally.the_row K)
+tally_send K k =
+    declared_send (tally.the_type K) (
+      search (k, sendable) depth 8,
+      (
+        search (row_send, row_sync, sendable, crosses) depth 20,
+        (search (named.the_send, sendable, crosses) depth 20, tt),
+      ),
+    )
 
 pub connection_send : IsSend of_connection.the_row
 connection_send = search (connection.the_send, sendable, crosses) depth 20
@@ -42,17 +49,19 @@ pub reading_send : (κ : NamedLft) (Q : RattleType) (n : ℕ) (d : read.Ghosts (
     → IsSync Q → IsSend (reader.the_row (of_arriving.the_row κ Q) of_connection.the_row (number n) d)
 reading_send κ Q n d q = reader_send _ _ n d (arriving_send κ Q q) connection_send
 
-synced_send : IsSend of_synced.the_row
-synced_send = search (synced.the_send, sendable, crosses) depth 20
+synced_send : (Q : RattleType) → IsSend Q → IsSend (of_synced.the_row Q)
+synced_send Q q = search (synced.the_send, q, sendable, crosses) depth 20
 
-pub behind_send : (κ κ' : NamedLft) (J Q : RattleType) (n : opening.Ghosts J.Denot) → IsSync Q
-    → IsSend (behind.the_row κ of_synced.the_row J (of_replies.the_row κ' Q) Q kept.ghosts n)
-behind_send κ κ' J Q n q =
-    replies_send κ of_synced.the_row J (of_replies.the_row κ' Q) Q kept.ghosts n synced_send
+pub behind_send : (κ κ' : NamedLft) (J Q : RattleType) (o : write.Ghosts (of_synced.the_row Q).Denot)
+    (n : opening.Ghosts J.Denot) → IsSend Q → IsSync Q
+    → IsSend (behind.the_row κ (of_synced.the_row Q) J (of_replies.the_row κ' Q) Q o n)
+behind_send κ κ' J Q o n s q =
+    replies_send κ (of_synced.the_row Q) J (of_replies.the_row κ' Q) Q o n (synced_send Q s)
     (search (replies.the_send, q, sendable, crosses) depth 20) q
 
-pub writing_send : (κ κ' : NamedLft) (J Q : RattleType) (n : opening.Ghosts J.Denot) → IsSync Q
-    → IsSend (of_buffered.the_row (behind.the_row κ of_synced.the_row J (of_replies.the_row κ' Q) Q
-    kept.ghosts n) heap.the_row ghosts)
-writing_send κ κ' J Q n q =
-    buffered.the_send _ heap.the_row ghosts (behind_send κ κ' J Q n q) send frees
+pub writing_send : (κ κ' : NamedLft) (J Q : RattleType) (o : write.Ghosts (of_synced.the_row Q).Denot)
+    (n : opening.Ghosts J.Denot) → IsSend Q → IsSync Q
+    → IsSend (of_buffered.the_row (behind.the_row κ (of_synced.the_row Q) J (of_replies.the_row κ' Q) Q o n)
+    heap.the_row ghosts)
+writing_send κ κ' J Q o n s q =
+    buffered.the_send _ heap.the_row ghosts (behind_send κ κ' J Q o n s q) send frees

@@ -1,15 +1,17 @@
 //! What serving needs of the system.
 
+use acdm_keeping::Paths;
 use std::io::Eprint;
 use std::net::{Net, TcpListener, TcpStream};
 use std::sync::Wait;
 use std::thread::Threads;
 use std::time::Clock;
 
-/// Connections, the clock, standard error, and threads that share all of it. It is each runtime that
-/// has them. (`complete` of `acdm_commands` names them one by one: who calls it with a
-/// runtime needs their types.)
-pub trait Host: Net<Listener = TcpListener, Stream = TcpStream>
+/// Files by their paths, connections, the clock, standard error, and threads that share all of it. It is each
+/// runtime that has them. (`complete` of `acdm_commands` names them one by one: who calls it with a runtime needs
+/// their types.)
+pub trait Host: Paths
+    + Net<Listener = TcpListener, Stream = TcpStream>
     + Clock
     + Eprint
     + Threads
@@ -22,7 +24,8 @@ pub trait Host: Net<Listener = TcpListener, Stream = TcpStream>
 
 impl<Rt> Host for Rt
 where
-    Rt: Net<Listener = TcpListener, Stream = TcpStream>
+    Rt: Paths
+        + Net<Listener = TcpListener, Stream = TcpStream>
         + Clock
         + Eprint
         + Threads

@@ -11,7 +11,7 @@ use crate::host::Host;
 use crate::partners::{REPLIES_HELD, Served, announce, served_by, tell};
 use acdm_board::Desk;
 use acdm_judging::ServeError;
-use acdm_keeping::{Opening, Replies as Behind, SharedKeeper, Synced};
+use acdm_keeping::{Named, Opening, Paths, Replies as Behind, SharedKeeper, Synced};
 use acdm_milestones::Role;
 use acdm_partners::{
     Acceptor, Arriving, Connection, Console, Control, Door, Place, Reception, Replies, Standing,
@@ -35,11 +35,21 @@ const MOST_KEPT: usize = LONGEST_REQUEST + 1;
 pub type Reading<'r, Rt> = WholeLines<Arriving<'r, Rt>, Connection, MOST_KEPT>;
 
 /// Who keeps the journal, where it is kept, for all whose replies wait.
-pub type FileKeeper<J> = SharedKeeper<Synced, J>;
+pub type FileKeeper<J, Rt> = SharedKeeper<Synced<Rt>, J>;
 
 /// What its replies go to: the connection whose lines they answer, once their entries are kept, where
 /// the journal is.
-pub type Writing<'r, J, Rt> = BufWriter<Behind<'r, Synced, J, Replies<'r, Rt>, Rt>>;
+pub type Writing<'r, J, Rt> = BufWriter<Behind<'r, Synced<Rt>, J, Replies<'r, Rt>, Rt>>;
+
+/// How a board is run whose partners come and go: by which terms they are served, where it can be closed, the word
+/// that says that it closes, and the file in which its journal is kept, if it is.
+#[derive(Drop)]
+pub struct Operation {
+    pub terms: Terms,
+    pub control: Option<Control>,
+    pub closing: Arc<AtomicBool>,
+    pub kept: Option<Named>,
+}
 
 // Where partners connect, in the order of their sessions.
 #[derive(Drop)]
@@ -63,12 +73,11 @@ impl Addresses {
         number: usize,
         role: Role,
         listener: TcpListener,
-        terms: Terms,
-        closing: &Arc<AtomicBool>,
+        operation: &Operation,
     ) -> Result<Arc<Place>, ServeError>
         ensures fails { IfErr result IsOfAccepting }
     {
-        let Ok(place) = Place::new(alloc, terms, closing) else {
+        let Ok(place) = Place::new(alloc, operation.terms, &operation.closing) else {
             return Err(ServeError::Memory);
         };
         let (Ok(kept), Ok(given)) = (Arc::try_clone(&place), Arc::try_clone(&place)) else {
@@ -106,13 +115,15 @@ impl<Rt: Wait> Gate for Places<'_, Rt> {
     }
 }
 
-// What is told of the journal in a row.
+// What is told of the journal in a row, and of the file in which it is kept, if there is one.
 #[derive(Drop)]
-struct Tally {
+struct Tally<K: Drop> {
+    rt: K,
     row: Arc<Row>,
+    kept: Option<Named>,
 }
 
-impl Tally {
+impl<K: Paths + Drop> Tally<K> {
     // The minute of an entry, if it is there.
     fn moment(&self, at: usize) -> Option<u32> {
         if at >= self.row.len() {
@@ -124,7 +135,7 @@ impl Tally {
     }
 }
 
-impl Standing for Tally {
+impl<K: Paths + Drop> Standing for Tally<K> {
     fn used(&self) -> usize {
         let room = self.row.len();
         for at in 0..room {
@@ -149,15 +160,22 @@ impl Standing for Tally {
     fn last(&self) -> Option<u32> {
         self.moment(self.used().checked_sub(1)?)
     }
+
+    fn stands(&self) -> bool {
+        match &self.kept {
+            Some(kept) => kept.stands(&self.rt),
+            None => true,
+        }
+    }
 }
 
 // A session over all connections at a place.
-fn session_at<'r, J: Opening, Rt: Wait + SystemClock, C: Clock + Drop>(
+fn session_at<'r, J: Opening, Rt: Host, C: Clock + Drop>(
     rt: &'r Rt,
     alloc: Global,
     role: Role,
     place: Arc<Place>,
-    keeper: Option<&'r FileKeeper<J>>,
+    keeper: Option<&'r FileKeeper<J, Rt>>,
     clock: C,
 ) -> Result<Session<Reading<'r, Rt>, Writing<'r, J, Rt>, C>, ServeError>
     ensures role { IfOk result (λ session. session.role ≡ role) }
@@ -184,14 +202,13 @@ fn session_at<'r, J: Opening, Rt: Wait + SystemClock, C: Clock + Drop>(
 }
 
 // Opens the address of a partner, and its session.
-fn open<'r, J: Opening, Rt: Wait + SystemClock, C: Clock + Drop>(
+fn open<'r, J: Opening, Rt: Host, C: Clock + Drop>(
     rt: &'r Rt,
     alloc: Global,
     number: usize,
     partner: (Role, TcpListener, C),
-    terms: Terms,
-    closing: &Arc<AtomicBool>,
-    keeper: Option<&'r FileKeeper<J>>,
+    operation: &Operation,
+    keeper: Option<&'r FileKeeper<J, Rt>>,
     addresses: &mut Addresses,
 ) -> Result<Session<Reading<'r, Rt>, Writing<'r, J, Rt>, C>, ServeError>
     ensures role { IfOk result (λ session. session.role ≡ partner.0) }
@@ -200,18 +217,17 @@ fn open<'r, J: Opening, Rt: Wait + SystemClock, C: Clock + Drop>(
     ensures fails { IfErr result IsOfAccepting }
 {
     let (role, listener, clock) = partner;
-    let place = addresses.add(alloc, number, role, listener, terms, closing)?;
+    let place = addresses.add(alloc, number, role, listener, operation)?;
     session_at(rt, alloc, role, place, keeper, clock)
 }
 
 // Opens the address of each partner, in order, and its session.
-fn open_all<'r, J: Opening, Rt: Wait + SystemClock, C: Clock + Drop>(
+fn open_all<'r, J: Opening, Rt: Host, C: Clock + Drop>(
     rt: &'r Rt,
     alloc: Global,
     partners: Vec<(Role, TcpListener, C)>,
-    terms: Terms,
-    closing: &Arc<AtomicBool>,
-    keeper: Option<&'r FileKeeper<J>>,
+    operation: &Operation,
+    keeper: Option<&'r FileKeeper<J, Rt>>,
     addresses: &mut Addresses,
 ) -> Result<Vec<Session<Reading<'r, Rt>, Writing<'r, J, Rt>, C>>, ServeError>
     ensures len { IfOk result (λ sessions. vec_len sessions ≡ vec_len partners) }
@@ -227,9 +243,7 @@ fn open_all<'r, J: Opening, Rt: Wait + SystemClock, C: Clock + Drop>(
     };
     for partner in partners {
         let number = sessions.len() + 1;
-        let session = open(
-            rt, alloc, number, partner, terms, closing, keeper, addresses,
-        )?;
+        let session = open(rt, alloc, number, partner, operation, keeper, addresses)?;
         sessions.push_reserved(session);
     }
     Ok(sessions)
@@ -240,15 +254,22 @@ fn acceptor_of<Rt: Host>(
     rt: &Rt,
     alloc: Global,
     doors: Vec<Door>,
-    control: Option<Control>,
+    operation: Operation,
     row: &Arc<Row>,
-    closing: Arc<AtomicBool>,
-) -> Result<Acceptor<Rt, Tally>, AllocError> {
-    let own = rt.clone()?;
-    let writing = rt.clone()?;
-    let row = Arc::try_clone(row)?;
-    let console = Console::begin(rt, writing, alloc)?;
-    Acceptor::new(own, alloc, console, doors, control, Tally { row }, closing)
+) -> Result<Acceptor<Rt, Tally<Rt>>, AllocError> {
+    let Operation {
+        control,
+        closing,
+        kept,
+        ..
+    } = operation;
+    let tally = Tally {
+        rt: rt.clone()?,
+        row: Arc::try_clone(row)?,
+        kept,
+    };
+    let console = Console::begin(rt, rt.clone()?, alloc)?;
+    Acceptor::new(rt.clone()?, alloc, console, doors, control, tally, closing)
 }
 
 // Starts the thread that accepts partners and answers at the control address.
@@ -256,13 +277,12 @@ fn receive<Rt: Host>(
     rt: &Rt,
     alloc: Global,
     doors: Vec<Door>,
-    control: Option<Control>,
+    operation: Operation,
     row: &Arc<Row>,
-    closing: Arc<AtomicBool>,
 ) -> Result<Reception, ServeError>
     ensures fails { IfErr result IsOfAccepting }
 {
-    let Ok(acceptor) = acceptor_of(rt, alloc, doors, control, row, closing) else {
+    let Ok(acceptor) = acceptor_of(rt, alloc, doors, operation, row) else {
         return Err(ServeError::Memory);
     };
     match Reception::begin(rt, acceptor) {
@@ -272,13 +292,12 @@ fn receive<Rt: Host>(
 }
 
 // Tells of the listeners, and opens the sessions of their partners.
-fn opened<'r, J: Opening, Rt: Wait + SystemClock, C: Clock + Drop, W: Write>(
+fn opened<'r, J: Opening, Rt: Host, C: Clock + Drop, W: Write>(
     rt: &'r Rt,
     alloc: Global,
     partners: Vec<(Role, TcpListener, C)>,
-    terms: Terms,
-    closing: &Arc<AtomicBool>,
-    keeper: Option<&'r FileKeeper<J>>,
+    operation: &Operation,
+    keeper: Option<&'r FileKeeper<J, Rt>>,
     addresses: &mut Addresses,
     writer: &mut Sink<W>,
 ) -> Result<Vec<Session<Reading<'r, Rt>, Writing<'r, J, Rt>, C>>, ServeError>
@@ -293,7 +312,7 @@ fn opened<'r, J: Opening, Rt: Wait + SystemClock, C: Clock + Drop, W: Write>(
     ensures fails { IfErr result (FailsToTell writer.old writer.new) }
 {
     announce(alloc, partners.as_slice(), writer)?;
-    open_all(rt, alloc, partners, terms, closing, keeper, addresses)
+    open_all(rt, alloc, partners, operation, keeper, addresses)
 }
 
 // Serves the sessions while partners are accepted.
@@ -309,8 +328,7 @@ fn served_while<
     desk: Desk<H>,
     sessions: Vec<Session<Reading<'r, Rt>, Writing<'r, J, Rt>, C>>,
     addresses: Addresses,
-    control: Option<Control>,
-    closing: Arc<AtomicBool>,
+    operation: Operation,
 ) -> Result<Closed<H, Reading<'r, Rt>, Writing<'r, J, Rt>, C>, ServeError>
     requires few { vec_len sessions ≤ 64 }
     ensures serves { IfOk result (λ c. ServesSessions desk c.desk
@@ -320,7 +338,7 @@ fn served_while<
     ensures fails { IfErr result IsOfAccepting }
 {
     let Addresses { doors, places } = addresses;
-    let reception = receive(rt, alloc, doors, control, desk.row(), closing)?;
+    let reception = receive(rt, alloc, doors, operation, desk.row())?;
     let closed = served_by(rt, alloc, desk, sessions, &Places { rt, places });
     reception.end(rt);
     closed
@@ -329,8 +347,8 @@ fn served_while<
 /// Serves a partner on each listener, all at once against one desk, as `serve_on`, by these terms: who
 /// connects is served once its first line is there and begins with `{`, whoever else is there; who sends
 /// another is answered `bad 101` and closed. Where the terms say so, each session goes on with the next who connects.
-/// At the control address the board can be closed, as by the word: all sessions end then. Replies wait
-/// for the keeper, if there is one.
+/// At the control address the board can be closed, as by the word: all sessions end then, and so they do where
+/// the file of the journal is removed, renamed, replaced or cut. Replies wait for the keeper, if there is one.
 ///
 /// `Accept` where a listener has no address or can't be asked; `Write` where the writer failed before the
 /// sessions; `Memory` where it was refused before they began, or no thread could be made.
@@ -345,10 +363,8 @@ pub fn serve_again<
     rt: &'r Rt,
     alloc: Global,
     partners: Vec<(Role, TcpListener, C)>,
-    terms: Terms,
-    control: Option<Control>,
-    closing: Arc<AtomicBool>,
-    keeper: Option<&'r FileKeeper<J>>,
+    operation: Operation,
+    keeper: Option<&'r FileKeeper<J, Rt>>,
     desk: Desk<H>,
     writer: &mut Sink<W>,
 ) -> Result<Served<H, Reading<'r, Rt>, Writing<'r, J, Rt>, C>, ServeError>
@@ -364,8 +380,8 @@ pub fn serve_again<
 {
     let mut addresses = Addresses::new(alloc);
     let open = &mut addresses;
-    let sessions = opened(rt, alloc, partners, terms, &closing, keeper, open, writer)?;
-    let closed = served_while(rt, alloc, desk, sessions, addresses, control, closing)?;
+    let sessions = opened(rt, alloc, partners, &operation, keeper, open, writer)?;
+    let closed = served_while(rt, alloc, desk, sessions, addresses, operation)?;
     let told = tell(&closed, writer);
     let Closed { desk, sessions } = closed;
     Ok(Served {

@@ -8,5 +8,5 @@ mod lasting;
 mod partners;
 
 pub use host::Host;
-pub use lasting::{FileKeeper, Reading, Writing, serve_again};
+pub use lasting::{FileKeeper, Operation, Reading, Writing, serve_again};
 pub use partners::{ReplyWriter, Served, serve_on};

@@ -13,22 +13,33 @@ const LONGEST_HEAD: usize = 8_192;
 /// How many bytes are read at once at most.
 const PIECE: usize = 512;
 
-/// How often is read at most. A reader that waits for 25 milliseconds at most has 10 seconds so.
-const MOST_READS: u64 = 400;
+/// How often is read at most, where no time limit ends it.
+const MOST_READS: u64 = 10_000;
 
-/// What a browser asks for, of a board with this name, if it has one. `None` where it ends before its head is whole, where that has more than
-/// 8,192 bytes or is not there after 400 reads, where the reader fails, and where memory is refused. A
-/// read that nothing came of in its time, or that a signal interrupted, is made again.
-pub fn first_wanted<R: Read>(
+/// Tells when a time is over.
+pub trait TimeLimit {
+    /// Whether it is.
+    fn is_over(&self) -> bool;
+}
+
+/// What a browser asks for, of a board with this name, if it has one. `None` where it ends before its head is
+/// whole, where that has more than 8,192 bytes or is not there once the time is over or after 10,000 reads, where
+/// the reader fails, and where memory is refused. A read that nothing came of in its time, or that a signal
+/// interrupted, is made again.
+pub fn first_wanted<R: Read, L: TimeLimit>(
     alloc: Global,
     reader: &mut Source<R>,
     name: Option<&str>,
+    limit: &L,
 ) -> Option<Wanted>
     requires { reader.old.log ≡ [] }
     ensures { IfSome result (Wants (option_map (λ n. n.now) name.entry) reader.new.log) }
 {
     let mut bytes = Vec::new(alloc);
     for _ in 0..MOST_READS {
+        if limit.is_over() {
+            return None;
+        }
         let mut piece = [0u8; PIECE];
         match reader.read(&mut piece) {
             Ok(0) => return None,

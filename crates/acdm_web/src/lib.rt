@@ -9,6 +9,6 @@ mod request;
 
 pub use answer::push_answer;
 pub use event::push_event;
-pub use hearing::first_wanted;
+pub use hearing::{TimeLimit, first_wanted};
 pub use page::PAGE;
 pub use request::{Wanted, number_in, wanted_in};

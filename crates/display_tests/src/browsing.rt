@@ -1,9 +1,9 @@
 //! What browsers ask for, and what they are sent.
 use crate::feeding::{FIRST, SECOND};
-use crate::following::{tick, ticked};
+use crate::following::{entries_of, tick, ticked};
 use acdm_displays::{Shown, answer, follow_events};
 use acdm_lines::{Sink, Source};
-use acdm_web::{PAGE, Wanted, first_wanted, wanted_in};
+use acdm_web::{PAGE, TimeLimit, Wanted, first_wanted, wanted_in};
 use bpf_helpers::{Bank, Helpers};
 use std::alloc::Global;
 use std::fmt::Write;
@@ -128,10 +128,28 @@ fn a_board_is_asked_by_its_own_names_alone(rt: HostRuntime) {
     assert!(rt; asked_with(alloc, named, None) == Some(Wanted::Misdirected));
 }
 
+// A time that is never over.
+struct Never;
+
+impl TimeLimit for Never {
+    fn is_over(&self) -> bool {
+        false
+    }
+}
+
+// A time that is over.
+struct Over;
+
+impl TimeLimit for Over {
+    fn is_over(&self) -> bool {
+        true
+    }
+}
+
 // What is heard of these bytes.
 fn heard(alloc: Global, mut bytes: &[u8]) -> Option<Wanted> {
     let mut reader = Source::new(&mut bytes);
-    first_wanted(alloc, &mut reader, None)
+    first_wanted(alloc, &mut reader, None, &Never)
 }
 
 #[test]
@@ -139,6 +157,9 @@ fn a_browser_is_heard(rt: HostRuntime) {
     let alloc = rt.alloc();
     assert!(rt; heard(alloc, b"GET / HTTP/1.1\r\n\r\n") == Some(Wanted::Page));
     assert!(rt; heard(alloc, b"GET / HTTP/1.1\r\n").is_none());
+    let mut late: &[u8] = b"GET / HTTP/1.1\r\n\r\n";
+    let mut reader = Source::new(&mut late);
+    assert!(rt; first_wanted(alloc, &mut reader, None, &Over).is_none());
     assert!(rt; heard(alloc, &[b'x'; 9_000]).is_none());
 }
 
@@ -200,16 +221,10 @@ fn sent<H: Helpers + Drop>(
     assert!(rt; tick(&mut desk, 9));
     let closing = AtomicBool::new(true);
     let writer = Sink::new(Vec::new(alloc));
-    let shown = follow_events(
-        alloc,
-        desk.row(),
-        last,
-        &closing,
-        &mut "".as_bytes(),
-        writer,
-    );
+    let entries = entries_of(desk.row(), &closing);
+    let shown = follow_events(alloc, &entries, last, &mut "".as_bytes(), writer);
     drop(desk);
-    let Shown { watch, writer } = shown.ok().expect(rt, "a browser");
+    let Shown { watch, writer, .. } = shown.ok().expect(rt, "a browser");
     drop(watch);
     writer.into_inner()
 }

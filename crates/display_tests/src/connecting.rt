@@ -1,6 +1,6 @@
 //! Displays over connections of this machine with itself.
 use crate::following::{TICKS, tick, ticked};
-use acdm_displays::Displays;
+use acdm_displays::{Displays, Form};
 use bpf_helpers::{Bank, Helpers};
 use std::alloc::Global;
 use std::io::{Read, Write};
@@ -36,7 +36,7 @@ fn shown<
         .ok()
         .expect(rt, "a port");
     let address = listener.local_addr().ok().expect(rt, "an address");
-    let displays = Displays::start(rt, alloc, listener, desk.row())
+    let displays = Displays::start(rt, alloc, Form::Journal, listener, None, desk.row(), None)
         .ok()
         .expect(rt, "displays");
     drop(desk);
@@ -81,7 +81,7 @@ fn free_address<Rt: Net<Listener = TcpListener, Stream = TcpStream> + Abort>(
     listener.local_addr().ok().expect(rt, "an address")
 }
 
-// Displays of the journal of a desk with two ticks, where an address is given.
+// Displays of the journal of a desk with two ticks, at an address, where they can be had there.
 fn opened<
     H: Helpers + Drop,
     Rt: Net<Listener = TcpListener, Stream = TcpStream>
@@ -92,12 +92,10 @@ fn opened<
         + Drop
         + Send
         + 'static,
->(rt: &Rt, alloc: Global, helpers: H, address: Option<&str>) -> Option<Displays> {
+>(rt: &Rt, alloc: Global, helpers: H, address: &str) -> Option<Displays> {
     let mut desk = ticked(rt, alloc, helpers, 10);
     assert!(rt; tick(&mut desk, 9));
-    let displays = Displays::open(rt, alloc, address, desk.row())
-        .ok()
-        .expect(rt, "displays or none");
+    let displays = Displays::open(rt, alloc, Form::Journal, address, None, desk.row(), None).ok();
     drop(desk);
     displays
 }
@@ -108,7 +106,7 @@ fn displays_connect_at_the_address_that_was_given(rt: HostRuntime) {
     let address = free_address(&rt);
     let word = format!(in alloc; "{address}").expect(&rt, "a word");
     let bank = Bank::new(alloc).expect(&rt, "a bank");
-    let displays = opened(&rt, alloc, bank, Some(word.as_str())).expect(&rt, "displays");
+    let displays = opened(&rt, alloc, bank, word.as_str()).expect(&rt, "displays");
     let mut stream = connected(&rt, address);
     let display = thread::spawn(
         &rt,
@@ -121,10 +119,10 @@ fn displays_connect_at_the_address_that_was_given(rt: HostRuntime) {
 }
 
 #[test]
-fn without_an_address_there_are_no_displays(rt: HostRuntime) {
+fn at_no_address_there_are_no_displays(rt: HostRuntime) {
     let alloc = rt.alloc();
     let bank = Bank::new(alloc).expect(&rt, "a bank");
-    assert!(rt; opened(&rt, alloc, bank, None).is_none());
+    assert!(rt; opened(&rt, alloc, bank, "nowhere").is_none());
 }
 
 #[test]

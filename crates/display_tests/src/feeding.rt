@@ -1,5 +1,5 @@
 //! What displays are told of changes, from where they asked to be.
-use crate::following::{tick, ticked};
+use crate::following::{entries_of, tick, ticked};
 use acdm_displays::{Shown, Start, follow_changes, start_named};
 use acdm_lines::Sink;
 use bpf_helpers::{Bank, Helpers};
@@ -23,16 +23,10 @@ fn told<H: Helpers + Drop>(rt: &impl Abort, alloc: Global, helpers: H, start: St
     assert!(rt; tick(&mut desk, 9));
     let closing = AtomicBool::new(true);
     let writer = Sink::new(Vec::new(alloc));
-    let shown = follow_changes(
-        alloc,
-        desk.row(),
-        start,
-        &closing,
-        &mut "".as_bytes(),
-        writer,
-    );
+    let entries = entries_of(desk.row(), &closing);
+    let shown = follow_changes(alloc, &entries, start, &mut "".as_bytes(), writer);
     drop(desk);
-    let Shown { watch, writer } = shown.ok().expect(rt, "a display");
+    let Shown { watch, writer, .. } = shown.ok().expect(rt, "a display");
     drop(watch);
     writer.into_inner()
 }

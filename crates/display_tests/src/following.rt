@@ -1,6 +1,6 @@
 //! What is written of a journal that grows, with readers and writers of any temper.
 use acdm_board::Desk;
-use acdm_displays::{Shown, follow};
+use acdm_displays::{Entries, Shown, follow};
 use acdm_lines::Sink;
 use acdm_milestones::Role;
 use acdm_row::Row;
@@ -38,17 +38,26 @@ pub(crate) fn row_of<H: Helpers + Drop>(rt: &impl Abort, desk: &Desk<H>) -> Arc<
     Arc::try_clone(desk.row()).expect(rt, "a row")
 }
 
+/// The entries of a row that is not kept.
+pub(crate) fn entries_of<'a>(row: &'a Arc<Row>, closing: &'a AtomicBool) -> Entries<'a> {
+    Entries {
+        row,
+        reach: None,
+        closing,
+    }
+}
+
 /// Keeps what it takes. At its first flush a tick of minute 9 is entered, which is the last entry
 /// where it is to end then.
 #[derive(Drop)]
-struct Growing<'a, H: Helpers + Drop> {
+struct Growing<H: Helpers + Drop> {
     desk: Desk<H>,
     ends: bool,
-    closing: &'a AtomicBool,
+    closing: Arc<AtomicBool>,
     text: Vec<u8>,
 }
 
-impl<H: Helpers + Drop> Write for Growing<'_, H> {
+impl<H: Helpers + Drop> Write for Growing<H> {
     fn write(&mut self, buf: &[u8]) -> io::Result<usize> {
         self.text.extend_from_slice(buf)?;
         Ok(buf.len())
@@ -90,17 +99,18 @@ fn sent_growing<H: Helpers + Drop>(
 ) -> String {
     let desk = ticked(rt, alloc, helpers, 2);
     let row = row_of(rt, &desk);
-    let closing = AtomicBool::new(false);
+    let closing = Arc::new(alloc, AtomicBool::new(false)).expect(rt, "a word");
     let writer = Sink::new(Growing {
         desk,
         ends,
-        closing: &closing,
+        closing: Arc::try_clone(&closing).expect(rt, "a word"),
         text: Vec::new(alloc),
     });
-    let shown = follow(alloc, &row, &closing, &mut reader, writer)
+    let entries = entries_of(&row, &closing);
+    let shown = follow(alloc, &entries, &mut reader, writer)
         .ok()
         .expect(rt, "a display");
-    let Shown { watch, writer } = shown;
+    let Shown { watch, writer, .. } = shown;
     drop(watch);
     let Growing { desk, text, .. } = writer.into_inner();
     drop(desk);
@@ -185,9 +195,10 @@ fn is_sent_slowly<H: Helpers + Drop>(
         left: times,
         text: Vec::new(alloc),
     });
-    let shown = follow(alloc, desk.row(), &closing, &mut "".as_bytes(), writer);
+    let entries = entries_of(desk.row(), &closing);
+    let shown = follow(alloc, &entries, &mut "".as_bytes(), writer);
     drop(desk);
-    let Ok(Shown { watch, writer }) = shown else {
+    let Ok(Shown { watch, writer, .. }) = shown else {
         return false;
     };
     drop(watch);

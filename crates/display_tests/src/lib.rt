@@ -11,3 +11,5 @@ mod connecting;
 mod feeding;
 #[cfg(test)]
 mod following;
+#[cfg(test)]
+mod kept;

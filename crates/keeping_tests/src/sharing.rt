@@ -277,7 +277,7 @@ fn served<J: Opening + Send + Sync, H: Helpers + Drop + Send, Rt: Threads + Wait
     requires fresh { keeper.writer.log ≡ [] }
 {
     let failed = Arc::new(alloc, AtomicBool::new(false)).expect(rt, "a word");
-    let shared: SharedKeeper<Paper, J> = SharedKeeper::new(keeper, desk.row(), &failed)
+    let shared: SharedKeeper<Paper, J> = SharedKeeper::new(alloc, keeper, desk.row(), &failed)
         .ok()
         .expect(rt, "a keeper");
     let entries = entries_kept(rt, alloc, desk, &shared, shelf, sessions, count);

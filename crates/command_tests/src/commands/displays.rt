@@ -1,7 +1,7 @@
 //! Displays, which are sent the journal while partners are served.
 use crate::commands::serve::{Morning, Partner, listening, served_at, talk};
 use acdm_board::Desk;
-use acdm_displays::{Displays, Shown, follow};
+use acdm_displays::{Displays, Entries, Form, Shown, follow};
 use acdm_lines::Sink;
 use acdm_milestones::Role;
 use acdm_row::Row;
@@ -45,7 +45,7 @@ fn started<Rt: SystemClock + Threads + Abort + Clone + Drop + Send + 'static>(
     listener: TcpListener,
     row: &Arc<Row>,
 ) -> Displays {
-    Displays::start(rt, alloc, listener, row)
+    Displays::start(rt, alloc, Form::Journal, listener, None, row, None)
         .ok()
         .expect(rt, "displays")
 }
@@ -95,10 +95,15 @@ fn followed<H: Helpers + Drop>(rt: &impl Abort, alloc: Global, desk: &Desk<H>) -
     let closing = AtomicBool::new(false);
     let output = Sink::new(Vec::new(alloc));
     let mut nobody = "".as_bytes();
-    let shown = follow(alloc, desk.row(), &closing, &mut nobody, output)
+    let entries = Entries {
+        row: desk.row(),
+        reach: None,
+        closing: &closing,
+    };
+    let shown = follow(alloc, &entries, &mut nobody, output)
         .ok()
         .expect(rt, "a display");
-    let Shown { watch, writer } = shown;
+    let Shown { watch, writer, .. } = shown;
     assert!(rt; watch.len() as u64 == desk.len());
     String::from_utf8(writer.into_inner())
         .ok()

@@ -2,20 +2,21 @@ use Rattle.std.proofs.Common.{◌≡◌, length, rules, subst}
 use Rattle.std.specs.Arc.{arc_value}
 use Rattle.acdm_row.specs.Views.{RowView}
 use Rattle.acdm_displays.specs.Displayed.{SaysEvents}
+use Rattle.acdm_displays.proofs.Within.{took}
 use Rattle.acdm_displays.proofs.Written.{says_events}
 use Rattle.acdm_displays.proofs.browsing.follow_events.Goals as goal
 
 pub returns-clause-sent : goal.returns-clause-sent
 returns-clause-sent g c =
-    let same : c.deref.result.now ≡ arc_value c.args.row.now = search rules in
-    record {
-      same = search rules;
-      legal = search rules;
-      text = subst (λ b. SaysEvents (length (arc_value c.args.row.now).cells) c.args.last
-          c.send_on.new.watch.seen b c.send_on.new.writer.log) c.in_ok-answer.ensures.answered
-          (subst (λ (r : RowView). SaysEvents (length r.cells) c.args.last c.send_on.new.watch.seen
-          c.answer.new.writer.log c.send_on.new.writer.log) same
-          (says_events (length c.deref.result.now.cells) c.args.last _ _ _ _ _ _ _ _ _
-          c.in_ok-begin_events.ensures.begins c.in_ok-send_on.ensures.sent));
-      flushed = search rules;
-    }
+    let same : c.deref.result.now ≡ arc_value c.args.entries.now.row.now = search rules in
+    took _ _ _ _ c.shown_of.result c.send_on.new.seen.watch c.in_ok-seen.seen.receipt
+    c.send_on.new.seen.receipt c.send_on.new.writer c.shown_of.ensures.watch c.shown_of.ensures.receipt
+    c.shown_of.ensures.writer (search rules) c.shown_of.ensures.legal
+    (subst (λ b. SaysEvents (length (arc_value c.args.entries.now.row.now).cells) c.args.last
+    c.send_on.new.seen.watch.seen b c.send_on.new.writer.log) c.in_ok-answer.ensures.answered
+    (subst (λ (r : RowView). SaysEvents (length r.cells) c.args.last c.send_on.new.seen.watch.seen
+    c.answer.new.writer.log c.send_on.new.writer.log) same
+    (says_events (length c.deref.result.now.cells) c.args.last _ _ _ _ _ _ _ _ _
+    c.in_ok-begin_events.ensures.begins c.in_ok-send_on.ensures.sent)))
+    c.in_ok-send_on.ensures.flushed c.in_ok-seen.ensures.kept c.in_ok-send_on.ensures.kept
+    c.in_ok-send_on.ensures.within

@@ -1,10 +1,13 @@
 use Rattle.std.proofs.Common.{◌≡◌}
 use Rattle.acdm_displays.specs.Displayed.{Follows}
+use Rattle.acdm_displays.specs.Within.{IsNoLess, IsWithin}
 use Rattle.acdm_displays.proofs.following.send_on.Given as goal
 
 abbrev pub invariant-loop : goal.invariant-loop
 invariant-loop g l = record {
-  row : l.watch.row ≡ l.fn.watch.row;
-  sent : Follows g.T.Telling.tells l.fn.teller l.teller l.fn.watch.seen l.watch.seen
+  row : l.seen.watch.row ≡ l.fn.seen.watch.row;
+  sent : Follows g.T.Telling.tells l.fn.teller l.teller l.fn.seen.watch.seen l.seen.watch.seen
       l.fn.writer.log l.writer.log;
+  within : IsWithin l.seen.receipt l.seen.watch.seen;
+  kept : IsNoLess l.fn.seen.receipt l.seen.receipt;
 }

@@ -1,7 +1,8 @@
 use mir.Syntax.{named}
 use denote.Exit.{no}
-use denote.Param.Send.{param_send, arg_send, sendable}
-use Rattle.std.proofs.Crossing.{crosses}
+use denote.Param.{param}
+use denote.Param.Send.{param_send, param_sync, arg_send}
+use Rattle.acdm_keeping.specs.contracts.synced.SyncedWrite.TheImpl as kept
 use Rattle.acdm_serving.proofs.Crossing.{reading_send, writing_send}
 use Rattle.acdm_serving.proofs.lasting.served_while.Goals as goal
 
@@ -11,4 +12,8 @@ served_by-closed-requires-send-R g c κs within =
 
 pub served_by-closed-requires-send-S : goal.served_by-closed-requires-send-S
 served_by-closed-requires-send-S g c κs within =
-    search (writing_send, c.type_bounds.sync-Rt, param_send, arg_send, sendable, crosses) depth 30
+    let runtime = param 1 g.row.Rt in
+    param_send 3 _ (arg_send _ no _ (writing_send (record { mir = named 8; lft = _ })
+    (record { mir = named 9; lft = _ }) (param 0 g.row.J) runtime
+    (kept.ghosts runtime g.Rt.Paths kept.no_dict kept.no_dict) g.J.Opening
+    (param_send 1 _ c.type_bounds.send-Rt) (param_sync 1 _ c.type_bounds.sync-Rt)))

@@ -3,7 +3,7 @@ use Rattle.std.proofs.lemmas.Result.{err_from_is_err_and}
 use Rattle.acdm_sessions.specs.Sessions.{session_told}
 use Rattle.acdm_commands.proofs.Failing.{unserved}
 use Rattle.acdm_commands.proofs.Told.{comes_served, serves_partners}
-use Rattle.acdm_commands.proofs.serve_command.serve_lasting.Goals as goal
+use Rattle.acdm_commands.proofs.serve_command.serve_unkept.Goals as goal
 
 pub returns : goal.returns
 returns g c =

@@ -1,5 +1,5 @@
 use Rattle.acdm_commands.proofs.KeptOn.{comes_named_kept}
-use Rattle.acdm_commands.proofs.serve_keeping.serve_kept_at.Goals as goal
+use Rattle.acdm_commands.proofs.serve_keeping.serve_named.Goals as goal
 
 pub returns : goal.returns
 returns g c =

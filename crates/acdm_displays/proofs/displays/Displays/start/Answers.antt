@@ -1,7 +1,7 @@
 use denote.Exit.{no}
 use denote.Param.Send.{param_send, arg_send}
 use Rattle.acdm_displays.proofs.Crossing.{admission_send}
-use Rattle.acdm_displays.proofs.displays.Displays.start_as.Goals as goal
+use Rattle.acdm_displays.proofs.displays.Displays.start.Goals as goal
 
 pub begin-requires-send-T : goal.begin-requires-send-T
 begin-requires-send-T g c κs within =

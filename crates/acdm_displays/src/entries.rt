@@ -1,0 +1,73 @@
+//! Which entries displays are shown.
+ghost use Rattle.std.specs.Prelude.{◌≡◌, [], IfOk, IfSome};
+ghost use Rattle.std.specs.Arc.{arc_value};
+ghost use Rattle.acdm_displays.specs.Within.{IsAsKept, IsNoLess};
+
+use acdm_keeping::{Reach, Receipt};
+use acdm_row::Row;
+use acdm_watch::Watch;
+use std::alloc::{AllocError, Global};
+use std::sync::Arc;
+use std::sync::atomic::AtomicBool;
+
+/// The entries that displays are shown while they are made: those of a row; where they are kept, as far as
+/// they are.
+#[derive(Drop)]
+pub struct Entries<'a> {
+    /// The row.
+    pub row: &'a Arc<Row>,
+    /// How far it is kept, where it is.
+    pub reach: Option<&'a Reach>,
+    /// Whether the last one was made.
+    pub closing: &'a AtomicBool,
+}
+
+/// What was seen of a row, and the receipt that says that it is kept, where entries are kept.
+#[derive(Drop)]
+pub(crate) struct Seen {
+    pub(crate) watch: Watch,
+    pub(crate) receipt: Option<Receipt>,
+}
+
+impl Entries<'_> {
+    /// The receipt for what is kept by now, where entries are kept.
+    pub(crate) fn latest(&self) -> Option<Receipt>
+        ensures { IsAsKept self.now.reach result }
+    {
+        match self.reach {
+            Some(reach) => Some(reach.latest()),
+            None => None,
+        }
+    }
+
+    /// The receipt for what is kept by now in the place of another one, where it is for more.
+    pub(crate) fn later(&self, before: Option<Receipt>) -> Option<Receipt>
+        ensures { IsNoLess before result }
+    {
+        match (before, self.latest()) {
+            (Some(old), Some(new)) if old.count() < new.count() => Some(new),
+            (before, _) => before,
+        }
+    }
+}
+
+/// Nothing was seen of the entries.
+pub(crate) fn seen_of(alloc: Global, entries: &Entries<'_>) -> Result<Seen, AllocError>
+    ensures row { IfOk result (λ s. s.watch.row ≡ arc_value entries.now.row.now) }
+    ensures empty { IfOk result (λ s. s.watch.seen ≡ []) }
+    ensures kept { IfOk result (λ s. IsAsKept entries.now.reach s.receipt) }
+{
+    let watch = Watch::new(alloc, entries.row)?;
+    let receipt = entries.latest();
+    Ok(Seen { watch, receipt })
+}
+
+/// How many entries may be shown by a receipt, or without one.
+pub(crate) fn most_shown(receipt: Option<Receipt>) -> usize
+    ensures { IfSome receipt (λ r. result ≡ r.count) }
+{
+    match receipt {
+        Some(receipt) => receipt.count(),
+        None => usize::MAX,
+    }
+}

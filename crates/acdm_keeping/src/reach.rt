@@ -1,0 +1,38 @@
+//! How far a journal is kept, for those who show it.
+use crate::receipt::Receipt;
+use std::alloc::{AllocError, Global};
+use std::sync::Arc;
+use std::sync::atomic::{AtomicUsize, Ordering};
+
+/// How far the journal of a row is kept. Who shows entries shows none behind that: what is not kept may be
+/// another entry after the next start. It is asked without a lock.
+#[derive(Drop)]
+pub struct Reach {
+    kept: Arc<AtomicUsize>,
+}
+
+impl Reach {
+    /// As far as this receipt says.
+    pub(crate) fn new(alloc: Global, receipt: Receipt) -> Result<Reach, AllocError> {
+        Ok(Reach {
+            kept: Arc::new(alloc, AtomicUsize::new(receipt.count()))?,
+        })
+    }
+
+    /// The same once more. `Err` only where memory was refused.
+    pub fn copy(&self) -> Result<Reach, AllocError> {
+        Ok(Reach {
+            kept: Arc::try_clone(&self.kept)?,
+        })
+    }
+
+    /// The receipt for what is kept by now.
+    pub fn latest(&self) -> Receipt {
+        Receipt::again(self.kept.load(Ordering::SeqCst))
+    }
+
+    /// As far as this receipt says from now on.
+    pub(crate) fn renew(&self, receipt: Receipt) {
+        self.kept.store(receipt.count(), Ordering::SeqCst);
+    }
+}

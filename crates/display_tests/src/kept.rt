@@ -1,0 +1,84 @@
+//! What displays are shown of a journal that is kept.
+ghost use Rattle.std.specs.Prelude.{◌≡◌, []};
+ghost use Rattle.std.specs.Arc.{arc_value};
+
+use crate::following::{TICKS, row_of, tick, ticked};
+use acdm_board::Desk;
+use acdm_displays::{Entries, Shown, follow};
+use acdm_keeping::{Keeper, Opening, Reach, SharedKeeper};
+use acdm_lines::Sink;
+use acdm_row::Row;
+use bpf_helpers::{Bank, Helpers};
+use std::alloc::Global;
+use std::marker::Brand;
+use std::process::Abort;
+use std::sync::atomic::AtomicBool;
+use std::sync::{Arc, Wait};
+
+/// The text of the first of two ticks.
+const FIRST: &str = "0 1 7 APT 0 0 tick\n";
+
+// Whether this is what a display is shown of a row that is kept so far.
+fn is_shown(alloc: Global, row: &Arc<Row>, reach: &Reach, wanted: &str) -> bool {
+    let closing = AtomicBool::new(true);
+    let entries = Entries {
+        row,
+        reach: Some(reach),
+        closing: &closing,
+    };
+    let Ok(shown) = follow(
+        alloc,
+        &entries,
+        &mut "".as_bytes(),
+        Sink::new(Vec::new(alloc)),
+    ) else {
+        return false;
+    };
+    let Shown { writer, .. } = shown;
+    writer.into_inner().as_slice() == wanted.as_bytes()
+}
+
+// An entry is shown once it is kept, and not before.
+fn shows_what_is_kept<J: Opening, H: Helpers + Drop>(
+    rt: &(impl Wait + Abort),
+    alloc: Global,
+    desk: &mut Desk<H>,
+    row: &Arc<Row>,
+    keeper: Keeper<Vec<u8>>,
+)
+    requires row { keeper.row ≡ J.desk_row }
+    requires same { arc_value row.now ≡ J.desk_row }
+    requires opening { keeper.seen ≡ J.opening }
+    requires fresh { keeper.writer.log ≡ [] }
+{
+    let failed = Arc::new(alloc, AtomicBool::new(false)).expect(rt, "a word");
+    let shared: SharedKeeper<Vec<u8>, J> = SharedKeeper::new(alloc, keeper, row, &failed)
+        .ok()
+        .expect(rt, "a keeper");
+    let reach = shared.reach().expect(rt, "how far it is kept");
+    assert!(rt; is_shown(alloc, row, &reach, ""));
+    assert!(rt; shared.wait_for_all(rt).is_ok());
+    assert!(rt; is_shown(alloc, row, &reach, FIRST));
+    assert!(rt; tick(desk, 9));
+    assert!(rt; is_shown(alloc, row, &reach, FIRST));
+    assert!(rt; shared.into_keeper().is_ok());
+    assert!(rt; is_shown(alloc, row, &reach, TICKS));
+}
+
+// The same by a desk of its own.
+fn shows_of<H: Helpers + Drop>(rt: &(impl Wait + Abort), alloc: Global, helpers: H) {
+    let mut desk = ticked(rt, alloc, helpers, 10);
+    let row = row_of(rt, &desk);
+    let keeper = Keeper::new(alloc, &row, Sink::new(Vec::new(alloc)))
+        .ok()
+        .expect(rt, "a keeper");
+    shows_what_is_kept::<Brand, H>(rt, alloc, &mut desk, &row, keeper);
+    drop(desk);
+}
+
+#[test]
+fn an_entry_is_shown_once_it_is_kept(rt: HostRuntime) {
+    let alloc = rt.alloc();
+    let bank = Bank::new(alloc).expect(&rt, "a bank");
+    shows_of(&rt, alloc, bank);
+}
