@@ -5,12 +5,13 @@
 
 The status is 1 where there is one, or where crates/rule_tests/src/rows has other lines and replies than rows.py writes. Of
 owners, needs, bars, orders of times, local names and codes it is computed here, from the lines and replies of a row and the
-tables alone, that the row stands where it says; of the other cells the name is trusted.
+tables alone, that the row stands where it says, and all of what contexts.py says; of the other cells the name is trusted.
 """
 
 import re
 import sys
 
+import contexts
 import rows
 
 
@@ -36,7 +37,7 @@ def cells():
         found += [f"helper {number} {kind} {key}" for kind in ("table", "else") for key in helper[kind]]
         found += [f"helper {number} {end} {place}" for end in ("least", "greatest") for place in range(len(helper[end]))]
         found.append(f"helper {number} answers")
-    return found
+    return found + contexts.cells(rules)
 
 
 def reports(row):
@@ -119,6 +120,7 @@ def main():
     wanted, met, wrong, count = cells(), set(), [], 0
     for group, row in rows.all_rows():
         count += 1
+        met |= contexts.shown(row)
         for cell in row.cells:
             if cell not in wanted and cell not in EXTRA:
                 wrong.append(f"no cell {cell}: {row.name}")

@@ -134,6 +134,11 @@ def field_rows():
            .show(**BOTH, reached=bits(0, 1, 9, 10), alerts=bits(10)))
     yield (Talk("a radar update and the approach set one field", "sets 4", "sets 5").start(4, 5)
            .show(**BOTH, ELDT=PATH[5], reached=bits(0, 1, 4, 5)).report(4).show(**BOTH, ELDT=PATH[4], reached=bits(0, 1, 4, 5)))
+    # Numbers that are one in their low 32 bits, and the greatest.
+    yield (Talk("flights of long numbers").schedule().plan(flight=2**32 + 7).plan(flight=2**63 + 7).plan(flight=2**64 - 1).schedule(flight=2**32 - 1)
+           .alerts(f"7:CDM13;{2**32 + 7}:CDM01;{2**63 + 7}:CDM01;{2**64 - 1}:CDM01;{2**32 - 1}:CDM13")
+           .schedule(flight=2**32 + 7).plan(flight=7).alerts(f"{2**63 + 7}:CDM01;{2**64 - 1}:CDM01;{2**32 - 1}:CDM13")
+           .report(6, reply="no 202", flight=2**33 + 7))
     first = {"callsign": "ZZZZZZZZ", "type": "Q", "reg": "QQQQQQQQ", "dest": "Q"}
     others = {"sobt": stamp("11:00"), "mttt": 1, "exit": 2, "exot": 3, "stand": 4}
     yield (Talk("what a schedule sets", *(f"schedule {it}" for it in RULES["schedule_sets"]), now="6:00")
@@ -166,6 +171,71 @@ def field_rows():
            .show(**BOTH, reached=3))
     yield (Talk("a schedule keeps what the flight plan set", "schedule callsign").plan(callsign="BAW1").schedule()
            .show(**BOTH, reached=3))
+
+
+    # Up to 13 once more, the later first: a report that clears another's field is seen by one of the two shows.
+    talk = Talk("what reports leave alone").start(*range(2, 14))
+    fields = {RULES["sets"][str(it)]: PATH[it] for it in range(2, 14)}
+    talk.show(**BOTH, **fields, reached=bits(*range(14))).report(14)
+    for milestone in (13, 12, 11, 10, 8, 2):
+        talk.report(milestone)
+    yield talk.plan().show(**BOTH, **fields, ASAT=PATH[14], reached=bits(*range(15)))
+    # A flight plan that comes again, a schedule that comes late, and a slot time that goes.
+    order = (9, 10, 11, 12, 13, 14, 2, 3, 4, 5, 6, 7, 8)
+    late = {RULES["sets"][str(it)]: PATH[it] for it in order}
+    yield (Talk("what a flight plan leaves alone").plan().reports(*order).plan().show(**PLANNED, **late, reached=bits(1, *order), alerts=bits(1))
+           .schedule().show(**BOTH, **late, reached=bits(0, 1, *order)).report(2, None)
+           .show(**BOTH, **{**late, "CTOT": 0}, reached=bits(0, 1, *order)))
+    yield (Talk("what a target taken back leaves alone").start(2, 4, 6, 9, 10).report(9, None)
+           .show(**BOTH, CTOT=PATH[2], ELDT=PATH[4], ALDT=PATH[6], reached=bits(0, 1, 2, 4, 6, 9, 10), alerts=bits(10)))
+
+
+def unscheduled_rows():
+    """Flights without a schedule, whose EXIT and MTTT are 0; CDM01 stands all the time."""
+    def row(name, now="9:00"):
+        return Talk(f"unscheduled: {name}", now=now)
+
+    def told(*names):
+        return ",".join(["CDM01", *names])
+
+    yield (row("EIBT and EOBT").plan().report(4, "10:00").alerts(told()).report(5, "10:01").alerts(told("CDM07"))
+           .report(6, "10:00").alerts(told()).report(6, "10:01").alerts(told("CDM07")).report(6, "9:00").report(7, "10:00").alerts(told())
+           .report(7, "10:01").alerts(told("CDM07")))
+    yield (row("EIBT and TOBT").plan(time=stamp("10:15")).report(9).report(4, "10:00").alerts(told()).report(5, "10:01")
+           .alerts(told("CDM07a")).report(6, "10:00").alerts(told()).report(6, "10:01").alerts(told("CDM07a")).report(6, "9:00")
+           .report(7, "10:00").alerts(told()).report(7, "10:01").alerts(told("CDM07a")))
+    yield (row("EOBT and TOBT").plan().report(9, "10:15").alerts(told()).report(9, "10:16").alerts(told("CDM08"))
+           .report(9, "9:45").alerts(told()).report(9, "9:44").alerts(told("CDM08")))
+    yield (row("boarding, the target and start-up").plan().report(9).tick("9:49").alerts(told()).tick("9:50").alerts(told("CDM09"))
+           .report(9, None).alerts(told("CDM10")).report(9).alerts(told()).report(11).report(10).tick("10:06").alerts(told())
+           .tick("10:07").alerts(told("CDM11")).report(13, "9:56").report(14, "10:06").alerts(told()).report(14, "10:07")
+           .alerts(told("CDM12")).report(14, "9:56").alerts(told()))
+    yield row("an automatic target").load(6, "tobt", later(-1)).plan().alerts(told()).report(6).alerts(told("CDM14")).load(
+        6, "tobt", later(60)).report(6).alerts(told())
+    order = [2, 3, 4, 5, 6, 7, 8, 9, 10, 11, 12, 13, 14, 15, 16]
+    yield row("all milestones").plan().reports(*order).show(
+        **PLANNED, **{RULES["sets"][str(it)]: PATH[it] for it in order}, reached=bits(1, *order), alerts=bits(1))
+
+
+ALL_BUT_TIME = "CDM02,CDM03,CDM04,CDM05,CDM07,CDM08,CDM07a"
+
+
+def later_rows():
+    """Alerts of a flight that has its start-up time, and is called off its stand."""
+    other = {"time": stamp("10:05"), "type": "A321", "reg": "DAIBD", "dest": "EDDF"}
+    talk = Talk("later: raised and cleared up to the approval").schedule().plan(**other).report(6).report(7, "9:26").report(9, "9:49")
+    for milestone in (10, 13, 14):
+        talk.report(milestone).alerts(ALL_BUT_TIME).plan().report(7, "9:05").alerts("").plan(**other).report(7, "9:26")
+    yield talk.report(15).alerts(ALL_BUT_TIME).report(16).alerts(ALL_BUT_TIME)
+    yield (Talk("later: no airport slot").plan().reports(9, 10).alerts("CDM01").reports(13, 14).alerts("CDM01").report(15)
+           .alerts("CDM01").report(16).alerts("CDM01").schedule().alerts(""))
+    for before in ([9, 10], [9, 10, 13, 14]):
+        yield (Talk(f"later: scheduled behind {before[-1]}").plan().reports(*before).alerts("CDM01").schedule().alerts(""))
+    # 10:00 and 10:05: EIBT and MTTT are held against EOBT, whichever of the two is the later.
+    yield (Talk("later: SOBT behind EOBT").schedule(sobt=stamp("10:05")).plan().report(6, "9:15").alerts("CDM02").report(6, "9:16")
+           .alerts("CDM02,CDM07").report(9, "9:44").alerts("CDM02,CDM07,CDM08,CDM07a").report(9, "10:15").alerts("CDM02,CDM07"))
+    yield (Talk("later: SOBT before EOBT").schedule(sobt=stamp("9:55")).plan().report(6, "9:15").alerts("CDM02").report(6, "9:16")
+           .alerts("CDM02,CDM07").report(9, "9:44").alerts("CDM02,CDM07,CDM08,CDM07a").report(9, "10:15").alerts("CDM02,CDM07"))
 
 
 def alert_rows():
@@ -313,6 +383,8 @@ def target_rows():
            .show(**base, reached=reached, alerts=bits(14)))
     yield (row("usable after an unusable one", "usable with CDM14 set").start().load(7, "tobt", later(-1)).reports(6, 7).alerts("CDM14")
            .load(7, "tobt", later(60)).report(7).alerts("").show(**stood))
+    yield (row("the target that stands, after an unusable one", "usable with CDM14 set", "usable with one standing").start(6, 9)
+           .load(7, "tobt", later(-1)).report(7).alerts("CDM14").load(7, "tobt", later(60)).report(7).alerts("").show(**stood))
     yield (row("CDM14 stays at other touches", "unusable with CDM14 clear").start().load(7, "tobt", later(-1)).reports(6, 7).tick().alerts("CDM14")
            .unload(7, "tobt").report(7).alerts("CDM14").report(9).alerts("CDM14"))
     yield (row("CDM14 stays at a schedule", "unusable with CDM14 clear").load(1, "tobt", later(-1)).plan().alerts("CDM01,CDM14")
@@ -349,6 +421,48 @@ def target_rows():
            .start().load(7, "tobt", later(60)).load(7, "alert", answers(1)).reports(6).report(7, "8:59", "no 206").alerts("").show(**BOTH, ALDT="9:00", reached=bits(0, 1, 6)))
 
 
+# r0 is r3, r4 and r2, less the length of a record: the moment and so many minutes as the milestone has in its number.
+def by_milestone(length):
+    return "bf30000000000000" + "0f40000000000000" + "0f20000000000000" + "07000000" + le32(-length) + EXIT
+
+
+# r0 has the minutes from 9:00 to TOBT in its low four bits and the milestone above them, where r3 is 9:00 and r2 the length of a record.
+def minutes_ahead(length):
+    start = "6110600000000000" + "0f30000000000000" + "6704000004000000" + "0f40000000000000" + "0f20000000000000"
+    return start + "07000000" + le32(-2 * at("9:00") - length) + EXIT
+
+
+def program_rows():
+    """Programs of both kinds at each milestone, on both layouts: the target is as many minutes ahead as the milestone's number."""
+    for layout, length in ((1, 128), (2, 160)):
+        talk = Talk(f"programs: both kinds at each milestone, layout {layout}", capacity=200)
+        given = {"length": 160} if layout == 2 else {}
+        if layout == 2:
+            talk.migrate()
+        for milestone in range(1, 17):
+            talk.load(milestone, "tobt", by_milestone(length), **given).load(milestone, "alert", minutes_ahead(length), **given)
+
+        def told(milestone, ahead):
+            # EOBT is at 10:00; boarding has not started before 11; 9:05 and more, and the 40 minutes, is behind the target from 4 on.
+            names = ["CDM08"] + ["CDM09"] * (milestone <= 10) + ["CDM14"] * (milestone > 13) + ["CDM07a"] * (milestone > 3)
+            return ",".join([*names, local_names(ahead + 16 * milestone)])
+
+        talk.schedule().plan().alerts(told(1, 1)).report(2, None).alerts(told(2, 2))
+        for milestone in range(3, 17):
+            if milestone == 9:
+                talk.report(9, None).alerts(told(9, 9))
+            talk.report(milestone).alerts(told(milestone, min(milestone, 13)))
+        yield talk
+    # A target that goes, and the program of its report, or a slot time that goes.
+    yield (Talk("programs: a report without a time").start(9).load(9, "tobt", later(60)).report(9, None).alerts("").load(2, "tobt", later(61))
+           .report(2, None).alerts("").show(**BOTH, TOBT="10:01", reached=bits(0, 1, 2, 9)))
+    # The milestone's number is no target: it lies far behind.
+    yield (Talk("programs: the milestone as a target").start().load(6, "tobt", "bf40000000000000" + EXIT).report(6)
+           .show(**BOTH, ALDT="9:00", reached=bits(0, 1, 6), alerts=bits(14)))
+    yield (Talk("programs: the length as a target").start().load(6, "tobt", "bf20000000000000" + EXIT).report(6)
+           .show(**BOTH, ALDT="9:00", reached=bits(0, 1, 6), alerts=bits(14)))
+
+
 def local_rows():
     for name, bit in RULES["local"].items():
         number = bit - 16
@@ -364,6 +478,10 @@ def local_rows():
     yield row("the low 16 bits of all", "above 16 bits").start().load(6, "alert", wide(0xffffffffffff0002) + EXIT).reports(6).alerts("LOC01")
     yield (row("they stay without a program", "stay without a program").start().load(6, "alert", answers(2)).reports(6).unload(6, "alert")
            .report(6).alerts("LOC01"))
+    # LOC01 by the one that stays, and then the target by the other one.
+    yield (row("an unload of one kind alone", "stay without a program").start().load(6, "tobt", later(60)).load(6, "alert", answers(2)).unload(6, "tobt")
+           .report(6).alerts("LOC01").load(6, "tobt", later(60)).unload(6, "alert").report(6)
+           .show(**BOTH, ALDT="9:00", TOBT="10:00", reached=bits(0, 1, 6, 9), alerts=bits(17)))
     yield (row("they stay at a report of another", "another milestone's program").start().load(6, "alert", answers(2)).reports(6).report(9)
            .alerts("LOC01"))
     yield (row("they stay at a schedule and a tick", "stay at a schedule and a tick").load(1, "alert", answers(2)).plan()
@@ -423,7 +541,8 @@ def winter_rows():
                .deice(first, "10:01").deice(then, "10:00", "no 206"))
     yield (row("the two pairs are apart", "winter pairs").start().migrate().deice("eczt", "10:00").deice("eezt", "10:30")
            .deice("aezt", "9:00").deice("aczt", "8:00")
-           .show(layout=2, **BOTH, reached=3, ECZT="10:00", EEZT="10:30", ACZT="8:00", AEZT="9:00"))
+           .show(layout=2, **BOTH, reached=3, ECZT="10:00", EEZT="10:30", ACZT="8:00", AEZT="9:00").deice("eezt", None).deice("aczt", None)
+           .show(layout=2, **BOTH, reached=3, ECZT="10:00", AEZT="9:00"))
     yield (row("layout, flight, plan", "before 325 202", "winter 203", "winter 202").deice("eczt", "10:00", "no 325", flight=8).migrate()
            .deice("eczt", "10:00", "no 202").schedule().deice("eczt", "10:00", "no 203").plan().deice("eczt", "10:00"))
     yield (row("gone", "winter 204").start(9, 10, 13, 14, 15).migrate().deice("eczt", "10:00").report(16).deice("eezt", "9:00", "no 204")
@@ -446,6 +565,21 @@ def winter_rows():
            .unload(16, "alert", "no 321").unload(1, "tobt", "no 321").unload(9, "alert"))
     yield (row("an unloaded program runs no more", "winter programs go").start().load(6, "alert", "2502010080000000" + "b700000002000000" + EXIT).reports(6).alerts("LOC01").migrate("6:alert:308:2").report(6).alerts("LOC01")
            .show(layout=2, **BOTH, ALDT="9:00", reached=bits(0, 1, 6), alerts=bits(17)))
+    yield (row("the same time again, and none, are touches", "touch deice", now="9:49").start(9).migrate().deice("eczt", "10:00")
+           .deice("eczt", "10:00", now="9:50").alerts("CDM09", "9:50").deice("eczt", None, now="9:49").alerts("", "9:49")
+           .deice("aezt", None, now="9:50").alerts("CDM09", "9:50"))
+    # Each fault that the longer record may bring: where r2 is over 128, or by the address that is r2 below the stack's end.
+    faults = {"308": "bf60000000000000", "309": "71a0000000000000", "310": "71a0f0ff00000000", "311": "7201000000000000", "313": "8500000002000000"}
+    talk = row("each fault of a longer record", "winter programs go")
+    for milestone, (code, slot) in zip((16, 3, 2, 9, 1), faults.items()):
+        talk.load(milestone, "tobt" if code != "310" else "alert", "2502020080000000" + "b700000000000000" + EXIT + slot + "b700000000000000" + EXIT)
+    yield (talk.load(6, "alert", "720a80ff00000000" + "bfa6000000000000" + "1f26000000000000" + "7160000000000000" + EXIT)
+           .migrate("1:tobt:313:3;2:alert:310:3;3:tobt:309:3;6:alert:310:3;9:tobt:311:3;16:tobt:308:3").unload(6, "alert", "no 321"))
+    # (a record that had 159 or 161 bytes would have r6 read, which is not set)
+    exact = "150203009f000000" + "25020200a0000000" + "b700000000000000" + EXIT + "bf60000000000000" + EXIT
+    yield row("the longer record has 160 bytes").load(6, "alert", exact).migrate().unload(6, "alert")
+    yield (row("by milestone, and then by kind", "winter programs go").load(1, "alert", SHORT_ALONE).load(16, "tobt", SHORT_ALONE)
+           .load(1, "tobt", SHORT_ALONE).migrate("1:tobt:308:2;1:alert:308:2;16:tobt:308:2"))
     yield (row("the length of a program", "code 323", "before 201 323", "before 309 323").load(7, "tobt", answers(0), "no 323", length=160)
            .load(7, "tobt", answers(0), "no 201", "NM", length=160).load(7, "tobt", answers(0), length=128).migrate()
            .load(7, "tobt", answers(0), "no 323").load(7, "tobt", answers(0), "no 323", length=128).load(7, "tobt", answers(0), length=160)
@@ -461,6 +595,35 @@ def winter_rows():
     ):
         talk.say("DIC", {**deice, key: value}, f"bad {code}")
     yield talk.line('6 29000700 DIC {"cmd":"deice","flight":7,"field":"eczt"}', "bad 103").line('6 29000700 DIC {"cmd":"deice","flight":7}', "bad 103")
+
+
+def layout_rows():
+    """A board that is migrated before its first flight."""
+    def row(name, now="9:00"):
+        return Talk(f"layout 2: {name}", now=now).migrate()
+
+    yield (row("refusals").report(6, reply="no 202").schedule("no 201", "NM").schedule().report(6, reply="no 203").plan()
+           .report(7, reply="no 203").report(6, reply="no 201", role="AO").report(10, reply="no 205").report(11, reply="no 205").report(6)
+           .report(3, reply="no 204").report(4, reply="no 204").report(7, "8:59", "no 206").schedule("no 207").unload(7, "tobt", "no 321")
+           .reports(7, 8, 9).report(13, reply="no 203").report(10).report(9, None).report(13, reply="no 205").reports(9, 10, 13)
+           .report(14, "9:57", "no 206").report(15, reply="no 203").reports(14, 15).report(9, reply="no 204").report(16, "10:02", "no 206")
+           .report(16).report(2, reply="no 204"))
+    other = {"time": stamp("10:05"), "type": "A321", "reg": "DAIBD", "dest": "EDDF"}
+    yield (row("alerts").plan().alerts("CDM01").schedule().alerts("").plan(**other).alerts("CDM02,CDM03,CDM04,CDM05").plan().alerts("")
+           .report(6, "9:16").alerts("CDM07").report(6, "9:15").alerts("").report(9, "9:59").alerts("CDM07a").report(9, "9:44")
+           .alerts("CDM08,CDM07a").report(9, None).alerts("CDM10").report(9).alerts("").tick("9:50").alerts("CDM09").report(11).alerts("")
+           .report(10).tick("10:06").alerts("").tick("10:07").alerts("CDM11").report(13).report(14, "10:07").alerts("CDM12").report(14).alerts(""))
+    yield row("no flight plan").schedule().alerts("CDM13").plan().alerts("")
+    stood = {**BOTH, "layout": 2, "ALDT": "9:00", "AIBT": "9:05", "TOBT": "10:00", "reached": bits(0, 1, 6, 7, 9)}
+    yield (row("targets").start(6).load(7, "tobt", later(60), length=160).report(7).show(**stood).load(7, "tobt", later(-1), length=160).report(7)
+           .show(**stood, alerts=bits(14)).load(7, "tobt", answers(0), length=160).report(7).alerts("CDM14").load(7, "tobt", later(50), length=160)
+           .report(7).show(**{**stood, "TOBT": "9:50"}))
+    yield (row("local alerts").start().load(6, "alert", answers(65535), length=160).report(6).alerts(",".join(RULES["local"]))
+           .load(6, "alert", answers(65536), length=160).report(6).alerts(""))
+    yield (Talk("layout 2: a target by a program of before").start(6).load(7, "tobt", later(60)).migrate().report(7).show(**stood))
+    yield (Talk("layout 2: all fields stay").start(*range(2, 15)).migrate()
+           .show(layout=2, **BOTH, **{RULES["sets"][str(it)]: PATH[it] for it in range(2, 15)}, reached=bits(*range(15)))
+           .report(15).report(16).show(layout=2, **BOTH, **{RULES["sets"][str(it)]: PATH[it] for it in range(2, 17)}, reached=bits(*range(17))))
 
 
 def code_rows():
@@ -513,6 +676,22 @@ def code_rows():
     zero = "b700000000000000"
     for code, slot, program, cells in PROGRAMS:
         yield row(f"{code} at {slot}: {program[:32]}", f"code {code}", *cells).load(7, "tobt", program, f"bad {code} {slot}")
+    yield row("digits of either case").load(6, "alert", "B70000001A0000009500000000000000").start(6).alerts("LOC01,LOC03,LOC04")
+    # A call of two arguments: one that is not set comes before one that is out of range, whichever stands first.
+    call, second = "8500000002000000", "8500000003000000"
+    yield (row("an argument, and another").load(6, "alert", wide(2**32, 1) + second + EXIT, "bad 313 2")
+           .load(6, "alert", "b701000000000000" + call + wide(2**32, 1) + second + EXIT, "bad 308 4")
+           .load(6, "alert", "b701000000000000" + call + wide(10_001, 2) + second + EXIT, "bad 308 4")
+           .load(6, "alert", "b701000000000000" + wide(10_001, 2) + second + EXIT, "bad 313 3")
+           .load(6, "alert", wide(2**32, 1) + wide(10_001, 2) + second + EXIT, "bad 313 4"))
+    # A register whose answer is from 1 to 60 is never over 60, and may be over 59: then r6 is read, which is not set.
+    talk = row("each register is narrowed by a number")
+    for register in (0, 1, 2, 3, 4, 5, 7, 8, 9):
+        moved = f"bf0{register:x}000000000000" if register else ""
+        start, slot = "b701000000000000" + call + moved, 5 if register else 4
+        for bound, reply in ((60, "ok"), (59, f"bad 308 {slot}")):
+            talk.load(6, "alert", start + f"250{register:x}0100" + le32(bound) + EXIT + "bf60000000000000" + EXIT, reply)
+    yield talk
     yield (row("a program, and the journal", "before 308 502", "code 502", "before 502 201", capacity=1)
            .tick().load(7, "tobt", EXIT, "bad 308 0").tick(reply="bad 502").tick(reply="bad 502", role="NM"))
     yield row("a program, and the owner", "before 308 201").load(7, "tobt", EXIT, "bad 308 0", "NM").load(7, "tobt", zero + EXIT, "no 201", "NM")
@@ -630,16 +809,17 @@ def limit_rows():
 
 
 GROUPS = {
-    "owners": owner_rows, "needs": need_rows, "bars": bar_rows, "order": order_rows, "fields": field_rows, "alerts": alert_rows, "moments": moment_rows,
-    "targets": target_rows, "local": local_rows, "touches": touch_rows, "winter": winter_rows, "codes": code_rows, "helpers": helper_rows,
-    "limits": limit_rows,
+    "owners": owner_rows, "needs": need_rows, "bars": bar_rows, "order": order_rows, "fields": field_rows, "unscheduled": unscheduled_rows,
+    "alerts": alert_rows, "moments": moment_rows, "later": later_rows, "targets": target_rows, "programs": program_rows, "local": local_rows,
+    "touches": touch_rows, "winter": winter_rows, "layouts": layout_rows, "codes": code_rows, "helpers": helper_rows, "limits": limit_rows,
 }
 ABOUT = {
     "owners": "Who may send what.", "needs": "What a milestone needs.", "bars": "What a milestone bars.",
     "order": "The order of times.", "fields": "What a milestone, a schedule and a flight plan set.",
     "alerts": "Each condition of the alerts up to CDM07a, on both sides.",
     "moments": "Each condition of the alerts from CDM08 on, on both sides.", "targets": "What comes of the answer of a program of kind `tobt`.",
-    "local": "Local alerts.", "touches": "When alerts are computed anew.", "winter": "Migrates, and times of de-icing.", "codes": "Each code, and which of two comes first.",
+    "unscheduled": "Flights without a schedule.", "later": "Alerts behind a start-up time, and with SOBT other than EOBT.",
+    "programs": "Programs of both kinds at each milestone.", "layouts": "A board that was migrated.", "local": "Local alerts.", "touches": "When alerts are computed anew.", "winter": "Migrates, and times of de-icing.", "codes": "Each code, and which of two comes first.",
     "helpers": "The entries and limits of the three helpers.", "limits": "The longest lines and programs, and the most flights.",
     "marks": "What one byte stands for in the tables.",
 }

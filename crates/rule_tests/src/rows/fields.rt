@@ -1,7 +1,7 @@
 //! What a milestone, a schedule and a flight plan set. Written by `bench/rows/rows.py`.
 use crate::rows::{Row, is_answered};
 
-static ROWS_1: [Row; 33] = [
+static ROWS_1: [Row; 31] = [
     Row {
         shows: "what milestone 2 sets",
         capacity: 100,
@@ -315,6 +315,33 @@ $+2,"time":null}
 "#,
     },
     Row {
+        shows: "flights of long numbers",
+        capacity: 100,
+        starts: false,
+        lines: r#"!/
+$report","flight":4294967303,"milestone":<
+$report","flight":9223372036854775815,"milestone":<
+$report","flight":18446744073709551615,"milestone":<
+!schedule","flight":4294967295,J,K"stand":12}
+!=
+!schedule","flight":4294967303,J,K"stand":12}
+$+<
+!=
+%report","flight":8589934599,"milestone":6(09:00)
+"#,
+        replies: r#"^
+^
+^
+^
+^
+| 7:CDM13;4294967303:CDM01;9223372036854775815:CDM01;18446744073709551615:CDM01;4294967295:CDM13
+^
+^
+| 9223372036854775815:CDM01;18446744073709551615:CDM01;4294967295:CDM13
+_202
+"#,
+    },
+    Row {
         shows: "what a schedule sets",
         capacity: 100,
         starts: false,
@@ -446,6 +473,16 @@ $+2,"time":null}
 ~07U00444c4837`004133323`0004441494243U`00004544444d`0001U0028000a00ffff01053884ba01UUUUUUUUUU
 "#,
     },
+];
+
+#[test]
+fn part_1(rt: HostRuntime) {
+    for row in &ROWS_1 {
+        is_answered(&rt, rt.alloc(), row);
+    }
+}
+
+static ROWS_2: [Row; 11] = [
     Row {
         shows: "what a flight plan sets",
         capacity: 100,
@@ -487,16 +524,6 @@ $+1(10:00:00Z","callsign":"DLH7","type":"B738","reg":"DAIBC","dest":"EDDM"}
 ~07U00444c4837U000042373338U00004441494243U004544444d02`02U`01`00003884ba01UUUUUUUUU0000
 "#,
     },
-];
-
-#[test]
-fn part_1(rt: HostRuntime) {
-    for row in &ROWS_1 {
-        is_answered(&rt, rt.alloc(), row);
-    }
-}
-
-static ROWS_2: [Row; 5] = [
     Row {
         shows: "a flight plan changes the plan registration",
         capacity: 100,
@@ -560,6 +587,129 @@ $+<
         replies: r#"^
 ^
 ~Y03U00jUUUUUUUUU0000
+"#,
+    },
+    Row {
+        shows: "what reports leave alone",
+        capacity: 100,
+        starts: true,
+        lines: r#"$+2(10:15)
+$+3(08:00)
+%+4(09:10)
+%+5(09:08)
+%+6(09:00)
+!+7(09:05)
+*+8(09:06)
+*+9(10:00)
+%+10(10:01)
+*+11(09:40)
+&+12(09:55)
+%+13(09:58)
+&>
+%+14(10:02)
+%+13(09:58)
+&+12(09:55)
+*+11(09:40)
+%+10(10:01)
+*+8(09:06)
+$+2(10:15)
+$+<
+&>
+"#,
+        replies: r#"^
+^
+^
+^
+^
+^
+^
+^
+^
+^
+^
+^
+^
+^
+~Yff3fUj4784ba01c083ba010484ba01fc83ba010184ba010284ba013884ba013984ba012484ba013384ba013684ba01UU
+^
+^
+^
+^
+^
+^
+^
+^
+~Yff7fUj4784ba01c083ba010484ba01fc83ba010184ba010284ba013884ba013984ba012484ba013384ba013684ba013a84ba01U0000
+"#,
+    },
+    Row {
+        shows: "what a flight plan leaves alone",
+        capacity: 100,
+        starts: false,
+        lines: r#"$+<
+*+9(10:00)
+%+10(10:01)
+*+11(09:40)
+&+12(09:55)
+%+13(09:58)
+%+14(10:02)
+$+2(10:15)
+$+3(08:00)
+%+4(09:10)
+%+5(09:08)
+%+6(09:00)
+!+7(09:05)
+*+8(09:06)
+$+<
+&>
+!/
+&>
+$+2,"time":null}
+&>
+"#,
+        replies: r#"^
+^
+^
+^
+^
+^
+^
+^
+^
+^
+^
+^
+^
+^
+^
+~07U00444c4837U00004133323U000004441494243U004544444dfe7f000002U`01`00003884ba014784ba01c083ba010484ba01fc83ba010184ba010284ba013884ba013984ba012484ba013384ba013684ba013a84ba01U0000
+^
+~Yff7fUj4784ba01c083ba010484ba01fc83ba010184ba010284ba013884ba013984ba012484ba013384ba013684ba013a84ba01U0000
+^
+~Yff7fUj`00c083ba010484ba01fc83ba010184ba010284ba013884ba013984ba012484ba013384ba013684ba013a84ba01U0000
+"#,
+    },
+    Row {
+        shows: "what a target taken back leaves alone",
+        capacity: 100,
+        starts: true,
+        lines: r#"$+2(10:15)
+%+4(09:10)
+%+6(09:00)
+*+9(10:00)
+%+10(10:01)
+*+9,"time":null}
+&>
+"#,
+        replies: r#"^
+^
+^
+^
+^
+^
+^
+^
+~Y5706`040000j4784ba01`000684ba01fc83ba01UUUUUU`00
 "#,
     },
 ];

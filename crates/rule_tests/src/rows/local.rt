@@ -1,7 +1,7 @@
 //! Local alerts. Written by `bench/rows/rows.py`.
 use crate::rows::{Row, is_answered};
 
-static ROWS_1: [Row; 25] = [
+static ROWS_1: [Row; 26] = [
     Row {
         shows: "local: LOC00",
         capacity: 100,
@@ -342,6 +342,33 @@ static ROWS_1: [Row; 25] = [
 ^
 ^
 | 7:LOC01
+"#,
+    },
+    Row {
+        shows: "local: an unload of one kind alone",
+        capacity: 100,
+        starts: true,
+        lines: r#"!S6,"kind":"tobt","program":"bf3U007`3c`V
+!@b7`02`V
+!unS6,"kind":"tobt"}
+%+6(09:00)
+!=
+!S6,"kind":"tobt","program":"bf3U007`3c`V
+!unS6,"kind":"alert"}
+%+6(09:00)
+&>
+"#,
+        replies: r#"^
+^
+^
+^
+^
+^
+| 7:LOC01
+^
+^
+^
+~Y4302`000200jUUfc83ba01U00003884ba01UUUU`00
 "#,
     },
     Row {

@@ -1,7 +1,7 @@
 //! What comes of the answer of a program of kind `tobt`. Written by `bench/rows/rows.py`.
 use crate::rows::{Row, is_answered};
 
-static ROWS_1: [Row; 30] = [
+static ROWS_1: [Row; 31] = [
     Row {
         shows: "target: 0 suggests nothing",
         capacity: 100,
@@ -304,6 +304,33 @@ static ROWS_1: [Row; 30] = [
 &>
 "#,
         replies: r#"^
+^
+^
+^
+^
+| 7:CDM14
+^
+^
+| -
+~Yc302UjUUfc83ba010184ba01`003884ba01UUUU`00
+"#,
+    },
+    Row {
+        shows: "target: the target that stands, after an unusable one",
+        capacity: 100,
+        starts: true,
+        lines: r#"%+6(09:00)
+*+9(10:00)
+!?bf3U007`ffffffffV
+!+7(09:05)
+!=
+!?bf3U007`3c`V
+!+7(09:05)
+!=
+&>
+"#,
+        replies: r#"^
+^
 ^
 ^
 ^

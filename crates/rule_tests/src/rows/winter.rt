@@ -1,7 +1,7 @@
 //! Migrates, and times of de-icing. Written by `bench/rows/rows.py`.
 use crate::rows::{Row, is_answered};
 
-static ROWS_1: [Row; 21] = [
+static ROWS_1: [Row; 23] = [
     Row {
         shows: "winter: an empty board is migrated",
         capacity: 100,
@@ -184,6 +184,9 @@ Rqeezt"(10:30)
 Rqaezt"(09:00)
 Rqaczt"(08:00)
 &>
+Rqeezt","time":null}
+Rqaczt","time":null}
+&>
 "#,
         replies: r#"^
 ^
@@ -193,6 +196,9 @@ v -
 ^
 ^
 ~Y03U00.UUUUUUUUU00003884ba015684ba01c083ba01fc83ba01UU`00
+^
+^
+~Y03U00.UUUUUUUUU00003884ba01U0000fc83ba01UU`00
 "#,
     },
     Row {
@@ -415,6 +421,86 @@ v 6:alert:308:2
 "#,
     },
     Row {
+        shows: "winter: the same time again, and none, are touches",
+        capacity: 100,
+        starts: false,
+        lines: r#"1 29000749 APT {"cmd":"/
+2 29000749 NM {"cmd":"+<
+5 29000749 GH {"cmd":"+9(10:00)
+1 29000749 APT {"cmd":"migrate"}
+6 29000749 DIC {"cmd":"qeczt"(10:00)
+6 29000750 DIC {"cmd":"qeczt"(10:00)
+1 29000750 APT {"cmd":"=
+6 29000749 DIC {"cmd":"qeczt","time":null}
+1 29000749 APT {"cmd":"=
+6 29000750 DIC {"cmd":"qaezt","time":null}
+1 29000750 APT {"cmd":"=
+"#,
+        replies: r#"^
+^
+^
+v -
+^
+^
+| 7:CDM09
+^
+| -
+^
+| 7:CDM09
+"#,
+    },
+    Row {
+        shows: "winter: each fault of a longer record",
+        capacity: 100,
+        starts: false,
+        lines: r#"!S16,"kind":"tobt","program":"250202008`0b7U0095U00bf6U0b7U00V
+!S3,"kind":"tobt","program":"250202008`0b7U0095U0071aU0b7U00V
+!S2,"kind":"alert","program":"250202008`0b7U0095U0071a0f0ff`00b7U00V
+!S9,"kind":"tobt","program":"250202008`0b7U0095U007201Ub7U00V
+!S1,"kind":"tobt","program":"250202008`0b7U0095U0085`02`b7U00V
+!@720a80ff`00bfa6U1f26U716U0V
+!migrate"}
+!unS6,"kind":"alert"}
+"#,
+        replies: r#"^
+^
+^
+^
+^
+^
+v 1:tobt:313:3;2:alert:310:3;3:tobt:309:3;6:alert:310:3;9:tobt:311:3;16:tobt:308:3
+_321
+"#,
+    },
+    Row {
+        shows: "winter: the longer record has 160 bytes",
+        capacity: 100,
+        starts: false,
+        lines: r#"!@150203009f`25020200a`0b7U0095U00bf6U0V
+!migrate"}
+!unS6,"kind":"alert"}
+"#,
+        replies: r#"^
+v -
+^
+"#,
+    },
+    Row {
+        shows: "winter: by milestone, and then by kind",
+        capacity: 100,
+        starts: false,
+        lines: r#"!S1,"kind":"alert","program":"250201008`0b7U00V
+!S16,"kind":"tobt","program":"250201008`0b7U00V
+!S1,"kind":"tobt","program":"250201008`0b7U00V
+!migrate"}
+"#,
+        replies: r#"^
+^
+^
+v 1:tobt:308:2;1:alert:308:2;16:tobt:308:2
+"#,
+    },
+    Row {
         shows: "winter: the length of a program",
         capacity: 100,
         starts: false,
@@ -441,6 +527,16 @@ bad 309 0
 bad 309 0
 "#,
     },
+];
+
+#[test]
+fn part_1(rt: HostRuntime) {
+    for row in &ROWS_1 {
+        is_answered(&rt, rt.alloc(), row);
+    }
+}
+
+static ROWS_2: [Row; 2] = [
     Row {
         shows: "winter: the fields of a load",
         capacity: 100,
@@ -494,8 +590,8 @@ bad 103
 ];
 
 #[test]
-fn part_1(rt: HostRuntime) {
-    for row in &ROWS_1 {
+fn part_2(rt: HostRuntime) {
+    for row in &ROWS_2 {
         is_answered(&rt, rt.alloc(), row);
     }
 }
