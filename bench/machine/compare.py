@@ -26,14 +26,15 @@ from random_programs import Programs  # noqa: E402
 BELOW = "acdm_record acdm_milestones bpf_decode bpf_helpers bpf_semantics bpf_regstate bpf_verifier bpf_run bpf_machine".split()
 
 
-def prepared(folder):
-    """The folder of the program, in a repository of its own."""
+def prepared(folder, is_checked=True):
+    """The folder of the program, in a repository of its own; what was checked of the crates below it comes along where that is asked for."""
     crate = folder / "crates" / "machine_bench"
     (crate / "src").mkdir(parents=True)
     for name in ("main.rt", "helpers.rt"):
         shutil.copy(HERE / f"{name}.txt", crate / "src" / name)
+    left_out = None if is_checked else shutil.ignore_patterns("out")
     for name in BELOW:
-        shutil.copytree(ROOT / "crates" / name, folder / "crates" / name, symlinks=True)
+        shutil.copytree(ROOT / "crates" / name, folder / "crates" / name, symlinks=True, ignore=left_out)
     lines = [line for line in (ROOT / "crates.txt").read_text().splitlines() if line.split(":")[0] in BELOW]
     lines.append(f"machine_bench: {' '.join(reversed(BELOW))} anyhow hex thiserror byteorder")
     (folder / "crates.txt").write_text("\n".join(lines) + "\n")
