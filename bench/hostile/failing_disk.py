@@ -410,6 +410,28 @@ def served(cases: Cases, recorded: Recorded) -> None:
     cases.expect("serving, the board goes on", (replies, ended[0]) == (["ok 2\n"], 0), (replies, ended))
 
 
+def saved(cases: Cases, recorded: Recorded) -> None:
+    """A saved journal is on the disk before it takes the place of an older one; where its sync fails the older one stays."""
+    file = recorded.folder / "saved"
+    for failing in ("", "1"):
+        recorded.renew()
+        file.write_bytes(b"older\n")
+        with recorded.begin("run", "--save", str(file), **({"FAIL_FSYNC": failing} if failing else {})) as board:
+            reply = board.ask(line(0))
+            status = board.end()[0]
+        if failing:
+            cases.expect("a save whose sync fails is told", (reply, status) == ("ok 0", 2), (reply, status))
+            cases.expect("and the older file stays", file.read_bytes() == b"older\n", file.read_bytes())
+            continue
+        called = recorded.calls()
+        cases.expect("a journal is saved", (reply, status, file.read_bytes()) == ("ok 0", 0, entry(0, 0) + b"\n"), status)
+        written, synced, renamed = (
+            called.index(it) if it in called else -1
+            for it in ("write saved.part", "fsync saved.part", "rename saved.part saved")
+        )
+        cases.expect("it is synced before it takes the place", -1 < written < synced < renamed, called)
+
+
 def failing_calls(cases: Cases, program: pathlib.Path, room: pathlib.Path) -> None:
     """The first part."""
     if not shutil.which("cc"):
@@ -422,6 +444,7 @@ def failing_calls(cases: Cases, program: pathlib.Path, room: pathlib.Path) -> No
         failed_begin(cases, recorded, number)
     without_sync(cases, recorded)
     served(cases, recorded)
+    saved(cases, recorded)
 
 
 def stop(number: int, _: types.FrameType | None) -> None:

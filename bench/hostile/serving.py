@@ -1,0 +1,368 @@
+#!/usr/bin/env python3
+"""Holds what partners, displays and the operator of `acdm serve` are sent against what is owed, where something is slow, late or many.
+
+    python3 bench/hostile/serving.py [--program PATH]
+
+A partner that reads late and little, under each word that keeps partners; a second connection at an address that is taken; `close` with
+2,000 lines in hand; replies that an older connection has not taken; a pace after silence; levels of rooms that do not divide; moments
+beside the machine's clock; and a display that reads late. The last line is `N cases, M failed`; status 1 where one failed.
+"""
+
+import datetime
+import pathlib
+import socket
+import sys
+import tempfile
+import threading
+import time
+
+from again import Board, free_port
+from cases import ALERTS, SCHEDULE, Cases, ran, words
+
+SHOW = '{"cmd":"show","flight":7}'
+TICK = '{"cmd":"tick"}'
+MANY = 2000
+# So many flights that 2,000 replies with all of them are more than the system holds of a connection that nobody reads.
+FLIGHTS = range(1, 401)
+FULL = ";".join(f"{number}:CDM13" for number in FLIGHTS)
+
+
+BEGINNING = threading.Lock()
+
+
+def opened(program, options, roles):
+    """A board, and the port of its display where DISPLAY stands for its address; begun again where another took a port between."""
+    for _ in range(5):
+        with BEGINNING:
+            port = free_port()
+            given = [f"127.0.0.1:{port}" if it == "DISPLAY" else it for it in options]
+            try:
+                return Board([program], given, roles), port
+            except IndexError:
+                continue
+    raise OSError("no board begins")
+
+
+def sends(partner, lines):
+    """Sends lines from a thread of its own, since the other side may not take them; an end of the connection is no fault."""
+
+    def send():
+        try:
+            partner.send("".join(f"{line}\n" for line in lines))
+        except OSError:
+            pass
+
+    sender = threading.Thread(target=send, daemon=True)
+    sender.start()
+    return sender
+
+
+def fill_board(partner):
+    """Schedules the flights, each of which has an alert from then on; says whether each was accepted."""
+    lines = [SCHEDULE.replace('"flight":7', f'"flight":{number}') for number in FLIGHTS]
+    sends(partner, lines)
+    return all(partner.replies.readline().startswith("ok ") for _ in lines)
+
+
+def received(connection, most):
+    """The next bytes of a connection; none where it ends, fails, or gives nothing for long."""
+    try:
+        return connection.recv(most)
+    except OSError:
+        return b""
+
+
+def is_held_up(other):
+    """Waits until no line of another partner is entered any more, since it takes no replies; says whether that came."""
+    last, end = -10, time.monotonic() + 60
+    while time.monotonic() < end:
+        number = int(other.asks(SHOW).split(" ")[1])
+        if number == last + 1:
+            # (a write that waits gives up after a while, with what was taken until then)
+            time.sleep(1)
+            return True
+        last = number
+        time.sleep(0.7)
+    return False
+
+
+def shape(reply):
+    """A reply without what is the same in all replies of its kind: its word and its number."""
+    return " ".join(reply.split(" ")[:2])
+
+
+def late_reader(cases, program, given):
+    """All replies come to a partner that begins to read once nothing more can be sent, and then takes a little at a time."""
+    with tempfile.TemporaryDirectory() as room:
+        options = {"--control": ["PORT"], "--keep": [f"{room}/kept"], "--pace": ["4000000000"]}
+        board, _ = opened(program, [part for it in given for part in (it, *options.get(it, []))], ["APT", "NM"])
+        late, other = board.connect(1, small=True), board.connect(2)
+        other.asks(ALERTS)
+        cases.expect(f"flights are there, {given}", fill_board(late))
+        sender = sends(late, [ALERTS] * MANY)
+        cases.expect(f"others go on beside a late reader, {given}", is_held_up(other))
+        data = b""
+        count = 0
+        while count < MANY:
+            piece = received(late.socket, 1000 if len(data) < 20_000 else 1 << 20)
+            if not piece:
+                break
+            data, count = data + piece, count + piece.count(b"\n")
+            time.sleep(0.05 if len(data) < 20_000 else 0)
+        sender.join(20)
+        numbers = [
+            it.split(" ")[1]
+            for it in data.decode().splitlines()
+            if it.startswith("alerts ") and it.endswith(" " + FULL)
+        ]
+        rising = all(int(one) < int(then) for one, then in zip(numbers, numbers[1:]))
+        cases.expect(
+            f"a late reader has all replies, each whole, {given}",
+            len(numbers) == MANY and rising,
+            (len(numbers), len(data)),
+        )
+        late.close()
+        other.close()
+        if "--control" in given:
+            cases.expect(
+                f"and the board ends, {given}", board.close()[1] == 0 if "--again" in given else board.ended()[0] == 0
+            )
+        else:
+            board.ran.terminate()
+            board.ran.wait(20)
+
+
+def second_connection(cases, program, given):
+    """Without --again the address is taken by its first partner: another one there changes nothing."""
+    board, _ = opened(program, given, ["APT", "NM"])
+    first, manager = board.connect(1), board.connect(2)
+    cases.expect(f"the first is served, {given}", first.asks(SCHEDULE) == "ok 0")
+    for turn in (1, 2):
+        try:
+            second = board.connect(1)
+            came = second.asks(TICK)
+            second.close()
+        except OSError:
+            came = ""
+        cases.expect(f"a second connection is not served, {given}", came == "", came)
+        cases.expect(f"and the first goes on, {given}", first.asks(TICK) == f"ok {turn}")
+    first.close()
+    board.waits_for(lambda: board.ran.poll() is not None, 1)
+    try:
+        later = board.connect(1).asks(TICK)
+    except OSError:
+        later = ""
+    cases.expect(f"nor one that comes when the first has left, {given}", later == "", later)
+    cases.expect(f"the other partner goes on, {given}", shape(manager.asks(ALERTS)) == "alerts 3")
+    manager.close()
+    cases.expect(
+        f"and the sessions end, {given}", board.ended() == (0, ["session 1 3 end", "session 2 1 end", "closed 4"])
+    )
+
+
+def close_in_hand(cases, program, given):
+    """Of 2,000 lines in hand some are answered when the board closes: the first ones, each of them whole, and these are the journal."""
+    with tempfile.TemporaryDirectory() as room:
+        saved = pathlib.Path(room) / "saved"
+        board, _ = opened(program, [*given, "--control", "PORT", "--save", str(saved)], ["APT", "NM"])
+        many, manager = board.connect(1), board.connect(2)
+        cases.expect(f"the other is served, {given}", manager.asks(ALERTS) == "alerts 0 -")
+        sends(many, [SCHEDULE, *[SHOW] * MANY])
+        replies = [many.replies.readline() for _ in range(20)]
+        answer = board.ask("close")
+        rest = many.replies.read()
+        status, lines = board.ended()
+        replies += rest.splitlines(keepends=True)
+        cases.expect(f"close is answered, {given}", (answer, status) == ("closing\n", 0), (answer, status))
+        owed = ["ok 1", *[f"rec {number}" for number in range(2, len(replies) + 1)]]
+        cases.expect(
+            f"the first lines are answered, in their order, {given}",
+            [shape(it.rstrip("\n")) for it in replies] == owed,
+            len(replies),
+        )
+        cases.expect(
+            f"each reply is whole, {given}",
+            all(it.endswith("\n") and len(it.split()[2]) == 256 for it in replies[1:]),
+            replies[-1][-20:],
+        )
+        ends = [f"session 1 {len(replies)} end", "session 2 1 end", f"closed {len(replies) + 1}"]
+        cases.expect(f"and each that was entered has its reply, {given}", lines == ends, (lines, len(replies)))
+        done = ran(program, ["audit", str(saved)])
+        cases.expect(
+            f"which is the journal, {given}", done.stdout.decode() == f"legal {len(replies) + 1}\n", done.stdout
+        )
+
+
+def older_replies(cases, program):
+    """A newer connection gets the replies to its own lines, however many an older one has not taken."""
+    board, _ = opened(program, ["--again", "--control", "PORT"], ["APT", "NM"])
+    cases.expect("flights are there", fill_board(board.connect(1)))
+    other = board.connect(2)
+    for turn in range(3):
+        older = board.connect(1, small=True)
+        sender = sends(older, [ALERTS] * MANY)
+        cases.expect(f"it takes no more replies, turn {turn}", is_held_up(other))
+        newer = board.connect(1)
+        first, second = newer.asks(SHOW), newer.asks(TICK)
+        cases.expect(
+            f"the newer one's first reply is its own, turn {turn}",
+            len(first.split(" ")) == 3 and first.startswith("rec "),
+            first[:60],
+        )
+        cases.expect(
+            f"and the next, turn {turn}", shape(second).startswith("ok ") and len(second.split()) == 2, second[:60]
+        )
+        data = b""
+        while piece := received(older.socket, 1 << 20):
+            data += piece
+        others = [
+            it for it in data.decode().split("\n")[:-1] if not (it.startswith("alerts ") and it.endswith(" " + FULL))
+        ]
+        cases.expect(f"the older one has replies of its own alone, turn {turn}", not others, others[:1])
+        sender.join(20)
+        older.close()
+        newer.close()
+    cases.expect("the board ends", board.close()[1] == 0)
+
+
+def pace_after_silence(cases, program):
+    """Silence gives no more than N lines at once, and what was used comes back by N in a minute."""
+    board, _ = opened(program, ["--again", "--control", "PORT", "--pace", "600"], ["APT"])
+    partner = board.connect(1)
+    cases.expect("a first line", partner.asks(TICK) == "ok 0")
+    time.sleep(3)
+    begun = time.monotonic()
+    sends(partner, [TICK] * 640)
+    for _ in range(640):
+        partner.replies.readline()
+    took = time.monotonic() - begun
+    # (600 at once, and 10 a second after that)
+    cases.expect("silence gives no more than a minute's lines at once", 3 < took < 20, took)
+    time.sleep(2)
+    begun = time.monotonic()
+    sends(partner, [TICK] * 40)
+    at = []
+    for _ in range(40):
+        partner.replies.readline()
+        at.append(time.monotonic() - begun)
+    cases.expect("two seconds give back 20 lines", at[14] < 1.2, at[14])
+    cases.expect("and no more", at[39] > 1, at[39])
+    cases.expect("the board ends", board.close()[1] == 0)
+
+
+def levels(cases, program):
+    """80 and 95 per cent of rooms that do not divide are reached by the first entry that is not below them."""
+    for room, first, second in ((7, 6, 7), (11, 9, 11), (21, 17, 20), (1, 1, 1), (3, 3, 3), (5, 4, 5), (9, 8, 9)):
+        board, _ = opened(program, ["--again", "--control", "PORT", "--journal", str(room)], ["APT"])
+        partner = board.connect(1)
+
+        def told(board=board):
+            return [it.split()[:5] for it in board.said if it.startswith("room ")]
+
+        wrong = []
+        for number in range(1, room + 1):
+            partner.asks(TICK)
+            owed = [
+                ["room", level, str(at), "of", str(room)]
+                for level, at in (("80", first), ("95", second))
+                if at <= number
+            ]
+            if not board.waits_for(lambda owed=owed, told=told: told() == owed, 3):
+                wrong.append((number, told()))
+            time.sleep(0.06 if number in (first - 1, second - 1) else 0)
+            wrong += [(number, told())] if told() != owed else []
+        cases.expect(f"the levels of {room} entries", not wrong, wrong)
+        partner.close()
+        cases.expect(f"a board of {room} ends", board.close()[1] == 0)
+
+
+def moments(cases, program):
+    """Entries, connections and the last entry have the machine's own moment."""
+    with tempfile.TemporaryDirectory() as room:
+        kept = pathlib.Path(room) / "kept"
+        kept.write_bytes(b"0 1 29000580 APT 0 0 tick\n")
+        before = time.time()
+        board, _ = opened(program, ["--again", "--control", "PORT", "--keep", str(kept)], ["APT"])
+        cases.expect("the last entry is of the day before", board.ask("status").endswith("last 2025-02-20T07:00:00Z\n"))
+        partner = board.connect(1)
+        cases.expect("the board goes on", partner.asks(TICK) == "ok 1")
+        last = board.ask("status").splitlines()[-1]
+        partner.close()
+        board.waits_for(lambda: board.told(1, "gone") == 1)
+        cases.expect("the board ends", board.close()[1] == 0)
+        after = time.time()
+        minute = int(kept.read_text(encoding="ascii").splitlines()[1].split()[2])
+        cases.expect("an entry has the minute of the clock", before // 60 <= minute <= after // 60, minute)
+        cases.expect(
+            "and the status tells it", last == time.strftime("last %Y-%m-%dT%H:%M:00Z", time.gmtime(60 * minute)), last
+        )
+        for line in board.said:
+            if line.split()[0] in ("here", "gone"):
+                told = datetime.datetime.strptime(line.split()[-1], "%Y-%m-%dT%H:%M:%SZ").replace(
+                    tzinfo=datetime.timezone.utc
+                )
+                cases.expect(
+                    "who comes and goes is told by the clock", before - 1 <= told.timestamp() <= after + 1, line
+                )
+
+
+def late_display(cases, program):
+    """A display that begins to read late, and takes a little at a time, is told of all entries."""
+    with tempfile.TemporaryDirectory() as room:
+        saved = pathlib.Path(room) / "saved"
+        given = ["--again", "--control", "PORT", "--save", str(saved), "--changes", "DISPLAY"]
+        board, port = opened(program, given, ["APT"])
+        display = socket.socket()
+        display.setsockopt(socket.SOL_SOCKET, socket.SO_RCVBUF, 4096)
+        display.settimeout(20)
+        display.connect(("127.0.0.1", port))
+        display.sendall(b"from 0\n")
+        partner = board.connect(1)
+        sends(partner, [SCHEDULE, *[SCHEDULE] * MANY])
+        for _ in range(MANY + 1):
+            partner.replies.readline()
+        time.sleep(4)
+        data = b""
+        count = 0
+        while count < MANY + 1:
+            piece = received(display, 2000 if len(data) < 40_000 else 1 << 20)
+            if not piece:
+                break
+            data, count = data + piece, count + piece.count(b"\n")
+            time.sleep(0.02 if len(data) < 40_000 else 0)
+        display.close()
+        partner.close()
+        cases.expect("the board ends", board.close()[1] == 0)
+        told = ran(program, ["tell", str(saved)]).stdout
+        cases.expect("a late display has each line whole", data == told, (len(data), len(told)))
+
+
+def tried(make, cases, *given):
+    """Makes cases; a fault of the script itself is a case that failed."""
+    try:
+        make(cases, *given)
+    except Exception as fault:  # pylint: disable=broad-exception-caught
+        cases.expect(f"{make.__name__} of {given[1:]} comes to its end", False, repr(fault))
+
+
+def main():
+    asked = words(__doc__).parse_args()
+    program, cases = str(asked.program.resolve()), Cases()
+    late = [["--again", "--control"], ["--control"], ["--pace"], ["--keep"], []]
+    waiting = [threading.Thread(target=tried, args=(late_reader, cases, program, given)) for given in late]
+    waiting += [threading.Thread(target=tried, args=(it, cases, program)) for it in (pace_after_silence, late_display)]
+    for it in waiting:
+        it.start()
+    for given in ([], ["--control", "PORT"], ["--pace", "6000"]):
+        tried(second_connection, cases, program, given)
+    for given in ([], ["--again"]):
+        tried(close_in_hand, cases, program, given)
+    for it in (older_replies, levels, moments):
+        tried(it, cases, program)
+    for it in waiting:
+        it.join()
+    return cases.end()
+
+
+if __name__ == "__main__":
+    sys.exit(main())
