@@ -304,6 +304,51 @@ MOMENTS = [
     for place, (text, minute) in enumerate(DAYS)
 ]
 
+# ---- the line of the board: a journal, and the records that it ends with, in order of creation, of layout 1 and then of layout 2
+
+
+def board(entries, flights, room=100_000):
+    return json.dumps({"next": entries, "room": room, "flights": flights}, separators=(",", ":")) + "\n"
+
+
+LATE = {"scheduled_type": "B738", "scheduled_reg": "GABCD", "scheduled_dest": "EGLL", "sobt": "2025-02-20T11:00:00Z"}
+LATE |= {"mttt": 45, "exit": 6, "exot": 11, "stand": 120}
+FIRST_PLAN = PLANNED | {"eobt": "2025-02-20T10:00:00Z"}
+# (9 was planned alone, and has a target; 8 was scheduled behind it; the greatest number of all comes before the least)
+ORDERED = [
+    "0 2 29000700 NM 0 0 report 9 1 29000760 DLH7 A320 DAIBC EDDM",
+    f"1 2 29000700 NM 0 0 report {MOST} 1 29000760 DLH7 A320 DAIBC EDDM",
+    "2 1 29000700 APT 0 0 schedule 8 BAW8 B738 GABCD EGLL 29000820 45 6 11 120",
+    "3 4 29000700 AO 0 0 report 9 9 29000760",
+    "4 1 29000700 APT 0 0 schedule 1 BAW8 B738 GABCD EGLL 29000820 45 6 11 120",
+    "5 2 29000700 NM 201 0 report 8 9 29000760",
+]
+ORDERED_FLIGHTS = [
+    (9, "DLH7", [1, 9], ["CDM01"], FIRST_PLAN | {"tobt": "2025-02-20T10:00:00Z"}),
+    (MOST, "DLH7", [1], ["CDM01"], FIRST_PLAN),
+    (8, "BAW8", [0], ["CDM13"], LATE),
+    (1, "BAW8", [0], ["CDM13"], LATE),
+]
+WINTER = ["6 1 29000700 APT 0 0 migrate", "7 6 29000700 DIC 0 0 deice 9 eezt 29000761"]
+BOARDS = [
+    ("no entry", [], board(0, [])),
+    ("four flights", ORDERED, board(6, [record(*it[:4], **it[4]) for it in ORDERED_FLIGHTS])),
+    (
+        "four flights of layout 2",
+        ORDERED + WINTER,
+        board(8, [record(*it[:4], 2, **it[4], **({"eezt": "2025-02-20T10:01:00Z"} if it[0] == 9 else {})) for it in ORDERED_FLIGHTS]),
+    ),
+]
+
+# ---- 4,096 flights, and one more
+
+FULL = [f"{place} 2 29000700 NM 0 0 report {place + 1} 1 29000760 DLH7 A320 DAIBC EDDM" for place in range(4096)]
+FULL += ["4096 2 29000700 NM 503 0 report 4097 1 29000760 DLH7 A320 DAIBC EDDM"]
+FULL_TOLD = line(
+    4096, "2025-02-20T09:00:00Z", 2, "NM",
+    report(4097, 1, "2025-02-20T10:00:00Z") | {"callsign": "DLH7", "type": "A320", "reg": "DAIBC", "dest": "EDDM"}, no(503, "full_board"),
+)  # fmt: skip
+
 # ---- what breaks off: lines of a journal, what is told of those before, and the first fault
 
 TWO = NIGHT[:2]

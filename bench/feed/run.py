@@ -3,7 +3,7 @@
 
     python3 bench/feed/run.py [--program PATH] [--model]
 
-Rows (rows.py), the journals of examples/ by the model (feed.py), the feed of each of them by docs/schema/feed.json, and all lines of
+Rows (rows.py), the line of the board that a display of `serve --changes` asks for, the journals of examples/ by the model (feed.py), the feed of each of them by docs/schema/feed.json, and all lines of
 partners in examples/ by docs/schema/lines.json. With --model the model is held against the rows instead. The schemas need
 `python3-jsonschema`; without it they are left out, and that is said. The last line is `N cases, M failed`; the status is 1 where one
 failed.
@@ -13,6 +13,7 @@ import argparse
 import io
 import json
 import pathlib
+import socket
 import subprocess
 import sys
 import tempfile
@@ -94,6 +95,35 @@ def rows_of(cases, tell):
         cases.same(f"{name}, behind two entries: status", str(status), "1")
 
 
+def full_board(cases, tell):
+    """One flight more than the board has room for."""
+    told, status = tell("".join(f"{it}\n" for it in rows.FULL).encode("ascii"))
+    cases.same("a full board", told.splitlines(keepends=True)[-1], rows.FULL_TOLD)
+    cases.same("a full board: status", str(status), "0")
+
+
+def board_by(program, journal):
+    """The line of the board that a display is sent, where the board goes on from a journal."""
+    with tempfile.TemporaryDirectory() as room, socket.create_server(("127.0.0.1", 0)) as free:
+        port, kept = free.getsockname()[1], pathlib.Path(room) / "kept"
+        free.close()
+        kept.write_text("".join(f"{it}\n" for it in journal), encoding="ascii")
+        words = [program, "serve", "--keep", kept, "--changes", f"127.0.0.1:{port}", "APT=127.0.0.1:0"]
+        with subprocess.Popen(words, stdout=subprocess.PIPE, stderr=subprocess.DEVNULL) as serving:
+            serving.stdout.readline()
+            try:
+                with socket.create_connection(("127.0.0.1", port), timeout=20) as display:
+                    display.sendall(b"board\n")
+                    return display.makefile("r", encoding="ascii", newline="\n").readline()
+            finally:
+                serving.kill()
+
+
+def boards(cases, program):
+    for name, journal, wanted in rows.BOARDS:
+        cases.same(f"the board: {name}", board_by(program, journal), wanted)
+
+
 def examples(cases, tell, check):
     for journal in JOURNALS:
         data = journal.read_bytes()
@@ -132,6 +162,9 @@ def main():
     if feed is None:
         print("the schemas are left out: python3-jsonschema is not there")
     rows_of(cases, tell)
+    full_board(cases, tell)
+    if not words.model:
+        boards(cases, words.program)
     examples(cases, tell, feed)
     if asked:
         partners(cases, asked)

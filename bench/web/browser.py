@@ -1,33 +1,44 @@
 #!/usr/bin/env python3
 """Looks at the page of `acdm serve --web` in headless Chromium, and measures from a partner's line to the browser.
 
-    /usr/bin/python3 bench/web/browser.py [--program PATH] [--pictures FOLDER]
+    python3 bench/web/browser.py [--program PATH] [--pictures FOLDER]
 
-It needs Debian's chromium, chromium-driver and python3-selenium. Shown are an empty board, the shipped morning with its times moved to
+It needs Debian's chromium, chromium-driver and python3-selenium, and without them is left out with a line that says so. Shown are an empty board, the shipped morning with its times moved to
 today, a call sign that would be HTML, 4,000 flights, a filter, a flight's day, a phone, dark colours, and a connection that is lost and
 comes back. With --pictures a picture of each is kept. The last line is `N cases, M failed`; the status is 1 where one failed.
 """
 import argparse
 import datetime
 import json
+import os
 import pathlib
 import re
+import shutil
 import socket
 import statistics
 import subprocess
 import sys
 import time
 
-from selenium import webdriver
-from selenium.webdriver.chrome.options import Options
-from selenium.webdriver.chrome.service import Service
-from selenium.webdriver.common.by import By
+DEBIAN, DRIVER = "/usr/bin/python3", "/usr/bin/chromedriver"
+try:
+    from selenium import webdriver
+    from selenium.webdriver.chrome.options import Options
+    from selenium.webdriver.chrome.service import Service
+    from selenium.webdriver.common.by import By
+except ImportError:
+    # (another Python than Debian's has not what Debian's packages bring)
+    if os.path.exists(DEBIAN) and os.path.realpath(sys.executable) != os.path.realpath(DEBIAN):
+        os.execv(DEBIAN, [DEBIAN, *sys.argv])
+    webdriver = None
 
 TOP = pathlib.Path(__file__).resolve().parents[2]
 ROLES = ("NM", "ATC", "APT", "AO", "GH")
 INSTANT = re.compile(r'"(\d{4}-\d\d-\d\dT\d\d:\d\d:\d\dZ)"')
 FORM = "%Y-%m-%dT%H:%M:%SZ"
 HOSTILE = '<b>&"\''
+# (each would be an element, or the end of one)
+HOSTILE_TEXTS = {"type": "<q>", "reg": "<u>x</u>", "dest": "<s>"}
 MANY = 4000
 
 
@@ -55,9 +66,9 @@ class Board:
         stream.sendall(line.encode() + b"\n")
         return replies.readline().rstrip()
 
-    def schedule(self, flight, callsign, after, stand=12):
+    def schedule(self, flight, callsign, after, stand=12, **texts):
         sobt = (datetime.datetime.now(datetime.timezone.utc) + datetime.timedelta(minutes=after)).strftime(FORM)
-        fields = {"flight": flight, "callsign": callsign, "type": "A320", "reg": "DAIBC", "dest": "EGLL", "sobt": sobt}
+        fields = {"flight": flight, "callsign": callsign, "type": "A320", "reg": "DAIBC", "dest": "EGLL", "sobt": sobt} | texts
         return json.dumps({"cmd": "schedule", **fields, "mttt": 45, "exit": 5, "exot": 10, "stand": stand})
 
     def play(self, lines, base):
@@ -85,7 +96,7 @@ class Page:
         for it in ("--headless=new", "--no-sandbox", "--disable-gpu", "--force-device-scale-factor=1", f"--window-size={size}", *words):
             options.add_argument(it)
         options.set_capability("goog:loggingPrefs", {"browser": "ALL"})
-        self.driver = webdriver.Chrome(options=options, service=Service("/usr/bin/chromedriver"))
+        self.driver = webdriver.Chrome(options=options, service=Service(DRIVER))
         self.driver.get(f"http://127.0.0.1:{port}/")
 
     def text(self, name):
@@ -128,6 +139,12 @@ def shown(board, page, folder):
     board.ask("APT", board.schedule(18446744073709551615, HOSTILE, 120))
     yield "a call sign is text", page.wait(lambda: HOSTILE in page.text("rows") and "18446744073709551615" in page.text("rows"))
     yield "and no element", not page.driver.find_elements(By.CSS_SELECTOR, "#rows td:first-child b b")
+    board.ask("APT", board.schedule(666, HOSTILE, 120, **HOSTILE_TEXTS))
+    yield "type, registration and destination are texts", page.wait(lambda: all(it in page.text("rows") for it in HOSTILE_TEXTS.values()))
+    page.driver.find_element(By.CSS_SELECTOR, '#rows tr[data-flight="666"]').click()
+    yield "and in the record", page.wait(lambda: all(it in page.text("detail") for it in HOSTILE_TEXTS.values()))
+    yield "and none is an element", not page.driver.find_elements(By.CSS_SELECTOR, "q, u, s")
+    page.driver.find_element(By.CSS_SELECTOR, "#one button").click()
     page.driver.find_element(By.ID, "text").send_keys("swr")
     yield "a filter", page.wait(lambda: page.rows() == 1)
     page.driver.find_element(By.ID, "text").clear()
@@ -184,6 +201,9 @@ def main():
     words.add_argument("--program", default=str(TOP / "crates" / "acdm" / "out" / "acdm"))
     words.add_argument("--pictures", type=pathlib.Path)
     asked = words.parse_args()
+    if webdriver is None or not shutil.which("chromium") or not os.path.exists(DRIVER):
+        print("left out: Debian's chromium, chromium-driver or python3-selenium is not here")
+        return 0
     if asked.pictures:
         asked.pictures.mkdir(parents=True, exist_ok=True)
     port = free_port()
