@@ -1,0 +1,168 @@
+"""The desk as a whole: its listeners, its lines to the board, and the process in front of partners of lines."""
+import asyncio
+import json
+import os
+import signal
+import ssl
+import sys
+from contextlib import AsyncExitStack
+from pathlib import Path
+from typing import Any
+
+from aiohttp import web
+
+from feed import Address
+
+from . import TOP, guard
+from .accounts import Accounts
+from .certificates import own_context, partners_context
+from .exchange import Exchange, say
+from .health import Health
+from .ledger import Ledger
+from .partners_http import PartnersHttp
+from .people import People
+from .settings import Settings
+
+HEAD = {
+    "max_line_size": guard.LONGEST_HEAD_LINE,
+    "max_field_size": guard.LONGEST_HEAD_LINE,
+    "max_headers": guard.LONGEST_HEAD,
+}
+FIRST_PAUSE, LONGEST_PAUSE = 0.5, 10.0
+
+
+class Listening:
+    """A listener that has begun: the port it has, and the connections at it."""
+
+    def __init__(self, port: int, watch: guard.Watch) -> None:
+        self.port, self.watch = port, watch
+
+
+class Desk:
+    """All parts of the desk, from one file of settings."""
+
+    def __init__(self, settings: Settings) -> None:
+        self.settings = settings
+        self.ledger = Ledger(settings.data, settings.log)
+        self.accounts = Accounts(self.ledger.base)
+        self.exchange = Exchange(settings, self.ledger)
+        self.people = People(settings, self.exchange, self.accounts)
+        self.partners = PartnersHttp(settings, self.exchange, self.accounts)
+        self.watches: dict[str, guard.Watch] = {}
+        self.health = Health(self.exchange, self.accounts, self.watches)
+        self.listening: dict[str, int] = {}
+        self.front_ready = asyncio.Event()
+        self.front_sessions: dict[int, str] = {}
+        self._stack = AsyncExitStack()
+        self._tasks: list[asyncio.Task[None]] = []
+
+    async def start(self) -> None:
+        """Begins to listen, and to follow the board. OSError where an address is taken."""
+        settings, ports = self.settings, self.settings.ports
+        context = own_context(settings.certificate, settings.key)
+        await self.exchange.start()
+        await self.listen("people", settings.listen, self.people.app, context)
+        if ports and ports.http:
+            own = partners_context(settings.certificate, settings.key, ports, is_required=False)
+            await self.listen("partners", ports.http, self.partners.app, own)
+        if settings.health:
+            await self.listen("health", settings.health, lambda _watch: self.health.app(), None)
+        if ports and ports.lines:
+            self._tasks.append(asyncio.create_task(self.keep_front()))
+
+    async def listen(self, name: str, where: Address, make: Any, context: ssl.SSLContext | None) -> None:
+        """Listens at an address, with a watch over its connections."""
+        watch = self.watches[name] = guard.Watch()
+        runner = web.AppRunner(make(watch), access_log=None, keepalive_timeout=30, handle_signals=False, **HEAD)
+        await runner.setup()
+        self._stack.push_async_callback(runner.cleanup)
+        assert runner.server
+        words: dict[str, Any] = {"ssl_handshake_timeout": guard.HANDSHAKE_SECONDS} if context else {}
+        server = await asyncio.get_running_loop().create_server(
+            watch.wrap(runner.server), *where, ssl=context, backlog=256, **words
+        )
+        self._stack.callback(server.close)
+        self._tasks.append(asyncio.create_task(watch.run()))
+        self.listening[name] = server.sockets[0].getsockname()[1]
+
+    async def keep_front(self) -> None:
+        """Keeps the process for partners of lines running."""
+        pause = FIRST_PAUSE
+        while True:
+            process = await asyncio.create_subprocess_exec(
+                sys.executable,
+                str(TOP / "desk" / "desk"),
+                "front",
+                str(self.settings.path),
+                stdin=asyncio.subprocess.PIPE,
+                stdout=asyncio.subprocess.PIPE,
+            )
+            try:
+                assert process.stdout
+                async for line in process.stdout:
+                    self.hear_front(json.loads(line))
+                    pause = FIRST_PAUSE
+            finally:
+                self.health.front.clear()
+                if process.returncode is None and process.stdin:
+                    process.stdin.close()
+                    await process.wait()
+            say(f"the process for partners of lines has ended; the next one begins in {pause:.1f} s")
+            await asyncio.sleep(pause)
+            pause = min(2 * pause, LONGEST_PAUSE)
+
+    def hear_front(self, told: dict[str, Any]) -> None:
+        """Takes what the process in front tells: who has come, gone, and was refused."""
+        event, partner = told.pop("event"), str(told.get("partner"))
+        if event == "listens":
+            self.listening["lines"] = told["port"]
+            self.front_ready.set()
+        elif event == "reply":
+            asyncio.ensure_future(self.learn_session(partner, int(told["entry"])))
+        else:
+            if event in ("here", "gone"):
+                count = self.health.front.get(partner, 0) + (1 if event == "here" else -1)
+                self.health.front[partner] = max(0, count)
+            self.ledger.tell(f"lines: {event}", **told)
+
+    async def learn_session(self, partner: str, number: int) -> None:
+        """Notes whose session it is that made an entry."""
+        mirror = self.exchange.mirror
+        if await mirror.reached(number, 5):
+            entry = next(iter(mirror.after(number) or ()), None)
+            if entry:
+                self.exchange.partner_sessions[entry.session] = partner
+
+    async def stop(self) -> None:
+        """Ends all: listeners first, then lines and log."""
+        self.exchange.mirror.end()
+        for task in self._tasks:
+            task.cancel()
+        await asyncio.gather(*self._tasks, return_exceptions=True)
+        await self._stack.aclose()
+        await self.exchange.stop()
+        self.ledger.close()
+
+
+async def run(settings: Settings) -> int:
+    """Runs the desk until SIGTERM, SIGINT or SIGHUP."""
+    desk, end = Desk(settings), asyncio.Event()
+    for number in (signal.SIGTERM, signal.SIGINT, signal.SIGHUP):
+        asyncio.get_running_loop().add_signal_handler(number, end.set)
+    try:
+        await desk.start()
+    except (OSError, ssl.SSLError) as error:
+        say(str(getattr(error, "strerror", None) or error))
+        await desk.stop()
+        return 2
+    for name, port in desk.listening.items():
+        print(f"listen {name} {port}", flush=True)
+    desk.ledger.tell("the desk begins", process=os.getpid())
+    await end.wait()
+    desk.ledger.tell("the desk ends", process=os.getpid())
+    await desk.stop()
+    return 0
+
+
+def settings_file(text: str | None) -> Path:
+    return Path(text or "desk.toml")

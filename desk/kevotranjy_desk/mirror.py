@@ -1,0 +1,274 @@
+"""The board as the feed tells it: all flights, what became of each, and who waits for the next entry."""
+import asyncio
+import hashlib
+import json
+import time
+from collections import Counter, deque
+from collections.abc import Callable, Iterator
+from dataclasses import dataclass, field
+from typing import Any
+
+from feed import LONGEST_LINE, Address, Board, Line, NoFeed, parsed
+
+FIRST_PAUSE, LONGEST_PAUSE = 0.2, 5.0
+ANSWER = 10.0
+# (of each flight, and of all: what is kept for who asks for history, and for who comes back after a break)
+HISTORY, KEPT_ENTRIES, KEPT_CHANGES = 100, 5000, 60000
+ALERTS_ALONE = {"alerts"}
+
+
+@dataclass(frozen=True)
+class Change:
+    """What an entry changed of a flight: the fields that differ, and the record after it."""
+
+    before: Line | None
+    after: Line
+    fields: dict[str, Any]
+
+
+@dataclass(frozen=True)
+class Entry:
+    """An entry of the journal, with the changes of its flights."""
+
+    number: int
+    minute: str
+    session: int
+    role: str
+    command: Line
+    code: int
+    changes: tuple[Change, ...]
+
+
+@dataclass
+class Story:
+    """What became of a flight: its last entries, and the last one that changed more than its alerts."""
+
+    events: deque[Entry] = field(default_factory=lambda: deque(maxlen=HISTORY))
+    last: int = -1
+
+
+def journal_name(first: Line) -> str:
+    """What tells a journal from another: its first entry."""
+    parts = [first["minute"], first["session"], first["command"]]
+    return hashlib.sha256(json.dumps(parts, sort_keys=True).encode()).hexdigest()[:16]
+
+
+def fields_between(before: Line | None, after: Line) -> dict[str, Any]:
+    """The fields of a record that differ from the one before it."""
+    if before is None:
+        return dict(after)
+    return {name: value for name, value in after.items() if before.get(name, before) != value}
+
+
+class Mirror:
+    """The board as the desk knows it. It follows the feed, over all breaks."""
+
+    def __init__(self, where: Address) -> None:
+        self.where, self.board = where, Board()
+        self.stories: dict[int, Story] = {}
+        self.entries: deque[Entry] = deque()
+        self.room, self.journal, self.first_kept = 0, "", 0
+        self.is_live, self.heard, self.trouble = False, 0.0, "not connected yet"
+        self.is_ended = False
+        self.entered: Counter[str] = Counter()
+        self.refused: Counter[tuple[str, int]] = Counter()
+        self.last_tick = ""
+        self.on_entry: list[Callable[[Entry], None]] = []
+        self.on_live: list[Callable[[bool], None]] = []
+        self._kept_changes = 0
+        self._waiting: set[asyncio.Future[None]] = set()
+        self._ready = asyncio.Event()
+
+    @property
+    def next(self) -> int:
+        """The number of the entry that comes next."""
+        return self.board.next
+
+    def flight(self, number: int) -> Line | None:
+        return self.board.flights.get(number)
+
+    def last_of(self, number: int) -> int:
+        """The last entry that changed more than the alerts of a flight; -1 where none did."""
+        story = self.stories.get(number)
+        return story.last if story else -1
+
+    def events_of(self, number: int) -> list[Entry]:
+        """The last entries that asked for a flight or changed it."""
+        story = self.stories.get(number)
+        return list(story.events) if story else []
+
+    def after(self, number: int) -> Iterator[Entry] | None:
+        """The entries from a number on; nothing where they are not kept any more."""
+        if number < self.first_kept or number > self.next:
+            return None
+        start = len(self.entries) - (self.next - number)
+        return (self.entries[place] for place in range(start, len(self.entries)))
+
+    async def ready(self, seconds: float) -> bool:
+        """Whether all entries that there were have been read within so many seconds."""
+        try:
+            await asyncio.wait_for(self._ready.wait(), seconds)
+        except asyncio.TimeoutError:
+            return False
+        return True
+
+    async def reached(self, number: int, seconds: float) -> bool:
+        """Whether the entry with a number is known within so many seconds."""
+        end = time.monotonic() + seconds
+        while self.next <= number:
+            left = end - time.monotonic()
+            if left <= 0:
+                return False
+            await self.news(left)
+        return True
+
+    async def news(self, seconds: float) -> None:
+        """Waits for an entry, or for so many seconds."""
+        waiting: asyncio.Future[None] = asyncio.get_running_loop().create_future()
+        self._waiting.add(waiting)
+        try:
+            await asyncio.wait_for(waiting, seconds)
+        except asyncio.TimeoutError:
+            pass
+        finally:
+            self._waiting.discard(waiting)
+
+    async def follow(self) -> None:
+        """Follows the feed until it is cancelled."""
+        pause = FIRST_PAUSE
+        while True:
+            try:
+                await self._connect()
+                pause = FIRST_PAUSE
+            except (OSError, EOFError, NoFeed, asyncio.TimeoutError, ValueError) as error:
+                self.trouble = str(error) or type(error).__name__
+            if self.is_live:
+                self._set_live(False)
+                pause = FIRST_PAUSE
+            await asyncio.sleep(pause)
+            pause = min(2 * pause, LONGEST_PAUSE)
+
+    def end(self) -> None:
+        """Nobody is told of entries any more: who waits goes on."""
+        self.is_ended = True
+        self._wake()
+
+    def _set_live(self, is_live: bool) -> None:
+        self.is_live = is_live
+        if is_live:
+            self._ready.set()
+        for tell in self.on_live:
+            tell(is_live)
+        self._wake()
+
+    def _wake(self) -> None:
+        for waiting in self._waiting:
+            if not waiting.done():
+                waiting.set_result(None)
+
+    async def _first_line(self, words: str) -> Line:
+        """The first line that the feed sends for these words."""
+        reader, writer = await asyncio.wait_for(asyncio.open_connection(*self.where, limit=LONGEST_LINE), ANSWER)
+        try:
+            writer.write(words.encode() + b"\n")
+            return parsed(whole(await asyncio.wait_for(reader.readline(), ANSWER)))
+        finally:
+            writer.close()
+
+    async def _connect(self) -> None:
+        """Reads the feed from the entry that comes next on, until it ends."""
+        told = await self._first_line("board")
+        count, self.room = int(told["next"]), int(told.get("room", 0))
+        name = journal_name(await self._first_line("from 0")) if count else ""
+        if self.journal and name != self.journal or count < self.next:
+            self._forget()
+        reader, writer = await asyncio.wait_for(asyncio.open_connection(*self.where, limit=LONGEST_LINE), ANSWER)
+        try:
+            writer.write(f"from {self.next}\n".encode())
+            while True:
+                if not self.is_live and self.next >= count:
+                    self._set_live(True)
+                line = parsed(whole(await (reader.readline() if self.is_live else timely(reader))))
+                if line.get("entry") != self.next:
+                    raise NoFeed(f"entry {line.get('entry')} came in place of {self.next}")
+                self.take(line)
+        finally:
+            writer.close()
+
+    def _forget(self) -> None:
+        """Begins anew: the board has another journal."""
+        self.board, self.stories, self.journal = Board(), {}, ""
+        self.entries.clear()
+        self.first_kept = self._kept_changes = 0
+        self.entered.clear()
+        self.refused.clear()
+        self.last_tick = ""
+
+    def take(self, line: Line) -> None:
+        """Takes an entry of the feed."""
+        if not line["entry"]:
+            self.journal = journal_name(line)
+        # (a migrate adds members to the records that are there, in place)
+        migrated = line["command"]["cmd"] == "migrate" and line["outcome"] == "ok"
+        before = {record["flight"]: self.board.flights.get(record["flight"]) for record in line["changed"]}
+        self.board.take(line)
+        self.heard = time.monotonic()
+        changes = [
+            Change(before[record["flight"]], record, fields_between(before[record["flight"]], record))
+            for record in line["changed"]
+        ]
+        if migrated:
+            changes = [
+                Change(record, record, dict.fromkeys(("eczt", "eezt", "aczt", "aezt")))
+                for record in self.board.flights.values()
+            ]
+        code = 0 if line["outcome"] == "ok" else int(line["outcome"]["code"])
+        entry = Entry(
+            line["entry"], line["minute"], line["session"], line["role"], line["command"], code, tuple(changes)
+        )
+        self._count(entry)
+        self._tell_stories(entry, migrated)
+        self._keep(entry)
+        for tell in self.on_entry:
+            tell(entry)
+        self._wake()
+
+    def _count(self, entry: Entry) -> None:
+        self.entered[entry.role] += 1
+        if entry.code:
+            self.refused[entry.role, entry.code] += 1
+        elif entry.command["cmd"] == "tick":
+            self.last_tick = entry.minute
+
+    def _tell_stories(self, entry: Entry, migrated: bool) -> None:
+        asked = entry.command.get("flight")
+        told = set()
+        for change in entry.changes if not migrated else ():
+            number = change.after["flight"]
+            told.add(number)
+            story = self.stories.setdefault(number, Story())
+            story.events.append(entry)
+            if set(change.fields) - ALERTS_ALONE or change.before is None or number == asked:
+                story.last = entry.number
+        if asked is not None and asked not in told and entry.command["cmd"] != "show" and asked in self.stories:
+            self.stories[asked].events.append(entry)
+
+    def _keep(self, entry: Entry) -> None:
+        self.entries.append(entry)
+        self._kept_changes += len(entry.changes)
+        while len(self.entries) > KEPT_ENTRIES or (self._kept_changes > KEPT_CHANGES and len(self.entries) > 1):
+            gone = self.entries.popleft()
+            self._kept_changes -= len(gone.changes)
+        self.first_kept = self.entries[0].number
+
+
+def whole(line: bytes) -> bytes:
+    """A line without its line feed; EOFError where it has none."""
+    if not line.endswith(b"\n"):
+        raise EOFError("the board closed the feed")
+    return line[:-1]
+
+
+async def timely(reader: asyncio.StreamReader) -> bytes:
+    """A line that has to come soon, since the entry is there."""
+    return await asyncio.wait_for(reader.readline(), ANSWER)

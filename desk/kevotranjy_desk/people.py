@@ -1,0 +1,256 @@
+"""The desk in the browser: signing in, the board, what a person enters, and what became of a flight."""
+import ipaddress
+from pathlib import Path
+from typing import Any
+
+from aiohttp import web
+
+from words import ROLES
+
+from . import guard, streams
+from .accounts import Accounts, Session
+from .board_line import Away, Unanswered
+from .entering import command_of, flight_number, milestones_of
+from .exchange import AWAY, Exchange
+from .guard import Refused
+from .ledger import Author, now
+from .mirror import Entry
+from .rates import Rate
+from .rights import MAY_ONLY_LOOK, Rights, refusal
+from .scopes import NONE, Scope
+from .settings import NOBODY, Person, Settings
+from .streams import Stream, Told, page_event, text_of
+from .wording import answer_words, event_of, page_words, refusal_name, refusal_words
+
+PAGES = Path(__file__).resolve().parent / "pages"
+KINDS = {".html": "text/html", ".css": "text/css", ".js": "text/javascript", ".svg": "image/svg+xml"}
+LAG = 1.0
+
+
+class People:
+    """What people ask of the desk, and what it answers."""
+
+    def __init__(self, settings: Settings, exchange: Exchange, accounts: Accounts) -> None:
+        self.settings, self.exchange, self.accounts = settings, exchange, accounts
+        self.mirror, self.ledger = exchange.mirror, exchange.ledger
+        self.lines = Rate(settings.limits.lines)
+        self.sign_ins = Rate(settings.limits.sign_ins)
+        self.names = Rate(2 * settings.limits.sign_ins)
+        self.told = Told(page_event)
+        self.boards: dict[Scope, tuple[str, int, bytes]] = {}
+        self.files = {file.name: file.read_text(encoding="utf-8") for file in PAGES.iterdir() if file.suffix in KINDS}
+
+    def app(self, watch: guard.Watch) -> web.Application:
+        """The routes."""
+        app = web.Application(middlewares=[guard.outermost(self.settings.names)], client_max_size=guard.LONGEST_BODY)
+        app["watch"] = watch
+        app.on_response_prepare.append(guard.on_prepare)
+        app.add_routes(
+            [
+                web.get("/", self.page),
+                web.get("/{name:desk\\.css|desk\\.js|sign-in\\.js|icon\\.svg}", self.file),
+                web.get("/words.js", self.words),
+                web.get("/sign-in", self.sign_in_page),
+                web.post("/sign-in", self.sign_in),
+                web.post("/sign-out", self.sign_out),
+                web.get("/me", self.me),
+                web.get("/board", self.board),
+                web.get("/events", self.events),
+                web.get("/flights/{flight}/history", self.history),
+                web.post("/enter", self.enter),
+            ]
+        )
+        return app
+
+    def answer_file(self, name: str) -> web.Response:
+        return web.Response(text=self.files[name], content_type=KINDS[Path(name).suffix], charset="utf-8")
+
+    async def file(self, request: web.Request) -> web.Response:
+        return self.answer_file(request.match_info["name"])
+
+    async def words(self, _request: web.Request) -> web.Response:
+        return web.Response(text=page_words(), content_type="text/javascript", charset="utf-8")
+
+    async def sign_in_page(self, _request: web.Request) -> web.Response:
+        return self.answer_file("sign-in.html")
+
+    async def page(self, request: web.Request) -> web.StreamResponse:
+        """The desk, for who has signed in; a page that asks for name and password for others."""
+        if self.session_of(request):
+            return self.answer_file("desk.html")
+        name = self.named_by_proxy(request)
+        if name is None:
+            raise web.HTTPSeeOther("/sign-in")
+        response = self.answer_file("desk.html")
+        key, session = self.accounts.begin(name)
+        guard.set_cookie(response, key)
+        self.ledger.tell("signed in", who=session.name, client=request.remote, by="the single sign-on")
+        return response
+
+    def named_by_proxy(self, request: web.Request) -> str | None:
+        """Who has signed in at the airport's single sign-on, where a proxy that may say so does."""
+        sign_on = self.settings.sign_on
+        if sign_on is None or request.remote is None:
+            return None
+        if not any(ipaddress.ip_address(request.remote) in network for network in sign_on.proxies):
+            return None
+        named: list[str] = request.headers.getall(sign_on.header, [])
+        return named[0] if len(named) == 1 and named[0] in self.settings.people else None
+
+    def session_of(self, request: web.Request) -> Session | None:
+        """The session of the browser that asks, where somebody has signed in who is still known."""
+        session = self.accounts.session_of(request.cookies.get(guard.COOKIE, ""))
+        return session if session and session.name in self.settings.people else None
+
+    def signed_in(self, request: web.Request) -> tuple[Person, Session]:
+        """Who asks; Refused where nobody has signed in."""
+        session = self.session_of(request)
+        if session is None:
+            raise Refused(401, "sign in first")
+        return self.settings.people[session.name], session
+
+    def changing(self, request: web.Request) -> tuple[Person, Session]:
+        """Who asks to change something: with the token of his page, and as JSON."""
+        person, session = self.signed_in(request)
+        if not guard.is_json(request):
+            raise Refused(415, "what is sent has to be JSON")
+        if not guard.has_token(request, session.token):
+            raise Refused(403, "the page is of another session: load it again")
+        return person, session
+
+    def rights_of(self, person: Person) -> Rights:
+        return Rights(person.role, person.see, person.send)
+
+    async def sign_in(self, request: web.Request) -> web.Response:
+        """Begins a session for name, password and second factor."""
+        if not guard.is_json(request):
+            raise Refused(415, "what is sent has to be JSON")
+        asked = await guard.body_of(request)
+        name, password, code = (
+            (asked.get(key) if isinstance(asked, dict) else None) for key in ("name", "password", "code")
+        )
+        if not isinstance(name, str) or not isinstance(password, str) or not isinstance(code or "", str):
+            raise Refused(400, "name, password and code are texts")
+        client = request.remote or ""
+        if not self.sign_ins.takes(client) or not self.names.takes(name[:40]):
+            self.ledger.tell("too many trials to sign in", who=name[:40], client=client)
+            raise Refused(429, "too many trials: wait a minute")
+        person = self.settings.people.get(name)
+        needs = bool(person and person.has_second_factor)
+        if not await self.accounts.is_right(name, password, str(code or ""), needs) or person is None:
+            self.ledger.tell("refused to sign in", who=name[:40], client=client)
+            raise Refused(401, "name, password or code is not right")
+        key, session = self.accounts.begin(name)
+        response = guard.told(200, "signed in")
+        guard.set_cookie(response, key)
+        self.ledger.tell("signed in", who=session.name, client=client)
+        return response
+
+    async def sign_out(self, request: web.Request) -> web.Response:
+        person, session = self.changing(request)
+        self.accounts.end(session)
+        self.ledger.tell("signed out", who=person.name, client=request.remote)
+        response = guard.told(200, "signed out")
+        guard.set_cookie(response, "", max_age=0)
+        return response
+
+    async def me(self, request: web.Request) -> web.Response:
+        """Who has signed in, and what he may enter."""
+        person, session = self.signed_in(request)
+        return web.json_response(
+            {
+                "name": person.name,
+                "role": person.role,
+                "role_words": ROLES.get(person.role, "may only look"),
+                "token": session.token,
+                "milestones": milestones_of(person.role) if person.send != NONE else [],
+                "may_schedule": person.role == "APT" and person.send != NONE,
+                "may_deice": person.role == "DIC" and person.send != NONE,
+                "is_bounded": not (person.see.is_unbounded and person.send.is_unbounded),
+                "now": now(),
+            }
+        )
+
+    async def board(self, request: web.Request) -> web.Response:
+        """All flights that this person sees, each with its last entry and whether he sends for it."""
+        person, _ = self.signed_in(request)
+        response = web.Response(body=self.board_text(person), content_type="application/json", charset="utf-8")
+        response.enable_compression()
+        return response
+
+    def board_text(self, person: Person) -> bytes:
+        mirror, rights = self.mirror, self.rights_of(person)
+        flights = [
+            {**record, "flight": str(number), "last": mirror.last_of(number)}
+            for number, record in mirror.board.flights.items()
+            if rights.sees(record)
+        ]
+        others = [] if rights.send.is_unbounded else [it["flight"] for it in flights if not self.sends(rights, it)]
+        value = {"next": mirror.next, "is_live": mirror.is_live, "now": now(), "flights": flights, "others": others}
+        return text_of(value).encode()
+
+    def sends(self, rights: Rights, told: dict[str, Any]) -> bool:
+        return rights.sends_for({**told, "flight": int(told["flight"])})
+
+    async def events(self, request: web.Request) -> web.StreamResponse:
+        """The entries as they come, of the flights that this person sees."""
+        person, session = self.signed_in(request)
+        first = streams.last_event(request)
+        key = request.cookies.get(guard.COOKIE, "")
+
+        def may_go_on() -> bool:
+            return self.accounts.session_of(key) == session
+
+        def begin_anew() -> bytes:
+            return b"event: anew\ndata: {}\n\n"
+
+        stream = Stream(self.mirror, self.told, person.see)
+        return await stream.run(request, self.mirror.next if first is None else first, begin_anew, may_go_on)
+
+    async def history(self, request: web.Request) -> web.Response:
+        """What became of a flight: each entry with its person, and why it was refused."""
+        person, _ = self.signed_in(request)
+        number = flight_number(request.match_info["flight"])
+        if not self.rights_of(person).sees(self.mirror.flight(number)):
+            raise Refused(404, "no such flight")
+        return web.json_response({"events": self.events_of(number, self.mirror.events_of(number))})
+
+    def events_of(self, number: int, entries: list[Entry]) -> list[dict[str, Any]]:
+        who = self.ledger.who(self.mirror.journal, [entry.number for entry in entries])
+        return [event_of(entry, number, who.get(entry.number)) for entry in entries]
+
+    async def enter(self, request: web.Request) -> web.Response:
+        """Sends what a person enters, where nothing has changed since he looked."""
+        person, _ = self.changing(request)
+        asked = await guard.body_of(request)
+        command = command_of(asked, self.mirror)
+        author = Author(person.name, "person", request.remote or "")
+        why = MAY_ONLY_LOOK if person.role == NOBODY else refusal(self.rights_of(person), command, self.mirror)
+        if why:
+            self.ledger.tell("not sent", who=person.name, client=request.remote, line=command, why=why)
+            raise Refused(403, why)
+        if self.exchange.is_away(person.role):
+            raise Refused(503, AWAY)
+        self.refuse_unseen(command["flight"], asked.get("seen"))
+        if not self.lines.takes(person.name):
+            raise Refused(429, "too many lines: wait a moment")
+        try:
+            answer = await self.exchange.send(author, person.role, command)
+        except Away as away:
+            raise Refused(503, AWAY) from away
+        except Unanswered as unanswered:
+            raise Refused(504, str(unanswered)) from unanswered
+        facts: dict[str, Any] = {"entry": answer.entry, "reply": answer.text.split(" ", 2)[:2]}
+        if answer.code:
+            facts |= {"code": answer.code, "name": refusal_name(answer.code), "why": refusal_words(answer.code)}
+        return guard.told(200, answer_words(command, answer), is_accepted=answer.is_accepted, **facts)
+
+    def refuse_unseen(self, number: int, seen: Any) -> None:
+        """Refuses what is entered for a flight that has changed since the person looked, and says what has."""
+        last = self.mirror.last_of(number)
+        if not isinstance(seen, int) or isinstance(seen, bool):
+            raise Refused(400, "it is not said which entry was seen last")
+        if last > seen:
+            since = [entry for entry in self.mirror.events_of(number) if entry.number > seen and entry.changes]
+            events = self.events_of(number, since)
+            raise Refused(409, "the flight has changed since you looked", events=events, last=last)

@@ -1,0 +1,136 @@
+"""Server-Sent Events (the HTML standard): what each listener may see of the entries, as they come."""
+import asyncio
+import json
+from collections import OrderedDict
+from collections.abc import Callable
+from typing import Any
+
+from aiohttp import web
+
+from feed import Line
+
+from .guard import STALLED_SECONDS
+from .mirror import Change, Entry, Mirror
+from .scopes import Scope
+from .wording import refusal_name
+
+BEAT = 15.0
+KEPT_TEXTS = 4096
+
+
+def text_of(value: object) -> str:
+    return json.dumps(value, separators=(",", ":"))
+
+
+def for_page(fields: Line) -> Line:
+    """Fields of a record for a browser, whose numbers are exact below 2^53 alone: a flight is the text of its digits."""
+    return {**fields, "flight": str(fields["flight"])} if "flight" in fields else fields
+
+
+class Told:
+    """What an entry tells those who see the same flights, made once for all of them."""
+
+    def __init__(self, make: Callable[[Entry, Scope], Line | None]) -> None:
+        self._make = make
+        self._texts: OrderedDict[tuple[str, int, Scope], bytes] = OrderedDict()
+
+    def of(self, journal: str, entry: Entry, scope: Scope) -> bytes:
+        """An event, or nothing where the entry is none of theirs."""
+        key = (journal, entry.number, scope)
+        text = self._texts.get(key)
+        if text is None:
+            value = self._make(entry, scope)
+            text = b"" if value is None else f"id: {entry.number + 1}\ndata: {text_of(value)}\n\n".encode()
+            self._texts[key] = text
+            while len(self._texts) > KEPT_TEXTS:
+                self._texts.popitem(last=False)
+        return text
+
+
+def page_change(change: Change, scope: Scope, number: int) -> tuple[Line | None, str | None]:
+    """What a page is told of a change: the fields that differ, and whether the flight has left its sight."""
+    is_seen, was_seen = scope.has(change.after), change.before is not None and scope.has(change.before)
+    if not is_seen:
+        return None, str(change.after["flight"]) if was_seen else None
+    fields = change.fields if was_seen else change.after
+    told: Line = {**fields, "flight": str(change.after["flight"])}
+    if set(change.fields) - {"alerts"}:
+        told["last"] = number
+    return told, None
+
+
+def page_event(entry: Entry, scope: Scope) -> Line | None:
+    """What a page is told of an entry: of the flights in sight alone, and only what differs."""
+    found = [page_change(change, scope, entry.number) for change in entry.changes]
+    flights = [fields for fields, _ in found if fields is not None]
+    gone = [number for _, number in found if number is not None]
+    if not flights and not gone:
+        return None
+    return {"entry": entry.number, "minute": entry.minute, "role": entry.role, "flights": flights, "gone": gone}
+
+
+def partner_event(entry: Entry, scope: Scope) -> Line | None:
+    """What a partner is told of an entry, as the feed has it, of the flights in sight alone."""
+    changed = [change.after for change in entry.changes if scope.has(change.after)]
+    gone = [
+        change.after["flight"]
+        for change in entry.changes
+        if not scope.has(change.after) and change.before is not None and scope.has(change.before)
+    ]
+    asked = entry.command.get("flight")
+    is_own = scope.is_unbounded or any(record["flight"] == asked for record in changed)
+    if not scope.is_unbounded and not changed and not gone:
+        return None
+    outcome = {"code": entry.code, "name": refusal_name(entry.code)} if entry.code else "ok"
+    command = entry.command if is_own else {"cmd": entry.command["cmd"]}
+    line: Line = {"entry": entry.number, "minute": entry.minute, "role": entry.role, "command": command, "outcome": outcome}
+    return {**line, "changed": changed, **({"gone": gone} if gone else {})}
+
+
+class Stream:
+    """One listener's events, until he leaves, or takes nothing for 30 seconds."""
+
+    def __init__(self, mirror: Mirror, told: Told, scope: Scope) -> None:
+        self.mirror, self.told, self.scope = mirror, told, scope
+        self.response = web.StreamResponse(
+            headers={"Content-Type": "text/event-stream", "Cache-Control": "no-store", "X-Accel-Buffering": "no"}
+        )
+
+    async def write(self, data: bytes) -> None:
+        await asyncio.wait_for(self.response.write(data), STALLED_SECONDS)
+
+    async def run(
+        self, request: web.Request, first: int, begin_anew: Callable[[], bytes], may_go_on: Callable[[], bool]
+    ) -> web.StreamResponse:
+        """Sends the events from an entry on; where they are not there any more, what begins anew."""
+        await self.response.prepare(request)
+        number, journal = first, self.mirror.journal
+        was_live: bool | None = None
+        try:
+            while may_go_on() and not self.mirror.is_ended:
+                entries = self.mirror.after(number) if journal == self.mirror.journal else None
+                if entries is None:
+                    journal, number = self.mirror.journal, self.mirror.next
+                    await self.write(begin_anew())
+                    continue
+                data = b"".join(self.told.of(journal, entry, self.scope) for entry in entries)
+                number = self.mirror.next
+                if was_live != self.mirror.is_live:
+                    was_live = self.mirror.is_live
+                    data += f"event: board\ndata: {text_of({'is_live': was_live})}\n\n".encode()
+                if data:
+                    await self.write(data)
+                before = self.mirror.next
+                await self.mirror.news(BEAT)
+                if before == self.mirror.next and was_live == self.mirror.is_live and not self.mirror.is_ended:
+                    await self.write(b": beat\n\n")
+        except (ConnectionError, asyncio.TimeoutError, asyncio.CancelledError):
+            if request.transport:
+                request.transport.abort()
+        return self.response
+
+
+def last_event(request: web.Request) -> int | None:
+    """The number of the entry from which a listener goes on, where he says one."""
+    text = str(request.headers.get("Last-Event-ID") or request.query.get("from", ""))
+    return int(text) if text.isascii() and text.isdigit() and len(text) <= 20 else None

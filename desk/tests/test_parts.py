@@ -1,0 +1,106 @@
+"""Parts that need no board: clock times, second factors, shares of a minute, records, names."""
+import time
+from datetime import datetime, timezone
+
+import pytest
+from harness import TOP  # noqa: F401  pylint: disable=unused-import
+
+from kevotranjy_desk.accounts import code_at, step_of
+from kevotranjy_desk.guard import host_name
+from kevotranjy_desk.moments import BadTime, instant
+from kevotranjy_desk.rates import Rate
+from kevotranjy_desk.records import alerted, instant_of, shown_record, unloaded
+from kevotranjy_desk.scopes import ALL, NONE, Clause, Scope
+
+EVENING = datetime(2025, 2, 20, 22, 30, 40, tzinfo=timezone.utc)
+
+
+@pytest.mark.parametrize(
+    "text, stands, wanted",
+    [
+        ("22:45", None, "2025-02-20T22:45:00Z"),
+        ("0015", None, "2025-02-21T00:15:00Z"),
+        ("18:30", None, "2025-02-20T18:30:00Z"),
+        ("18:29", None, "2025-02-21T18:29:00Z"),
+        ("9:05Z", None, "2025-02-21T09:05:00Z"),
+        ("now", None, "2025-02-20T22:30:00Z"),
+        ("+5", "2025-02-20T23:58:00Z", "2025-02-21T00:03:00Z"),
+        ("-10", "2025-02-20T23:58:00Z", "2025-02-20T23:48:00Z"),
+    ],
+)
+def test_a_time_is_that_of_the_day_about_now(text: str, stands: str | None, wanted: str) -> None:
+    assert instant(text, EVENING, stands) == wanted
+
+
+@pytest.mark.parametrize("text", ["24:00", "10:60", "", "ten", "1:2", "10:20\n{}", "+5", "٣٠:١٥"])
+def test_what_is_no_time_is_told(text: str) -> None:
+    with pytest.raises(BadTime):
+        instant(text, EVENING, None)
+
+
+# The rows of RFC 6238, appendix B, for SHA-1, of which the last six digits count here.
+SECRET = "GEZDGNBVGY3TQOJQGEZDGNBVGY3TQOJQ"
+
+
+@pytest.mark.parametrize(
+    "seconds, code",
+    [
+        (59, "287082"),
+        (1111111109, "081804"),
+        (1111111111, "050471"),
+        (1234567890, "005924"),
+        (2000000000, "279037"),
+        (20000000000, "353130"),
+    ],
+)
+def test_codes_are_those_of_the_standard(seconds: int, code: str) -> None:
+    assert code_at(SECRET, seconds // 30) == code
+    assert step_of(SECRET, code, 0, seconds) == seconds // 30
+    assert step_of(SECRET, code, 0, seconds + 30) == seconds // 30
+    assert step_of(SECRET, code, 0, seconds + 90) is None
+    assert step_of(SECRET, code, seconds // 30, seconds) is None, "a code counts once"
+
+
+def test_a_share_fills_again(monkeypatch: pytest.MonkeyPatch) -> None:
+    moment = [0.0]
+    monkeypatch.setattr(time, "monotonic", lambda: moment[0])
+    rate = Rate(60)
+    assert sum(rate.takes("a") for _ in range(100)) == 60 and rate.takes("b")
+    moment[0] = 2.5
+    assert sum(rate.takes("a") for _ in range(100)) == 2
+
+
+def test_scopes_are_unions_of_clauses() -> None:
+    scope = Scope((Clause(("DLH",), frozenset(), ((10, 19),)), Clause((), frozenset({12}), ())))
+    rows = [("DLH1", 1, 10, True), ("DLH1", 1, 20, False), ("BAW1", 1, 10, False), ("BAW1", 12, 99, True)]
+    assert [scope.has_flight(*row[:3]) for row in rows] == [row[3] for row in rows]
+    assert ALL.has_flight("X", 1, 1) and not NONE.has_flight("X", 1, 1)
+
+
+def test_replies_are_read_by_name() -> None:
+    # (docs/RULES.md, "The record", reads these digits)
+    digits = "0700000000000000" "444c483700000000" + "A320".encode().hex() * 2 + ("DAIBC".encode().hex() + "000000") * 2
+    digits += (
+        "EDDM".encode().hex() * 2 + "03000000" "00000000" "2800" "0a00" "0c00" "01" "05" + "3884ba01" * 2 + "00" * 56
+    )
+    record = shown_record(digits)
+    assert record["flight"] == 7 and record["callsign"] == "DLH7" and record["plan_dest"] == "EDDM"
+    assert record["sobt"] == record["eobt"] == "2025-02-20T10:00:00Z" and record["tobt"] is None
+    assert (record["mttt"], record["exot"], record["stand"], record["exit"]) == (40, 10, 12, 5)
+    assert record["reached"] == [0, 1] and record["alerts"] == []
+    with pytest.raises(ValueError):
+        shown_record(digits + "00")
+    assert instant_of(4294967295) == "10136-02-16T04:15:00Z"
+    assert alerted("7:CDM08,CDM07a;9:CDM01") == [
+        {"flight": 7, "alerts": ["CDM08", "CDM07a"]},
+        {"flight": 9, "alerts": ["CDM01"]},
+    ]
+    assert alerted("-") == [] and unloaded("-") == []
+    assert unloaded("7:tobt:308:2")[0] == {"milestone": 7, "kind": "tobt", "code": 308, "slot": 2}
+
+
+@pytest.mark.parametrize(
+    "text, name", [("Desk.Example:8443", "desk.example"), ("[::1]:8443", "[::1]"), ("[::1]", "[::1]"), ("a", "a")]
+)
+def test_a_host_is_told_without_its_port(text: str, name: str) -> None:
+    assert host_name(text) == name
