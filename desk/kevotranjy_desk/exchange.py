@@ -58,7 +58,7 @@ class Exchange:
 
     def is_away(self, address: str) -> bool:
         """Whether nothing can be sent at an address now."""
-        return not self.mirror.is_live or address not in self._begun
+        return not self.mirror.is_live or address not in self._begun or address in self._open
 
     async def send(
         self, author: Author, address: str, command: Command, request: tuple[str, int] | None = None

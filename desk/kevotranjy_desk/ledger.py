@@ -109,7 +109,15 @@ class Ledger:
     ) -> int:
         """Writes a line down before it is sent; its number here."""
         flight = command.get("flight")
-        values: tuple[Any, ...] = (journal, now(), author.name, author.kind, author.client, address, json.dumps(command))
+        values: tuple[Any, ...] = (
+            journal,
+            now(),
+            author.name,
+            author.kind,
+            author.client,
+            address,
+            json.dumps(command),
+        )
         values += (str(flight) if isinstance(flight, int) else None, SENT, *(request or (None, None)))
         made = self._base.execute(
             "insert into line (journal, moment, who, kind, client, address, text, flight, state, request, place)"

@@ -83,7 +83,13 @@ def partner_event(entry: Entry, scope: Scope) -> Line | None:
         return None
     outcome = {"code": entry.code, "name": refusal_name(entry.code)} if entry.code else "ok"
     command = entry.command if is_own else {"cmd": entry.command["cmd"]}
-    line: Line = {"entry": entry.number, "minute": entry.minute, "role": entry.role, "command": command, "outcome": outcome}
+    line: Line = {
+        "entry": entry.number,
+        "minute": entry.minute,
+        "role": entry.role,
+        "command": command,
+        "outcome": outcome,
+    }
     return {**line, "changed": changed, **({"gone": gone} if gone else {})}
 
 
