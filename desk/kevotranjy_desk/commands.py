@@ -10,7 +10,7 @@ from urllib.parse import quote
 
 from feed import Arguments
 
-from . import front
+from . import front, openapi
 from .accounts import Accounts
 from .app import run
 from .demo import demo
@@ -134,6 +134,9 @@ def main(arguments: list[str]) -> int:
     """Runs a command; its status is 2 with one line where something is wrong with words or settings."""
     if len(arguments) == 2 and arguments[0] == "front":
         return front.main(Path(arguments[1]))
+    if arguments == ["openapi"]:
+        print(openapi.text(), end="")
+        return 0
     given = words().parse_args(arguments)
     try:
         if given.demo:
