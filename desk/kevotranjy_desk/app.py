@@ -1,6 +1,7 @@
 """The desk as a whole: its listeners, its lines to the board, and the process in front of partners of lines."""
 import asyncio
 import json
+import logging
 import os
 import signal
 import ssl
@@ -29,6 +30,8 @@ HEAD = {
     "max_headers": guard.LONGEST_HEAD,
 }
 FIRST_PAUSE, LONGEST_PAUSE = 0.5, 10.0
+# (what strangers send that is no request is answered, and fills no log of the operator's)
+logging.getLogger("aiohttp").setLevel(logging.CRITICAL)
 
 
 class Listening:

@@ -5,7 +5,9 @@ Each defence is one function, so that a test can take it away and see the attack
 import asyncio
 import hmac
 import json
+import sys
 import time
+import traceback
 from collections import Counter
 from collections.abc import Awaitable, Callable
 from typing import Any, cast
@@ -124,7 +126,13 @@ def outermost(names: tuple[str, ...]) -> Any:
         except web.HTTPRequestEntityTooLarge:
             return told(413, "the request is too long")
         except web.HTTPException as error:
+            if error.status == 303:
+                raise
             return told(error.status, error.reason)
+        except Exception as error:  # pylint: disable=broad-exception-caught
+            print(f"desk: {request.path!r:.80}: {type(error).__name__}: {error!r:.200}", file=sys.stderr, flush=True)
+            traceback.print_exc()
+            return told(500, "a fault of the desk; what became of this is in the flight's history")
         finally:
             if patient:
                 patient.end()

@@ -4,6 +4,7 @@ A line is written down before it is sent, so that no entry comes of a line that 
 beside which each event is a line of JSON in the log. What the board has and this does not explain is said.
 """
 import json
+import os
 import sqlite3
 import sys
 from collections.abc import Iterable
@@ -75,6 +76,10 @@ class Ledger:
     """The log of who did what."""
 
     def __init__(self, data: Path, log: Path | None) -> None:
+        for file in (data, log):
+            if file:
+                # (nobody else on this machine reads it)
+                os.close(os.open(file, os.O_CREAT | os.O_APPEND, 0o600))
         self._base = sqlite3.connect(data, isolation_level=None)
         self._base.execute("pragma journal_mode=wal")
         self._base.execute("pragma synchronous=normal")

@@ -232,6 +232,7 @@ class People:
         if self.exchange.is_away(person.role):
             raise Refused(503, AWAY)
         self.refuse_unseen(command["flight"], asked.get("seen"))
+        last = self.mirror.last_of(command["flight"])
         if not self.lines.takes(person.name):
             raise Refused(429, "too many lines: wait a moment")
         try:
@@ -243,6 +244,11 @@ class People:
         facts: dict[str, Any] = {"entry": answer.entry, "reply": answer.text.split(" ", 2)[:2]}
         if answer.code:
             facts |= {"code": answer.code, "name": refusal_name(answer.code), "why": refusal_words(answer.code)}
+        if answer.entry is not None and await self.mirror.reached(answer.entry, LAG):
+            # (what came in between could not be asked about any more: it is told)
+            events = self.mirror.events_of(command["flight"])
+            between = [it for it in events if last < it.number < answer.entry and it.changes]
+            facts["between"] = self.events_of(command["flight"], between)
         return guard.told(200, answer_words(command, answer), is_accepted=answer.is_accepted, **facts)
 
     def refuse_unseen(self, number: int, seen: Any) -> None:

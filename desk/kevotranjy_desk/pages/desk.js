@@ -7,6 +7,8 @@ const TIMES = [
 // The fields of a flight's dialog, those that are entered most first.
 const FIRST = [9, 10, 11, 12, 13, 14, 15, 16, 7, 8, 6, 5, 4, 2, 3];
 const TAKEN_BACK = [2, 9];
+// Times that are estimated or set, and so are moved; the others are what was seen.
+const MOVED = ["EOBT", "CTOT", "ELDT", "TOBT", "TSAT", "ECZT", "EEZT"];
 // How many rows are made at first, and more each time that their end is scrolled to; and how many in a frame at most.
 const STEP = 200, PART = 60, FRESH = 4000;
 const ORDERS = {
@@ -294,7 +296,7 @@ function fieldNode(field) {
   box.dataset.key = field.key;
   reply.setAttribute("role", "status");
   const name = tag("span", undefined, "name"), stands = tag("span", clock(field.stands), "stands");
-  name.append(tag("b", field.label), " ", tag("small", field.name));
+  name.append(tag("b", field.label), " ", tag("small", field.name === field.label ? "" : field.name));
   form.append(name, stands);
   // (the reply's place may be that of a dialog which was filled anew)
   const send = (time) => enter({ ...field.command, time }, box.querySelector(".reply"));
@@ -306,7 +308,7 @@ function fieldNode(field) {
     input.setAttribute("aria-label", field.label + ", UTC");
     const go = tag("button", "Send");
     form.append(input, go, button("Now", "step", () => send("now")));
-    if (field.stands || field.label === "TOBT") {
+    if (MOVED.includes(field.label)) {
       const moves = ["+5", "+10"].map((text) => button(text, "step", () => send(text)));
       for (const node of moves) node.disabled = !field.stands;
       form.append(...moves);
@@ -351,13 +353,17 @@ async function enter(command, reply) {
     seen = Math.max(seen, answer.entry);
     element("news").hidden = true;
   }
-  say(reply, status === 200 && answer.is_accepted ? "good" : "bad", answer.words);
+  const between = answer.between && answer.between.length ? tag("ul") : "";
+  if (between) for (const event of answer.between) between.append(tag("li", "just before: " + eventText(event)));
+  say(reply, status === 200 && answer.is_accepted ? "good" : "bad", answer.words, between);
   tellHistory();
 }
 
 function eventText(event) {
-  const changes = event.refused ? "refused: " + event.refused : event.changes.join(", ") || "no change";
-  return clock(event.minute) + " " + event.who + ": " + event.what + (changes ? ", " + changes : "");
+  const changes = event.refused ? ["refused: " + event.refused] : event.changes;
+  // (what is asked for is the name of the time that it sets, mostly)
+  const what = changes.length && changes[0].startsWith(event.what + " ") ? [] : [event.what];
+  return clock(event.minute) + " " + event.who + ": " + [...what, ...changes].join(", ");
 }
 
 async function tellHistory() {
@@ -435,7 +441,7 @@ function open(id) {
   tellHistory();
   element("one").showModal();
   const input = element("fields").querySelector("input");
-  if (input && matchMedia("(pointer: fine)").matches) input.focus();
+  if (input && innerWidth > 700) input.focus();
 }
 
 function plan(flight) {
@@ -501,7 +507,7 @@ async function begin() {
   const answer = await fetch("/me");
   if (answer.status === 401) return location.replace("/sign-in");
   me = await answer.json();
-  element("me").textContent = me.name + ", " + me.role_words;
+  element("me").append(tag("b", me.name), ", ", tag("span", me.role_words, "long"), tag("span", me.role, "short"));
   element("order").value = me.role === "ATC" ? "tsat" : me.role === "APT" ? "eobt" : "tobt";
   element("mine").checked = me.is_bounded;
   element("mine-label").hidden = !me.is_bounded;
@@ -527,7 +533,10 @@ element("rows").addEventListener("keydown", key);
 element("new").addEventListener("click", () => plan(null));
 element("plan-form").addEventListener("submit", schedule);
 element("plan-close").addEventListener("click", () => element("plan").close());
-element("one").addEventListener("close", () => opened = "");
+element("one").addEventListener("close", () => {
+  // (it may be open for another flight by now)
+  if (!element("one").open) opened = "";
+});
 document.addEventListener("keydown", pageKey);
 new IntersectionObserver((entries) => {
   if (!entries.some((entry) => entry.isIntersecting)) return;
