@@ -41,7 +41,7 @@ class Listening:
         self.port, self.watch = port, watch
 
 
-class Desk:
+class Desk:  # pylint: disable=too-many-instance-attributes
     """All parts of the desk, from one file of settings."""
 
     def __init__(self, settings: Settings) -> None:

@@ -72,7 +72,7 @@ class BoardLine:
         return await self._run(self._begin)
 
     async def ask(self, command: Command) -> Answer:
-        """The reply to a line, which is entered once. Away where it was not sent, Unanswered where that is not known."""
+        """The reply to a line, which is entered once. Away where it was not sent, Unanswered where nobody knows."""
         text = line_text(command)
         return await self._run(lambda: self._ask(command, text))
 

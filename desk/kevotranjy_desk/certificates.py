@@ -64,6 +64,7 @@ def own_context(certificate: Path, key: Path) -> ssl.SSLContext:
     context.minimum_version = ssl.TLSVersion.TLSv1_2
     context.load_cert_chain(certificate, key)
     # (one who renews keys over and over would cost more than he pays)
+    # pylint: disable-next=no-member
     context.options |= ssl.OP_NO_RENEGOTIATION | ssl.OP_NO_COMPRESSION
     return context
 

@@ -75,7 +75,8 @@ def log_line(line: Written, as_json: bool) -> str:
         return json.dumps(line.__dict__)
     entry = f"entry {line.entry}" if line.entry is not None else line.state
     note = f" ({line.state})" if line.entry is not None and line.state != "replied" else ""
-    return f"{line.moment} {line.who} [{line.kind} {line.client or '-'}] {line.address}: {json.dumps(line.command)} -> {entry}, {line.reply or 'no reply'}{note}"
+    author = f"{line.who} [{line.kind} {line.client or '-'}] {line.address}"
+    return f"{line.moment} {author}: {json.dumps(line.command)} -> {entry}, {line.reply or 'no reply'}{note}"
 
 
 def print_log(given: argparse.Namespace, settings: Settings) -> int:

@@ -204,7 +204,7 @@ class Player:
             await asyncio.sleep(20)
 
 
-def demo() -> int:
+def demo() -> int:  # pylint: disable=too-many-locals
     """Makes and opens all in the folder desk-demo, until Ctrl-C."""
     program, folder = find_program(), Path("desk-demo").resolve()
     folder.mkdir(mode=0o700, exist_ok=True)
@@ -264,7 +264,7 @@ def about_text(folder: Path, password: str, token: str) -> str:
     """What is said of a trial."""
     people = ", ".join(f"{name} ({role if role != 'none' else 'looks only'})" for name, (role, _, _) in PEOPLE.items())
     where = folder
-    return f"""The desk is at https://localhost:8443/ (its certificate is of an authority of this trial: {where}/authority.pem).
+    return f"""The desk is at https://localhost:8443/ (an authority of this trial signed it: {where}/authority.pem).
 People: {people}; the password of each is {password}
 A partner by HTTP:
   curl --cacert {where}/authority.pem -H 'Authorization: Bearer {token}' https://localhost:8444/v1/flights

@@ -2,8 +2,8 @@
 import asyncio
 import sys
 import time
+from collections.abc import Callable
 from dataclasses import replace
-from typing import Any
 
 from partner import QUESTION
 
@@ -35,7 +35,7 @@ class Exchange:
                 name = partner_line(partner.name)
                 self.lines[name] = BoardLine(name, partner.http, settings.changes)
         self.partner_sessions: dict[int, str] = {}
-        self.on_reply: Any = None
+        self.on_reply: Callable[[float], None] = lambda seconds: None
         self._begun: set[str] = set()
         self._open: dict[str, int] = {}
         self._ours: dict[int, tuple[str, int]] = {}
@@ -77,8 +77,7 @@ class Exchange:
         except Unanswered as why:
             self._open[address] = number
             raise Unanswered(f"{MAYBE} ({why})") from None
-        if self.on_reply:
-            self.on_reply(time.monotonic() - begun)
+        self.on_reply(time.monotonic() - begun)
         self.ledger.end(number, FOUND if answer.note == "from the feed" else REPLIED, answer.entry, answer.text)
         return answer
 

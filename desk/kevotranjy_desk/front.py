@@ -203,26 +203,26 @@ class Front:
         if end.has_ended and other.has_ended and not end.waiting and not other.waiting:
             self.close(pair, "")
 
-    def receive(self, end: End, other: End) -> None:
+    def receive(self, source: End, target: End) -> None:
         """Takes what has come at an end, while the other one takes it."""
-        while not end.has_ended and other.size < MOST_WAITING:
+        while not source.has_ended and target.size < MOST_WAITING:
             try:
-                data = end.stream.recv(PIECE)
+                data = source.stream.recv(PIECE)
             except WANTS:
                 return
             if not data:
-                end.has_ended = True
-                self.send(other)
+                source.has_ended = True
+                self.send(target)
                 return
-            if not end.is_client and not end.pair.is_learned:
-                self.learn(end.pair, data)
-            if other.waiting:
-                other.waiting.append(data)
-                other.size += len(data)
-                self.send(other)
+            if not source.is_client and not source.pair.is_learned:
+                self.learn(source.pair, data)
+            if target.waiting:
+                target.waiting.append(data)
+                target.size += len(data)
+                self.send(target)
             else:
-                self.send_now(other, data)
-            if not end.is_client or not end.stream.pending():
+                self.send_now(target, data)
+            if not source.is_client or not source.stream.pending():
                 return
 
     def send_now(self, end: End, data: bytes) -> None:
@@ -257,14 +257,14 @@ class Front:
             else:
                 end.stream.shutdown(socket.SHUT_WR)
 
-    def renew(self, end: End, other: End) -> None:
+    def renew(self, source: End, target: End) -> None:
         """Asks for what an end can go on with."""
-        if end.pair not in self.pairs:
+        if source.pair not in self.pairs:
             return
-        wanted = WRITE if end.waiting else 0
-        if not end.has_ended and other.size < MOST_WAITING:
+        wanted = WRITE if source.waiting else 0
+        if not source.has_ended and target.size < MOST_WAITING:
             wanted |= READ
-        self.watch(end, wanted)
+        self.watch(source, wanted)
 
     def learn(self, pair: Pair, data: bytes) -> None:
         """Tells the first entry of a client, by which the desk knows the session of its partner."""

@@ -112,7 +112,7 @@ def outermost(names: tuple[str, ...]) -> Any:
     @web.middleware
     async def guarded(request: web.Request, handler: Handler) -> web.StreamResponse:
         watch = cast("Watch | None", request.app.get("watch"))
-        patient = watch.of(request) if watch else None
+        patient = watch.patient_of(request) if watch else None
         if patient:
             patient.begin()
         try:
@@ -229,7 +229,7 @@ class Watch:
             if not self.of_client[patient.client]:
                 del self.of_client[patient.client]
 
-    def of(self, request: web.Request) -> Patient | None:
+    def patient_of(self, request: web.Request) -> Patient | None:
         return self.connections.get(id(request.protocol))
 
     async def run(self) -> None:

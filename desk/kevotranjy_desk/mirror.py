@@ -60,7 +60,7 @@ def fields_between(before: Line | None, after: Line) -> dict[str, Any]:
     return {name: value for name, value in after.items() if before.get(name, before) != value}
 
 
-class Mirror:
+class Mirror:  # pylint: disable=too-many-instance-attributes
     """The board as the desk knows it. It follows the feed, over all breaks."""
 
     def __init__(self, where: Address) -> None:

@@ -198,7 +198,7 @@ def document() -> Json:
         "schema": {"type": "string"},
     }
     post = {
-        "summary": "Sends one line or many; the board answers each. Lines go in order, and after one without an answer none.",
+        "summary": "Sends lines in order; the board answers each, and after one without an answer none is sent.",
         "parameters": [key],
         "requestBody": {
             "required": True,
@@ -237,7 +237,7 @@ def document() -> Json:
         "info": {
             "title": "The desk, for partners by HTTP",
             "version": "1",
-            "description": "Lines, flights, history, alerts and events. Flights of others are not shown, told or accepted.",
+            "description": "Lines, flights, history, alerts and events, of the flights of a partner alone.",
         },
         "security": [{"token": []}, {"certificate": []}],
         "paths": {

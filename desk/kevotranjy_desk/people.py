@@ -53,7 +53,7 @@ class People:
                 web.get("/sign-in", self.sign_in_page),
                 web.post("/sign-in", self.sign_in),
                 web.post("/sign-out", self.sign_out),
-                web.get("/me", self.me),
+                web.get("/me", self.about_me),
                 web.get("/board", self.board),
                 web.get("/events", self.events),
                 web.get("/flights/{flight}/history", self.history),
@@ -62,26 +62,26 @@ class People:
         )
         return app
 
-    def answer_file(self, name: str) -> web.Response:
+    def _answer_file(self, name: str) -> web.Response:
         return web.Response(text=self.files[name], content_type=KINDS[Path(name).suffix], charset="utf-8")
 
     async def file(self, request: web.Request) -> web.Response:
-        return self.answer_file(request.match_info["name"])
+        return self._answer_file(request.match_info["name"])
 
     async def words(self, _request: web.Request) -> web.Response:
         return web.Response(text=page_words(), content_type="text/javascript", charset="utf-8")
 
     async def sign_in_page(self, _request: web.Request) -> web.Response:
-        return self.answer_file("sign-in.html")
+        return self._answer_file("sign-in.html")
 
     async def page(self, request: web.Request) -> web.StreamResponse:
         """The desk, for who has signed in; a page that asks for name and password for others."""
         if self.session_of(request):
-            return self.answer_file("desk.html")
+            return self._answer_file("desk.html")
         name = self.named_by_proxy(request)
         if name is None:
             raise web.HTTPSeeOther("/sign-in")
-        response = self.answer_file("desk.html")
+        response = self._answer_file("desk.html")
         key, session = self.accounts.begin(name)
         guard.set_cookie(response, key)
         self.ledger.tell("signed in", who=session.name, client=request.remote, by="the single sign-on")
@@ -154,7 +154,7 @@ class People:
         guard.set_cookie(response, "", max_age=0)
         return response
 
-    async def me(self, request: web.Request) -> web.Response:
+    async def about_me(self, request: web.Request) -> web.Response:
         """Who has signed in, and what he may enter."""
         person, session = self.signed_in(request)
         return web.json_response(
@@ -174,22 +174,22 @@ class People:
     async def board(self, request: web.Request) -> web.Response:
         """All flights that this person sees, each with its last entry and whether he sends for it."""
         person, _ = self.signed_in(request)
-        response = web.Response(body=self.board_text(person), content_type="application/json", charset="utf-8")
+        response = web.Response(body=self._board_text(person), content_type="application/json", charset="utf-8")
         response.enable_compression()
         return response
 
-    def board_text(self, person: Person) -> bytes:
+    def _board_text(self, person: Person) -> bytes:
         mirror, rights = self.mirror, self.rights_of(person)
         flights = [
             {**record, "flight": str(number), "last": mirror.last_of(number)}
             for number, record in mirror.board.flights.items()
             if rights.sees(record)
         ]
-        others = [] if rights.send.is_unbounded else [it["flight"] for it in flights if not self.sends(rights, it)]
+        others = [] if rights.send.is_unbounded else [it["flight"] for it in flights if not self._sends(rights, it)]
         value = {"next": mirror.next, "is_live": mirror.is_live, "now": now(), "flights": flights, "others": others}
         return text_of(value).encode()
 
-    def sends(self, rights: Rights, told: dict[str, Any]) -> bool:
+    def _sends(self, rights: Rights, told: dict[str, Any]) -> bool:
         return rights.sends_for({**told, "flight": int(told["flight"])})
 
     async def events(self, request: web.Request) -> web.StreamResponse:

@@ -31,6 +31,7 @@ class Rights:
         return self.see.has(record) and self.send.has(record)
 
 
+# pylint: disable-next=too-many-return-statements
 def refusal(rights: Rights, command: dict[str, Any], mirror: Mirror) -> str | None:
     """Why a command is not sent; nothing where the board may judge it.
 

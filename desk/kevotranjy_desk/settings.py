@@ -1,18 +1,18 @@
 """The settings of the desk: a file of TOML that is read strictly. A fault names its line and its key."""
 import ipaddress
 import re
-import tomllib
 from collections.abc import Callable
 from dataclasses import dataclass, field
 from pathlib import Path
 from typing import Any, NoReturn, TypeVar
 
+import tomllib
 from feed import Address, parse_address
 from words import ROLES
 
 from .scopes import ALL, NONE, Clause, Scope
 
-Path_ = tuple[str | int, ...]
+KeyPath = tuple[str | int, ...]
 Kind = TypeVar("Kind")
 NAME = re.compile(r"[a-z0-9][a-z0-9._-]{0,39}", re.ASCII)
 HOST = re.compile(r"[a-z0-9.-]{1,253}(:\d{1,5})?|\[[0-9a-f:]+\](:\d{1,5})?", re.ASCII)
@@ -48,7 +48,7 @@ class Person:
 
 @dataclass(frozen=True)
 class Partner:
-    """A partner: by HTTP, whose lines go to an address of its own, and by lines over TLS, of which each client has one."""
+    """A partner: by HTTP with an address of the board for its lines, and by lines over TLS with one for each client."""
 
     name: str
     role: str
@@ -87,7 +87,7 @@ class Ports:
 
 
 @dataclass(frozen=True)
-class Settings:
+class Settings:  # pylint: disable=too-many-instance-attributes
     """All that the file says."""
 
     path: Path
@@ -107,7 +107,7 @@ class Settings:
     ports: Ports | None = None
 
 
-def line_of(text: str, path: Path_) -> int:
+def line_of(text: str, path: KeyPath) -> int:
     """The line, from 1, at which a key stands, or the one of the table that should have it."""
     table: list[str | int] = []
     counts: dict[str, int] = {}
@@ -137,7 +137,7 @@ def keys_of(text: str) -> list[str]:
     return [part.strip().strip("\"'") for part in text.split(".")]
 
 
-def key_text(path: Path_) -> str:
+def key_text(path: KeyPath) -> str:
     """A key as it is told: `partner[2].role`, numbered from 1."""
     parts = [f"[{part + 1}]" if isinstance(part, int) else f".{part}" for part in path]
     return "".join(parts).lstrip(".") or "the file"
@@ -146,19 +146,19 @@ def key_text(path: Path_) -> str:
 class Table:
     """A table of the file, whose keys are taken one by one; one that nobody takes is a fault."""
 
-    def __init__(self, file: "File", path: Path_, value: Any) -> None:
+    def __init__(self, file: "File", path: KeyPath, value: Any) -> None:
         self.file, self.path = file, path
         if not isinstance(value, dict):
             file.refuse(path, "is no table")
         self.left: dict[str, Any] = dict(value)
 
-    def take(self, key: str, read: Callable[["File", Path_, Any], Kind]) -> Kind:
+    def take(self, key: str, read: Callable[["File", KeyPath, Any], Kind]) -> Kind:
         """A key that has to be there."""
         if key not in self.left:
             self.file.refuse((*self.path, key), "is missing")
         return read(self.file, (*self.path, key), self.left.pop(key))
 
-    def take_or(self, key: str, read: Callable[["File", Path_, Any], Kind], otherwise: Kind) -> Kind:
+    def take_or(self, key: str, read: Callable[["File", KeyPath, Any], Kind], otherwise: Kind) -> Kind:
         """A key that may be left out."""
         return self.take(key, read) if key in self.left else otherwise
 
@@ -193,7 +193,7 @@ class File:
             reason = re.sub(r" \(at .*\)$", "", str(error))
             raise BadSettings(f"{path}: line {line}: it is no TOML: {reason}") from None
 
-    def refuse(self, path: Path_, reason: str) -> NoReturn:
+    def refuse(self, path: KeyPath, reason: str) -> NoReturn:
         """Says what is wrong, and where."""
         raise BadSettings(f"{self.path}: line {line_of(self.text, path)}: {key_text(path)} {reason}")
 
@@ -202,22 +202,22 @@ class File:
         return self.path.resolve().parent / text
 
 
-def text(file: File, path: Path_, value: Any) -> str:
+def plain_text(file: File, path: KeyPath, value: Any) -> str:
     if not isinstance(value, str) or not value:
         file.refuse(path, "is no text")
     return str(value)
 
 
-def flag(file: File, path: Path_, value: Any) -> bool:
+def flag(file: File, path: KeyPath, value: Any) -> bool:
     if not isinstance(value, bool):
         file.refuse(path, "is neither true nor false")
     return bool(value)
 
 
-def matched(pattern: re.Pattern[str], what: str) -> Callable[[File, Path_, Any], str]:
+def matched(pattern: re.Pattern[str], what: str) -> Callable[[File, KeyPath, Any], str]:
     """A text of a form."""
 
-    def read(file: File, path: Path_, value: Any) -> str:
+    def read(file: File, path: KeyPath, value: Any) -> str:
         if not isinstance(value, str) or not pattern.fullmatch(value):
             file.refuse(path, f"is no {what}: {value!r:.60}")
         return str(value)
@@ -225,10 +225,10 @@ def matched(pattern: re.Pattern[str], what: str) -> Callable[[File, Path_, Any],
     return read
 
 
-def count(least: int, most: int) -> Callable[[File, Path_, Any], int]:
+def count(least: int, most: int) -> Callable[[File, KeyPath, Any], int]:
     """A whole number from one to another."""
 
-    def read(file: File, path: Path_, value: Any) -> int:
+    def read(file: File, path: KeyPath, value: Any) -> int:
         if isinstance(value, bool) or not isinstance(value, int) or not least <= value <= most:
             file.refuse(path, f"is no whole number from {least} to {most}: {value!r:.60}")
         return int(value)
@@ -236,10 +236,10 @@ def count(least: int, most: int) -> Callable[[File, Path_, Any], int]:
     return read
 
 
-def listed(read: Callable[[File, Path_, Any], Kind]) -> Callable[[File, Path_, Any], list[Kind]]:
+def listed(read: Callable[[File, KeyPath, Any], Kind]) -> Callable[[File, KeyPath, Any], list[Kind]]:
     """A list that has something."""
 
-    def read_all(file: File, path: Path_, value: Any) -> list[Kind]:
+    def read_all(file: File, path: KeyPath, value: Any) -> list[Kind]:
         if not isinstance(value, list) or not value:
             file.refuse(path, "is no list, or an empty one")
         return [read(file, (*path, place), each) for place, each in enumerate(value)]
@@ -247,16 +247,16 @@ def listed(read: Callable[[File, Path_, Any], Kind]) -> Callable[[File, Path_, A
     return read_all
 
 
-def address(file: File, path: Path_, value: Any) -> Address:
+def address(file: File, path: KeyPath, value: Any) -> Address:
     try:
-        return parse_address(text(file, path, value))
+        return parse_address(plain_text(file, path, value))
     except ValueError as error:
         return file.refuse(path, f"is no address: {error}")
 
 
-def existing(file: File, path: Path_, value: Any) -> Path:
+def existing(file: File, path: KeyPath, value: Any) -> Path:
     """A file that is there and can be read."""
-    found = file.beside(text(file, path, value))
+    found = file.beside(plain_text(file, path, value))
     try:
         with found.open("rb"):
             return found
@@ -264,21 +264,21 @@ def existing(file: File, path: Path_, value: Any) -> Path:
         return file.refuse(path, f"can't be read: {found}: {error.strerror}")
 
 
-def made(file: File, path: Path_, value: Any) -> Path:
+def made(file: File, path: KeyPath, value: Any) -> Path:
     """A file that the desk makes, in a folder that is there."""
-    found = file.beside(text(file, path, value))
+    found = file.beside(plain_text(file, path, value))
     if not found.parent.is_dir():
         file.refuse(path, f"lies in no folder that is there: {found}")
     return found
 
 
-def role(file: File, path: Path_, value: Any) -> str:
+def role(file: File, path: KeyPath, value: Any) -> str:
     if value not in ROLES and value != NOBODY:
         file.refuse(path, f"is none of {', '.join(ROLES)} and {NOBODY}: {value!r:.60}")
     return str(value)
 
 
-def stand_range(file: File, path: Path_, value: Any) -> tuple[int, int]:
+def stand_range(file: File, path: KeyPath, value: Any) -> tuple[int, int]:
     """A stand, or a text as "10-19"."""
     found = re.fullmatch(r"(\d{1,5})-(\d{1,5})", value, re.ASCII) if isinstance(value, str) else None
     pair = (int(found[1]), int(found[2])) if found else (value, value)
@@ -289,7 +289,7 @@ def stand_range(file: File, path: Path_, value: Any) -> tuple[int, int]:
     return first, last
 
 
-def clause(file: File, path: Path_, value: Any) -> Clause:
+def clause(file: File, path: KeyPath, value: Any) -> Clause:
     table = Table(file, path, value)
     airline = matched(re.compile(r"[!-~]{1,8}"), "beginning of a call sign")
     flights: list[int] = table.take_or("flights", listed(count(1, GREATEST_FLIGHT)), [])
@@ -304,7 +304,7 @@ def clause(file: File, path: Path_, value: Any) -> Clause:
     return found
 
 
-def scope(file: File, path: Path_, value: Any) -> Scope:
+def scope(file: File, path: KeyPath, value: Any) -> Scope:
     """Flights: "all", "none", or a list of clauses."""
     if value == "all":
         return ALL
@@ -315,25 +315,25 @@ def scope(file: File, path: Path_, value: Any) -> Scope:
     return Scope(tuple(listed(clause)(file, path, value)))
 
 
-def network(file: File, path: Path_, value: Any) -> ipaddress.IPv4Network | ipaddress.IPv6Network:
+def network(file: File, path: KeyPath, value: Any) -> ipaddress.IPv4Network | ipaddress.IPv6Network:
     try:
-        return ipaddress.ip_network(text(file, path, value))
+        return ipaddress.ip_network(plain_text(file, path, value))
     except ValueError:
         return file.refuse(path, f"is no address of a network: {value!r:.60}")
 
 
-def certificate(file: File, path: Path_, value: Any) -> Certificate:
+def certificate(file: File, path: KeyPath, value: Any) -> Certificate:
     """A fingerprint, or a table of issuer and name."""
     if isinstance(value, dict):
         table = Table(file, path, value)
-        found = Certificate(issuer=table.take("issuer", text), name=table.take("name", text))
+        found = Certificate(issuer=table.take("issuer", plain_text), name=table.take("name", plain_text))
         table.end()
         return found
     fingerprint = matched(FINGERPRINT, "fingerprint as sha256:0123..")(file, path, value)
     return Certificate(fingerprint.removeprefix("sha256:").replace(":", "").lower())
 
 
-def sign_on(file: File, path: Path_, value: Any) -> SignOn:
+def sign_on(file: File, path: KeyPath, value: Any) -> SignOn:
     table = Table(file, path, value)
     found = SignOn(
         table.take("header", matched(HEADER, "name of a header")), tuple(table.take("from", listed(network)))
@@ -342,7 +342,7 @@ def sign_on(file: File, path: Path_, value: Any) -> SignOn:
     return found
 
 
-def limits(file: File, path: Path_, value: Any) -> Limits:
+def limits(file: File, path: KeyPath, value: Any) -> Limits:
     table, usual, number = Table(file, path, value), Limits(), count(1, 1_000_000)
     found = Limits(
         table.take_or("lines", number, usual.lines),
@@ -353,7 +353,7 @@ def limits(file: File, path: Path_, value: Any) -> Limits:
     return found
 
 
-def ports(file: File, path: Path_, value: Any) -> Ports:
+def ports(file: File, path: KeyPath, value: Any) -> Ports:
     table = Table(file, path, value)
     found = Ports(
         table.take_or("http", address, None),
@@ -367,7 +367,7 @@ def ports(file: File, path: Path_, value: Any) -> Ports:
     return found
 
 
-def person(file: File, path: Path_, value: Any) -> Person:
+def person(file: File, path: KeyPath, value: Any) -> Person:
     table = Table(file, path, value)
     found = Person(
         table.take("name", matched(NAME, "name, of small letters and digits")),
@@ -382,7 +382,7 @@ def person(file: File, path: Path_, value: Any) -> Person:
     return found
 
 
-def partner(file: File, path: Path_, value: Any) -> Partner:
+def partner(file: File, path: KeyPath, value: Any) -> Partner:
     table = Table(file, path, value)
     found = Partner(
         table.take("name", matched(NAME, "name, of small letters and digits")),
@@ -415,7 +415,7 @@ def by_name(file: File, key: str, values: list[Any]) -> dict[str, Any]:
     return found
 
 
-def board_lines(file: File, path: Path_, value: Any) -> dict[str, Address]:
+def board_lines(file: File, path: KeyPath, value: Any) -> dict[str, Address]:
     """The addresses at which the desk sends what people enter, one for each role."""
     table = Table(file, path, value)
     found = {name: table.take(name, address) for name in list(table.left) if name in ROLES}
@@ -426,21 +426,21 @@ def board_lines(file: File, path: Path_, value: Any) -> dict[str, Address]:
 def refuse_shared(file: File, settings: Settings) -> None:
     """Refuses an address of the board that is used twice: the second would take the place of the first."""
     used: dict[Address, str] = {}
-    places: list[tuple[Path_, Address]] = [(("board", "lines", name), at) for name, at in settings.lines.items()]
-    for place, each in enumerate(settings.partners.values()):
-        places += [(("partner", place, "http"), each.http)] if each.http else []
-        places += [(("partner", place, "lines"), at) for at in each.lines]
-    for path, at in places:
-        if at in used:
-            file.refuse(path, f"is used by {used[at]} already: {at[0]}:{at[1]}")
-        used[at] = key_text(path)
+    places: list[tuple[KeyPath, Address]] = [(("board", "lines", name), each) for name, each in settings.lines.items()]
+    for place, owner in enumerate(settings.partners.values()):
+        places += [(("partner", place, "http"), owner.http)] if owner.http else []
+        places += [(("partner", place, "lines"), each) for each in owner.lines]
+    for path, where in places:
+        if where in used:
+            file.refuse(path, f"is used by {used[where]} already: {where[0]}:{where[1]}")
+        used[where] = key_text(path)
     for place, someone in enumerate(settings.people.values()):
         if someone.role != NOBODY and someone.role not in settings.lines:
             file.refuse(("person", place, "role"), f"has no address in board.lines: {someone.role}")
-    for place, each in enumerate(settings.partners.values()):
-        if each.http and not (settings.ports and settings.ports.http):
+    for place, owner in enumerate(settings.partners.values()):
+        if owner.http and not (settings.ports and settings.ports.http):
             file.refuse(("partner", place, "http"), "is of no use: partners.http is missing")
-        if each.lines and not (settings.ports and settings.ports.lines):
+        if owner.lines and not (settings.ports and settings.ports.lines):
             file.refuse(("partner", place, "lines"), "is of no use: partners.lines is missing")
 
 

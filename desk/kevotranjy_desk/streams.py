@@ -3,7 +3,6 @@ import asyncio
 import json
 from collections import OrderedDict
 from collections.abc import Callable
-from typing import Any
 
 from aiohttp import web
 
@@ -23,7 +22,7 @@ def text_of(value: object) -> str:
 
 
 def for_page(fields: Line) -> Line:
-    """Fields of a record for a browser, whose numbers are exact below 2^53 alone: a flight is the text of its digits."""
+    """Fields of a record for a browser: a flight is the text of its digits, since its numbers are exact below 2^53."""
     return {**fields, "flight": str(fields["flight"])} if "flight" in fields else fields
 
 
@@ -34,7 +33,7 @@ class Told:
         self._make = make
         self._texts: OrderedDict[tuple[str, int, Scope], bytes] = OrderedDict()
 
-    def of(self, journal: str, entry: Entry, scope: Scope) -> bytes:
+    def text_for(self, journal: str, entry: Entry, scope: Scope) -> bytes:
         """An event, or nothing where the entry is none of theirs."""
         key = (journal, entry.number, scope)
         text = self._texts.get(key)
@@ -119,7 +118,7 @@ class Stream:
                     journal, number = self.mirror.journal, self.mirror.next
                     await self.write(begin_anew())
                     continue
-                data = b"".join(self.told.of(journal, entry, self.scope) for entry in entries)
+                data = b"".join(self.told.text_for(journal, entry, self.scope) for entry in entries)
                 number = self.mirror.next
                 if was_live != self.mirror.is_live:
                     was_live = self.mirror.is_live

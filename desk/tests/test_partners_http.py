@@ -61,10 +61,11 @@ def test_a_certificate_names_its_partner(running: Running) -> None:
 
 
 def test_a_line_is_answered_by_an_object(swiss: Partner) -> None:
-    answer = swiss.post("/v1/lines", target(8))
+    line = target(8)
+    answer = swiss.post("/v1/lines", line)
     assert answer.status == 200 and answer.value["outcome"] == "ok"
     entry = swiss.running.board.entries()[answer.value["entry"]]
-    assert (entry["role"], entry["command"]["time"]) == ("AO", target(8)["time"])
+    assert (entry["role"], entry["command"]["time"]) == ("AO", line["time"])
     shown = swiss.post("/v1/lines", {"cmd": "show", "flight": 8}).value
     swiss.running.in_step()
     record = swiss.get("/v1/flights/8").value["flight"]

@@ -107,9 +107,10 @@ def test_what_the_board_refuses_is_told_in_words(running: Running, anna: Client)
 
 def test_what_changed_since_the_person_looked_is_asked_about(running: Running, anna: Client) -> None:
     running.board.flight(22)
+    target = instant(50)
     running.in_step()
     seen = anna.last(22)
-    assert running.board.ask("AO", cmd="report", flight=22, milestone=9, time=instant(50)).startswith("ok")
+    assert running.board.ask("AO", cmd="report", flight=22, milestone=9, time=target).startswith("ok")
     running.in_step()
     count = running.board.count()
     body = {"cmd": "report", "flight": "22", "milestone": 9, "time": clock_in(40), "seen": seen}
@@ -117,7 +118,7 @@ def test_what_changed_since_the_person_looked_is_asked_about(running: Running, a
     assert asked.status == 409 and running.board.count() == count, "nothing was sent"
     told = asked.value["events"]
     assert len(told) == 1 and told[0]["role"] == "AO" and told[0]["what"] == "TOBT"
-    assert told[0]["changes"][0] == f"TOBT {instant(50)[11:16]}"
+    assert told[0]["changes"][0] == f"TOBT {target[11:16]}"
     sent = anna.post("/enter", {**body, "seen": asked.value["last"]})
     assert sent.status == 200 and sent.value["is_accepted"]
 
@@ -232,14 +233,14 @@ def events_of(client: Client, path: str, wanted: int) -> list[str]:
 def test_events_tell_what_differs_of_flights_in_sight(running: Running, anna: Client) -> None:
     lena = Client(running).sign_in("lena")
     running.in_step()
-    first = running.board.count()
+    first, target = running.board.count(), instant(33)
     for flight in (9, 7):
-        assert running.board.ask("GH", cmd="report", flight=flight, milestone=9, time=instant(33)).startswith("ok")
+        assert running.board.ask("GH", cmd="report", flight=flight, milestone=9, time=target).startswith("ok")
     (told,) = events_of(lena, f"/events?from={first}", 1)
     event = json.loads(told)
     assert event["entry"] == first + 1 and "BAW9" not in told
     (fields,) = event["flights"]
-    assert fields["flight"] == "7" and fields["tobt"] == instant(33) and fields["last"] == first + 1
+    assert fields["flight"] == "7" and fields["tobt"] == target and fields["last"] == first + 1
     assert "callsign" not in fields
     both = [json.loads(line)["entry"] for line in events_of(anna, f"/events?from={first}", 2)]
     assert both == [first, first + 1]

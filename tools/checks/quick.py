@@ -48,6 +48,7 @@ CHECKS = (
     Check("every command line of the documents runs", "tools/checks/commands.py{program}"),
     Check("tests of the clients", f"{{python}} {TESTS} clients/tests", "clients/tests"),
     Check("tests of the bridges", "{debian} bridges/tests/try_bridges.py --quick", "bridges/tests/try_bridges.py"),
+    Check("tests of the desk", "{debian} desk/tests/try_desk.py --quick", "desk/tests/try_desk.py"),
     Check("names, files and links of the documents", "tools/checks/names.py"),
     Check("the kit's crates, the kit's line, the version", "tools/checks/trusted.py"),
     Check("numbers of sources and documents", "tools/checks/figures.py"),
@@ -71,6 +72,9 @@ CHECKS = (
     Check("layout of Python, by black", "black --quiet --check {folders}", "pyproject.toml", "black"),
     Check("Python, by pylint", "pylint --jobs 2 --score n {sources}", "pyproject.toml", "pylint"),
     Check("types of Python, by mypy", "mypy {each}", "pyproject.toml", "mypy"),
+    Check("layout of the desk's Python, by black", "black --quiet --check desk", "desk", "black"),
+    Check("the desk's Python, by pylint", "cd desk && pylint --jobs 2 --score n kevotranjy_desk", "desk", "pylint"),
+    Check("types of the desk's Python, by mypy", "cd desk && mypy kevotranjy_desk", "desk", "mypy"),
 )
 
 

@@ -274,7 +274,7 @@ function fieldsOf(flight) {
     const isFinal = flight.reached.includes(bar) || (number === 16 && flight.reached.includes(16));
     return { key: String(number), name: short, label: sets, stands: flight[name], isFinal,
       mayBack: TAKEN_BACK.includes(number), command: { cmd: "report", milestone: number } };
-  });
+  }).filter((field) => field.stands || !field.isFinal);
   if (me.may_deice && "eczt" in flight) {
     for (const [name, about] of Object.entries(WORDS.deicing)) {
       found.push({ key: name, name: about, label: name.toUpperCase(), stands: flight[name], mayBack: true,
