@@ -5,7 +5,7 @@ settings as the desk does, tells what happens as lines of JSON on standard outpu
 """
 import json
 import re
-import selectors
+import select
 import socket
 import ssl
 import sys
@@ -22,7 +22,9 @@ from .settings import Partner, Settings, read_settings
 PIECE, MOST_WAITING, MOST_CONNECTIONS = 1 << 16, 1 << 18, 512
 HANDSHAKE_SECONDS, CONNECT_SECONDS, STALLED_SECONDS = 5.0, 3.0, 30.0
 REPLY = re.compile(rb"(?:ok|no|rec|alerts|migrated) (\d{1,20})[ \n]")
-READ, WRITE = selectors.EVENT_READ, selectors.EVENT_WRITE
+READ, WRITE = select.EPOLLIN | select.EPOLLHUP | select.EPOLLERR, select.EPOLLOUT
+# (the board replies within this mostly: to look so long for its reply costs less than to sleep and be woken)
+LOOKS_FOR = 0.0001
 WANTS = (ssl.SSLWantReadError, ssl.SSLWantWriteError, BlockingIOError)
 
 
@@ -57,24 +59,27 @@ class Front:
 
     def __init__(self, settings: Settings, context: ssl.SSLContext, listener: socket.socket) -> None:
         self.settings, self.context, self.listener = settings, context, listener
-        self.selector = selectors.DefaultSelector()
+        self.events = select.epoll()
+        self.ends: dict[int, End] = {}
         self.pairs: set[Pair] = set()
         self.places: dict[Address, Pair] = {}
 
     def run(self) -> None:
         """Serves until standard input ends."""
         self.listener.setblocking(False)
-        self.selector.register(self.listener, READ, "listener")
-        self.selector.register(sys.stdin.buffer, READ, "end")
+        listener, standard_input = self.listener.fileno(), sys.stdin.fileno()
+        for number in (listener, standard_input):
+            self.events.register(number, READ)
         looked = time.monotonic()
         while True:
-            for key, mask in self.selector.select(0.5):
-                if key.data == "end":
+            for number, mask in self.events.poll(0.5):
+                end = self.ends.get(number)
+                if end is not None:
+                    self.act(end, mask)
+                elif number == standard_input:
                     return
-                if key.data == "listener":
+                elif number == listener:
                     self.accept()
-                else:
-                    self.act(key.data, mask)
             if time.monotonic() - looked > 0.5:
                 looked = time.monotonic()
                 self.let_go_slow(looked)
@@ -102,12 +107,15 @@ class Front:
         """Has the system tell of these events of an end."""
         if events == end.events:
             return
+        number = end.stream.fileno()
         if not end.events:
-            self.selector.register(end.stream, events, end)
+            self.ends[number] = end
+            self.events.register(number, events)
         elif events:
-            self.selector.modify(end.stream, events, end)
+            self.events.modify(number, events)
         else:
-            self.selector.unregister(end.stream)
+            del self.ends[number]
+            self.events.unregister(number)
         end.events = events
 
     def act(self, end: End, mask: int) -> None:
@@ -123,6 +131,8 @@ class Front:
                     self.connected(pair, end)
             else:
                 self.pass_on(pair, end, mask)
+                if end.is_client:
+                    self.look(pair)
         except WANTS:
             pass
         except (OSError, ValueError) as error:
@@ -202,6 +212,21 @@ class Front:
         self.renew(other, end)
         if end.has_ended and other.has_ended and not end.waiting and not other.waiting:
             self.close(pair, "")
+
+    def look(self, pair: Pair) -> None:
+        """Looks for the board's reply for a moment."""
+        board, until = pair.board, time.perf_counter() + LOOKS_FOR
+        assert board
+        while pair in self.pairs and not board.waiting and not board.has_ended:
+            try:
+                data = board.stream.recv(PIECE, socket.MSG_PEEK)
+            except BlockingIOError:
+                if time.perf_counter() > until:
+                    return
+                continue
+            if data:
+                self.pass_on(pair, board, READ)
+            return
 
     def receive(self, source: End, target: End) -> None:
         """Takes what has come at an end, while the other one takes it."""

@@ -101,12 +101,12 @@ def test_a_request_that_is_repeated_has_its_first_reply(swiss: Partner) -> None:
 
 
 def test_a_request_that_is_repeated_after_a_restart_has_its_first_reply(swiss: Partner) -> None:
-    running = swiss.running
-    first = swiss.post("/v1/lines", target(8, 44), Idempotency_Key="restart").value
+    running, line = swiss.running, target(8, 44)
+    first = swiss.post("/v1/lines", line, Idempotency_Key="restart").value
     running.stop()
     running.start()
     count = running.board.count()
-    assert swiss.post("/v1/lines", target(8, 44), Idempotency_Key="restart").value == first
+    assert swiss.post("/v1/lines", line, Idempotency_Key="restart").value == first
     assert running.board.count() == count
 
 
@@ -267,11 +267,11 @@ def test_a_bound_partner_begins_flights_of_its_own_alone(swiss: Partner) -> None
 
 
 def test_a_board_that_is_away_is_told(swiss: Partner) -> None:
-    running = swiss.running
+    running, lines = swiss.running, [target(8), target(8)]
     running.board.kill()
     try:
         assert until(lambda: not running.desk.exchange.mirror.is_live)
-        answer = swiss.post("/v1/lines", [target(8), target(8)], Idempotency_Key="away")
+        answer = swiss.post("/v1/lines", lines, Idempotency_Key="away")
         assert answer.status == 503
         assert {reply["outcome"]["name"] for reply in answer.value["replies"]} == {"away"}
         assert swiss.get("/v1/flights").value["is_live"] is False
@@ -279,7 +279,7 @@ def test_a_board_that_is_away_is_told(swiss: Partner) -> None:
         running.board.start()
     assert until(running.is_ready)
     count = running.board.count()
-    assert swiss.post("/v1/lines", [target(8), target(8)], Idempotency_Key="away").status == 200
+    assert swiss.post("/v1/lines", lines, Idempotency_Key="away").status == 200
     assert running.board.count() == count + 2, "what was not sent is sent with the same key"
 
 
