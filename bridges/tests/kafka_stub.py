@@ -1,4 +1,4 @@
-"""A stand-in for a Kafka broker, of one topic in memory, for tests: as much of the protocol as the bridge needs.
+"""A stand-in for a Kafka broker, of topics in memory, for tests: as much of the protocol as the bridges need.
 
 It has transactions as KIP-98 describes them: producer ids and epochs, sequence numbers of batches, markers of commit
 and abort, the last stable offset. It asks for TLS and SASL/PLAIN where they are given. A test can look on at each
@@ -137,8 +137,8 @@ class Producer:
 
     number: int
     epoch: int = -1
-    partitions: set[int] = field(default_factory=set)
-    sent: dict[int, tuple[int, int, int]] = field(default_factory=dict)
+    partitions: set[tuple[str, int]] = field(default_factory=set)
+    sent: dict[tuple[str, int], tuple[int, int, int]] = field(default_factory=dict)
 
 
 class KafkaStub:
@@ -150,9 +150,11 @@ class KafkaStub:
         partitions: int = 1,
         context: ssl.SSLContext | None = None,
         users: dict[str, str] | None = None,
+        more: tuple[str, ...] = (),
     ) -> None:
-        self.topic, self.context, self.users = topic, context, users
+        self.context, self.users = context, users
         self.partitions = [Partition() for _ in range(partitions)]
+        self.topics = {topic: self.partitions, **{name: [Partition()] for name in more}}
         self.producers: dict[str, Producer] = {}
         self.changed = threading.Condition()
         self.hook: Hook = lambda _request, _moment: True
@@ -232,16 +234,12 @@ class KafkaStub:
         return struct.pack(">hi", 0 if version == 0 else UNSUPPORTED_VERSION, len(SPOKEN)) + listed
 
     def metadata(self, _request: Reader) -> bytes:
-        """The one broker and the one topic."""
-        broker = struct.pack(">ii", 1, 0) + text("127.0.0.1") + struct.pack(">ih", self.port, -1)
-        each = b"".join(struct.pack(">hiiiiii", 0, number, 0, 1, 0, 1, 0) for number in range(len(self.partitions)))
-        return (
-            broker
-            + struct.pack(">iih", 0, 1, 0)
-            + text(self.topic)
-            + struct.pack(">bi", 0, len(self.partitions))
-            + each
-        )
+        """The one broker and the topics."""
+        found = struct.pack(">ii", 1, 0) + text("127.0.0.1") + struct.pack(">ihii", self.port, -1, 0, len(self.topics))
+        for name, partitions in self.topics.items():
+            found += struct.pack(">h", 0) + text(name) + struct.pack(">bi", 0, len(partitions))
+            found += b"".join(struct.pack(">hiiiiii", 0, number, 0, 1, 0, 1, 0) for number in range(len(partitions)))
+        return found
 
     def coordinator(self, _request: Reader) -> bytes:
         """The one broker."""
@@ -258,8 +256,8 @@ class KafkaStub:
 
     def decide(self, producer: Producer, is_commit: bool) -> None:
         """Ends the transaction of a producer."""
-        for number in producer.partitions:
-            self.partitions[number].decide(producer.number, producer.epoch, is_commit)
+        for name, number in producer.partitions:
+            self.topics[name][number].decide(producer.number, producer.epoch, is_commit)
         producer.partitions = set()
 
     def add_partitions(self, request: Reader) -> bytes:
@@ -271,7 +269,7 @@ class KafkaStub:
         numbers = [request.number("i") for _ in range(request.number("i"))]
         error = 0 if epoch == producer.epoch else OLD_EPOCH
         if not error:
-            producer.partitions |= set(numbers)
+            producer.partitions |= {(name, number) for number in numbers}
         each = b"".join(struct.pack(">ih", number, error) for number in numbers)
         return struct.pack(">ii", 0, 1) + text(name) + struct.pack(">i", len(numbers)) + each
 
@@ -293,27 +291,27 @@ class KafkaStub:
         topic, count = request.text(), request.number("i")
         for _ in range(count):
             number = request.number("i")
-            error, offset = self.store(self.producers.get(name), number, request.block())
+            error, offset = self.store(self.producers.get(name), (topic, number), request.block())
             replies += struct.pack(">ihqq", number, error, offset, -1)
         return struct.pack(">i", 1) + text(topic) + struct.pack(">i", count) + replies + struct.pack(">i", 0)
 
-    def store(self, producer: Producer | None, number: int, data: bytes) -> tuple[int, int]:
+    def store(self, producer: Producer | None, place: tuple[str, int], data: bytes) -> tuple[int, int]:
         """Stores a batch of a transaction once: an error or 0, and its offset."""
         attributes, last = struct.unpack(">hi", data[21:27])
         identity, epoch, sequence = struct.unpack(">qhi", data[43:57])
-        partition = self.partitions[number]
+        partition = self.topics[place[0]][place[1]]
         if producer is None or producer.number != identity or epoch != producer.epoch:
             return OLD_EPOCH, -1
-        if not attributes & TRANSACTIONAL or number not in producer.partitions:
+        if not attributes & TRANSACTIONAL or place not in producer.partitions:
             return WRONG_STATE, -1
-        first, following, stored = producer.sent.get(number, (-1, 0, -1))
+        first, following, stored = producer.sent.get(place, (-1, 0, -1))
         if sequence == first:
             return 0, stored
         if sequence != following:
             return OUT_OF_ORDER, -1
         partition.opened.setdefault(identity, partition.end())
         offset = partition.append(data, last + 1, identity)
-        producer.sent[number] = (sequence, sequence + last + 1, offset)
+        producer.sent[place] = (sequence, sequence + last + 1, offset)
         return 0, offset
 
     def list_offsets(self, request: Reader) -> bytes:
@@ -324,7 +322,7 @@ class KafkaStub:
         each = b""
         for _ in range(numbers):
             number, moment = request.number("i"), request.number("q")
-            partition = self.partitions[number]
+            partition = self.topics[topic][number]
             offset = partition.low if moment == -2 else partition.stable() if is_committed else partition.end()
             each += struct.pack(">ihqq", number, 0, -1, offset)
         return struct.pack(">ii", 0, 1) + text(topic) + struct.pack(">i", numbers) + each
@@ -333,22 +331,24 @@ class KafkaStub:
         """The batches of partitions from offsets on."""
         request.take(4 + 4 + 4 + 4)
         is_committed, count = request.number("b"), request.number("i")
-        wanted = []
+        wanted: dict[str, list[tuple[int, int, int]]] = {}
         for _ in range(count):
-            request.text()
-            wanted += [
+            name = request.text()
+            wanted[name] = [
                 (request.number("i"), request.number("q"), request.number("i")) for _ in range(request.number("i"))
             ]
-        if not any(self.partitions[number].end() > offset for number, offset, _ in wanted):
+        places = [(name, number, offset) for name, each in wanted.items() for number, offset, _ in each]
+        if not any(self.topics[name][number].end() > offset for name, number, offset in places):
             self.changed.wait(LONGEST_WAIT)
-        each = b"".join(self.fetched(number, offset, bool(is_committed)) for number, offset, _ in wanted)
-        return struct.pack(">ii", 0, 1 if wanted else 0) + (
-            text(self.topic) + struct.pack(">i", len(wanted)) + each if wanted else b""
-        )
+        found = struct.pack(">ii", 0, len(wanted))
+        for name, each in wanted.items():
+            found += text(name) + struct.pack(">i", len(each))
+            found += b"".join(self.fetched(name, number, offset, bool(is_committed)) for number, offset, _ in each)
+        return found
 
-    def fetched(self, number: int, offset: int, is_committed: bool) -> bytes:
+    def fetched(self, name: str, number: int, offset: int, is_committed: bool) -> bytes:
         """The batches of a partition from an offset on."""
-        partition = self.partitions[number]
+        partition = self.topics[name][number]
         limit = partition.stable() if is_committed else partition.end()
         batches = [batch for batch in partition.batches if offset < batch.end() <= limit]
         aborted = (

@@ -90,7 +90,7 @@ class Desk:  # pylint: disable=too-many-instance-attributes
 
     async def keep_front(self) -> None:
         """Keeps the process for partners of lines running."""
-        pause = FIRST_PAUSE
+        pause, self.health.front = FIRST_PAUSE, self.partners_of_lines()
         while True:
             process = await asyncio.create_subprocess_exec(
                 sys.executable,
@@ -106,13 +106,17 @@ class Desk:  # pylint: disable=too-many-instance-attributes
                     self.hear_front(json.loads(line))
                     pause = FIRST_PAUSE
             finally:
-                self.health.front.clear()
+                self.health.front = self.partners_of_lines()
                 if process.returncode is None and process.stdin:
                     process.stdin.close()
                     await process.wait()
             say(f"the process for partners of lines has ended; the next one begins in {pause:.1f} s")
             await asyncio.sleep(pause)
             pause = min(2 * pause, LONGEST_PAUSE)
+
+    def partners_of_lines(self) -> dict[str, int]:
+        """How many clients each partner of lines has, before one has come."""
+        return {name: 0 for name, partner in self.settings.partners.items() if partner.lines}
 
     def hear_front(self, told: dict[str, Any]) -> None:
         """Takes what the process in front tells: who has come, gone, and was refused."""
