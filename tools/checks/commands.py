@@ -70,6 +70,9 @@ NOT_RUN = {
     "/usr/bin/python3 bench/web/": LONG,
     "python3 ../../bench/model/random_programs.py": "belongs to a run of the command before it, by rt",
     "bridges/": "needs a broker or a database, with which bridges/tests tries it",
+    "desk/tests/": "is a check of .ci/quick by itself",
+    "echo 'a long pass-word'": "needs the settings of a desk, with which desk/tests tries it",
+    "curl --cert swiss.pem": "needs a partner's certificate, with which desk/tests tries it",
     "clients/board.py ADDRESS": "says which words there are",
     "clients/check.py 'LINE'": "says which words there are",
 }

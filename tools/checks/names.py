@@ -73,7 +73,7 @@ OUTSIDE = {
     "words of a proof's measurements": "App Lts Tie",
     "words of brokers and databases": "replication.factor min.insync.replicas unclean.leader.election.enable"
     " __transaction_state synchronous_commit sslcert sslkey",
-    "fields of HTTP": "Origin",
+    "fields of HTTP, and of its cookies": "Origin HttpOnly Secure",
 }
 # Files that a reader makes, or that an outside program has.
 MADE = {
@@ -81,6 +81,7 @@ MADE = {
     "slot.bin": "compiled by a command of its page",
     "slot.hex": "made by a command of its page",
     "day.journal": "the reader's own",
+    "desk.toml": "the reader's own settings of the desk",
 }
 
 
