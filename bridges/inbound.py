@@ -4,14 +4,14 @@
     bridges/inbound.py FEED PARTNER URL STATE --replies NAME
 
 FEED is the address of `acdm serve --changes`, PARTNER the partner's own at `serve --again`, as 127.0.0.1:4002. URL is
-amqp://HOST:PORT/QUEUE, mqtt://HOST:PORT/TOPIC or kafka://HOST:PORT,HOST:PORT/TOPIC; amqps, mqtts and kafkas are over TLS.
+amqp://HOST:PORT/QUEUE, mqtt://HOST:PORT/TOPIC or kafka://HOST:PORT,HOST:PORT/TOPIC; amqps, mqtts and kafkas are TLS.
 Each message is a line: an object of JSON (docs/RULES.md). Its reply goes to the queue or topic NAME, as
 {"id":"..","reply":"ok 12"}; of what is no line {"id":"..","error":".."}. STATE is a file of SQLite.
 
-A message is acknowledged once its entry was replied, and one that comes twice is entered once. It is known by its id: of
-AMQP the message's id, of Kafka its key, else the member "id" of its line, which the board passes over. Kafka's messages
-without one are known by their offsets; of AMQP and MQTT one without an id is not entered, and told so. The reply comes at
-least once. A line whose reply was lost is looked for in the feed. Outside what is proved.
+A message is acknowledged once its entry was replied, and one that comes twice is entered once. It is known by its id:
+of AMQP the message's own, of Kafka its key, else the member "id" of its line, which the board passes over. Kafka's
+messages without one are known by their offsets. Of AMQP and MQTT one without an id is not entered, and told so. The
+reply comes at least once. A line whose reply was lost is looked for in the feed. Outside what is proved.
 """
 
 import argparse
@@ -193,37 +193,33 @@ def id_text(value: Any) -> str | None:
     return value if isinstance(value, str) else f"{type(value).__name__}:{value}"
 
 
+def data_of(body: Any) -> bytes:
+    """The bytes of a message of AMQP, which may have a text or bytes."""
+    if isinstance(body, str):
+        return body.encode()
+    return bytes(body) if isinstance(body, (bytes, memoryview)) else b""
+
+
+# pylint: disable-next=too-many-locals
 def take_amqp(given: argparse.Namespace, security: Security, entering: Entering, carried: Carried) -> None:
     """Takes messages of a queue of AMQP 1.0 until the broker or the board fails."""
     # pylint: disable=import-outside-toplevel
     from proton import Delivery, Message, ProtonException, Timeout
     from to_amqp import Queue, connection_to
 
-    place: Place = given.place
+    has_tls, name = given.place.has_tls, given.place.name
     try:
-        link = connection_to(
-            Queue(f"{place.kind}{'s' * place.has_tls}://{place.servers}", place.name, place.has_tls), security
-        )
+        link = connection_to(Queue(f"amqp{'s' * has_tls}://{given.place.servers}", name, has_tls), security)
         try:
-            sender, receiver = link.create_sender(given.replies), link.create_receiver(place.name, credit=1)
+            sender, receiver = link.create_sender(given.replies), link.create_receiver(name, credit=1)
             while True:
                 try:
                     message = receiver.receive(timeout=WAIT)
                 except Timeout:
                     continue
-                body = message.body
-                data = (
-                    body.encode()
-                    if isinstance(body, str)
-                    else bytes(body)
-                    if isinstance(body, (bytes, memoryview))
-                    else b""
-                )
-                identity, text = entering.answer(id_text(message.id), data)
-                reply = Message(
-                    correlation_id=message.id or identity, durable=True, content_type="application/json", body=text
-                )
-                if sender.send(reply).remote_state != Delivery.ACCEPTED:
+                identity, text = entering.answer(id_text(message.id), data_of(message.body))
+                own = {"correlation_id": message.id or identity, "content_type": "application/json"}
+                if sender.send(Message(durable=True, body=text, **own)).remote_state != Delivery.ACCEPTED:
                     raise OSError(f"the broker does not take the reply to message {identity}")
                 if identity is not None:
                     entering.inbox.tell(identity)
@@ -281,59 +277,79 @@ def take_mqtt(given: argparse.Namespace, security: Security, entering: Entering,
     raise ConnectionError("the connection to the broker is gone")
 
 
-def take_kafka(given: argparse.Namespace, security: Security, entering: Entering, carried: Carried) -> None:
-    """Takes messages of all partitions of a topic until the brokers or the board fail.
+class Kafka:
+    """A topic of Kafka, all of whose partitions are read, and the topic of the replies.
 
     What was replied is kept in the file STATE, as the offset that follows: no group of consumers is asked.
     """
-    # pylint: disable=import-outside-toplevel
-    from confluent_kafka import Consumer, KafkaError, KafkaException, Producer, TopicPartition
-    from to_kafka import settings_of
 
-    place: Place = given.place
-    protocol = ("sasl_" if security.user is not None else "") + ("ssl" if place.has_tls else "plaintext")
-    words = argparse.Namespace(servers=place.servers, security_protocol=protocol, sasl_mechanism=given.sasl_mechanism)
-    settings = settings_of(words, security)
-    own = {"group.id": given.client_id, "enable.auto.commit": False, "isolation.level": "read_committed"}
-    failed: list[Any] = []
-    consumer = Consumer({**settings, **own, "auto.offset.reset": "earliest"})
-    producer = Producer({**settings, "transactional.id": f"{given.client_id}-replies", "error_cb": failed.append})
-    try:
-        producer.init_transactions(WAIT)
-        known = consumer.list_topics(place.name, timeout=WAIT).topics[place.name]
+    def __init__(self, given: argparse.Namespace, security: Security, inbox: Inbox) -> None:
+        # pylint: disable=import-outside-toplevel
+        import confluent_kafka
+        from to_kafka import settings_of
+
+        place: Place = given.place
+        protocol = ("sasl_" if security.user is not None else "") + ("ssl" if place.has_tls else "plaintext")
+        words = {"servers": place.servers, "security_protocol": protocol, "sasl_mechanism": given.sasl_mechanism}
+        settings = settings_of(argparse.Namespace(**words), security)
+        own = {"group.id": given.client_id, "enable.auto.commit": False, "isolation.level": "read_committed"}
+        self.library, self.place, self.replies, self.inbox = confluent_kafka, place, given.replies, inbox
+        self.failed: list[Any] = []
+        self.consumer = confluent_kafka.Consumer({**settings, **own})
+        producing = {"transactional.id": f"{given.client_id}-replies", "error_cb": self.failed.append}
+        self.producer = confluent_kafka.Producer({**settings, **producing})
+
+    def begin(self) -> None:
+        """Bars an older bridge of this name, and goes on where it was."""
+        self.producer.init_transactions(WAIT)
+        known = self.consumer.list_topics(self.place.name, timeout=WAIT).topics[self.place.name]
         if known.error or not known.partitions:
-            raise OSError(f"the brokers have no topic {place.name}: make it")
-        first = {number: entering.inbox.following(number) for number in known.partitions}
-        consumer.assign([TopicPartition(place.name, number, -2 if at is None else at) for number, at in first.items()])
+            raise OSError(f"the brokers have no topic {self.place.name}: make it")
+        places = []
+        for number in known.partitions:
+            following = self.inbox.following(number)
+            first = self.library.OFFSET_BEGINNING if following is None else following
+            places.append(self.library.TopicPartition(self.place.name, number, first))
+        self.consumer.assign(places)
+
+    def message(self) -> Any:
+        """The next message; OSError where the brokers are away."""
         while True:
-            message = consumer.poll(1)
-            if message is None:
-                if failed:
-                    raise OSError(failed[-1].str())
-                continue
-            if message.error():
-                if message.error().code() == KafkaError._PARTITION_EOF:  # pylint: disable=protected-access
-                    continue
-                raise KafkaException(message.error())
-            key, offset = message.key(), message.offset()
-            identity = (
-                key.decode("utf-8", "replace")[:LONGEST_ID]
-                if key
-                else offset_id(message.value(), message.partition(), offset)
-            )
-            identity, text = entering.answer(identity, message.value() or b"")
-            producer.begin_transaction()
-            producer.produce(given.replies, key=identity, value=text, partition=0)
-            if producer.flush(WAIT):
-                raise TimeoutError(f"the brokers do not acknowledge for {WAIT} s")
-            producer.commit_transaction(WAIT)
-            entering.inbox.follow(message.partition(), offset + 1)
+            message = self.consumer.poll(1)
+            if message is None and self.failed:
+                raise OSError(self.failed[-1].str())
+            if message is not None and message.error():
+                raise self.library.KafkaException(message.error())
+            if message is not None:
+                return message
+
+    def reply(self, message: Any, identity: str | None, text: str) -> None:
+        """Sends the reply to a message, and notes that it has it."""
+        self.producer.begin_transaction()
+        self.producer.produce(self.replies, key=identity, value=text, partition=0)
+        if self.producer.flush(WAIT):
+            raise TimeoutError(f"the brokers do not acknowledge for {WAIT} s")
+        self.producer.commit_transaction(WAIT)
+        self.inbox.follow(message.partition(), message.offset() + 1)
+
+
+def take_kafka(given: argparse.Namespace, security: Security, entering: Entering, carried: Carried) -> None:
+    """Takes messages of a topic of Kafka until the brokers or the board fail."""
+    kafka = Kafka(given, security, entering.inbox)
+    try:
+        kafka.begin()
+        while True:
+            message = kafka.message()
+            key, body = message.key(), message.value() or b""
+            identity = key.decode("utf-8", "replace")[:LONGEST_ID] if key else None
+            identity = identity or offset_id(body, message.partition(), message.offset())
+            kafka.reply(message, *entering.answer(identity, body))
             carried()
-    except KafkaException as error:
+    except kafka.library.KafkaException as error:
         reason = error.args[0]
-        raise OSError(reason.str() if isinstance(reason, KafkaError) else str(error)) from None
+        raise OSError(reason.str() if hasattr(reason, "str") else str(error)) from None
     finally:
-        consumer.close()
+        kafka.consumer.close()
 
 
 def offset_id(body: bytes | None, partition: int, offset: int) -> str | None:

@@ -39,6 +39,9 @@ class Lines(Serving):
         airport.close()
         manager.close()
 
+    def __enter__(self) -> "Lines":
+        return self
+
     def bridge(self, url: str, state: Path, *words: object, replies: str = "replies") -> Bridge:
         """The bridge from a queue or topic to the handler's address."""
         feed, partner = f"127.0.0.1:{self.changes}", f"127.0.0.1:{self.ports[0]}"

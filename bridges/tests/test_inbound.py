@@ -2,6 +2,7 @@
 
 import json
 import unittest
+from functools import partial
 from pathlib import Path
 from typing import Any
 
@@ -100,12 +101,16 @@ class FromKafka(unittest.TestCase):
             bridge = board.bridge(f"kafka://{servers}/lines", state)
             self.addCleanup(bridge.kill)
             for count in (5, 12, 20):
-                self.assertTrue(until(lambda count=count: len(board.commands()) >= count), bridge.said)
+                self.assertTrue(until(partial(has_commands, board, count)), bridge.said)
                 bridge.kill()
                 bridge.begin()
             self.assertTrue(until(lambda: len(board.commands()) >= COUNT), bridge.said)
             self.assertTrue(until(lambda: check_replies(replies_of(servers), COUNT) == "", 30), bridge.said)
             self.assertEqual(check_once(board, COUNT), "")
+
+
+def has_commands(board: Lines, count: int) -> bool:
+    return len(board.commands()) >= count
 
 
 def produce(servers: str, lines: list[str]) -> None:

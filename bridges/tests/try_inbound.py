@@ -18,12 +18,14 @@ import tempfile
 import threading
 import time
 from collections.abc import Callable
+from functools import partial
 from pathlib import Path
 from typing import Any
 
 if "--program" in sys.argv[1:-1]:
     os.environ["ACDM"] = str(Path(sys.argv[sys.argv.index("--program") + 1]).resolve())
 
+# pylint: disable=wrong-import-position
 from brokers_in import PROGRAM, Inbound, Lines, check_once, check_replies, target  # noqa: E402
 from servers import Mosquitto, RabbitMq, Server  # noqa: E402
 from support import Bridge, has_library, until  # noqa: E402
@@ -68,6 +70,12 @@ def send_mqtt(port: int, count: int) -> None:
     client.loop_stop()
 
 
+def has_come(port: int, board: Lines) -> bool:
+    """Whether a message that is sent comes to the board."""
+    send_mqtt(port, 1)
+    return bool(board.commands())
+
+
 def mqtt_carried(room: Path, is_guarded: bool) -> str:
     """Lines of a topic: the bridge is killed, and the broker is ended and begun again."""
     server, chance = Mosquitto(room, is_guarded), random.Random(7)
@@ -78,7 +86,7 @@ def mqtt_carried(room: Path, is_guarded: bool) -> str:
         reader = MqttReader(server.open_port, "replies")
         try:
             # (the broker keeps messages for the bridge from its first subscription on)
-            check(until(lambda: bool(send_mqtt(server.open_port, 1) or board.commands())), bridge.said)
+            check(until(partial(has_come, server.open_port, board)), bridge.said)
             sender = threading.Thread(target=send_mqtt, args=(server.open_port, COUNT))
             sender.start()
             kills = 0 if is_guarded else kill_at_random(bridge, chance, lambda: len(board.commands()) >= COUNT)
@@ -192,7 +200,7 @@ def board_away(room: Path, _is_guarded: bool) -> str:
     )
     bridge.begin()
     try:
-        check(until(lambda: (room / "state").exists()), "no state")
+        check(until((room / "state").exists), "no state")
         time.sleep(1)
         send_mqtt(server.port, 1)
         check(until(lambda: bridge.has_said("the next try is in 1 s"), 30), f"nothing is said: {bridge.said}")
