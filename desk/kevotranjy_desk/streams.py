@@ -104,6 +104,10 @@ class Stream:
     async def write(self, data: bytes) -> None:
         await asyncio.wait_for(self.response.write(data), STALLED_SECONDS)
 
+    def has_news(self, number: int, was_live: bool | None) -> bool:
+        """Whether there is something to be told, behind the entries before a number."""
+        return self.mirror.next != number or self.mirror.is_live != was_live or self.mirror.is_ended
+
     async def run(
         self, request: web.Request, first: int, begin_anew: Callable[[], bytes], may_go_on: Callable[[], bool]
     ) -> web.StreamResponse:
@@ -125,9 +129,11 @@ class Stream:
                     data += f"event: board\ndata: {text_of({'is_live': was_live})}\n\n".encode()
                 if data:
                     await self.write(data)
-                before = self.mirror.next
+                if self.has_news(number, was_live):
+                    # (it came while this was written)
+                    continue
                 await self.mirror.news(BEAT)
-                if before == self.mirror.next and was_live == self.mirror.is_live and not self.mirror.is_ended:
+                if not self.has_news(number, was_live):
                     await self.write(b": beat\n\n")
         except (ConnectionError, asyncio.TimeoutError, asyncio.CancelledError):
             if request.transport:

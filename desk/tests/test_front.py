@@ -1,6 +1,7 @@
 """Partners of lines over TLS: who is let in, who is refused and logged, and bytes that pass unchanged."""
 import json
 import random
+import select
 import socket
 import ssl
 import subprocess
@@ -114,6 +115,7 @@ def test_a_board_that_is_away_is_no_partner_and_comes_back(running: Running) -> 
     assert until(running.is_ready)
 
 
+WANTS = (ssl.SSLWantReadError, ssl.SSLWantWriteError, BlockingIOError)
 FRONT = """[desk]
 listen = "127.0.0.1:1"
 names = ["localhost"]
@@ -154,24 +156,29 @@ def front_of(certificates: Certificates, folder: Path, board: int) -> Iterator[i
 
 
 def sent_and_read(link: socket.socket, data: bytes, chance: random.Random) -> bytes:
-    """All that comes back, to the end, for data that is sent in pieces by chance, and read at the same time."""
-
-    def send() -> None:
-        place = 0
-        while place < len(data):
-            piece = chance.choice([1, 100, 5000, 200000])
-            link.sendall(data[place : place + piece])
-            place += piece
-
-    sender = threading.Thread(target=send)
-    sender.start()
-    found, wanted = [], data.count(b"\n")
+    """All that comes back for data that is sent in pieces by chance, and read at the same time: by one thread, since
+    a connection of TLS is not for two."""
+    link.setblocking(False)
+    found, wanted, place, piece = [], data.count(b"\n"), 0, 1
+    end = time.monotonic() + 100
     while wanted > 0:
-        piece = link.recv(1 << 18)
-        assert piece, found[-1:]
-        found.append(piece)
-        wanted -= piece.count(b"\n")
-    sender.join()
+        assert time.monotonic() < end, f"{wanted} replies are missing"
+        is_sending = place < len(data)
+        select.select([link], [link] if is_sending else [], [], 1 if not is_sending else 0.01)
+        try:
+            if is_sending:
+                place += link.send(data[place : place + piece])
+                piece = chance.choice([1, 100, 5000, 200000])
+        except WANTS:
+            pass
+        try:
+            while True:
+                come = link.recv(1 << 18)
+                assert come, found[-1:]
+                found.append(come)
+                wanted -= come.count(b"\n")
+        except WANTS:
+            pass
     return b"".join(found)
 
 

@@ -1,16 +1,20 @@
 """Parts that need no board: clock times, second factors, shares of a minute, records, names."""
+import asyncio
 import time
 from datetime import datetime, timezone
+from typing import Any
 
 import pytest
 from harness import TOP  # noqa: F401  pylint: disable=unused-import
 
 from kevotranjy_desk.accounts import code_at, step_of
 from kevotranjy_desk.guard import host_name
+from kevotranjy_desk.mirror import Mirror
 from kevotranjy_desk.moments import BadTime, instant
 from kevotranjy_desk.rates import Rate
 from kevotranjy_desk.records import alerted, instant_of, shown_record, unloaded
 from kevotranjy_desk.scopes import ALL, NONE, Clause, Scope
+from kevotranjy_desk.streams import Stream, Told, page_event
 
 EVENING = datetime(2025, 2, 20, 22, 30, 40, tzinfo=timezone.utc)
 
@@ -104,3 +108,46 @@ def test_replies_are_read_by_name() -> None:
 )
 def test_a_host_is_told_without_its_port(text: str, name: str) -> None:
     assert host_name(text) == name
+
+
+def feed_line(number: int) -> dict[str, Any]:
+    """The line of an entry that changes a flight, by docs/FORMATS.md."""
+    times = "sobt eobt ctot otot eldt aldt aibt acgt tobt tsat asbt ardt asrt asat aobt atot".split()
+    texts = "callsign scheduled_type plan_type scheduled_reg plan_reg scheduled_dest plan_dest".split()
+    record = {"flight": 7, **dict.fromkeys(texts, "X"), **dict.fromkeys(times), "mttt": number, "exit": 5, "exot": 10}
+    return {
+        "entry": number,
+        "minute": "2025-02-20T09:00:00Z",
+        "session": 1,
+        "role": "APT",
+        "command": {"cmd": "schedule", "flight": 7},
+        "outcome": "ok",
+        "answers": [],
+        "changed": [{**record, "stand": 1, "reached": [], "alerts": []}],
+    }
+
+
+def test_an_entry_that_comes_while_another_is_written_is_told_at_once(monkeypatch: pytest.MonkeyPatch) -> None:
+    mirror, written = Mirror(("127.0.0.1", 1)), []
+
+    async def write(self: Stream, data: bytes) -> None:
+        assert self.mirror is mirror
+        written.append(data)
+        if mirror.next == 1:
+            mirror.take(feed_line(1))
+        elif mirror.next == 2 and b"id: 2" in data:
+            mirror.end()
+
+    async def prepared(*_: object) -> None:
+        return None
+
+    async def main() -> None:
+        stream = Stream(mirror, Told(page_event), ALL)
+        monkeypatch.setattr(stream.response, "prepare", prepared)
+        request: Any = None
+        await asyncio.wait_for(stream.run(request, 0, lambda: b"", lambda: True), 5)
+
+    monkeypatch.setattr(Stream, "write", write)
+    mirror.take(feed_line(0))
+    asyncio.run(main())
+    assert b"id: 1" in written[0] and b"id: 2" in written[1]
