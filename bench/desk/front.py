@@ -29,7 +29,9 @@ LINE = b'{"cmd":"report","flight":7,"milestone":9,"time":"2030-01-01T10:00:00Z"}
 ROUNDS = 3
 
 
-def begin_board(program: Path, folder: Path, partners: int, words: list[str]) -> tuple[subprocess.Popen[bytes], list[int]]:
+def begin_board(
+    program: Path, folder: Path, partners: int, words: list[str]
+) -> tuple[subprocess.Popen[bytes], list[int]]:
     """A board with so many handlers."""
     changes, *ports = free_ports(1 + partners)
     command = [str(program), "serve", "--again", "--journal", "1000000", *words]

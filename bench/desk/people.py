@@ -51,7 +51,9 @@ def signed_in(running: Running, count: int) -> list[Client]:
     return [Client(running).sign_in("anna") for _ in range(count)]
 
 
-async def enter_all(running: Running, clients: list[Client], lines: int, seconds: float, flights: int) -> tuple[list[float], list[float]]:
+async def enter_all(
+    running: Running, clients: list[Client], lines: int, seconds: float, flights: int
+) -> tuple[list[float], list[float]]:
     """Enters lines at a rate; the times to the replies, and to the last of the other people."""
     context = running.certificates.context()
     connector = aiohttp.TCPConnector(limit=0, ssl=context)
@@ -68,7 +70,13 @@ async def enter_all(running: Running, clients: list[Client], lines: int, seconds
         async def enter(number: int) -> None:
             client = clients[number % len(clients)]
             headers = {"Cookie": client.cookie, "X-Desk-Token": client.token, "Origin": url}
-            body = {"cmd": "report", "flight": str(10 + number % flights), "milestone": 9, "time": "now", "seen": 10**9}
+            body = {
+                "cmd": "report",
+                "flight": str(10 + number % flights),
+                "milestone": 9,
+                "time": "now",
+                "seen": 10**9,
+            }
             start = time.perf_counter()
             async with session.post(f"{url}/enter", json=body, headers=headers) as answer:
                 told = await answer.json()
@@ -151,7 +159,9 @@ def main() -> int:
             board.kill()
     print(f"{asked.people} people, {asked.lines:,} lines an hour, {len(seen)} lines of {asked.flights} flights")
     print(f"  to the reply: {hundredth(replied, 50):.1f} ms (half), {hundredth(replied, 99):.1f} ms (99 of 100)")
-    print(f"  to the last of all browsers: {hundredth(seen, 50):.1f} ms (half), {hundredth(seen, 99):.1f} ms (99 of 100)")
+    print(
+        f"  to the last of all browsers: {hundredth(seen, 50):.1f} ms (half), {hundredth(seen, 99):.1f} ms (99 of 100)"
+    )
     print(f"  the desk: {100 * share:.0f} per cent of one core, {memory:.0f} MiB")
     return 0
 
