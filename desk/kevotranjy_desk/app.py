@@ -69,7 +69,7 @@ class Desk:  # pylint: disable=too-many-instance-attributes
             own = partners_context(settings.certificate, settings.key, ports, is_required=False)
             await self.listen("partners", ports.http, self.partners.app, own)
         if settings.health:
-            await self.listen("health", settings.health, lambda _watch: self.health.app(), None)
+            await self.listen("health", settings.health, lambda _watch: self.health.app(settings.names), None)
         if ports and ports.lines:
             self._tasks.append(asyncio.create_task(self.keep_front()))
 
@@ -130,7 +130,10 @@ class Desk:  # pylint: disable=too-many-instance-attributes
             if event in ("here", "gone"):
                 count = self.health.front.get(partner, 0) + (1 if event == "here" else -1)
                 self.health.front[partner] = max(0, count)
-            self.ledger.tell(f"lines: {event}", **told)
+            if event == "refused":
+                self.ledger.tell_of_stranger("lines: refused", str(told.pop("client", "")), **told)
+            else:
+                self.ledger.tell(f"lines: {event}", **told)
 
     async def learn_session(self, partner: str, number: int) -> None:
         """Notes whose session it is that made an entry."""

@@ -87,6 +87,7 @@ class Exchange:
             for line in self.lines.values():
                 line.forget()
             self._open.clear()
+            self.partner_sessions.clear()
         if not is_live:
             self._begun.clear()
         self._journal = self.mirror.journal or self._journal

@@ -11,7 +11,7 @@ from prometheus_client.core import CounterMetricFamily, GaugeMetricFamily, Metri
 
 from .accounts import Accounts
 from .exchange import Exchange
-from .guard import Watch
+from .guard import Watch, on_prepare, outermost
 from .wording import refusal_name
 
 BUCKETS = (0.0005, 0.001, 0.002, 0.005, 0.01, 0.02, 0.05, 0.1, 0.3, 1, 3, 10)
@@ -46,8 +46,12 @@ class Health:
         self.mirror.on_entry.append(lambda entry: self.last_entry.__setitem__(entry.role, entry.minute))
         self.registry.register(self)  # type: ignore[arg-type]
 
-    def app(self) -> web.Application:
-        app = web.Application()
+    def app(self, names: tuple[str, ...]) -> web.Application:
+        """The routes, for who asks by an address of this machine or a name of the desk."""
+        own = self.exchange.settings.health
+        known = {*names, "localhost", "127.0.0.1", "[::1]", *([own[0], f"[{own[0]}]"] if own else [])}
+        app = web.Application(middlewares=[outermost(tuple(known))])
+        app.on_response_prepare.append(on_prepare)
         app.add_routes([web.get("/health", self.health), web.get("/metrics", self.metrics)])
         return app
 

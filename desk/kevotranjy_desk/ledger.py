@@ -16,6 +16,7 @@ from typing import Any
 from partner import CHANGES, is_same
 
 from .mirror import Entry
+from .rates import MOST_NAMES, Rate
 
 TABLES = """
 create table if not exists line (
@@ -87,6 +88,8 @@ class Ledger:
         # (it stays open as long as the desk runs)
         self._log = log.open("a", encoding="utf-8") if log else None  # pylint: disable=consider-using-with
 
+        self._strangers, self._left_out = Rate(30), dict[str, int]()
+
     @property
     def base(self) -> sqlite3.Connection:
         """The file, for the other tables that the desk keeps there."""
@@ -103,6 +106,15 @@ class Ledger:
         if self._log:
             self._log.write(line + "\n")
             self._log.flush()
+
+    def tell_of_stranger(self, event: str, client: str, **facts: Any) -> None:
+        """Writes an event that a stranger has caused: thirty a minute of each, so that he does not fill the disk."""
+        name = f"{event} {client}"
+        if self._strangers.takes(name):
+            left_out = self._left_out.pop(name, 0)
+            self.tell(event, client=client, **facts, **({"left_out": left_out} if left_out else {}))
+        elif name in self._left_out or len(self._left_out) < MOST_NAMES:
+            self._left_out[name] = self._left_out.get(name, 0) + 1
 
     def begin(
         self,

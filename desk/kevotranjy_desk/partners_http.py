@@ -101,7 +101,8 @@ class PartnersHttp:
         if partner is None:
             if not self.refused_rate.takes(request.remote or ""):
                 raise Refused(429, "too many trials: wait a minute")
-            self.ledger.tell("refused by HTTP", client=request.remote, certificate=shown and shown.name)
+            name = shown.name if shown else None
+            self.ledger.tell_of_stranger("refused by HTTP", request.remote or "", certificate=name)
             raise Refused(401, "a certificate or a bearer token of a partner is asked for")
         return partner
 

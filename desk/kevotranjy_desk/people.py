@@ -133,12 +133,12 @@ class People:
             raise Refused(400, "name, password and code are texts")
         client = request.remote or ""
         if not self.sign_ins.takes(client) or not self.names.takes(name[:40]):
-            self.ledger.tell("too many trials to sign in", who=name[:40], client=client)
+            self.ledger.tell_of_stranger("too many trials to sign in", client, who=name[:40])
             raise Refused(429, "too many trials: wait a minute")
         person = self.settings.people.get(name)
         needs = bool(person and person.has_second_factor)
         if not await self.accounts.is_right(name, password, str(code or ""), needs) or person is None:
-            self.ledger.tell("refused to sign in", who=name[:40], client=client)
+            self.ledger.tell_of_stranger("refused to sign in", client, who=name[:40])
             raise Refused(401, "name, password or code is not right")
         key, session = self.accounts.begin(name)
         response = guard.told(200, "signed in")
@@ -216,8 +216,11 @@ class People:
         return web.json_response({"events": self.events_of(number, self.mirror.events_of(number))})
 
     def events_of(self, number: int, entries: list[Entry]) -> list[dict[str, Any]]:
-        who = self.ledger.who(self.mirror.journal, [entry.number for entry in entries])
-        return [event_of(entry, number, who.get(entry.number)) for entry in entries]
+        who, partners = (
+            self.ledger.who(self.mirror.journal, [it.number for it in entries]),
+            self.exchange.partner_sessions,
+        )
+        return [event_of(it, number, who.get(it.number) or partners.get(it.session)) for it in entries]
 
     async def enter(self, request: web.Request) -> web.Response:
         """Sends what a person enters, where nothing has changed since he looked."""

@@ -284,7 +284,6 @@ revoked = "{certificates.folder}/revoked.crl"
     def start(self) -> None:
         """Starts it, and waits until lines can be sent."""
         started: Future[None] = Future()
-        self.loop = asyncio.new_event_loop()
 
         async def main() -> None:
             self.desk, self.end = Desk(self.settings), asyncio.Event()
@@ -299,7 +298,13 @@ revoked = "{certificates.folder}/revoked.crl"
             finally:
                 await self.desk.stop()
 
-        self.thread = threading.Thread(target=lambda: self.loop.run_until_complete(main()), daemon=True)
+        def work() -> None:
+            # (it ends what is left of connections, too)
+            with asyncio.Runner() as runner:
+                self.loop = runner.get_loop()
+                runner.run(main())
+
+        self.thread = threading.Thread(target=work, daemon=True)
         self.thread.start()
         started.result(LIMIT)
         assert until(self.is_ready), "the desk is not ready"

@@ -368,3 +368,27 @@ def test_the_log_is_closed_to_others(running: Running) -> None:
     for name in ("desk.sqlite", "desk.log"):
         assert (running.folder / name).stat().st_mode & 0o077 == 0, name
     assert ledger.now().endswith("Z") and instant(0)
+
+
+def test_a_stranger_does_not_fill_the_log(running: Running) -> None:
+    def told() -> list[dict[str, Any]]:
+        text = (running.folder / "desk.log").read_text(encoding="utf-8")
+        return [event for event in map(json.loads, text.splitlines()) if event["event"] == "refused to sign in"]
+
+    before = len(told())
+    for _ in range(80):
+        assert Client(running).post("/sign-in", {"name": "nobody", "password": "x"}).status == 401
+    assert len(told()) - before < 50
+
+
+def test_measures_are_not_for_pages_of_other_sites(running: Running, monkeypatch: pytest.MonkeyPatch) -> None:
+    import http.client  # pylint: disable=import-outside-toplevel
+
+    def status(host: str) -> int:
+        link = http.client.HTTPConnection("127.0.0.1", running.health_port, timeout=10)
+        link.request("GET", "/metrics", headers={"Host": host})
+        return link.getresponse().status
+
+    assert status("elsewhere.test") == 421 and status(f"127.0.0.1:{running.health_port}") == 200
+    monkeypatch.setattr(guard, "is_own_host", lambda *_: True)
+    assert status("elsewhere.test") == 200
