@@ -80,7 +80,7 @@ async def enter_all(
             start = time.perf_counter()
             async with session.post(f"{url}/enter", json=body, headers=headers) as answer:
                 told = await answer.json()
-            assert answer.status == 200 and told["is_accepted"], told
+            assert answer.status == 200 and told["is_accepted"], (told, health_of(running.health_port))
             replied.append(time.perf_counter() - start)
             begun[told["entry"]] = start
 
@@ -113,6 +113,12 @@ def memory_of(process: int) -> float:
     """The memory of a process, in MiB."""
     text = Path(f"/proc/{process}/status").read_text(encoding="ascii")
     return int(next(line.split()[1] for line in text.splitlines() if line.startswith("VmHWM"))) / 1024
+
+
+def health_of(port: int) -> object:
+    link = http.client.HTTPConnection("127.0.0.1", port, timeout=5)
+    link.request("GET", "/health")
+    return json.loads(link.getresponse().read())
 
 
 def is_ready(port: int) -> bool:

@@ -64,7 +64,7 @@ class BoardLine:
         self.session: int | None = None
         self._partner = Partner(where, changes, PATIENCE)
         self._thread = ThreadPoolExecutor(1, thread_name_prefix=f"line-{name}")
-        self._busy: asyncio.Future[Any] | None = None
+        self._turn = asyncio.Lock()
         self._open: Command | None = None
 
     async def begin(self) -> Answer:
@@ -94,17 +94,24 @@ class BoardLine:
         self._thread.shutdown(wait=False, cancel_futures=True)
 
     async def _run(self, work: Callable[[], Found]) -> Found:
-        if self._busy and not self._busy.done():
+        try:
             # (those before it are answered within milliseconds, or the board does not answer)
-            await asyncio.wait([self._busy], timeout=ANSWER)
-            if not self._busy.done():
-                raise Away(f"{self.where[0]}:{self.where[1]} does not answer")
+            await asyncio.wait_for(self._turn.acquire(), ANSWER)
+        except asyncio.TimeoutError:
+            raise Away(f"{self.where[0]}:{self.where[1]} does not answer") from None
         busy = asyncio.get_running_loop().run_in_executor(self._thread, work)
-        self._busy = busy
+        # (who is not answered in time leaves, and the next one's turn comes once his line has its reply)
+        busy.add_done_callback(self._end_turn)
         try:
             return await asyncio.wait_for(asyncio.shield(busy), ANSWER)
         except asyncio.TimeoutError:
             raise Unanswered(f"{self.where[0]}:{self.where[1]} does not answer for {ANSWER:.0f} s") from None
+
+    def _end_turn(self, done: "asyncio.Future[Any]") -> None:
+        if not done.cancelled():
+            # (what nobody waits for any more is told of by the feed)
+            done.exception()
+        self._turn.release()
 
     def _begin(self) -> Answer:
         connection = self._partner.connection

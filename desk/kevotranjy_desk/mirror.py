@@ -218,6 +218,7 @@ class Mirror:  # pylint: disable=too-many-instance-attributes
             for record in line["changed"]
         ]
         if migrated:
+            self.board.flights = {number: dict(record) for number, record in self.board.flights.items()}
             changes = [
                 Change(record, record, dict.fromkeys(("eczt", "eezt", "aczt", "aezt")))
                 for record in self.board.flights.values()

@@ -1,10 +1,12 @@
 """The desk in the browser: signing in, the board, what a person enters, and what became of a flight."""
+import gzip
 import ipaddress
 from pathlib import Path
 from typing import Any
 
 from aiohttp import web
 
+from feed import Line
 from words import ROLES
 
 from . import guard, streams
@@ -37,7 +39,8 @@ class People:
         self.sign_ins = Rate(settings.limits.sign_ins)
         self.names = Rate(2 * settings.limits.sign_ins)
         self.told = Told(page_event)
-        self.boards: dict[Scope, tuple[str, int, bytes]] = {}
+        self.boards: dict[tuple[Scope, Scope], tuple[tuple[str, int, bool], bytes]] = {}
+        self.texts: dict[int, tuple[Line, int, str]] = {}
         self.files = {file.name: file.read_text(encoding="utf-8") for file in PAGES.iterdir() if file.suffix in KINDS}
 
     def app(self, watch: guard.Watch) -> web.Application:
@@ -175,22 +178,33 @@ class People:
         """All flights that this person sees, each with its last entry and whether he sends for it."""
         person, _ = self.signed_in(request)
         response = web.Response(body=self._board_text(person), content_type="application/json", charset="utf-8")
-        response.enable_compression()
+        if "gzip" in request.headers.get("Accept-Encoding", ""):
+            response = web.Response(body=self._board_zipped(person), content_type="application/json", charset="utf-8")
+            response.headers["Content-Encoding"] = "gzip"
         return response
+
+    def _board_zipped(self, person: Person) -> bytes:
+        """The board as it is sent, made once for all who see and send the same."""
+        key, state = (person.see, person.send), (self.mirror.journal, self.mirror.next, self.mirror.is_live)
+        known = self.boards.get(key)
+        if known is None or known[0] != state:
+            known = self.boards[key] = state, gzip.compress(self._board_text(person), 1)
+        return known[1]
 
     def _board_text(self, person: Person) -> bytes:
         mirror, rights = self.mirror, self.rights_of(person)
-        flights = [
-            {**record, "flight": str(number), "last": mirror.last_of(number)}
-            for number, record in mirror.board.flights.items()
-            if rights.sees(record)
-        ]
-        others = [] if rights.send.is_unbounded else [it["flight"] for it in flights if not self._sends(rights, it)]
-        value = {"next": mirror.next, "is_live": mirror.is_live, "now": now(), "flights": flights, "others": others}
-        return text_of(value).encode()
+        seen = [record for record in mirror.board.flights.values() if rights.sees(record)]
+        others = [] if rights.send.is_unbounded else [str(it["flight"]) for it in seen if not rights.sends_for(it)]
+        head = text_of({"next": mirror.next, "is_live": mirror.is_live, "others": others})
+        return f'{head[:-1]},"flights":[{",".join(map(self._record_text, seen))}]}}'.encode()
 
-    def _sends(self, rights: Rights, told: dict[str, Any]) -> bool:
-        return rights.sends_for({**told, "flight": int(told["flight"])})
+    def _record_text(self, record: Line) -> str:
+        """A record as the page has it, made once while it stays."""
+        number, last = record["flight"], self.mirror.last_of(record["flight"])
+        known = self.texts.get(number)
+        if known is None or known[0] is not record or known[1] != last:
+            known = self.texts[number] = record, last, text_of({**record, "flight": str(number), "last": last})
+        return known[2]
 
     async def events(self, request: web.Request) -> web.StreamResponse:
         """The entries as they come, of the flights that this person sees."""

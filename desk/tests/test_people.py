@@ -1,6 +1,8 @@
 """The desk for people: signing in, entering times, what changed meanwhile, history, events, rights."""
+import gzip
 import json
 import re
+import threading
 import time
 from datetime import datetime, timedelta, timezone
 
@@ -150,6 +152,8 @@ def test_people_see_and_send_for_their_flights_alone(running: Running) -> None:
     lena = Client(running).sign_in("lena")
     running.in_step()
     board = lena.get("/board").value
+    zipped = lena.get("/board", Accept_Encoding="gzip")
+    assert zipped.headers["Content-Encoding"] == "gzip" and json.loads(gzip.decompress(zipped.body)) == board
     seen = {flight["callsign"] for flight in board["flights"]}
     assert "SWR8" in seen and "BAW9" not in seen and "DLH7" in seen
     assert "8" in board["others"] and "7" not in board["others"]
@@ -183,11 +187,14 @@ def test_a_flight_is_scheduled_and_deiced(running: Running) -> None:
     deice = {"cmd": "deice", "flight": "31", "field": "eczt", "time": clock_in(20), "seen": dora.last(31)}
     early = dora.post("/enter", deice).value
     if not early["is_accepted"]:
+        assert all("eczt" not in flight for flight in dora.get("/board").value["flights"])
         assert early["code"] == 325
         assert running.board.ask("APT", cmd="migrate").startswith("migrated")
         running.in_step()
         assert dora.post("/enter", {**deice, "seen": dora.last(31)}).value["is_accepted"]
     assert field(running, 31, "eczt") in (instant(20), instant(19))
+    flights = dora.get("/board").value["flights"]
+    assert len(flights) > 3 and all("eczt" in flight for flight in flights)
 
 
 @pytest.mark.parametrize(
@@ -244,6 +251,23 @@ def test_events_tell_what_differs_of_flights_in_sight(running: Running, anna: Cl
     assert "callsign" not in fields
     both = [json.loads(line)["entry"] for line in events_of(anna, f"/events?from={first}", 2)]
     assert both == [first, first + 1]
+
+
+def test_many_who_enter_at_once_are_all_answered(running: Running) -> None:
+    clients = [Client(running).sign_in("anna") for _ in range(12)]
+    statuses: list[int] = []
+
+    def enter(client: Client) -> None:
+        for _ in range(8):
+            body = {"cmd": "report", "flight": "7", "milestone": 9, "time": "now", "seen": 10**9}
+            statuses.append(client.post("/enter", body).status)
+
+    work = [threading.Thread(target=enter, args=(client,)) for client in clients]
+    for thread in work:
+        thread.start()
+    for thread in work:
+        thread.join()
+    assert statuses == [200] * 96
 
 
 def test_a_session_ends_with_its_sign_out(running: Running) -> None:

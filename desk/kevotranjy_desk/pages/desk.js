@@ -214,7 +214,7 @@ async function load() {
   others = new Set(board.others);
   for (const flight of board.flights) put(flight);
   next = board.next;
-  ahead = Date.parse(board.now) - Date.now();
+  ahead = Date.parse(answer.headers.get("Date")) - Date.now();
   isBoardLive = board.is_live;
   if (element("one").open) fill();
   soon();
