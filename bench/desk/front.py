@@ -4,13 +4,18 @@
     bench/desk/front.py [--program PATH] [--partners 64] [--rate 10] [--seconds 6] [--keep] [--sync]
 
 So many partners each send a line at this rate a second, at moments of their own, straight to a board and through the
-desk's front to another; both boards run side by side, and the turns alternate three times. The client is one process
+desk's front to another, and by stunnel to a third where that is installed. The boards run side by side, and the turns
+alternate three times. The client is one process
 for both ways, and TLS's work at the client counts as time of the front. Printed are the half and the 99th hundredth of
 the times, and their ratios.
 """
 import argparse
+import contextlib
+import os
 import random
 import selectors
+import shutil
+import signal
 import socket
 import ssl
 import subprocess
@@ -65,6 +70,26 @@ send = "all"
 lines = [{lines}]
 certificate = "{certificates.prints["handler"]}"
 """
+
+
+def begin_stunnel(certificates: Certificates, folder: Path, boards: list[int]) -> list[int]:
+    """The same by stunnel, to compare: a port for each partner."""
+    keys = certificates.folder
+    ports = free_ports(len(boards))
+    text = f"foreground = no\npid = {folder}/stunnel.pid\ndebug = 0\ncert = {keys}/desk.pem\nkey = {keys}/desk.key\n"
+    text += f"CAfile = {keys}/partners.pem\nverifyChain = yes\nsocket = l:TCP_NODELAY=1\nsocket = r:TCP_NODELAY=1\n"
+    text += "".join(
+        f"[p{port}]\naccept = 127.0.0.1:{port}\nconnect = 127.0.0.1:{board}\n" for port, board in zip(ports, boards)
+    )
+    (folder / "stunnel.conf").write_text(text, encoding="ascii")
+    subprocess.run(["stunnel", str(folder / "stunnel.conf")], check=True, capture_output=True)
+    assert until(lambda: listens(ports[-1]))
+    return ports
+
+
+def end_stunnel(folder: Path) -> None:
+    with contextlib.suppress(OSError, ValueError):
+        os.kill(int((folder / "stunnel.pid").read_text(encoding="ascii")), signal.SIGTERM)
 
 
 def connected(port: int, context: ssl.SSLContext | None) -> Any:
@@ -126,7 +151,9 @@ def main() -> int:
         for part in ("certificates", "straight", "through"):
             (folder / part).mkdir()
         certificates = Certificates(folder / "certificates")
-        boards = [begin_board(asked.program, folder / part, asked.partners, kept) for part in ("straight", "through")]
+        parts = ["straight", "through"] + ["stunnel"] * bool(shutil.which("stunnel"))
+        (folder / "stunnel").mkdir()
+        boards = [begin_board(asked.program, folder / part, asked.partners, kept) for part in parts]
         (port,) = free_ports(1)
         (folder / "front.toml").write_text(settings(certificates, port, boards[1][1]), encoding="utf-8")
         command = [sys.executable, str(TOP / "desk" / "desk"), "front", str(folder / "front.toml")]
@@ -139,22 +166,31 @@ def main() -> int:
             for link in through:
                 link.sendall(b"{}\n")
                 assert link.recv(100) == b"bad 102\n"
-            times: dict[str, list[float]] = {"straight": [], "through": []}
+            ways = {"straight": straight, "through": through}
+            if "stunnel" in parts:
+                ports = begin_stunnel(certificates, folder, boards[2][1])
+                ways["stunnel"] = [connected(each, context) for each in ports]
+            times: dict[str, list[float]] = {way: [] for way in ways}
             for _ in range(ROUNDS):
-                times["straight"] += talk(straight, asked.rate, asked.seconds / ROUNDS)
-                times["through"] += talk(through, asked.rate, asked.seconds / ROUNDS)
+                for way, links in ways.items():
+                    times[way] += talk(links, asked.rate, asked.seconds / ROUNDS)
         finally:
             if front.stdin:
                 front.stdin.close()
             front.wait(10)
+            end_stunnel(folder)
             for process, _ in boards:
                 process.kill()
                 process.wait()
     how = " ".join(kept[:1] + kept[2:]) or "in memory"
     print(f"{asked.partners} partners, {asked.rate:g} lines a second each, {how}")
     for part, label in ((50, "half"), (99, "99 of 100")):
-        one, other = (hundredth(times[way], part) * 1e6 for way in ("straight", "through"))
-        print(f"  {label}: {one:,.0f} us straight, {other:,.0f} us through TLS: {other / one:.2f} times")
+        one, *others = (hundredth(times[way], part) * 1e6 for way in ways)
+        told = [
+            f"{each:,.0f} us {name} ({each / one:.2f} times)"
+            for each, name in zip(others, ("by the desk", "by stunnel"))
+        ]
+        print(f"  {label}: {one:,.0f} us straight, over TLS {', '.join(told)}")
     return 0
 
 
