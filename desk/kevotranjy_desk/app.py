@@ -7,7 +7,6 @@ import signal
 import ssl
 import sys
 from contextlib import AsyncExitStack
-from pathlib import Path
 from typing import Any
 
 from aiohttp import web
@@ -22,7 +21,7 @@ from .health import Health
 from .ledger import Ledger
 from .partners_http import PartnersHttp
 from .people import People
-from .settings import Settings
+from .settings import BadSettings, Settings, read_settings
 
 HEAD = {
     "max_line_size": guard.LONGEST_HEAD_LINE,
@@ -30,6 +29,7 @@ HEAD = {
     "max_headers": guard.LONGEST_HEAD,
 }
 FIRST_PAUSE, LONGEST_PAUSE = 0.5, 10.0
+END, AGAIN = "end", "again"
 # (what strangers send that is no request is answered, and fills no log of the operator's)
 logging.getLogger("aiohttp").setLevel(logging.CRITICAL)
 
@@ -75,7 +75,7 @@ class Desk:  # pylint: disable=too-many-instance-attributes
 
     async def listen(self, name: str, where: Address, make: Any, context: ssl.SSLContext | None) -> None:
         """Listens at an address, with a watch over its connections."""
-        watch = self.watches[name] = guard.Watch()
+        watch = self.watches[name] = guard.Watch(self.settings.limits.connections)
         runner = web.AppRunner(make(watch), access_log=None, keepalive_timeout=30, handle_signals=False, **HEAD)
         await runner.setup()
         self._stack.push_async_callback(runner.cleanup)
@@ -155,24 +155,38 @@ class Desk:  # pylint: disable=too-many-instance-attributes
 
 
 async def run(settings: Settings) -> int:
-    """Runs the desk until SIGTERM, SIGINT or SIGHUP."""
-    desk, end = Desk(settings), asyncio.Event()
-    for number in (signal.SIGTERM, signal.SIGINT, signal.SIGHUP):
-        asyncio.get_running_loop().add_signal_handler(number, end.set)
-    try:
-        await desk.start()
-    except (OSError, ssl.SSLError) as error:
-        say(str(getattr(error, "strerror", None) or error))
-        await desk.stop()
-        return 2
-    for name, port in desk.listening.items():
-        print(f"listen {name} {port}", flush=True)
-    desk.ledger.tell("the desk begins", process=os.getpid())
-    await end.wait()
-    desk.ledger.tell("the desk ends", process=os.getpid())
-    await desk.stop()
-    return 0
+    """Runs the desk until SIGTERM or SIGINT. SIGHUP has it begin anew, with what the file of settings says by then."""
+    words: asyncio.Queue[str] = asyncio.Queue()
+    for number, word in ((signal.SIGTERM, END), (signal.SIGINT, END), (signal.SIGHUP, AGAIN)):
+        asyncio.get_running_loop().add_signal_handler(number, words.put_nowait, word)
+    while True:
+        desk = Desk(settings)
+        try:
+            await desk.start()
+            for name, port in desk.listening.items():
+                print(f"listen {name} {port}", flush=True)
+            desk.ledger.tell("the desk begins", process=os.getpid())
+            following = await next_settings(settings, words)
+            desk.ledger.tell("the desk ends", process=os.getpid(), begins_anew=following is not None)
+        except (OSError, ssl.SSLError) as error:
+            say(str(getattr(error, "strerror", None) or error))
+            return 2
+        finally:
+            await desk.stop()
+        if following is None:
+            return 0
+        settings = following
 
 
-def settings_file(text: str | None) -> Path:
-    return Path(text or "desk.toml")
+async def next_settings(settings: Settings, words: asyncio.Queue[str]) -> Settings | None:
+    """Waits until the desk is to end, or to begin anew; faulty settings are told, and it goes on with those it has."""
+    while await words.get() == AGAIN:
+        try:
+            found = read_settings(settings.path)
+            own_context(found.certificate, found.key)
+            if found.ports:
+                partners_context(found.certificate, found.key, found.ports, is_required=True)
+            return found
+        except (BadSettings, OSError, ssl.SSLError) as why:
+            say(f"{why}; it goes on as before")
+    return None

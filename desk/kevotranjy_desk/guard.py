@@ -17,7 +17,7 @@ from aiohttp import web
 Handler = Callable[[web.Request], Awaitable[web.StreamResponse]]
 HEAD_SECONDS, BODY_SECONDS, STALLED_SECONDS, HANDSHAKE_SECONDS = 10.0, 10.0, 30.0, 5.0
 LONGEST_BODY, LONGEST_HEAD_LINE, LONGEST_HEAD = 1 << 17, 4096, 16384
-MOST_CONNECTIONS, MOST_OF_ONE = 2000, 500
+MOST_CONNECTIONS = 2000
 COOKIE = "__Host-desk"
 POLICY = (
     "default-src 'none'; script-src 'self'; style-src 'self'; connect-src 'self'; img-src 'self';"
@@ -204,7 +204,8 @@ class Patient(asyncio.Protocol):
 class Watch:
     """All connections of a listener: how many there are of each client, and which are too slow."""
 
-    def __init__(self) -> None:
+    def __init__(self, most_of_one: int) -> None:
+        self.most_of_one = most_of_one
         self.connections: dict[int, Patient] = {}
         self.of_client: Counter[str] = Counter()
         self.let_go = 0
@@ -221,7 +222,7 @@ class Watch:
             patient.abort()
 
     def is_full(self, client: str) -> bool:
-        return len(self.connections) > MOST_CONNECTIONS or self.of_client[client] > MOST_OF_ONE
+        return len(self.connections) > MOST_CONNECTIONS or self.of_client[client] > self.most_of_one
 
     def remove(self, patient: Patient) -> None:
         if self.connections.pop(id(patient.inner), None):

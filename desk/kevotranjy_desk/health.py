@@ -58,11 +58,12 @@ class Health:
     def facts(self) -> dict[str, Any]:
         """The state in a few facts."""
         mirror, exchange = self.mirror, self.exchange
+        is_ready = mirror.is_live and not any(exchange.is_away(name) for name in exchange.lines)
         last = mirror.entries[-1].minute if mirror.entries else None
         return {
             "is_board_live": mirror.is_live,
-            "is_ready": mirror.is_live and not any(exchange.is_away(name) for name in exchange.lines),
-            "trouble": None if mirror.is_live else mirror.trouble,
+            "is_ready": is_ready,
+            "trouble": None if is_ready else mirror.trouble,
             "entries": mirror.next,
             "room": mirror.room,
             "last_entry": last,

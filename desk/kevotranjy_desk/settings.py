@@ -61,11 +61,15 @@ class Partner:
 
 @dataclass(frozen=True)
 class Limits:
-    """How much in a minute: lines of a person, lines of a partner by HTTP, trials to sign in from one address."""
+    """How much in a minute: lines of a person, lines of a partner by HTTP, trials to sign in from one address.
+
+    And how many connections at a time from one address.
+    """
 
     lines: int = 60
     partner_lines: int = 600
     sign_ins: int = 10
+    connections: int = 500
 
 
 @dataclass(frozen=True)
@@ -348,6 +352,7 @@ def limits(file: File, path: KeyPath, value: Any) -> Limits:
         table.take_or("lines", number, usual.lines),
         table.take_or("partner_lines", number, usual.partner_lines),
         table.take_or("sign_ins", number, usual.sign_ins),
+        table.take_or("connections", number, usual.connections),
     )
     table.end()
     return found

@@ -265,7 +265,7 @@ def test_who_takes_nothing_is_let_go(running: Running, anna: Client, monkeypatch
 
 
 def test_so_many_connections_of_one_address_and_no_more(running: Running, monkeypatch: pytest.MonkeyPatch) -> None:
-    monkeypatch.setattr(guard, "MOST_OF_ONE", 5)
+    monkeypatch.setattr(running.desk.watches["people"], "most_of_one", 5)
     links = [opened(running) for _ in range(5)]
     try:
         assert until(lambda: running.desk.watches["people"].of_client["127.0.0.1"] >= 5)

@@ -199,3 +199,30 @@ def test_kill_9_leaves_no_entry_that_the_log_can_not_explain(own: Running) -> No
     check_all_explained(own)
     states = {str(line["state"]) for line in logged(own)}
     assert "sent" not in states and "replied" in states
+
+
+def test_sighup_reads_the_settings_again(own: Running) -> None:
+    own.stop()
+    desk, good = Process(own), own.file.read_text(encoding="utf-8")
+    desk.start()
+    try:
+        anna = Client(own)
+        assert until(lambda: anna.post("/sign-in", {"name": "anna", "password": PASSWORD}).status == 200)
+        own.file.write_text(good.replace('role = "GH"', 'role = "XX"', 1), encoding="utf-8")
+        assert desk.process
+        desk.process.send_signal(signal.SIGHUP)
+        assert not until(lambda: anna.get("/me").value["role"] != "GH", 1), "faulty settings change nothing"
+        own.file.write_text(good.replace('role = "GH"', 'role = "AO"', 1), encoding="utf-8")
+        desk.process.send_signal(signal.SIGHUP)
+
+        def role() -> str:
+            try:
+                return str(anna.get("/me").value["role"])
+            except OSError:
+                return ""
+
+        assert until(lambda: role() == "AO"), "the session goes on, with the new role"
+        desk.process.send_signal(signal.SIGTERM)
+        assert desk.process.wait(20) == 0
+    finally:
+        desk.kill()
