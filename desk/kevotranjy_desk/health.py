@@ -3,7 +3,7 @@ import time
 from collections import Counter as Count
 from collections.abc import Iterator
 from datetime import datetime, timezone
-from typing import Any
+from typing import Any, cast
 
 from aiohttp import web
 from prometheus_client import CollectorRegistry, Histogram, generate_latest
@@ -44,7 +44,7 @@ class Health:
         )
         exchange.on_reply = self.reply.observe
         self.mirror.on_entry.append(lambda entry: self.last_entry.__setitem__(entry.role, entry.minute))
-        self.registry.register(self)  # type: ignore[arg-type]
+        self.registry.register(cast(Any, self))
 
     def app(self, names: tuple[str, ...]) -> web.Application:
         """The routes, for who asks by an address of this machine or a name of the desk."""

@@ -41,10 +41,11 @@ class Entry:
 
 @dataclass
 class Story:
-    """What became of a flight: its last entries, and the last one that changed more than its alerts."""
+    """What became of a flight: its last entries, the last that changed more than its alerts, who reported what last."""
 
     events: deque[Entry] = field(default_factory=lambda: deque(maxlen=HISTORY))
     last: int = -1
+    reported: dict[int, str] = field(default_factory=dict)
 
 
 def journal_name(first: Line) -> str:
@@ -91,6 +92,11 @@ class Mirror:  # pylint: disable=too-many-instance-attributes
         """The last entry that changed more than the alerts of a flight; -1 where none did."""
         story = self.stories.get(number)
         return story.last if story else -1
+
+    def reported_of(self, number: int) -> dict[int, str]:
+        """The role that reported each milestone of a flight last."""
+        story = self.stories.get(number)
+        return story.reported if story else {}
 
     def events_of(self, number: int) -> list[Entry]:
         """The last entries that asked for a flight or changed it."""
@@ -251,6 +257,8 @@ class Mirror:  # pylint: disable=too-many-instance-attributes
             story.events.append(entry)
             if set(change.fields) - ALERTS_ALONE or change.before is None or number == asked:
                 story.last = entry.number
+            if entry.command["cmd"] == "report" and number == asked:
+                story.reported[entry.command["milestone"]] = entry.role
         if asked is not None and asked not in told and entry.command["cmd"] != "show" and asked in self.stories:
             self.stories[asked].events.append(entry)
 

@@ -203,7 +203,11 @@ class People:
         number, last = record["flight"], self.mirror.last_of(record["flight"])
         known = self.texts.get(number)
         if known is None or known[0] is not record or known[1] != last:
-            known = self.texts[number] = record, last, text_of({**record, "flight": str(number), "last": last})
+            known = self.texts[number] = (
+                record,
+                last,
+                text_of({**record, "flight": str(number), "last": last, "reported": self.mirror.reported_of(number)}),
+            )
         return known[2]
 
     async def events(self, request: web.Request) -> web.StreamResponse:

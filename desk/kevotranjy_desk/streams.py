@@ -46,7 +46,7 @@ class Told:
         return text
 
 
-def page_change(change: Change, scope: Scope, number: int) -> tuple[Line | None, str | None]:
+def page_change(change: Change, scope: Scope, entry: Entry) -> tuple[Line | None, str | None]:
     """What a page is told of a change: the fields that differ, and whether the flight has left its sight."""
     is_seen, was_seen = scope.has(change.after), change.before is not None and scope.has(change.before)
     if not is_seen:
@@ -54,13 +54,15 @@ def page_change(change: Change, scope: Scope, number: int) -> tuple[Line | None,
     fields = change.fields if was_seen else change.after
     told: Line = {**fields, "flight": str(change.after["flight"])}
     if set(change.fields) - {"alerts"}:
-        told["last"] = number
+        told["last"] = entry.number
+    if entry.command["cmd"] == "report" and change.after["flight"] == entry.command["flight"]:
+        told["reported"] = {entry.command["milestone"]: entry.role}
     return told, None
 
 
 def page_event(entry: Entry, scope: Scope) -> Line | None:
     """What a page is told of an entry: of the flights in sight alone, and only what differs."""
-    found = [page_change(change, scope, entry.number) for change in entry.changes]
+    found = [page_change(change, scope, entry) for change in entry.changes]
     flights = [fields for fields, _ in found if fields is not None]
     gone = [number for _, number in found if number is not None]
     if not flights and not gone:

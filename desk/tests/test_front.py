@@ -13,7 +13,7 @@ from contextlib import contextmanager
 from pathlib import Path
 
 import pytest
-from harness import LIMIT, TOP, Board, Certificates, Running, free_ports, instant, until
+from harness import LIMIT, TOP, Board, Certificates, Client, Running, free_ports, instant, until
 
 
 def events(running: Running, name: str) -> list[dict[str, object]]:
@@ -47,6 +47,8 @@ def test_a_partner_with_its_certificate_is_served(running: Running) -> None:
         assert entry["role"] == "ATC"
     running.in_step()
     assert until(lambda: running.desk.exchange.partner_sessions.get(entry["session"]) == "tower")
+    told = Client(running).sign_in("anna").get("/flights/7/history").value["events"]
+    assert (told[-1]["who"], told[-1]["what"]) == ("tower", "landed")
     assert until(lambda: events(running, "lines: here")[-1]["partner"] == "tower")
     assert until(lambda: events(running, "lines: gone")[-1]["partner"] == "tower")
 

@@ -248,6 +248,9 @@ def test_events_tell_what_differs_of_flights_in_sight(running: Running, anna: Cl
     assert event["entry"] == first + 1 and "BAW9" not in told
     (fields,) = event["flights"]
     assert fields["flight"] == "7" and fields["tobt"] == target and fields["last"] == first + 1
+    assert fields["reported"] == {"9": "GH"}
+    (known,) = [flight for flight in lena.get("/board").value["flights"] if flight["flight"] == "7"]
+    assert known["reported"]["9"] == "GH" and known["reported"]["1"] == "NM"
     assert "callsign" not in fields
     both = [json.loads(line)["entry"] for line in events_of(anna, f"/events?from={first}", 2)]
     assert both == [first, first + 1]

@@ -50,10 +50,11 @@ function target(time, isDone) {
 
 function milestoneCells(flight) {
   const cells = tag("td", undefined, "cells wide");
-  for (const { number, short, owners } of WORDS.milestones) {
+  for (const { number, short } of WORDS.milestones) {
     const isReached = flight.reached.includes(number);
-    const cell = tag("i", number, isReached ? "on " + owners[0] : "");
-    cell.title = number + " " + short + (isReached ? ": reached" : ": not reached");
+    // (one that a local rule has set was reported by nobody)
+    const by = flight.reported[number], cell = tag("i", number, isReached ? "on " + (by || "") : "");
+    cell.title = number + " " + short + (by ? ": reported by " + by : isReached ? ": reached" : ": not reached");
     cells.append(cell);
   }
   return cells;
@@ -189,7 +190,8 @@ function take(event) {
   for (const fields of event.flights) {
     const known = flights.get(fields.flight);
     if (!known && !fields.callsign) continue;
-    put({ last: -1, ...known, ...fields });
+    const reported = { ...(known && known.reported), ...fields.reported };
+    put({ last: -1, ...known, ...fields, reported });
     if (fields.last !== undefined) {
       fresh.set(fields.flight, Date.now() + FRESH);
       if (fields.flight === opened && element("one").open) changed(event, fields);
