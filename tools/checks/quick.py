@@ -29,6 +29,7 @@ from checkout import LEFT_OUT, TOP, built_program, run_line, stop
 
 PYTHON = sys.executable
 DEBIAN = "/usr/bin/python3"
+PACKAGES = "/usr/lib/python3/dist-packages"
 TESTS = "-m unittest discover -s"
 FOLDERS = ("clients", "bridges", "tools")
 SECONDS = 300
@@ -74,7 +75,12 @@ CHECKS = (
     Check("types of Python, by mypy", "mypy {each}", "pyproject.toml", "mypy"),
     Check("layout of the desk's Python, by black", "black --quiet --check desk", "desk", "black"),
     Check("the desk's Python, by pylint", "cd desk && pylint --jobs 2 --score n kevotranjy_desk", "desk", "pylint"),
-    Check("types of the desk's Python, by mypy", "cd desk && mypy kevotranjy_desk", "desk", "mypy"),
+    Check(
+        "types of the desk's Python, by mypy",
+        "cd desk && mypy --python-executable {debian} kevotranjy_desk",
+        f"{PACKAGES}/aiohttp",
+        "mypy",
+    ),
 )
 
 
