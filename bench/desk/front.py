@@ -3,9 +3,9 @@
 
     bench/desk/front.py [--program PATH] [--partners 64] [--rate 10] [--seconds 6] [--keep] [--sync]
 
-So many partners each send a line at this rate a second, at moments of their own, straight to a board and through the
-desk's front to another, and by stunnel to a third where that is installed. The boards run side by side, and the turns
-alternate three times. The client is one process
+So many partners each send a line at this rate a second, at moments of their own. They send straight to a board, through
+the desk's front to another, and by stunnel to a third where that is installed. The boards run side by side, and the
+turns alternate three times. The client is one process
 for both ways, and TLS's work at the client counts as time of the front. Printed are the half and the 99th hundredth of
 the times, and their ratios.
 """

@@ -38,75 +38,56 @@ def record() -> Json:
     return {"type": "object", "properties": properties, "required": required, "additionalProperties": False}
 
 
-def schemas() -> Json:
-    """What requests and answers are made of."""
-    outcome = {
-        "oneOf": [
-            {"const": "ok"},
-            {
-                "type": "object",
-                "description": "The number and the name of a refusal; no number where the desk itself did not send it.",
-                "properties": {
-                    "code": {"type": ["integer", "null"]},
-                    "name": {"type": "string"},
-                    "words": {"type": "string"},
-                    "slot": {"type": "integer"},
-                },
-                "required": ["code", "name", "words"],
-                "additionalProperties": False,
-            },
-        ]
-    }
-    reply = {
-        "type": "object",
-        "properties": {
-            "entry": {"type": ["integer", "null"], "description": "The entry's number; null where the line made none."},
-            "outcome": outcome,
-            "record": reference("Record"),
-            "alerts": listed(
-                {
-                    "type": "object",
-                    "properties": {"flight": {"type": "integer"}, "alerts": listed(reference("Alert"))},
-                    "required": ["flight", "alerts"],
-                }
-            ),
-            "unloaded": listed({"type": "object"}),
-        },
-        "required": ["entry", "outcome"],
-        "additionalProperties": False,
-    }
-    event = {
-        "type": "object",
-        "properties": {
+def outcome() -> Json:
+    """What came of a line: "ok", or a refusal; of the desk's own, which did not send it, the number is null."""
+    code, word = {"type": ["integer", "null"]}, {"type": "string"}
+    return {"oneOf": [{"const": "ok"}, closed({"code": code, "name": word, "words": word}, slot={"type": "integer"})]}
+
+
+def reply() -> Json:
+    """The reply to a line."""
+    entry = {"type": ["integer", "null"], "description": "The entry's number; null where the line made none."}
+    alerts = listed(closed({"flight": {"type": "integer"}, "alerts": listed(reference("Alert"))}))
+    more = {"record": reference("Record"), "alerts": alerts, "unloaded": listed({"type": "object"})}
+    return closed({"entry": entry, "outcome": outcome()}, **more)
+
+
+def event() -> Json:
+    """An entry of a flight's history."""
+    word = {"type": "string"}
+    return closed(
+        {
             "entry": {"type": "integer"},
             "minute": reference("Instant"),
-            "role": {"type": "string"},
-            "who": {"type": "string"},
-            "what": {"type": "string"},
-            "changes": listed({"type": "string"}),
+            "role": word,
+            "who": word,
+            "what": word,
+            "changes": listed(word),
             "refused": {"type": ["string", "null"]},
             "code": {"type": ["integer", "null"]},
-        },
-        "required": ["entry", "minute", "role", "who", "what", "changes", "refused", "code"],
-        "additionalProperties": False,
-    }
-    instant = {"type": "string", "pattern": r"^\d{4,5}-\d\d-\d\dT\d\d:\d\d:00Z$"}
+        }
+    )
+
+
+def closed(required: Json, **more: Json) -> Json:
+    """An object that has these members, may have more of them, and no other."""
+    properties = {**required, **more}
+    return {"type": "object", "properties": properties, "required": list(required), "additionalProperties": False}
+
+
+def schemas() -> Json:
+    """What requests and answers are made of."""
     lines = json.loads(LINES.read_text(encoding="utf-8"))
-    line = moved({"description": lines["description"], "type": "object", "oneOf": lines["oneOf"]})
     return {
         **{f"Line_{name}": moved(value) for name, value in lines["$defs"].items()},
-        "Line": line,
-        "Instant": instant,
+        "Line": moved({"description": lines["description"], "type": "object", "oneOf": lines["oneOf"]}),
+        "Instant": {"type": "string", "pattern": r"^\d{4,5}-\d\d-\d\dT\d\d:\d\d:00Z$"},
         "Time": {"oneOf": [reference("Instant"), {"type": "null"}]},
         "Alert": {"type": "string", "pattern": r"^(CDM\d\da?|LOC\d\d)$"},
         "Record": record(),
-        "Reply": reply,
-        "Event": event,
-        "Words": {
-            "type": "object",
-            "properties": {"words": {"type": "string"}},
-            "required": ["words"],
-        },
+        "Reply": reply(),
+        "Event": event(),
+        "Words": {"type": "object", "properties": {"words": {"type": "string"}}, "required": ["words"]},
     }
 
 
@@ -126,12 +107,7 @@ def told(about: str, schema: Json, kind: str = "application/json") -> Json:
 
 def of_board(name: str, schema: Json) -> Json:
     """An answer that says as of which entry it is."""
-    return {
-        "type": "object",
-        "properties": {"next": {"type": "integer"}, "is_live": {"type": "boolean"}, name: schema},
-        "required": ["next", "is_live", name],
-        "additionalProperties": False,
-    }
+    return closed({"next": {"type": "integer"}, "is_live": {"type": "boolean"}, name: schema})
 
 
 def failures(*statuses: int) -> Json:
@@ -170,36 +146,19 @@ FLIGHT = {
 }
 
 
-def document() -> Json:
-    """The whole document."""
+def header(name: str, about: str, **schema: Any) -> Json:
+    return {"name": name, "in": "header", "description": about, "schema": {"type": "string", **schema}}
+
+
+def post_lines() -> Json:
+    """Sending lines."""
     lines = {"oneOf": [reference("Line"), {**listed(reference("Line")), "minItems": 1, "maxItems": 100}]}
-    replies = {
-        "oneOf": [
-            reference("Reply"),
-            {
-                "type": "object",
-                "properties": {"replies": listed(reference("Reply"))},
-                "required": ["replies"],
-                "additionalProperties": False,
-            },
-        ]
-    }
-    one = {"oneOf": [*replies["oneOf"], reference("Words")]}
-    key = {
-        "name": "Idempotency-Key",
-        "in": "header",
-        "description": "1 to 200 printable characters. A repeated request is answered by the first reply.",
-        "schema": {"type": "string", "pattern": "^[!-~]{1,200}$"},
-    }
-    last = {
-        "name": "Last-Event-ID",
-        "in": "header",
-        "description": "The id of the last event that came; without it the board comes first.",
-        "schema": {"type": "string"},
-    }
-    post = {
+    replies = [reference("Reply"), closed({"replies": listed(reference("Reply"))})]
+    one = {"oneOf": [*replies, reference("Words")]}
+    about = "1 to 200 printable characters. A repeated request is answered by the first reply."
+    return {
         "summary": "Sends lines in order; the board answers each, and after one without an answer none is sent.",
-        "parameters": [key],
+        "parameters": [header("Idempotency-Key", about, pattern="^[!-~]{1,200}$")],
         "requestBody": {
             "required": True,
             "content": {
@@ -208,7 +167,7 @@ def document() -> Json:
             },
         },
         "responses": {
-            "200": told("the reply to each line", replies),
+            "200": told("the reply to each line", {"oneOf": replies}),
             **failures(400, 401, 408, 409, 413, 415, 421, 422),
             "403": told("no line was sent: not a flight of this partner", one),
             "429": told("no line was sent: too many", one),
@@ -216,22 +175,31 @@ def document() -> Json:
             "504": told("the board went away before it replied: ask again with the same key", one),
         },
     }
-    alerted = {
-        "type": "object",
-        "properties": {
-            "flight": {"type": "integer"},
-            "callsign": {"type": "string"},
-            "alerts": listed(
-                {
-                    "type": "object",
-                    "properties": {"name": reference("Alert"), "words": {"type": "string"}},
-                    "required": ["name", "words"],
-                }
-            ),
-        },
-        "required": ["flight", "callsign", "alerts"],
-    }
+
+
+def paths() -> Json:
+    """What may be asked for."""
+    flights, flight = of_board("flights", listed(reference("Record"))), of_board("flight", reference("Record"))
+    alert = closed({"name": reference("Alert"), "words": {"type": "string"}})
+    alerted = closed({"flight": {"type": "integer"}, "callsign": {"type": "string"}, "alerts": listed(alert)})
+    history, alerts = of_board("events", listed(reference("Event"))), of_board("flights", listed(alerted))
     events = told("the board, then an event for each entry in sight", {"type": "string"}, "text/event-stream")
+    last = header("Last-Event-ID", "The id of the last event that came; without it the board comes first.")
+    of_one: Json = {"parameters": [FLIGHT]}
+    return {
+        "/v1/lines": {"post": post_lines()},
+        "/v1/flights": get("All flights in sight.", told("flights", flights)),
+        "/v1/flights/{flight}": get("A flight.", told("its record", flight), 400, 404, **of_one),
+        "/v1/flights/{flight}/history": get(
+            "What became of a flight.", told("its last entries", history), 400, 404, **of_one
+        ),
+        "/v1/alerts": get("The flights with alerts.", told("flights", alerts)),
+        "/v1/events": get("Entries as they come (Server-Sent Events).", events, parameters=[last]),
+    }
+
+
+def document() -> Json:
+    """The whole document."""
     return {
         "openapi": "3.1.0",
         "info": {
@@ -240,24 +208,7 @@ def document() -> Json:
             "description": "Lines, flights, history, alerts and events, of the flights of a partner alone.",
         },
         "security": [{"token": []}, {"certificate": []}],
-        "paths": {
-            "/v1/lines": {"post": post},
-            "/v1/flights": get(
-                "All flights in sight.", told("flights", of_board("flights", listed(reference("Record"))))
-            ),
-            "/v1/flights/{flight}": get(
-                "A flight.", told("its record", of_board("flight", reference("Record"))), 400, 404, parameters=[FLIGHT]
-            ),
-            "/v1/flights/{flight}/history": get(
-                "What became of a flight.",
-                told("its last entries", of_board("events", listed(reference("Event")))),
-                400,
-                404,
-                parameters=[FLIGHT],
-            ),
-            "/v1/alerts": get("The flights with alerts.", told("flights", of_board("flights", listed(alerted)))),
-            "/v1/events": get("Entries as they come (Server-Sent Events).", events, parameters=[last]),
-        },
+        "paths": paths(),
         "components": {
             "schemas": schemas(),
             "securitySchemes": {
