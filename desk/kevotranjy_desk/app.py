@@ -34,13 +34,6 @@ END, AGAIN = "end", "again"
 logging.getLogger("aiohttp").setLevel(logging.CRITICAL)
 
 
-class Listening:
-    """A listener that has begun: the port it has, and the connections at it."""
-
-    def __init__(self, port: int, watch: guard.Watch) -> None:
-        self.port, self.watch = port, watch
-
-
 class Desk:  # pylint: disable=too-many-instance-attributes
     """All parts of the desk, from one file of settings."""
 

@@ -347,7 +347,12 @@ def main(path: Path) -> int:
     context = partners_context(settings.certificate, settings.key, settings.ports, is_required=True)
     host, port = settings.ports.lines
     family = socket.AF_INET6 if ":" in host else socket.AF_INET
-    with socket.create_server((host, port), family=family, backlog=128) as listener:
+    try:
+        listener = socket.create_server((host, port), family=family, backlog=128)
+    except OSError as error:
+        print(f"desk: lines: {host}:{port}: {error.strerror}", file=sys.stderr, flush=True)
+        return 2
+    with listener:
         tell("listens", port=listener.getsockname()[1])
         Front(settings, context, listener).run()
     return 0

@@ -69,7 +69,7 @@ class Mirror:  # pylint: disable=too-many-instance-attributes
         self.stories: dict[int, Story] = {}
         self.entries: deque[Entry] = deque()
         self.room, self.journal, self.first_kept = 0, "", 0
-        self.is_live, self.heard, self.trouble = False, 0.0, "not connected yet"
+        self.is_live, self.trouble = False, "not connected yet"
         self.is_ended = False
         self.entered: Counter[str] = Counter()
         self.refused: Counter[tuple[str, int]] = Counter()
@@ -218,7 +218,6 @@ class Mirror:  # pylint: disable=too-many-instance-attributes
         migrated = line["command"]["cmd"] == "migrate" and line["outcome"] == "ok"
         before = {record["flight"]: self.board.flights.get(record["flight"]) for record in line["changed"]}
         self.board.take(line)
-        self.heard = time.monotonic()
         changes = [
             Change(before[record["flight"]], record, fields_between(before[record["flight"]], record))
             for record in line["changed"]

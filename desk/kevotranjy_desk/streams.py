@@ -21,11 +21,6 @@ def text_of(value: object) -> str:
     return json.dumps(value, separators=(",", ":"))
 
 
-def for_page(fields: Line) -> Line:
-    """Fields of a record for a browser: a flight is the text of its digits, since its numbers are exact below 2^53."""
-    return {**fields, "flight": str(fields["flight"])} if "flight" in fields else fields
-
-
 class Told:
     """What an entry tells those who see the same flights, made once for all of them."""
 
@@ -52,6 +47,7 @@ def page_change(change: Change, scope: Scope, entry: Entry) -> tuple[Line | None
     if not is_seen:
         return None, str(change.after["flight"]) if was_seen else None
     fields = change.fields if was_seen else change.after
+    # (a browser's numbers are exact below 2^53 alone: a flight is the text of its digits)
     told: Line = {**fields, "flight": str(change.after["flight"])}
     if set(change.fields) - {"alerts"}:
         told["last"] = entry.number

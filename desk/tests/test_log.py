@@ -201,6 +201,43 @@ def test_kill_9_leaves_no_entry_that_the_log_can_not_explain(own: Running) -> No
     assert "sent" not in states and "replied" in states
 
 
+def test_a_board_that_is_killed_gets_each_line_once_at_most(own: Running) -> None:
+    for number in range(10, 14):
+        own.board.flight(number)
+    own.in_step()
+    chance, stop = random.Random(7), threading.Event()
+    told: list[tuple[int, int | None]] = []
+
+    def work(flight: int) -> None:
+        client = Client(own).sign_in("anna")
+        while not stop.is_set():
+            body = {"cmd": "report", "flight": str(flight), "milestone": 9, "time": "now", "seen": 10**6}
+            answer = client.post("/enter", body)
+            told.append((answer.status, answer.value.get("entry")))
+            stop.wait(0.01 if answer.status == 200 else 0.1)
+
+    threads = [threading.Thread(target=work, args=(flight,)) for flight in range(10, 14)]
+    for thread in threads:
+        thread.start()
+    for _ in range(4):
+        stop.wait(chance.uniform(0.3, 0.8))
+        own.board.kill()
+        stop.wait(chance.uniform(0.0, 0.5))
+        own.board.start()
+        assert until(own.is_ready)
+    stop.set()
+    for thread in threads:
+        thread.join()
+    assert until(own.is_ready)
+    own.in_step()
+    check_all_explained(own)
+    entered = [entry for status, entry in told if status == 200]
+    assert len(entered) == len(set(entered)) > 20 and {status for status, _ in told} <= {200, 503, 504}
+    lines = [line for line in logged(own) if line["who"] == "anna" and line["entry"] is not None]
+    # (those beyond the replies are of lines that were answered as unknown, and were found later)
+    assert len(entered) <= len(lines) <= len(entered) + sum(status == 504 for status, _ in told)
+
+
 def test_sighup_reads_the_settings_again(own: Running) -> None:
     own.stop()
     desk, good = Process(own), own.file.read_text(encoding="utf-8")
