@@ -20,6 +20,8 @@ const ORDERS = {
 };
 
 const flights = new Map(), facts = new Map(), rows = new Map(), fresh = new Map(), stale = new Set();
+// What is known of each flight, in the order of the last drawing, which is nearly that of the next one.
+let ordered = [];
 let me = null, others = new Set(), next = 0, ahead = 0, most = STEP, opened = "", seen = 0, source = null;
 let isDue = false, isWaiting = false, isBoardLive = false, isConnected = false;
 
@@ -109,23 +111,31 @@ function fact(flight) {
 }
 
 function put(flight) {
-  flights.set(flight.flight, flight);
-  facts.set(flight.flight, fact(flight));
-  stale.add(flight.flight);
+  const id = flight.flight, known = facts.get(id) || { id };
+  if (!facts.has(id)) ordered.push(known);
+  facts.set(id, Object.assign(known, fact(flight), { flight }));
+  flights.set(id, flight);
+  stale.add(id);
+}
+
+function drop(id) {
+  flights.delete(id);
+  facts.delete(id);
+  ordered = ordered.filter((known) => known.id !== id);
 }
 
 // The flights to be shown, in order.
 function shown() {
   const asked = element("text").value.toLowerCase().split(/\s+/).filter(Boolean);
   const isAll = element("gone").checked, isAlerted = element("only").checked, isOwn = element("mine").checked;
-  const by = element("order").value, list = [];
-  for (const [id, flight] of flights) {
-    if (flight.reached.includes(16) && !isAll) continue;
-    if (isAlerted && !flight.alerts.length) continue;
-    if (isOwn && !isMine(flight)) continue;
-    if (asked.every((word) => facts.get(id).search.includes(word))) list.push(id);
-  }
-  return list.sort((one, other) => facts.get(one).orders[by] < facts.get(other).orders[by] ? -1 : 1);
+  const by = element("order").value;
+  ordered.sort((one, other) => one.orders[by] < other.orders[by] ? -1 : 1);
+  return ordered.filter(({ flight, search }) => {
+    if (flight.reached.includes(16) && !isAll) return false;
+    if (isAlerted && !flight.alerts.length) return false;
+    if (isOwn && !isMine(flight)) return false;
+    return asked.every((word) => search.includes(word));
+  }).map((known) => known.id);
 }
 
 // Rows are made for those in sight alone, a part of them in each frame; more come as the end of them is scrolled to.
@@ -197,10 +207,7 @@ function take(event) {
       if (fields.flight === opened && element("one").open) changed(event, fields);
     }
   }
-  for (const id of event.gone) {
-    flights.delete(id);
-    facts.delete(id);
-  }
+  event.gone.forEach(drop);
   next = event.entry + 1;
   soon();
 }
@@ -212,6 +219,7 @@ async function load() {
   if (!answer.ok) throw new Error(answer.status);
   const board = await answer.json();
   for (const known of [flights, facts, rows, fresh]) known.clear();
+  ordered = [];
   element("rows").replaceChildren();
   others = new Set(board.others);
   for (const flight of board.flights) put(flight);
