@@ -5,7 +5,8 @@ import json
 import time
 from collections import Counter, deque
 from collections.abc import Callable, Iterator
-from dataclasses import dataclass, field
+from dataclasses import dataclass, field, replace
+from sys import intern
 from typing import Any
 
 from feed import LONGEST_LINE, Address, Board, Line, NoFeed, parsed
@@ -13,11 +14,11 @@ from feed import LONGEST_LINE, Address, Board, Line, NoFeed, parsed
 FIRST_PAUSE, LONGEST_PAUSE = 0.2, 5.0
 ANSWER = 10.0
 # (of each flight, and of all: what is kept for who asks for history, and for who comes back after a break)
-HISTORY, KEPT_ENTRIES, KEPT_CHANGES = 100, 5000, 60000
+HISTORY, KEPT_ENTRIES, KEPT_CHANGES = 100, 5000, 20000
 ALERTS_ALONE = {"alerts"}
 
 
-@dataclass(frozen=True)
+@dataclass(frozen=True, slots=True)
 class Change:
     """What an entry changed of a flight: the fields that differ, and the record after it."""
 
@@ -26,7 +27,7 @@ class Change:
     fields: dict[str, Any]
 
 
-@dataclass(frozen=True)
+@dataclass(frozen=True, slots=True)
 class Entry:
     """An entry of the journal, with the changes of its flights."""
 
@@ -46,6 +47,19 @@ class Story:
     events: deque[Entry] = field(default_factory=lambda: deque(maxlen=HISTORY))
     last: int = -1
     reported: dict[int, str] = field(default_factory=dict)
+
+
+def told_change(change: Change) -> Change:
+    """A change with what is told of it alone: a history keeps no whole records."""
+    names = {*change.fields, "alerts"}
+    before = None if change.before is None else {name: change.before.get(name) for name in names}
+    after = {"flight": change.after["flight"], **{name: change.after.get(name) for name in names}}
+    return Change(before, after, after)
+
+
+def shared(record: Line) -> Line:
+    """An object whose names are shared with all others, which takes half the memory."""
+    return {intern(name): value for name, value in record.items()}
 
 
 def journal_name(first: Line) -> str:
@@ -216,6 +230,7 @@ class Mirror:  # pylint: disable=too-many-instance-attributes
             self.journal = journal_name(line)
         # (a migrate adds members to the records that are there, in place)
         migrated = line["command"]["cmd"] == "migrate" and line["outcome"] == "ok"
+        line["changed"] = [shared(record) for record in line["changed"]]
         before = {record["flight"]: self.board.flights.get(record["flight"]) for record in line["changed"]}
         self.board.take(line)
         changes = [
@@ -230,7 +245,13 @@ class Mirror:  # pylint: disable=too-many-instance-attributes
             ]
         code = 0 if line["outcome"] == "ok" else int(line["outcome"]["code"])
         entry = Entry(
-            line["entry"], line["minute"], line["session"], line["role"], line["command"], code, tuple(changes)
+            line["entry"],
+            intern(line["minute"]),
+            line["session"],
+            intern(line["role"]),
+            shared(line["command"]),
+            code,
+            tuple(changes),
         )
         self._count(entry)
         self._tell_stories(entry, migrated)
@@ -253,7 +274,7 @@ class Mirror:  # pylint: disable=too-many-instance-attributes
             number = change.after["flight"]
             told.add(number)
             story = self.stories.setdefault(number, Story())
-            story.events.append(entry)
+            story.events.append(replace(entry, changes=(told_change(change),)))
             if set(change.fields) - ALERTS_ALONE or change.before is None or number == asked:
                 story.last = entry.number
             if entry.command["cmd"] == "report" and number == asked:

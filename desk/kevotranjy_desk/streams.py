@@ -14,7 +14,7 @@ from .scopes import Scope
 from .wording import refusal_name
 
 BEAT = 15.0
-KEPT_TEXTS = 4096
+KEPT_TEXTS, KEPT_BYTES = 4096, 1 << 25
 
 
 def text_of(value: object) -> str:
@@ -27,6 +27,7 @@ class Told:
     def __init__(self, make: Callable[[Entry, Scope], Line | None]) -> None:
         self._make = make
         self._texts: OrderedDict[tuple[str, int, Scope], bytes] = OrderedDict()
+        self._size = 0
 
     def text_for(self, journal: str, entry: Entry, scope: Scope) -> bytes:
         """An event, or nothing where the entry is none of theirs."""
@@ -36,8 +37,9 @@ class Told:
             value = self._make(entry, scope)
             text = b"" if value is None else f"id: {entry.number + 1}\ndata: {text_of(value)}\n\n".encode()
             self._texts[key] = text
-            while len(self._texts) > KEPT_TEXTS:
-                self._texts.popitem(last=False)
+            self._size += len(text)
+            while len(self._texts) > KEPT_TEXTS or self._size > KEPT_BYTES:
+                self._size -= len(self._texts.popitem(last=False)[1])
         return text
 
 
