@@ -123,7 +123,7 @@ class Entering:
         """The id of a message and the text that is sent for it; Stop where the board is away."""
         try:
             command, line = line_of(body)
-            identity = identity or own_id(command)
+            identity = checked(identity or own_id(command))
             return identity, text_of(identity, reply=self.reply(identity, command, line))
         except NoLine as why:
             return identity, text_of(identity, error=str(why))
@@ -177,8 +177,15 @@ def line_of(body: bytes) -> tuple[dict[str, Any], str]:
 def own_id(command: dict[str, Any]) -> str:
     """The id that a line has among its members."""
     identity = command.get("id")
-    if not isinstance(identity, str) or not 0 < len(identity) <= LONGEST_ID:
-        raise NoLine(f"it has no id: of its own, or as a member of 1 to {LONGEST_ID} characters")
+    if not isinstance(identity, str):
+        raise NoLine("it has no id: of its own, or as a member")
+    return identity
+
+
+def checked(identity: str) -> str:
+    """An id that can be kept."""
+    if not 0 < len(identity) <= LONGEST_ID or not identity.isprintable():
+        raise NoLine(f"its id has not 1 to {LONGEST_ID} printable characters")
     return identity
 
 
@@ -402,7 +409,7 @@ def main() -> None:
         inbox = Inbox(given.state)
     except sqlite3.Error as error:
         end(words.prog, f"{given.state}: {error}")
-    forever(words.prog, lambda carried: carry(given, security, inbox, carried), ())
+    forever(words.prog, lambda carried: carry(given, security, inbox, carried), (sqlite3.Error,))
 
 
 if __name__ == "__main__":

@@ -50,6 +50,9 @@ class Entered(unittest.TestCase):
         self.assertEqual(self.reply(None, target(3))["id"], "m3")
         self.assertIn("no id", self.reply(None, {"cmd": "alerts"})["error"])
         self.assertIn("another line", self.reply("m3", target(4))["error"])
+        for identity in ("", "\ud800", "a\nb", "x" * 201):
+            self.assertIn("id", self.reply(None, {"cmd": "alerts", "id": identity})["error"])
+        self.assertIn("printable", self.reply("\ud800", {"cmd": "alerts"})["error"])
 
     def test_what_is_no_line_is_told(self) -> None:
         count = len(self.board.entries())

@@ -3,6 +3,7 @@ import asyncio
 import base64
 import hashlib
 import hmac
+import re
 import secrets
 import sqlite3
 import struct
@@ -23,6 +24,7 @@ create table if not exists token (digest text primary key, partner text not null
 """
 SESSION_SECONDS, IDLE_SECONDS = 12 * 3600, 4 * 3600
 STEP_SECONDS, DIGITS = 30, 6
+CODE = re.compile(r"\d{6}", re.ASCII)
 LEAST_PASSWORD, LONGEST_PASSWORD = 10, 200
 # (argon2id with the costs that the library proposes)
 HASHER = PasswordHasher()
@@ -38,8 +40,8 @@ class Session:
 
 
 def digest_of(text: str) -> str:
-    """What is kept of a text that has 256 bits by chance."""
-    return hashlib.sha256(text.encode()).hexdigest()
+    """What is kept of a text that has 256 bits by chance; of what is no text, as a stranger may send it, too."""
+    return hashlib.sha256(text.encode("utf-8", "surrogatepass")).hexdigest()
 
 
 def code_at(secret: str, step: int) -> str:
@@ -53,6 +55,8 @@ def code_at(secret: str, step: int) -> str:
 
 def step_of(secret: str, code: str, after: int, moment: float) -> int | None:
     """The step, later than one, of which this is the code: that of the moment, or one beside it."""
+    if not CODE.fullmatch(code):
+        return None
     now = int(moment // STEP_SECONDS)
     for step in (now - 1, now, now + 1):
         if step > after and hmac.compare_digest(code_at(secret, step).encode(), code.encode()):
@@ -120,7 +124,7 @@ class Accounts:
     def _matches(self, kept: str, password: str) -> bool:
         try:
             return bool(HASHER.verify(kept, password[:LONGEST_PASSWORD]))
-        except (VerificationError, InvalidHash):
+        except (VerificationError, InvalidHash, UnicodeEncodeError):
             return False
 
     def begin(self, name: str) -> tuple[str, Session]:

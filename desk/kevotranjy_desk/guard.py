@@ -70,7 +70,8 @@ def is_navigation(request: web.Request) -> bool:
 
 def has_token(request: web.Request, token: str) -> bool:
     """Whether the request has the token of its session, which no page of another site can read."""
-    return hmac.compare_digest(request.headers.get("X-Desk-Token", "").encode(), token.encode())
+    shown = request.headers.get("X-Desk-Token", "").encode("utf-8", "surrogatepass")
+    return hmac.compare_digest(shown, token.encode())
 
 
 def is_json(request: web.Request) -> bool:

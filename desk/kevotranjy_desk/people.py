@@ -139,8 +139,8 @@ class People:
             self.ledger.tell_of_stranger("too many trials to sign in", client, who=name[:40])
             raise Refused(429, "too many trials: wait a minute")
         person = self.settings.people.get(name)
-        needs = bool(person and person.has_second_factor)
-        if not await self.accounts.is_right(name, password, str(code or ""), needs) or person is None:
+        needs, known = bool(person and person.has_second_factor), person.name if person else ""
+        if not await self.accounts.is_right(known, password, str(code or ""), needs) or person is None:
             self.ledger.tell_of_stranger("refused to sign in", client, who=name[:40])
             raise Refused(401, "name, password or code is not right")
         key, session = self.accounts.begin(name)

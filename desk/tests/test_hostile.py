@@ -392,3 +392,23 @@ def test_measures_are_not_for_pages_of_other_sites(running: Running, monkeypatch
     assert status("elsewhere.test") == 421 and status(f"127.0.0.1:{running.health_port}") == 200
     monkeypatch.setattr(guard, "is_own_host", lambda *_: True)
     assert status("elsewhere.test") == 200
+
+
+@pytest.mark.parametrize("text", ["\xff\xfe", "\ud800", "x" * 4000, "\u0661\u0662\u0663\u0664\u0665\u0666"])
+def test_texts_that_are_no_text_are_refused_and_no_fault(running: Running, anna: Client, text: str) -> None:
+    for body in (
+        {"name": text, "password": text},
+        {"name": "anna", "password": text},
+        {"name": "tom", "password": text},
+    ):
+        assert Client(running).post("/sign-in", {**body, "code": text}).status == 401
+    good = Client(running).post("/sign-in", {"name": "tom", "password": PASSWORD, "code": text})
+    assert good.status == 401
+    if "\ud800" not in text:
+        header = text.encode("utf-8").decode("latin-1") if text.isascii() is False and ord(text[0]) > 255 else text
+        assert anna.post("/enter", BODY, X_Desk_Token=header).status == 403
+        assert Client(running).get("/me", Cookie=f"__Host-desk={header}").status == 401
+        partner = Client(running, port=running.http_port)
+        assert partner.get("/v1/flights", Authorization=f"Bearer {header}").status == 401
+    entered = {"cmd": "schedule", "flight": "7", "callsign": text, "time": text, "seen": 10**9}
+    assert Client(running).sign_in("paula").post("/enter", entered).status == 400
