@@ -7,7 +7,7 @@ import time
 from pathlib import Path
 from typing import Any
 
-from support import BRIDGES, Bridge
+from support import BRIDGES, PYTHON, Bridge
 
 TOP = BRIDGES.parent
 PLACES = [TOP / "crates/acdm/out/acdm", TOP / "target/unproved/acdm"]
@@ -59,7 +59,7 @@ class Inbound(Bridge):
     """A bridge that takes lines."""
 
     def __init__(self, *words: object) -> None:  # pylint: disable=super-init-not-called
-        self.command = [sys.executable, str(BRIDGES / "inbound.py"), *map(str, words)]
+        self.command = [PYTHON, str(BRIDGES / "inbound.py"), *map(str, words)]
         self.environment = dict(os.environ)
         self.said: list[str] = []
 

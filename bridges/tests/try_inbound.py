@@ -1,4 +1,4 @@
-#!/usr/bin/env python3
+#!/usr/bin/python3
 """Tries `inbound.py` against real brokers on this machine, which it starts and ends itself.
 
     bridges/tests/try_inbound.py [--program PATH] [mqtt] [amqp]
@@ -31,7 +31,7 @@ from servers import Mosquitto, RabbitMq, Server  # noqa: E402
 from support import Bridge, has_library, until  # noqa: E402
 from try_bridges import MqttReader  # noqa: E402
 
-COUNT, KILLS = 300, 8
+COUNT, KILLS = 1000, 8
 
 
 class Failed(Exception):
