@@ -10,6 +10,7 @@ and has its reply. Each broker is also tried with TLS and a password. The last l
 """
 
 import argparse
+import contextlib
 import json
 import os
 import random
@@ -17,7 +18,7 @@ import sys
 import tempfile
 import threading
 import time
-from collections.abc import Callable
+from collections.abc import Callable, Iterator
 from functools import partial
 from pathlib import Path
 from typing import Any
@@ -41,6 +42,16 @@ class Failed(Exception):
 def check(is_right: object, message: object) -> None:
     if not is_right:
         raise Failed(str(message))
+
+
+@contextlib.contextmanager
+def started(server: Server) -> Iterator[None]:
+    """A broker that runs, and is ended whatever comes of the case."""
+    try:
+        server.start()
+        yield
+    finally:
+        server.stop()
 
 
 def kill_at_random(bridge: Bridge, chance: random.Random, is_over: Callable[[], bool]) -> int:
@@ -79,8 +90,7 @@ def has_come(port: int, board: Lines) -> bool:
 def mqtt_carried(room: Path, is_guarded: bool) -> str:
     """Lines of a topic: the bridge is killed, and the broker is ended and begun again."""
     server, chance = Mosquitto(room, is_guarded), random.Random(7)
-    server.start()
-    with Lines() as board:
+    with started(server), Lines() as board:
         url = f"mqtt{'s' if is_guarded else ''}://127.0.0.1:{server.port}/lines"
         bridge = board.bridge(url, room / "state", *server.security_words())
         reader = MqttReader(server.open_port, "replies")
@@ -104,7 +114,6 @@ def mqtt_carried(room: Path, is_guarded: bool) -> str:
         finally:
             bridge.kill()
             reader.close()
-            server.stop()
 
 
 LINES, REPLIES = "/amq/queue/lines", "/amq/queue/replies"
@@ -164,9 +173,8 @@ def read_amqp(url: str) -> list[str]:
 def amqp_carried(room: Path, is_guarded: bool) -> str:
     """Lines of a queue: the bridge and the broker are killed."""
     server, chance = RabbitMq(room, is_guarded), random.Random(7)
-    server.start()
-    make_queues(server.open_url())
-    with Lines() as board:
+    with started(server), Lines() as board:
+        make_queues(server.open_url())
         bridge = board.bridge(f"{server.url()}/{LINES}", room / "state", *server.security_words(), replies=REPLIES)
         try:
             sender = threading.Thread(target=send_amqp, args=(server.open_url(), COUNT))
@@ -188,7 +196,6 @@ def amqp_carried(room: Path, is_guarded: bool) -> str:
             return f"{COUNT} messages entered once, the bridge killed {kills} times"
         finally:
             bridge.kill()
-            server.stop()
 
 
 def board_away(room: Path, _is_guarded: bool) -> str:
