@@ -9,7 +9,7 @@ mod tell;
 mod unreliable;
 
 use acdm_board::Desk;
-use acdm_commands::{complete, run_on, verify_on};
+use acdm_commands::{Paths, complete, run_on, verify_on};
 use acdm_judging::Failure;
 use acdm_sessions::{Sink, Source, run};
 use acdm_tables::Tables;
@@ -135,6 +135,7 @@ fn no_file() -> Option<Sink<Broken>> {
 // The status of a command line over this reader and these writers.
 fn status_of<
     Rt: Files<File = File>
+        + Paths
         + Net<Listener = TcpListener, Stream = TcpStream>
         + Clock
         + Eprint
@@ -160,6 +161,7 @@ const TICK: &str = "1 29000580 APT {\"cmd\":\"tick\"}\n";
 // What the program writes and answers for these words and this input.
 pub(crate) fn completes<
     Rt: Files<File = File>
+        + Paths
         + Net<Listener = TcpListener, Stream = TcpStream>
         + Clock
         + Eprint

@@ -90,16 +90,21 @@ fn tick<H: Helpers + Drop>(rt: &impl Abort, desk: &mut Desk<H>, moment: u32) {
     assert!(rt; is_entered);
 }
 
+// The entries of a row that is not kept.
+fn entries_of<'a>(row: &'a Arc<Row>, closing: &'a AtomicBool) -> Entries<'a> {
+    Entries {
+        row,
+        reach: None,
+        closing,
+    }
+}
+
 // What is sent of the journal to one who has left.
 fn followed<H: Helpers + Drop>(rt: &impl Abort, alloc: Global, desk: &Desk<H>) -> String {
     let closing = AtomicBool::new(false);
     let output = Sink::new(Vec::new(alloc));
     let mut nobody = "".as_bytes();
-    let entries = Entries {
-        row: desk.row(),
-        reach: None,
-        closing: &closing,
-    };
+    let entries = entries_of(desk.row(), &closing);
     let shown = follow(alloc, &entries, &mut nobody, output)
         .ok()
         .expect(rt, "a display");

@@ -1,6 +1,7 @@
 //! Command lines whose files are there, with each stream and each file compared.
 use super::completes;
 use crate::commands::serve::talk;
+use acdm_commands::Paths;
 use std::alloc::Global;
 use std::fs::{self, File, Files};
 use std::io::{Eprint, Read, Write};
@@ -172,6 +173,7 @@ fn told(rt: &impl Abort, alloc: Global, first: SocketAddr, second: SocketAddr) -
 // The saved journal has the entries of both, with their roles, and is legal.
 fn is_saved<
     Rt: Files<File = File>
+        + Paths
         + Alloc
         + Net<Listener = TcpListener, Stream = TcpStream>
         + Clock

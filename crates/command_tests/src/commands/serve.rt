@@ -3,7 +3,7 @@ ghost use Rattle.std.specs.Prelude.{◌≡◌, vec_len};
 
 use super::status_of;
 use acdm_board::Desk;
-use acdm_commands::serve_on;
+use acdm_commands::{Paths, serve_on};
 use acdm_milestones::Role;
 use acdm_sessions::{Clock, RunError, Sink};
 use bpf_helpers::{Bank, Helpers};
@@ -205,6 +205,7 @@ fn a_silent_partner_holds_nobody_up(rt: HostRuntime) {
 // Whether these words end with the status 2, and this complaint.
 fn complains<
     Rt: Files<File = File>
+        + Paths
         + Net<Listener = TcpListener, Stream = TcpStream>
         + SystemClock
         + Eprint
