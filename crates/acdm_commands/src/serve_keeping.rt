@@ -170,7 +170,12 @@ fn serve_kept_at<Rt: Host, H: Helpers + Drop + Send, W: Write, F: Write + Drop>(
 }
 
 // Goes on from the file, serves, and saves the journal.
-fn serve_kept_with<Rt: Host + Files<File = File>, H: Helpers + Drop + Send, W: Write, F: Write + Drop>(
+fn serve_kept_with<
+    Rt: Host + Files<File = File>,
+    H: Helpers + Drop + Send,
+    W: Write,
+    F: Write + Drop,
+>(
     rt: &Rt,
     alloc: Global,
     helpers: H,
