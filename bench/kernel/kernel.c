@@ -1,6 +1,6 @@
 /* Has the system's own BPF judge and run programs: it loads each, attaches none, and runs it by BPF_PROG_TEST_RUN.
 
-   A line of input is PROGRAM and then records with what r3 and r4 hold, all in hexadecimal digits: `PROGRAM RECORD:R3:R4 ..`, a record
+   A line of input is PROGRAM and then records with what r3 and r4 hold, all in hexadecimal digits: `PROGRAM RECORD:THIRD:FOURTH ..`, a record
    being the first bytes of its 128. The answer is a line: `r0 R0 ..` with a number for each record, or `refused WHY` with the last line
    of what the system says. The first line of all is `ready`, or `none WHY` where the system gives no BPF, and then the status is 0.
 
