@@ -7,10 +7,12 @@ What stands between backticks is looked up: a path among the files, below the pa
 the same paragraph names; an identifier among the words of the sources, without their comments; a name with a capital
 as something that a source declares. Links of Markdown lead to a file, and to a heading of it. What a page names
 though the tree has it not stands in a table below with its reason, which is checked as well: each is still named.
+And what begins as a script can be started.
 """
 from __future__ import annotations
 
 import re
+import subprocess
 import sys
 from pathlib import Path
 
@@ -176,6 +178,18 @@ def faults_of(page: Path, tree: Tree, used: set[str]) -> list[str]:
     return faults
 
 
+def unstartable() -> list[str]:
+    """Returns the files of the checkout that begin as scripts do, and that the system would not start."""
+    listed = subprocess.run(["git", "ls-files", "-s"], cwd=TOP, capture_output=True, text=True, check=True).stdout
+    faults = []
+    for row in listed.splitlines():
+        about, name = row.split("\t", 1)
+        file = TOP / name
+        if about.startswith("100644") and file.is_file() and file.read_bytes()[:2] == b"#!":
+            faults.append(f"{name}: it begins with #! and is not executable")
+    return faults
+
+
 def main() -> int:
     """Looks up, and returns the status."""
     tree, used, asked = Tree(TOP), set[str](), asked_pages(sys.argv[1:])
@@ -183,6 +197,7 @@ def main() -> int:
     if asked == pages():
         struck = sorted({*ELSEWHERE, *MADE} - used)
         faults += [f"no page names {name} any more: strike it from tools/checks/names.py" for name in struck]
+        faults += unstartable()
     return ended(faults, f"all names, files and links of {len(asked)} pages stand in the tree")
 
 
