@@ -74,7 +74,12 @@ CHECKS = (
     Check("Python, by pylint", "pylint --jobs 2 --score n {sources}", "pyproject.toml", "pylint"),
     Check("types of Python, by mypy", "mypy {each}", "pyproject.toml", "mypy"),
     Check("layout of the desk's Python, by black", "black --quiet --check desk", "desk", "black"),
-    Check("the desk's Python, by pylint", "cd desk && pylint --jobs 2 --score n kevotranjy_desk", "desk", "pylint"),
+    Check(
+        "the desk's Python, by pylint",
+        "cd desk && pylint --jobs 2 --score n kevotranjy_desk",
+        f"{PACKAGES}/aiohttp",
+        "pylint",
+    ),
     Check(
         "types of the desk's Python, by mypy",
         "cd desk && mypy --python-executable {debian} kevotranjy_desk",
