@@ -225,10 +225,11 @@ def onto_streams(cases, program, room):
                     how = {"stdin": subprocess.DEVNULL, "stdout": subprocess.PIPE, "stderr": subprocess.PIPE, stream: opened}
                     done = subprocess.run([str(program), "run", option, str(path)], text=True, check=False, **how)
                 name = f"{option} {path.name}, which is {stream}"
+                # (standard error that goes to the file is left alone as well)
                 said = (done.returncode, done.stdout or "", told if stream == "stderr" else done.stderr)
                 cases.expect(name, said == (2, "", told), said)
                 left = file.read_text()
-                cases.expect(f"{name}, stays", left == text(DAY) + (told if stream == "stderr" else ""), left)
+                cases.expect(f"{name}, stays", left == text(DAY), left)
                 cases.expect(f"{name}, nothing beside", sorted(it.name for it in room.glob("*.part")) == [])
     null = {"stdin": subprocess.DEVNULL, "stdout": subprocess.DEVNULL, "stderr": subprocess.DEVNULL}
     cases.expect("a device", subprocess.run([str(program), "run", "--save", "/dev/null"], check=False, **null).returncode == 0)
