@@ -7,7 +7,8 @@ The calls: `decode`, `encode`, `verify`, `explain`, `EbpfVmRaw` with `set_progra
 programs loaded, `Watch::new` and `advance`, `audit`, `run` and `run_sessions`, the last two over one line at a time. Those of the calls alone are
 refused: calls.rt.txt and the files beside it mark where each begins and ends, and refuse.c, preloaded, counts between. A refused call has
 to answer that there was no memory, and to leave board, journal, watch and machine as they were; made again, it has to answer what it
-answers in a run that is not disturbed, as all calls after it. What that is, is told by the model in bench/model and by hand.
+answers in a run that is not disturbed, as all calls after it. What that is, is told by the model in bench/model and by hand. The helpers of
+`Desk::call` count how often one is asked, over all calls: a call that is refused asks none, so the count stays that of the answers in the journal.
 
 The program is proved and built over the libraries as they were checked last, or, with `--after-ci`, as the gate has just built them; with
 `--program` one that was built before is run, and where none stands there, it is left there. `--stride` takes every N-th request alone.
@@ -155,7 +156,7 @@ class Scenes:
         for digits, r0, steps in PROGRAMS:
             rest = self.of_program(rest, digits, r0, steps)
         rest = self.of_lines(rest, "board", "Desk::call", self.lines)
-        rest = self.of_watch(rest)
+        rest = self.of_helpers(self.of_watch(rest))
         rest = self.of_lines(rest, "stream", "run", self.lines)
         rest = self.of_lines(rest, "sessions", "session", by_one_session(self.lines))
         self.cases.expect("no more calls", rest == [], rest[:1])
@@ -183,6 +184,12 @@ class Scenes:
         journal = [line for line in seen[-1][2] if line.split(" ")[0].isdigit()]
         self.cases.expect(f"{title}, the journal", text(journal) == entries, journal)
         return calls[1 + len(lines) :]
+
+    def of_helpers(self, calls):
+        """Helpers were asked as often as the entries of the journal keep answers."""
+        kept = [int(line.split(" ")[5]) for line in owed(self.lines)[1].splitlines()]
+        self.cases.expect("the helpers asked", calls[0] == ("helpers", str(sum(kept)), ()) and sum(kept) > 0, (calls[0], kept))
+        return calls[1:]
 
     def of_watch(self, calls):
         """A watch takes all entries of the desk before it, and its board is the desk's at last."""

@@ -1,6 +1,6 @@
 -- What callers see of a desk, and what its fields keep.
 use Rattle.std.specs.Prelude.{ℕ, ◌≡◌, ◌≢◌, ◌≤◌, ◌↔◌, Bool, false, true, not, List, [], ◌∷◌, ◌++◌}
-use Rattle.std.specs.Prelude.{length, reverse, take, Result, Err, IfOk, OnErr}
+use Rattle.std.specs.Prelude.{length, reverse, take, Result, Ok, Err, IfOk, OnErr}
 use Rattle.acdm_milestones.specs.declared.role.Role.{Role}
 use Rattle.bpf_helpers.specs.Promise.{Promise}
 use Rattle.acdm_step.specs.declared.command.Command.{Command}
@@ -54,6 +54,11 @@ with_entry d e = record d { history = e ∷ d.history }
 abbrev pub is_foreign : List (ℕ × Promise) → Command → Bool
 is_foreign sigs (Load l) = not (is_checked sigs l.program)
 is_foreign sigs _ = false
+
+-- what is replied, without the pass that is given back with it
+abbrev pub replied : {P : Type 0} → Result (Reply × P) (DeskError × P) → Result Reply DeskError
+replied (Ok r) = Ok r.0
+replied (Err e) = Err e.0
 
 -- What a pass had seen was the beginning of the journal. Now it has seen all of it, and its own
 -- entries are one more, the newest.

@@ -12,8 +12,8 @@ ghost use Rattle.acdm_row.specs.Views.{IsSameCaller};
 ghost use Rattle.acdm_board.specs.Desk.{DeskView, Enters, Extends, row_of, with_entry};
 ghost use Rattle.acdm_board.specs.Desk.{is_foreign as has_other_sigs};
 
-use acdm_row::{Pass, Publisher, Row};
-use acdm_step::{Answers, Command, Core, Entry, Outcome, Prepared};
+use acdm_row::{Pass, Place, Publisher, Row};
+use acdm_step::{Answers, Command, Core, Entry, Outcome, Plan};
 use bpf_helpers::{Helpers, Live, Sigs};
 use std::alloc::{AllocError, Global};
 use std::marker::Model;
@@ -42,6 +42,13 @@ impl Model for Book {
     ghost invariant = { λ b. IsBook b.core b.journal };
 }
 
+/// Memory for the next entry, and for a list of answers where some may come.
+#[derive(Drop)]
+pub(crate) struct Places {
+    pub(crate) entry: Place,
+    pub(crate) answers: Answers,
+}
+
 /// Whether a command loads a program that was checked against other signatures.
 fn is_foreign(command: &Command, sigs: &Sigs) -> bool
     ensures value { result ≡ has_other_sigs sigs.now command.now }
@@ -54,9 +61,9 @@ fn is_foreign(command: &Command, sigs: &Sigs) -> bool
 }
 
 /// The answers that the programs of an accepted command used, in no more room than they need; a
-/// refused one used none. `Err` only where memory was refused.
+/// refused one used none. `Err` only where there are some, and no place was taken for them.
 fn answers_of<H: Helpers>(
-    alloc: Global,
+    place: Answers,
     live: Live<'_, H>,
     outcome: &Outcome,
 ) -> Result<Answers, AllocError>
@@ -70,7 +77,7 @@ fn answers_of<H: Helpers>(
     }
     let mut answers = live.into_answers();
     answers.shrink_to_fit();
-    Answers::new(alloc, answers)
+    place.placed(answers)
 }
 
 impl Book {
@@ -179,14 +186,25 @@ impl Book {
         self.core.answers_room(command)
     }
 
+    /// Takes all memory that the next entry of a pass needs but for its answers. `Err` where memory was
+    /// refused, or where the pass has seen more than the journal has.
+    pub(crate) fn place_for(&mut self, pass: &mut Pass) -> Result<Place, AllocError>
+        requires { pass.old.row ≡ row_of self.old }
+        ensures { (self.new ≡ self.old) × (pass.new ≡ pass.old) }
+    {
+        self.journal.place_for(pass)
+    }
+
     /// Makes the next entry of a command, whose programs ask this oracle, which has room for all of
-    /// their answers, and tells what came of it. The command is planned, its entry published, and
-    /// the plan committed. The pass has then seen all of the journal. `Err` where memory was
-    /// refused, where the cell of the entry was set, or where the pass has seen more than the
-    /// journal has; nothing has changed then.
+    /// their answers, and tells what came of it. The command is planned, its entry published in
+    /// the memory that was taken for it and its answers, and the plan committed. The pass has then
+    /// seen all of the journal. `Err` where memory was refused that the plan itself asks for, where
+    /// the cell of the entry was set, or where the pass has seen more than the journal has; nothing
+    /// has changed then.
     pub(crate) fn enter<H: Helpers>(
         &mut self,
         live: Live<'_, H>,
+        places: Places,
         pass: &mut Pass,
         moment: u32,
         command: Command,
@@ -209,7 +227,7 @@ impl Book {
         let session = pass.session();
         let role = pass.role();
         let plan = self.core.plan(&mut live, role, moment, &command)?;
-        let answers = answers_of(self.journal.alloc(), live, &plan.outcome)?;
+        let answers = answers_of(places.answers, live, &plan.outcome)?;
         let entry = Entry {
             number: self.journal.len() as u64,
             session,
@@ -219,13 +237,14 @@ impl Book {
             command,
             answers,
         };
-        self.journal.enter(pass, entry)?;
+        self.journal.enter(pass, entry, places.entry)?;
         Ok(self.core.commit(plan))
     }
+
     /// Puts an entry that is told of elsewhere behind the others, with which the journal stays legal,
     /// and does to the core what was planned for it. `Err` where memory was refused, or where the
     /// cell of the entry was set; nothing has changed then.
-    pub(crate) fn restore(&mut self, entry: Entry, plan: Prepared) -> Result<(), AllocError>
+    pub(crate) fn restore(&mut self, entry: Entry, plan: Plan) -> Result<(), AllocError>
         requires legal { IsLegal self.old.sigs (entry ∷ self.old.history) }
         requires fits { Fits (replay self.old.sigs self.old.history) plan.change }
         requires board { after_change (replay self.old.sigs self.old.history) plan.change
@@ -234,7 +253,8 @@ impl Book {
         ensures took { OnOk result (self.new ≡ with_entry self.old entry) }
         ensures err { OnErr result (self.new ≡ self.old) }
     {
-        self.journal.publish(entry)?;
+        let place = self.journal.place()?;
+        self.journal.publish(entry, place)?;
         self.core.commit(plan);
         Ok(())
     }

@@ -8,14 +8,14 @@ ghost use Rattle.acdm_step.specs.Prepared.{Fits, after_change};
 ghost use Rattle.std.specs.Arc.{arc_value};
 ghost use Rattle.acdm_row.specs.Views.{IsSameCaller};
 ghost use Rattle.acdm_board.specs.Desk.{CallsDesk, DeskView, Enters, Extends, is_foreign, row_of};
-ghost use Rattle.acdm_board.specs.Desk.{with_entry};
+ghost use Rattle.acdm_board.specs.Desk.{replied, with_entry};
 
-use crate::book::Book;
+use crate::book::{Book, Places};
 use crate::error::DeskError;
 use crate::passes::Passes;
 use acdm_milestones::Role;
 use acdm_row::{Pass, Row};
-use acdm_step::{Command, Core, Entry, Outcome, Prepared};
+use acdm_step::{Answers, Command, Core, Entry, Outcome, Plan};
 use bpf_helpers::{Helpers, Live, Sigs};
 use std::alloc::{AllocError, Global};
 use std::marker::Model;
@@ -122,7 +122,7 @@ impl<H: Helpers + Drop> Desk<H> {
         ensures caller { IfOk result (λ p. (p.session ≡ session) × (p.role ≡ role)) }
         ensures empty { IfOk result (λ p. (p.seen ≡ []) × (p.numbers ≡ []) × (p.own ≡ [])) }
     {
-        Row::pass(self.book.row(), session, role)
+        self.book.row().pass(session, role)
     }
 
     /// Shows all of the journal to a pass. `Err` where memory was refused, and where the journal is
@@ -171,7 +171,8 @@ impl<H: Helpers + Drop> Desk<H> {
         None
     }
 
-    // Makes the entry of a command that is not refused. `Memory` is then the only error.
+    // Makes the entry of a command that is not refused. `Memory` is then the only error. All memory
+    // that is kept is taken first, so that no helper is asked where it is refused.
     fn enter(&mut self, pass: &mut Pass, moment: u32, command: Command) -> Result<Reply, DeskError>
         requires row { pass.old.row ≡ row_of self.old }
         requires moment_given { 1 ≤ moment }
@@ -187,8 +188,12 @@ impl<H: Helpers + Drop> Desk<H> {
     {
         let number = self.book.len();
         let room = self.book.answers_room(&command);
-        let live = Live::new(self.book.alloc(), &self.helpers, room)?;
-        let outcome = self.book.enter(live, pass, moment, command)?;
+        let alloc = self.book.alloc();
+        let entry = self.book.place_for(pass)?;
+        let answers = Answers::with_place(alloc, room)?;
+        let places = Places { entry, answers };
+        let live = Live::new(alloc, &self.helpers, room)?;
+        let outcome = self.book.enter(live, places, pass, moment, command)?;
         Ok(Reply {
             number: number as u64,
             outcome,
@@ -203,8 +208,31 @@ impl<H: Helpers + Drop> Desk<H> {
     /// `Full` where the journal is full, which is tested first; `OtherSignatures` where the program
     /// of a load was checked against other signatures than those of the desk; `Memory` where memory
     /// was refused, where the cell of the entry was set, or where the pass has seen more than the
-    /// journal has. Nothing has changed then, nor has the pass.
+    /// journal has. Nothing has changed then, nor has the pass. The pass is
+    /// given back.
     pub fn call(
+        &mut self,
+        pass: Pass,
+        moment: u32,
+        command: Command,
+    ) -> Result<(Reply, Pass), (DeskError, Pass)>
+        requires row { pass.row ≡ row_of self.old }
+        requires moment_given { 1 ≤ moment }
+        ensures called { CallsDesk self.old pass.session pass.role moment command self.new
+            (replied result) }
+        ensures pass { IfOk result (λ r. Extends self.old self.new pass r.1) }
+        ensures caller { IfOk result (λ r. IsSameCaller pass r.1) }
+        ensures given { IfErr result (λ r. r.1 ≡ pass) }
+    {
+        let mut pass = pass;
+        match self.call_lent(&mut pass, moment, command) {
+            Ok(reply) => Ok((reply, pass)),
+            Err(error) => Err((error, pass)),
+        }
+    }
+
+    /// The same of a pass that is lent.
+    pub fn call_lent(
         &mut self,
         pass: &mut Pass,
         moment: u32,
@@ -250,7 +278,7 @@ impl<H: Helpers + Drop> Desk<H> {
     /// the core what was planned for it on that core. The journal has to stay legal with it, and to
     /// have room for it. `Err` where memory was refused, or where the cell of the entry was set;
     /// nothing has changed then.
-    pub fn restore(&mut self, entry: Entry, plan: Prepared) -> Result<(), AllocError>
+    pub fn restore(&mut self, entry: Entry, plan: Plan) -> Result<(), AllocError>
         requires legal { IsLegal self.old.sigs (entry ∷ self.old.history) }
         requires fits { Fits (replay self.old.sigs self.old.history) plan.change }
         requires board { after_change (replay self.old.sigs self.old.history) plan.change

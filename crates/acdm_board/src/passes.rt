@@ -67,7 +67,7 @@ impl Passes {
                 }
             }
         }
-        Row::pass(&self.row, session, role)
+        self.row.pass(session, role)
     }
 
     /// Keeps a pass, where there is room for it.

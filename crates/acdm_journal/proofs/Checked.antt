@@ -15,7 +15,7 @@ use Rattle.acdm_step.specs.declared.command.Command.{Command}
 use Rattle.acdm_step.specs.declared.command.Command.TheVariants.{Load, Unload, Tick, Migrate, Show}
 use Rattle.acdm_step.specs.declared.command.Command.TheVariants.{Alerts}
 use Rattle.acdm_step.specs.declared.command.Command.TheVariants as commands
-use Rattle.acdm_step.specs.declared.command.FlightCommand.TheVariants.{Schedule, Report, Deice}
+use Rattle.acdm_step.specs.declared.command.Command.TheVariants.{Schedule, Report, Deice}
 use Rattle.acdm_step.specs.Commands.{History, is_accepted}
 use Rattle.acdm_step.specs.InSlots.{slot_change, changed_or, judged_again, program_in, programs_of}
 use Rattle.acdm_slots.specs.Migration.{fault_beside, kept_program, lengthened, unless_faulty}
@@ -62,9 +62,9 @@ module _ (P : Verified → Type 0) (keeps : (v : Verified) → P v → P (length
       (λ e. subst P (same_Some l.program v e) loads) (then v) h
   changed_in a k v (Unload u) loads before then h =
       put_in (place u.milestone u.kind == place a k) None before v (λ e. absurd (cc e)) (then v) h
-  changed_in a k v (commands.Flight (Schedule s)) loads before then h = then v h
-  changed_in a k v (commands.Flight (Report r)) loads before then h = then v h
-  changed_in a k v (commands.Flight (Deice d)) loads before then h = then v h
+  changed_in a k v (Schedule s) loads before then h = then v h
+  changed_in a k v (Report r) loads before then h = then v h
+  changed_in a k v (Deice d) loads before then h = then v h
   changed_in a k v Tick loads before then h = then v h
   changed_in a k v Migrate loads before then h = kept_in before v then h
   changed_in a k v (Show f) loads before then h = then v h
@@ -83,12 +83,12 @@ module _ (P : Verified → Type 0) (keeps : (v : Verified) → P v → P (length
 
   tobt_loaded : (J : History) (c : Command) → AllByRecursion (λ e. Loads P e.command) J
       → (v : Verified) → (programs_of J c).tobt ≡ Some v → P v
-  tobt_loaded J (commands.Flight (Report r)) all v h = loaded_in J r.milestone Tobt v all h
+  tobt_loaded J (Report r) all v h = loaded_in J r.milestone Tobt v all h
   tobt_loaded J _ all v h = absurd (cc)
 
   alert_loaded : (J : History) (c : Command) → AllByRecursion (λ e. Loads P e.command) J
       → (v : Verified) → (programs_of J c).alert ≡ Some v → P v
-  alert_loaded J (commands.Flight (Report r)) all v h = loaded_in J r.milestone Alert v all h
+  alert_loaded J (Report r) all v h = loaded_in J r.milestone Alert v all h
   alert_loaded J _ all v h = absurd (cc)
 
 -- ---- in a legal history they were checked against the signatures of the board
@@ -100,7 +100,9 @@ module _ (sigs : List (ℕ × Promise)) where
   checks_load : (c : Command) → IsChecked sigs c → Loads HasSigs c
   checks_load (Load l) checked = checked.0
   checks_load (Unload u) checked = tt
-  checks_load (commands.Flight k) checked = tt
+  checks_load (commands.Schedule k) checked = tt
+  checks_load (commands.Report k) checked = tt
+  checks_load (commands.Deice k) checked = tt
   checks_load Tick checked = tt
   checks_load Migrate checked = tt
   checks_load (Show f) checked = tt
@@ -126,7 +128,9 @@ IsOne v = IsProgram v.ops
 loads_one : (c : Command) → LoadsProgram c → Loads IsOne c
 loads_one (Load l) is = is
 loads_one (Unload u) is = tt
-loads_one (commands.Flight k) is = tt
+loads_one (commands.Schedule k) is = tt
+loads_one (commands.Report k) is = tt
+loads_one (commands.Deice k) is = tt
 loads_one Tick is = tt
 loads_one Migrate is = tt
 loads_one (Show f) is = tt

@@ -32,8 +32,7 @@ use Rattle.acdm_record.specs.Assign.{with_all}
 use Rattle.acdm_step.specs.declared.command.Command.{Command}
 use Rattle.acdm_step.specs.declared.command.Command.TheVariants.{Load, Unload, Tick, Migrate, Show}
 use Rattle.acdm_step.specs.declared.command.Command.TheVariants.{Alerts}
-use Rattle.acdm_step.specs.declared.command.Command.TheVariants as commands
-use Rattle.acdm_step.specs.declared.command.FlightCommand.TheVariants.{Schedule, Report, Deice}
+use Rattle.acdm_step.specs.declared.command.Command.TheVariants.{Schedule, Report, Deice}
 use Rattle.acdm_step.specs.declared.entry.Verdict.{Verdict}
 use Rattle.acdm_step.specs.declared.entry.Verdict.TheVariants.{Accepted, Refused}
 use Rattle.acdm_step.specs.declared.outcome.Outcome.{Outcome}
@@ -112,16 +111,16 @@ deicing_answers false false false = refl
 verdict_answers : (there : Bool) (count : ℕ) (r : Fields) (against : Option Refusal) (role : Role)
     (c : Command) → lacks_answer (refused_by against) ≡ false
     → lacks_answer (verdict_for there count r against role c) ≡ false
-verdict_answers there count r against role (commands.Flight (Schedule s)) h =
+verdict_answers there count r against role (Schedule s) h =
     schedule_tests (not (owns role actions.Schedule)) (has_reached r 0 && has_reached r 1)
     (not there && not (nat_lt count MOST_FLIGHTS))
-verdict_answers there count r against role (commands.Flight (Report p)) h =
+verdict_answers there count r against role (Report p) h =
     report_tests (not (owns role (actions.Report p.milestone))) (not there
     && not (number p.milestone == 1))
     (not there && not (nat_lt count MOST_FLIGHTS))
     (verdict_from (admission r role p.milestone p.time))
     (admission_answers r role p.milestone p.time)
-verdict_answers there count r against role (commands.Flight (Deice d)) h =
+verdict_answers there count r against role (Deice d) h =
     one_test (not (owns role actions.Deice)) (Refused NotOwner)
     (unless_refused against (cond (not there) (Refused UnknownFlight)
     (verdict_from (deicing_admission r d.which d.time)))) refl
@@ -167,7 +166,7 @@ obstacle_answers sigs J (Load l) =
     (same_sigs l.program.sigs sigs)
 obstacle_answers sigs J (Unload u) = unload_answers (program_in J u.milestone u.kind)
 obstacle_answers sigs J Migrate = migrate_answers (record_length_after J)
-obstacle_answers sigs J (commands.Flight (Deice d)) = deice_answers (record_length_after J)
+obstacle_answers sigs J (Deice d) = deice_answers (record_length_after J)
 obstacle_answers sigs J _ = refl
 
 -- ---- the oracle

@@ -33,7 +33,7 @@ use Rattle.acdm_slots.specs.Names.{kind_name}
 use Rattle.acdm_step.specs.declared.command.FlightPlan.{FlightPlan}
 use Rattle.acdm_step.specs.declared.command.Command.{Command}
 use Rattle.acdm_step.specs.declared.command.Command.TheVariants as commands
-use Rattle.acdm_step.specs.declared.command.FlightCommand.TheVariants.{Schedule, Report, Deice}
+use Rattle.acdm_step.specs.declared.command.Command.TheVariants.{Schedule, Report, Deice}
 use Rattle.acdm_step.specs.Commands.{is_load}
 use Rattle.acdm_journal.specs.declared.reading.TheConstants.{LONGEST_ENTRY}
 use Rattle.acdm_journal.specs.declared.stated.Stated.{Stated}
@@ -170,17 +170,17 @@ few_of_length L160 = leb-true _ 1 refl
 
 -- what is asked for but a load
 command : (c : Command) → is_load c ≡ false → IsCommandLine c → ArePlain (command_words c)
-command (commands.Flight (Schedule s)) plain l =
+command (Schedule s) plain l =
     fixed (codes "schedule") refl & digits s.flight l.flight
     & both {us = plan_words s.plan} {vs = time_words s} (plan s.plan l.plan) (
     digits s.sobt (omega (arith, l.sobt)) & digits s.mttt (omega (arith, l.kept.mttt_in_range))
     & digits s.exit (omega (arith, l.exit)) & digits s.exot (omega (arith, l.kept.exot_in_range))
     & digits s.stand (omega (arith, l.stand)) & none
     )
-command (commands.Flight (Report r)) plain l =
+command (Report r) plain l =
     fixed (codes "report") refl & digits r.flight l.flight & milestone r.milestone
     & digits r.time (omega (arith, l.time)) & plan_of r.plan l.plan
-command (commands.Flight (Deice d)) plain l =
+command (Deice d) plain l =
     fixed (codes "deice") refl & digits d.flight l.1 & deicing d.which
     & digits d.time (omega (arith, l.2)) & none
 command (commands.Load l) plain is = absurd (cc)
@@ -193,7 +193,7 @@ command commands.Alerts plain is = fixed (codes "alerts") refl & none
 
 few_words : (c : Command) → is_load c ≡ false → length (command_words c) ≤ 11
 few_words (commands.Load l) plain = absurd (cc)
-few_words (commands.Flight (Report r)) plain = omega (arith, few_of_plan r.plan)
+few_words (Report r) plain = omega (arith, few_of_plan r.plan)
 few_words _ plain = leb-true _ 11 refl
 
 pub plain_within : (c : Command) → is_load c ≡ false → IsCommandLine c

@@ -15,7 +15,7 @@ use Rattle.acdm_step.specs.declared.command.TheConstants.{MINUTES_OF_DAY}
 use Rattle.acdm_step.specs.declared.command.FlightPlan.{FlightPlan}
 use Rattle.acdm_step.specs.declared.command.Command.{Command}
 use Rattle.acdm_step.specs.declared.command.Command.TheVariants as commands
-use Rattle.acdm_step.specs.declared.command.FlightCommand.TheVariants.{Schedule, Report, Deice}
+use Rattle.acdm_step.specs.declared.command.Command.TheVariants.{Schedule, Report, Deice}
 use Rattle.acdm_step.specs.declared.command.Deice.{Deice as DeiceLine}
 use Rattle.acdm_step.specs.Commands.{is_load}
 use Rattle.acdm_journal.specs.declared.stated.Stated.{Stated}
@@ -102,7 +102,7 @@ pub record ReadsAsked (ws : Words) (a : StatedCommand) (left : Words) : Type 0 w
   pub is : IsAsked a
 
 schedule_at-is : (s : ScheduleFacts) → IsScheduleLine s
-    → asked_at (schedule_words s) ≡ Some (Plain (commands.Flight (Schedule s)), [])
+    → asked_at (schedule_words s) ≡ Some (Plain (Schedule s), [])
 unfolding asked_at command_named schedule_at
 schedule_at-is s is =
     let k = is.kept in
@@ -145,7 +145,7 @@ schedule_at-back ws a left h =
     let i = number_at-back 0 255 mttt.0.1 _ _ (omega arith) exit.1 in
     let o = number_at-back 0 MINUTES_OF_DAY exit.0.1 _ _ (omega arith) exot.1 in
     let n = number_at-back 0 65535 exot.0.1 _ _ (omega arith) stand.1 in
-    given (ReadsAsked (codes "schedule" ∷ ws)) (Plain (commands.Flight (Schedule (record {
+    given (ReadsAsked (codes "schedule" ∷ ws)) (Plain (Schedule (record {
       flight = flight.0.0;
       plan = plan.0.0;
       sobt = sobt.0.0;
@@ -153,7 +153,7 @@ schedule_at-back ws a left h =
       exit = exit.0.0;
       exot = exot.0.0;
       stand = stand.0.0;
-    })))) a stand.0.1 left stand.2 (record {
+    }))) a stand.0.1 left stand.2 (record {
       words = linked (codes "schedule") (decimal flight.0.0) (decimal sobt.0.0) (decimal mttt.0.0)
           (decimal exit.0.0) (decimal exot.0.0) (decimal stand.0.0) ws (plan_words plan.0.0) flight.0.1
           plan.0.1 sobt.0.1 mttt.0.1 exit.0.1 exot.0.1 stand.0.1 f.word p.words s.word t.word i.word
@@ -189,7 +189,7 @@ least_back _ zero h = absurd (omega arith)
 least_back _ (suc n) h = grind (arith, nat_tests)
 
 report_at-is : (r : ReportFacts) → IsReportLine r
-    → asked_at (report_words r) ≡ Some (Plain (commands.Flight (Report r)), [])
+    → asked_at (report_words r) ≡ Some (Plain (Report r), [])
 unfolding asked_at command_named report_at
 report_at-is r is =
     let k = is.kept in
@@ -230,7 +230,7 @@ report_at-back ws a left h =
     })
 
 deice_at-is : (d : DeiceLine) → (1 ≤ d.flight) × IsWord d.flight × (d.time < 2 ^ 32)
-    → asked_at (deice_words d) ≡ Some (Plain (commands.Flight (Deice d)), [])
+    → asked_at (deice_words d) ≡ Some (Plain (Deice d), [])
 unfolding asked_at command_named deice_at
 deice_at-is d is =
     bind_is _ _ _ (number_at-is 1 most_word d.flight _ is.0 (omega (arith, is.1)) is.1)
@@ -307,9 +307,9 @@ show_at-back ws a left h =
 
 pub asked_at-is : (a : StatedCommand) → IsAsked a → asked_at (asked_words a) ≡ Some (a, [])
 unfolding asked_at command_named unload_at show_at
-asked_at-is (Plain (commands.Flight (Schedule s))) is = schedule_at-is s is.1
-asked_at-is (Plain (commands.Flight (Report r))) is = report_at-is r is.1
-asked_at-is (Plain (commands.Flight (Deice d))) is = deice_at-is d is.1
+asked_at-is (Plain (Schedule s)) is = schedule_at-is s is.1
+asked_at-is (Plain (Report r)) is = report_at-is r is.1
+asked_at-is (Plain (Deice d)) is = deice_at-is d is.1
 asked_at-is (Plain (commands.Load l)) is = absurd (cc is.0)
 asked_at-is (Plain (commands.Unload u)) is =
     bind_is _ _ _ (milestone_at-is u.milestone _) ∙ bind_is _ _ _ (kind_at-is u.kind [])

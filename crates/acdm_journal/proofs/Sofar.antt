@@ -25,8 +25,8 @@ use Rattle.acdm_journal.specs.Audit.{States, StatesNext, Continues, Breaks}
 use Rattle.acdm_journal.specs.Whole.{AreReadable, BreaksNext, at_line, at_end}
 use Rattle.acdm_journal.specs.Whole.{FirstFault, FoundFaulty, FoundUnended}
 use Rattle.acdm_journal.specs.Whole.{GaveLegal, GaveFaulty, GaveUnended, Audits, JudgesEntry}
-use Rattle.acdm_journal.specs.declared.auditing.JournalFault.{JournalFault}
-use Rattle.acdm_journal.specs.declared.auditing.JournalFault.TheVariants as faults
+use Rattle.acdm_journal.specs.declared.auditing.Fault.{Fault}
+use Rattle.acdm_journal.specs.declared.auditing.Fault.TheVariants as faults
 use Rattle.acdm_journal.specs.declared.reading.TheConstants.{LONGEST_ENTRY}
 use Rattle.acdm_journal.specs.declared.auditing.TheConstants.{MOST_KEPT}
 
@@ -243,7 +243,7 @@ module _ {R : Type 0} (sigs : List (ℕ × Promise)) (r0 r1 r2 : SourceView R)
         )
 
     -- the line is not taken
-    pub faulty : (after : Board) (e : JournalFault) (line : List ℕ)
+    pub faulty : (after : Board) (e : Fault) (line : List ℕ)
         → TakesLine MOST_KEPT r1 r2 l1 l2 → ReadsSoon MOST_KEPT r1 r2 l1 → r2.faults ≡ r0.faults
         → line ≡ l2.line → JudgesEntry {T = Unit {0}} sigs so_far.front entry line after (Err e)
         → Audits sigs r0 r2 (Err e)

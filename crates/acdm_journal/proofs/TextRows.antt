@@ -19,7 +19,7 @@ use Rattle.acdm_slots.specs.declared.kind.Kind.TheVariants.{Alert}
 use Rattle.acdm_step.specs.declared.command.FlightPlan.{FlightPlan}
 use Rattle.acdm_step.specs.declared.command.Command.{Command}
 use Rattle.acdm_step.specs.declared.command.Command.TheVariants as commands
-use Rattle.acdm_step.specs.declared.command.FlightCommand.TheVariants.{Schedule, Report, Deice}
+use Rattle.acdm_step.specs.declared.command.Command.TheVariants.{Schedule, Report, Deice}
 use Rattle.acdm_step.specs.declared.entry.Verdict.{Verdict}
 use Rattle.acdm_step.specs.declared.entry.Verdict.TheVariants.{Accepted, Refused}
 use Rattle.acdm_step.specs.declared.entry.Entry.{Entry}
@@ -54,7 +54,7 @@ entry n session role moment c v answers =
 
 scheduled : Entry
 scheduled = entry 0 1 AirportOperator 29000580
-    (commands.Flight (Schedule record {
+    (Schedule record {
       flight = 7;
       plan = the_plan;
       sobt = 29000760;
@@ -62,25 +62,25 @@ scheduled = entry 0 1 AirportOperator 29000580
       exit = 5;
       exot = 10;
       stand = 12;
-    })) Accepted []
+    }) Accepted []
 
 activated : Entry
 activated = entry 1 2 NetworkManager 29000580
-    (commands.Flight (Report record {
+    (Report record {
       flight = 7;
       milestone = FlightPlanActivated;
       time = 29000760;
       plan = Some the_plan;
-    })) Accepted []
+    }) Accepted []
 
 refused : Entry
 refused = entry 2 3 AirTrafficControl 29000580
-    (commands.Flight (Report record {
+    (Report record {
       flight = 7;
       milestone = TsatIssue;
       time = 29000760;
       plan = None;
-    })) (Refused NotSet) []
+    }) (Refused NotSet) []
 
 -- three entries, the last of them refused
 three_entries : history_text (refused ∷ activated ∷ scheduled ∷ [])
@@ -92,12 +92,12 @@ three_entries = refl
 
 -- a report whose programs used one answer
 with_an_answer : entry_text (entry 3 5 GroundHandler 29000580
-    (commands.Flight (Report record {
+    (Report record {
       flight = 7;
       milestone = TobtUpdate;
       time = 29000760;
       plan = None;
-    })) Accepted (10 ∷ []))
+    }) Accepted (10 ∷ []))
     ≡ codes "3 5 29000580 GH 0 1 10 report 7 9 29000760\n"
 unfolding entry digits
 with_an_answer = refl
@@ -123,7 +123,7 @@ questions : entry_text (entry 18446744073709551615 64 AirportOperator 4294967295
     Accepted []) ++ entry_text (entry 10 1 AirportOperator 1 commands.Tick Accepted [])
     ++ entry_text (entry 9 1 AirportOperator 1 (commands.Show 18446744073709551615) Accepted [])
     ++ entry_text (entry 8 1 GroundHandler 1
-    (commands.Flight (Report record { flight = 1; milestone = TobtUpdate; time = 0; plan = None }))
+    (Report record { flight = 1; milestone = TobtUpdate; time = 0; plan = None })
     Accepted [])
     ≡ codes "18446744073709551615 64 4294967295 APT 0 0 alerts\n10 1 1 APT 0 0 tick\n9 1 1 APT 0 0 show 18446744073709551615\n8 1 1 GH 0 0 report 1 9 0\n"
 unfolding entry digits
@@ -140,12 +140,12 @@ answered_line : stated_of (codes "3 5 29000580 GH 0 1 10 report 7 9 29000760")
       outcome = 0;
       answers = 10 ∷ [];
       asked = Plain
-          (commands.Flight (Report record {
+          (Report record {
             flight = 7;
             milestone = TobtUpdate;
             time = 29000760;
             plan = None;
-          }));
+          });
     }
 unfolding stated_of stated_at asked_at answers_at command_named schedule_at report_at load_at
     unload_at show_at plan_at length_at bytes_at milestone_at kind_at role_at text_at number_at natural_of
@@ -238,11 +238,11 @@ deice_line : stated_of (codes "2 6 29000580 DIC 325 0 deice 7 eczt 29000760")
       role = DeicingCompany;
       outcome = 325;
       answers = [];
-      asked = Plain (commands.Flight (Deice record {
+      asked = Plain (Deice record {
         flight = 7;
         which = EstimatedCommencement;
         time = 29000760;
-      }));
+      });
     }
 unfolding stated_of stated_at asked_at answers_at command_named schedule_at report_at load_at
     deice_at deicing_at unload_at show_at plan_at length_at bytes_at milestone_at kind_at role_at text_at

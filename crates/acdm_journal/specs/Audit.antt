@@ -19,7 +19,7 @@ use Rattle.acdm_step.specs.Commands.{History, is_accepted}
 use Rattle.acdm_step.specs.declared.outcome.Outcome.{Outcome}
 use Rattle.acdm_step.specs.Verdicts.{verdict_of, verdict_in}
 use Rattle.acdm_step.specs.Prepared.{after_change}
-use Rattle.acdm_step.specs.declared.prepare.Prepared.{Prepared}
+use Rattle.acdm_step.specs.declared.prepare.Plan.{Plan}
 use Rattle.acdm_step.specs.History.{Board, IsLegal, replay, after, left_by}
 use Rattle.acdm_journal.specs.declared.stated.Stated.{Stated}
 use Rattle.acdm_journal.specs.declared.stated.StatedCommand.{StatedCommand}
@@ -171,7 +171,7 @@ JudgesCommand sigs J role moment c answers outcome board (Err (Faulty clause)) =
 
 -- what comes of judging the answers and the outcome of a command, and its plan
 abbrev pub PlansCommand : List (ℕ × Promise) → History → Role → ℕ → Command → List ℕ → ℕ → Board
-    → Result Prepared AuditError → Type 0
+    → Result Plan AuditError → Type 0
 PlansCommand sigs J role moment c answers outcome board (Ok p) =
     Enters sigs J role moment c answers outcome (after_change board p.change)
     × (verdict_in p.outcome ≡ verdict_of sigs J role c)

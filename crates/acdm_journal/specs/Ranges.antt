@@ -9,7 +9,7 @@ use Rattle.acdm_step.specs.declared.command.TheConstants.{MINUTES_OF_DAY}
 use Rattle.acdm_step.specs.declared.command.FlightPlan.{FlightPlan}
 use Rattle.acdm_step.specs.declared.command.Command.{Command}
 use Rattle.acdm_step.specs.declared.command.Command.TheVariants as commands
-use Rattle.acdm_step.specs.declared.command.FlightCommand.TheVariants.{Schedule, Report, Deice}
+use Rattle.acdm_step.specs.declared.command.Command.TheVariants.{Schedule, Report, Deice}
 use Rattle.acdm_step.specs.declared.entry.Entry.{Entry}
 use Rattle.acdm_step.specs.Commands.{is_load}
 use Rattle.acdm_step.specs.History.{IsInRange}
@@ -62,9 +62,9 @@ pub record IsReportLine (r : ReportFacts) : Type 0 where
   pub plan : IsPlanOf r.plan
 
 abbrev pub IsCommandLine : Command → Type 0
-IsCommandLine (commands.Flight (Schedule s)) = IsScheduleLine s
-IsCommandLine (commands.Flight (Report r)) = IsReportLine r
-IsCommandLine (commands.Flight (Deice d)) = (1 ≤ d.flight) × IsWord d.flight × (d.time < 2 ^ 32)
+IsCommandLine (Schedule s) = IsScheduleLine s
+IsCommandLine (Report r) = IsReportLine r
+IsCommandLine (Deice d) = (1 ≤ d.flight) × IsWord d.flight × (d.time < 2 ^ 32)
 IsCommandLine (commands.Show f) = (1 ≤ f) × IsWord f
 IsCommandLine _ = Unit {0}
 

@@ -23,7 +23,7 @@ use Rattle.acdm_slots.specs.declared.kind.Kind as kinds
 use Rattle.acdm_slots.specs.Names.{kind_named}
 use Rattle.acdm_step.specs.declared.command.FlightPlan.{FlightPlan}
 use Rattle.acdm_step.specs.declared.command.Command.TheVariants as commands
-use Rattle.acdm_step.specs.declared.command.FlightCommand.TheVariants.{Schedule, Report, Deice}
+use Rattle.acdm_step.specs.declared.command.Command.TheVariants.{Schedule, Report, Deice}
 use Rattle.acdm_journal.specs.declared.stated.Stated.{Stated}
 use Rattle.acdm_journal.specs.declared.stated.StatedCommand.{StatedCommand}
 use Rattle.acdm_journal.specs.declared.stated.StatedCommand.TheVariants.{Plain, Load}
@@ -180,7 +180,7 @@ schedule_at ws = do
   exot ← number_at 0 MINUTES_OF_DAY exit.1
   stand ← number_at 0 65535 exot.1
   Some (
-    Plain (commands.Flight (Schedule record {
+    Plain (Schedule record {
       flight = flight.0;
       plan = plan.0;
       sobt = sobt.0;
@@ -188,7 +188,7 @@ schedule_at ws = do
       exit = exit.0;
       exot = exot.0;
       stand = stand.0;
-    })),
+    }),
     stand.1,
   )
 
@@ -199,12 +199,12 @@ report_at ws = do
   time ← number_at (least_time milestone.0) most_minute milestone.1
   plan ← plan_for milestone.0 time.1
   Some (
-    Plain (commands.Flight (Report record {
+    Plain (Report record {
       flight = flight.0;
       milestone = milestone.0;
       time = time.0;
       plan = plan.0;
-    })),
+    }),
     plan.1,
   )
 
@@ -214,11 +214,11 @@ deice_at ws = do
   which ← deicing_at flight.1
   time ← number_at 0 most_minute which.1
   Some (
-    Plain (commands.Flight (Deice record {
+    Plain (Deice record {
       flight = flight.0;
       which = which.0;
       time = time.0;
-    })),
+    }),
     time.1,
   )
 

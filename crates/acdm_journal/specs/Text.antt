@@ -18,8 +18,7 @@ use Rattle.acdm_step.specs.declared.command.FlightPlan.{FlightPlan}
 use Rattle.acdm_step.specs.declared.command.Command.{Command}
 use Rattle.acdm_step.specs.declared.command.Command.TheVariants as commands
 use Rattle.acdm_step.specs.declared.command.Deice.{Deice}
-use Rattle.acdm_step.specs.declared.command.FlightCommand.TheVariants.{Schedule, Report}
-use Rattle.acdm_step.specs.declared.command.FlightCommand.TheVariants as commands_of_flight
+use Rattle.acdm_step.specs.declared.command.Command.TheVariants.{Schedule, Report}
 use Rattle.acdm_step.specs.declared.entry.Verdict.{Verdict}
 use Rattle.acdm_step.specs.declared.entry.Verdict.TheVariants.{Accepted, Refused}
 use Rattle.acdm_step.specs.declared.entry.Entry.{Entry}
@@ -74,9 +73,9 @@ abbrev pub deice_words : Deice → List (List ℕ)
 deice_words d = codes "deice" ∷ decimal d.flight ∷ deicing_name d.which ∷ decimal d.time ∷ []
 
 abbrev pub command_words : Command → List (List ℕ)
-command_words (commands.Flight (Schedule s)) = schedule_words s
-command_words (commands.Flight (Report r)) = report_words r
-command_words (commands.Flight (commands_of_flight.Deice d)) = deice_words d
+command_words (Schedule s) = schedule_words s
+command_words (Report r) = report_words r
+command_words (commands.Deice d) = deice_words d
 command_words (commands.Load l) =
     load_words l.milestone l.kind (encoding l.program.ops) l.program.record_length
 command_words (commands.Unload u) =

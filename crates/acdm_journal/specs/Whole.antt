@@ -14,8 +14,8 @@ use Rattle.acdm_step.specs.Commands.{History}
 use Rattle.acdm_step.specs.History.{Board, IsLegal}
 use Rattle.acdm_journal.specs.declared.judge.Clause.{Clause}
 use Rattle.acdm_journal.specs.declared.judge.Clause.TheVariants as clauses
-use Rattle.acdm_journal.specs.declared.auditing.JournalFault.{JournalFault}
-use Rattle.acdm_journal.specs.declared.auditing.JournalFault.TheVariants as faults
+use Rattle.acdm_journal.specs.declared.auditing.Fault.{Fault}
+use Rattle.acdm_journal.specs.declared.auditing.Fault.TheVariants as faults
 use Rattle.acdm_journal.specs.Text.{line_of, stated_in, asked_in, history_text}
 use Rattle.acdm_journal.specs.Ranges.{IsStated, FitsTypes}
 use Rattle.acdm_journal.specs.Audit.{IsCommandOf, Breaks, Continues}
@@ -109,7 +109,7 @@ FoundUnended sigs log log_after faults later_faults =
 
 -- what comes of an audit of what a reader gives
 abbrev pub Audits : {R : Type 0} → List (ℕ × Promise) → SourceView R → SourceView R
-    → Result ℕ JournalFault → Type 0
+    → Result ℕ Fault → Type 0
 Audits sigs old new (Ok n) =
     GaveLegal sigs old.log new.log new.ended n × (new.faults ≡ old.faults)
 Audits sigs old new (Err (faults.Faulty entry clause)) =
@@ -137,7 +137,7 @@ pub record GaveOf (bytes log log_after : List ℕ) (ended : Bool) : Type 0 where
 
 -- what comes of looking for the next line
 abbrev pub TakesNext : {R : Type 0} → SourceView R → SourceView R → Lines MOST_KEPT
-    → Lines MOST_KEPT → Result Bool JournalFault → Type 0
+    → Lines MOST_KEPT → Result Bool Fault → Type 0
 TakesNext old new before after (Ok true) = TakesLine MOST_KEPT old new before after
 TakesNext old new before after (Ok false) = TakesNone MOST_KEPT old new before after
 TakesNext old new before after (Err e) =
@@ -145,7 +145,7 @@ TakesNext old new before after (Err e) =
 
 -- what comes of judging the line of an entry after a legal history, and the board then
 abbrev pub JudgesEntry : {T : Type 0} → List (ℕ × Promise) → History → ℕ → List ℕ → Board
-    → Result T JournalFault → Type 0
+    → Result T Fault → Type 0
 JudgesEntry sigs J entry line board (Ok x) = Continues sigs J line board
 JudgesEntry sigs J entry line board (Err (faults.Faulty number clause)) =
     (number ≡ entry) × Breaks sigs J line clause

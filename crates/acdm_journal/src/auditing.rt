@@ -13,27 +13,28 @@ use acdm_step::Core;
 use bpf_helpers::Sigs;
 use std::alloc::Global;
 use std::io::Read;
+use thiserror::Error;
 
 /// How many bytes are kept of a line: one more than the longest line has, so that a longer one is
 /// told by what is kept of it.
 pub const MOST_KEPT: usize = LONGEST_ENTRY + 1;
 
 /// Why a journal was not found to be legal.
-#[derive(Clone, Copy, Debug, PartialEq, Eq)]
-pub enum JournalFault {
+#[derive(Clone, Copy, Debug, PartialEq, Eq, Error)]
+pub enum Fault {
     /// The first faulty entry, from 0, and the first clause that it breaks.
+    #[error("entry {entry}: {clause}")]
     Faulty { entry: u64, clause: Clause },
     /// The reader failed, or gave 2^40 reads and no end.
+    #[error("the reader failed")]
     Read,
     /// There was no memory.
+    #[error("no memory")]
     Memory,
 }
 
 // Takes the next line, and says whether a line feed ended it.
-fn next_line<R: Read>(
-    lines: &mut Lines<MOST_KEPT>,
-    reader: &mut Source<R>,
-) -> Result<bool, JournalFault>
+fn next_line<R: Read>(lines: &mut Lines<MOST_KEPT>, reader: &mut Source<R>) -> Result<bool, Fault>
     ensures takes { TakesNext reader.old reader.new lines.old lines.new result }
     ensures progress { result ≡ Ok true →
         weight lines.new.reads_left lines.new.window
@@ -42,7 +43,7 @@ fn next_line<R: Read>(
 {
     match lines.next_within(reader) {
         Ok(is_line) => Ok(is_line),
-        Err(_) => Err(JournalFault::Read),
+        Err(_) => Err(Fault::Read),
     }
 }
 
@@ -53,7 +54,7 @@ fn judge_entry(
     sigs: &Sigs,
     entry: u64,
     line: &[u8],
-) -> Result<(), JournalFault>
+) -> Result<(), Fault>
     requires { core.old.slots.sigs ≡ sigs.now }
     ensures judges { (J : History) → IsLegal sigs.now J → length J ≡ entry →
         core.old ≡ replay sigs.now J → JudgesEntry sigs.now J entry line.now core.new result }
@@ -61,8 +62,8 @@ fn judge_entry(
 {
     match judge_line(alloc, core, sigs, entry, line) {
         Ok(()) => Ok(()),
-        Err(AuditError::Memory) => Err(JournalFault::Memory),
-        Err(AuditError::Faulty(clause)) => Err(JournalFault::Faulty { entry, clause }),
+        Err(AuditError::Memory) => Err(Fault::Memory),
+        Err(AuditError::Faulty(clause)) => Err(Fault::Faulty { entry, clause }),
     }
 }
 
@@ -74,7 +75,7 @@ fn audit_lines<R: Read>(
     sigs: &Sigs,
     core: &mut Core,
     lines: &mut Lines<MOST_KEPT>,
-) -> Result<u64, JournalFault>
+) -> Result<u64, Fault>
     requires reads { reader.old.faults < 2 ^ 64 - 1 }
     requires board { core.old ≡ replay sigs.now [] }
     requires window { lines.old.window ≡ [] }
@@ -90,7 +91,7 @@ fn audit_lines<R: Read>(
     if lines.line.as_slice().is_empty() {
         return Ok(entry);
     }
-    Err(JournalFault::Faulty {
+    Err(Fault::Faulty {
         entry,
         clause: Clause::Unreadable,
     })
@@ -106,23 +107,19 @@ fn audit_lines<R: Read>(
 /// did not reach its end; `Memory` where there was no room for the board, for a line, or for what
 /// an entry asks for. At no time is more kept than 65,536 bytes that were read, 200,001 of a line,
 /// what it states, and the board after the entries before it.
-pub fn audit<R: Read>(
-    alloc: Global,
-    reader: &mut Source<R>,
-    sigs: &Sigs,
-) -> Result<u64, JournalFault>
+pub fn audit<R: Read>(alloc: Global, reader: &mut Source<R>, sigs: &Sigs) -> Result<u64, Fault>
     requires reads { reader.old.faults < 2 ^ 64 - 1 }
     ensures audits { Audits sigs.now reader.old reader.new result }
     ensures first { reader.new.first ≡ reader.old.first }
 {
     let Ok(same) = sigs.copy() else {
-        return Err(JournalFault::Memory);
+        return Err(Fault::Memory);
     };
     let Ok(mut core) = Core::new(alloc, same) else {
-        return Err(JournalFault::Memory);
+        return Err(Fault::Memory);
     };
     let Ok(mut lines) = Lines::new(alloc) else {
-        return Err(JournalFault::Memory);
+        return Err(Fault::Memory);
     };
     audit_lines(alloc, reader, sigs, &mut core, &mut lines)
 }

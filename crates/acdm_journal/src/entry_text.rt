@@ -19,22 +19,23 @@ use crate::appended::Appended;
 use crate::writing::write_whole;
 use acdm_lines::Sink;
 use acdm_milestones::Milestone;
-use acdm_step::{
-    Command, Deice, Entry, FlightCommand, FlightPlan, Load, Report, Schedule, Verdict,
-};
+use acdm_step::{Command, Deice, Entry, FlightPlan, Load, Report, Schedule, Verdict};
 use bpf_decode::{Op, Program, encode_op};
 use bpf_regstate::Length;
 use itoa::Buffer;
 use std::alloc::{AllocError, Global};
 use std::io::Write;
 use std::mem;
+use thiserror::Error;
 
 /// Why an entry was not written.
-#[derive(Clone, Copy, Debug, PartialEq, Eq)]
+#[derive(Clone, Copy, Debug, PartialEq, Eq, Error)]
 pub enum WriteError {
     /// There was no memory for its text.
+    #[error("no memory")]
     Memory,
     /// The writer failed.
+    #[error("the writer failed")]
     Write,
 }
 
@@ -226,9 +227,9 @@ fn push_command(text: &mut Appended, command: &Command) -> Result<(), AllocError
     ensures program { OnOk result (LoadsProgram command.now) }
 {
     match command {
-        Command::Flight(FlightCommand::Schedule(schedule)) => push_schedule(text, schedule),
-        Command::Flight(FlightCommand::Report(report)) => push_report(text, report),
-        Command::Flight(FlightCommand::Deice(deice)) => push_deice(text, deice),
+        Command::Schedule(schedule) => push_schedule(text, schedule),
+        Command::Report(report) => push_report(text, report),
+        Command::Deice(deice) => push_deice(text, deice),
         Command::Load(load) => push_load(text, load),
         Command::Unload(unload) => {
             push_word(text, b"unload")?;

@@ -13,24 +13,30 @@ use crate::entry_text::code_of;
 use crate::reading::read_line;
 use crate::stated::{LoadLine, ReadError, StatedCommand};
 use acdm_milestones::{Refusal, Role};
-use acdm_step::{Command, Core, Entry, Load, Prepared, Verdict};
+use acdm_step::{Command, Core, Entry, Load, Plan, Verdict};
 use bpf_helpers::{Logged, Sigs};
 use bpf_verifier::{Checked, ProgramError, read_program};
 use std::alloc::{AllocError, Global};
+use thiserror::Error;
 
 /// What an entry of a journal must fulfil, in the order of the tests (this project's profile).
-#[derive(Clone, Copy, Debug, PartialEq, Eq)]
+#[derive(Clone, Copy, Debug, PartialEq, Eq, Error)]
 pub enum Clause {
     /// 401: its line is that of an entry, and has at most 200,000 bytes.
+    #[error("a line of no entry")]
     Unreadable,
     /// 402: its number is its place, from 0.
+    #[error("another number")]
     Number,
     /// 403: the bytes of a program that it loads encode one that is accepted.
+    #[error("a program that is not accepted")]
     Program,
     /// 404: the answers of helpers are those that its programs use, each promised, and none where
     /// it is refused.
+    #[error("other answers of helpers")]
     Answers,
     /// 405: its outcome is that of the entries before it.
+    #[error("another outcome")]
     Outcome,
 }
 
@@ -50,11 +56,13 @@ impl Clause {
 }
 
 /// Why a line was not taken.
-#[derive(Clone, Copy, Debug, PartialEq, Eq)]
+#[derive(Clone, Copy, Debug, PartialEq, Eq, Error)]
 pub enum AuditError {
     /// There was no memory to judge it.
+    #[error("no memory")]
     Memory,
     /// The first clause that its entry breaks.
+    #[error("{0}")]
     Faulty(Clause),
 }
 
@@ -107,7 +115,7 @@ pub fn plan_with(
     moment: u32,
     command: &Command,
     answers: &[u64],
-) -> Result<Option<Prepared>, AllocError>
+) -> Result<Option<Plan>, AllocError>
     ensures plans { IfOk result (λ o. IfSome o (λ p. (sigs : List (ℕ × Promise)) (J : History) →
         IsLegal sigs J → core.now ≡ replay sigs J →
         PlansWith sigs J role moment command.now answers.now p.outcome
@@ -141,7 +149,7 @@ fn judge_command(
     command: &Command,
     answers: &[u64],
     outcome: u64,
-) -> Result<Prepared, AuditError>
+) -> Result<Plan, AuditError>
     ensures judges { (sigs : List (ℕ × Promise)) (J : History) → IsLegal sigs J →
         core.now ≡ replay sigs J →
         PlansCommand sigs J role moment command.now answers.now outcome core.now result }
@@ -169,7 +177,7 @@ fn judge_command(
 #[derive(Drop)]
 pub struct PlannedEntry {
     pub entry: Entry,
-    pub plan: Prepared,
+    pub plan: Plan,
 }
 
 /// Judges the next line of a journal, by the board of the entries before it, which stays as it is:

@@ -12,7 +12,7 @@ mod stated;
 mod words;
 mod writing;
 
-pub use auditing::{JournalFault, MOST_KEPT, audit};
+pub use auditing::{Fault, MOST_KEPT, audit};
 pub use entry_text::{WriteError, push_entry, write_entry, write_entry_by};
 pub use judge::{AuditError, Clause, PlannedEntry, judge_line, plan_line, plan_with};
 pub use reading::read_line;

@@ -23,8 +23,7 @@ use acdm_milestones::{DeicingTime, Milestone, Role};
 use acdm_record::Text;
 use acdm_slots::Kind;
 use acdm_step::{
-    Answers, Command, Deice, FlightCommand, FlightNumber, FlightPlan, MINUTES_OF_DAY, Report,
-    Schedule, Unload,
+    Answers, Command, Deice, FlightNumber, FlightPlan, MINUTES_OF_DAY, Report, Schedule, Unload,
 };
 use bpf_regstate::Length;
 use hex::FromHexError;
@@ -185,7 +184,7 @@ fn schedule_in(words: &mut Words<'_>) -> Result<StatedCommand, ReadError>
     let exit = number_in(words, 0, 255)?;
     let exot = number_in(words, 0, MINUTES_OF_DAY)?;
     let stand = number_in(words, 0, 65_535)?;
-    Ok(StatedCommand::Plain(Command::Flight(FlightCommand::Schedule(Schedule::new(
+    Ok(StatedCommand::Plain(Command::Schedule(Schedule::new(
         flight,
         plan,
         sobt as u32,
@@ -193,7 +192,7 @@ fn schedule_in(words: &mut Words<'_>) -> Result<StatedCommand, ReadError>
         exit as u8,
         exot as u16,
         stand as u16,
-    )))))
+    ))))
 }
 
 // The time of a report.
@@ -213,9 +212,7 @@ fn report_in(words: &mut Words<'_>) -> Result<StatedCommand, ReadError>
     let milestone = milestone_in(words)?;
     let time = time_in(words, milestone)?;
     let plan = plan_of(words, milestone)?;
-    Ok(StatedCommand::Plain(Command::Flight(FlightCommand::Report(Report::new(
-        flight, milestone, time, plan,
-    )))))
+    Ok(StatedCommand::Plain(Command::Report(Report::new(flight, milestone, time, plan))))
 }
 
 #[tactic(auto, unfolding(crate::specs::Reading::deicing_at))]
@@ -236,11 +233,11 @@ fn deice_in(words: &mut Words<'_>) -> Result<StatedCommand, ReadError>
     let flight = number_in(words, 1, u64::MAX)?;
     let which = deicing_in(words)?;
     let time = number_in(words, 0, 4_294_967_295)?;
-    Ok(StatedCommand::Plain(Command::Flight(FlightCommand::Deice(Deice {
+    Ok(StatedCommand::Plain(Command::Deice(Deice {
         flight: FlightNumber::new(flight),
         which,
         time: time as u32,
-    }))))
+    })))
 }
 
 // The length of records beside which a program was checked, 128 bytes where nothing is told.

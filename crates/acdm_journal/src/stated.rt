@@ -6,6 +6,7 @@ use acdm_slots::Kind;
 use acdm_step::{Answers, Command};
 use bpf_regstate::Length;
 use std::marker::Model;
+use thiserror::Error;
 
 /// The bytes of a program that is loaded, whether they encode one or not.
 #[derive(Drop)]
@@ -77,10 +78,12 @@ pub struct Stated {
 }
 
 /// Why a line states nothing.
-#[derive(Clone, Copy, Debug, PartialEq, Eq)]
+#[derive(Clone, Copy, Debug, PartialEq, Eq, Error)]
 pub enum ReadError {
     /// There was no memory to read it.
+    #[error("no memory")]
     Memory,
     /// It is the line of no entry.
+    #[error("the line of no entry")]
     Unreadable,
 }

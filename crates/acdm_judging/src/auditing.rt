@@ -5,7 +5,7 @@ ghost use Rattle.acdm_judging.specs.Findings.{Audited, Finds, Tells, finding_tex
 ghost use Rattle.acdm_tables.specs.Helpers.{helpers_by};
 
 use crate::failure::{Failure, ended};
-use acdm_journal::{Clause, JournalFault, audit};
+use acdm_journal::{Clause, Fault, audit};
 use acdm_lines::{Sink, Source};
 use acdm_tables::{Tables, known_sigs};
 use acdm_wire::{Text, write_out};
@@ -109,9 +109,9 @@ fn finding_in<R: Read>(
     let sigs = known_sigs(alloc, tables)?;
     match audit(alloc, reader, &sigs) {
         Ok(entries) => Ok(Finding::Legal(entries)),
-        Err(JournalFault::Faulty { entry, clause }) => Ok(Finding::Faulty { entry, clause }),
-        Err(JournalFault::Read) => Err(Failure::Read),
-        Err(JournalFault::Memory) => Err(Failure::Memory),
+        Err(Fault::Faulty { entry, clause }) => Ok(Finding::Faulty { entry, clause }),
+        Err(Fault::Read) => Err(Failure::Read),
+        Err(Fault::Memory) => Err(Failure::Memory),
     }
 }
 

@@ -8,50 +8,69 @@ use acdm_lines::{RunError, Sink};
 use acdm_wire::{Text, write_out};
 use std::alloc::{AllocError, AllocFailed};
 use std::io::Write;
+use thiserror::Error;
 
 /// Why a command could not do its work.
-#[derive(Clone, Copy, Debug, PartialEq, Eq)]
+#[derive(Clone, Copy, Debug, PartialEq, Eq, Error)]
 pub enum Failure {
     /// Its input can't be read.
+    #[error("read failed")]
     Read,
     /// Its output can't be written.
+    #[error("write failed")]
     Write,
     /// All was done, and how it ended can't be written.
+    #[error("write failed at the end")]
     Untold,
     /// The journal can't be saved.
+    #[error("save failed")]
     Save,
     /// Memory was refused.
+    #[error("no memory")]
     Memory,
     /// The role of the partner of this number, from 1, is none.
+    #[error("role {0}")]
     Role(usize),
     /// The address of the partner of this number is none, or can't be listened at.
+    #[error("address {0}")]
     Address(usize),
     /// The partner of this number can't be accepted.
+    #[error("accept {0}")]
     Accept(usize),
     /// The address for displays is none, or can't be listened at.
+    #[error("watch address")]
     Watch,
     /// The control address is none, or can't be listened at.
+    #[error("control address")]
     Control,
     /// A word of the command line is no text.
+    #[error("a word is not UTF-8")]
     Word,
     /// A standard stream may be closed, and nothing could be put in its place.
+    #[error("no null device")]
     Stream,
     /// The journal can't be kept in its file.
+    #[error("keep failed")]
     Keep,
     /// Somebody else keeps a journal in the file.
+    #[error("the kept journal is in use")]
     InUse,
     /// There is no room for the entries of the kept journal.
+    #[error("the kept journal needs a larger --journal")]
     Room,
 }
 
 /// Why `serve` did not end as it should.
-#[derive(Clone, Copy, Debug, PartialEq, Eq)]
+#[derive(Clone, Copy, Debug, PartialEq, Eq, Error)]
 pub enum ServeError {
     /// The partner of this number, from 1, could not be accepted.
+    #[error("accept {0}")]
     Accept(usize),
     /// A line could not be written.
+    #[error("write failed")]
     Write,
     /// Memory was refused.
+    #[error("no memory")]
     Memory,
 }
 

@@ -2,7 +2,7 @@
 #![tactic(auto)]
 
 mod faults;
-mod line;
+mod kept_line;
 mod lines;
 mod log;
 mod run_error;
@@ -10,7 +10,7 @@ mod sink;
 mod source;
 mod window;
 
-pub use line::Line;
+pub use kept_line::KeptLine;
 pub use lines::{Ending, Lines};
 pub use run_error::RunError;
 pub use sink::Sink;

@@ -3,7 +3,7 @@ ghost use Rattle.std.specs.Prelude.{◌≡◌, ℕ, ◌<◌, ◌≤◌, true, fa
 ghost use Rattle.acdm_lines.specs.Lines.{IsLine, kept, most_held, weight};
 ghost use Rattle.acdm_lines.specs.NextLine.{Advances, ReadsSoon, Takes, TakesWithin};
 
-use crate::line::Line;
+use crate::kept_line::KeptLine;
 use crate::run_error::RunError;
 use crate::source::Source;
 use crate::window::Window;
@@ -24,7 +24,7 @@ pub enum Ending {
 #[derive(Drop)]
 pub struct Lines<const MOST: usize> {
     pub window: Window,
-    pub line: Line<MOST>,
+    pub line: KeptLine<MOST>,
     pub reads_left: u64,
 }
 
@@ -35,7 +35,7 @@ impl<const MOST: usize> Lines<MOST> {
         ensures reads { IfOk result (λ l. l.reads_left ≡ 1099511627776) }
     {
         let window = Window::new(alloc)?;
-        let line = Line::new(alloc)?;
+        let line = KeptLine::new(alloc)?;
         Ok(Lines {
             window,
             line,

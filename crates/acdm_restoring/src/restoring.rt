@@ -9,18 +9,23 @@ use acdm_lines::{Ending, Lines, Source};
 use bpf_helpers::Helpers;
 use std::alloc::Global;
 use std::io::Read;
+use thiserror::Error;
 
 /// Why a desk does not go on from a saved journal.
-#[derive(Clone, Copy, Debug, PartialEq, Eq)]
+#[derive(Clone, Copy, Debug, PartialEq, Eq, Error)]
 pub enum RestoreError {
     /// The first faulty entry, from 0, and the first clause that it breaks.
+    #[error("entry {entry}: {clause}")]
     Faulty { entry: u64, clause: Clause },
     /// There are more entries than the desk has room for, or the text of those that it took has
     /// 2^64 bytes or more.
+    #[error("more entries than there is room for")]
     Full,
     /// The reader failed, or gave 2^40 reads and no end.
+    #[error("the reader failed")]
     Read,
     /// There was no memory.
+    #[error("no memory")]
     Memory,
 }
 

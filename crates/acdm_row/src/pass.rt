@@ -46,15 +46,15 @@ impl Model for Pass {
 impl Row {
     /// A pass of a session, from 1 to 64, that has seen nothing. `Err` only where the row can't be
     /// shared once more.
-    pub fn pass(row: &Arc<Row>, session: u8, role: Role) -> Result<Pass, AllocError>
+    pub fn pass(self: &Arc<Row>, session: u8, role: Role) -> Result<Pass, AllocError>
         requires session_given { 1 ≤ session }
         requires few_sessions { session ≤ 64 }
-        ensures row { IfOk result (λ p. p.row ≡ arc_value row.now) }
+        ensures row { IfOk result (λ p. p.row ≡ arc_value self.now) }
         ensures session { IfOk result (λ p. (p.session ≡ session) × (p.role ≡ role)) }
         ensures empty { IfOk result (λ p. (p.seen ≡ []) × (p.numbers ≡ []) × (p.own ≡ [])) }
     {
-        let alloc = row.alloc();
-        let front = Front::new(alloc, Arc::try_clone(row)?);
+        let alloc = self.alloc();
+        let front = Front::new(alloc, Arc::try_clone(self)?);
         Ok(Pass {
             session,
             role,
@@ -103,7 +103,7 @@ impl Pass {
 
     /// The length of the shorter of what two passes of one row have seen, which are the same as far
     /// as that.
-    pub fn meet(&mut self, other: &mut Pass) -> usize
+    pub fn meet_pass(&mut self, other: &mut Pass) -> usize
         requires { other.old.row ≡ self.old.row }
         ensures ours { self.new ≡ self.old }
         ensures theirs { other.new ≡ other.old }

@@ -1,5 +1,9 @@
 //! What stands in a cell.
-use acdm_step::Entry;
+ghost use Rattle.std.specs.Prelude.{◌≡◌, IfOk};
+
+use acdm_milestones::Role;
+use acdm_step::{Answers, Command, Entry, Verdict};
+use std::alloc::{AllocError, Global};
 use std::snapshot::Snapshot;
 
 /// The entries so far, which exist in proofs alone: at run time it is a length.
@@ -11,4 +15,40 @@ pub type Past = Vec<Snapshot<Entry>>;
 pub struct Published {
     pub entry: Entry,
     pub before: Snapshot<Past>,
+}
+
+/// Memory for what is published next, taken before it is known. Until then a tick stands there that
+/// nobody made.
+#[derive(Drop)]
+pub struct Place {
+    value: Box<Published>,
+}
+
+impl Place {
+    /// Memory for one entry. `Err` only where it was refused.
+    pub(crate) fn new(alloc: Global, past: &Past) -> Result<Place, AllocError> {
+        let entry = Entry {
+            number: 0,
+            session: 1,
+            role: Role::AirportOperator,
+            verdict: Verdict::Accepted,
+            moment: 1,
+            command: Command::Tick,
+            answers: Answers::none(),
+        };
+        let before = Snapshot::of(past);
+        let value = Box::new(alloc, Published { entry, before })?;
+        Ok(Place { value })
+    }
+
+    /// An entry, and those before it, in this memory.
+    pub(crate) fn put(self, entry: Entry, before: Snapshot<Past>) -> Box<Published>
+        ensures entry { result.value.entry ≡ entry }
+        ensures before { result.value.before ≡ before }
+    {
+        let Place { value: place } = self;
+        let mut place = place;
+        *place = Published { entry, before };
+        place
+    }
 }

@@ -9,7 +9,7 @@ ghost use Rattle.acdm_row.specs.Views.{IsSameCaller};
 
 use crate::front::Front;
 use crate::pass::Pass;
-use crate::published::{Past, Published};
+use crate::published::{Past, Place};
 use crate::row::Row;
 use acdm_step::Entry;
 use bpf_helpers::Sigs;
@@ -96,9 +96,35 @@ impl Publisher {
         Some(&found.entry)
     }
 
-    /// Publishes the next entry. `Err` where memory was refused, where there is no cell for it, or
-    /// where its cell was set. Nothing has changed then.
-    pub fn publish(&mut self, entry: Entry) -> Result<(), AllocError>
+    /// Takes memory for the next entry, and for what is known of it. `Err` only where memory was
+    /// refused.
+    pub fn place(&mut self) -> Result<Place, AllocError>
+        ensures { self.new ≡ self.old }
+    {
+        self.front.reserve(1)?;
+        self.past.reserve(1)?;
+        Place::new(self.alloc, &self.past)
+    }
+
+    /// Takes all memory that the next entry needs which a call of a pass makes: for the entry, and for
+    /// what journal and pass know then. `Err` where memory was refused, and where the journal is
+    /// shorter than what the pass has seen.
+    pub fn place_for(&mut self, pass: &mut Pass) -> Result<Place, AllocError>
+        requires { pass.old.row ≡ self.old.row }
+        ensures { (self.new ≡ self.old) × (pass.new ≡ pass.old) }
+    {
+        let number = self.front.len();
+        if pass.front.len() > number {
+            return Err(AllocError);
+        }
+        make_room(&mut pass.front, &mut pass.own, number)?;
+        self.place()
+    }
+
+    /// Publishes the next entry, in memory that was taken for it. `Err` where memory was refused which
+    /// `place` did not take, where there is no cell for it, or where its cell was set. Nothing has
+    /// changed then.
+    pub fn publish(&mut self, entry: Entry, place: Place) -> Result<(), AllocError>
         requires legal { IsLegal self.old.row.sigs (reverse (self.old.entries ++ entry ∷ [])) }
         ensures row { self.new.row ≡ self.old.row }
         ensures entry { OnOk result (self.new.entries ≡ self.old.entries ++ entry ∷ []) }
@@ -111,7 +137,7 @@ impl Publisher {
         self.past.reserve(1)?;
         let kept = Snapshot::of(&entry);
         let before = Snapshot::of(&self.past);
-        let value = Box::new(self.alloc, Published { entry, before })?;
+        let value = place.put(entry, before);
         if !self.front.publish(&*self.row, value) {
             return Err(AllocError);
         }
@@ -119,10 +145,10 @@ impl Publisher {
         Ok(())
     }
 
-    /// Publishes the next entry, which a call of a pass made. The pass has then seen the journal up
-    /// to it. `Err` where `publish` answers it, and where the journal is shorter than what the pass
-    /// has seen. Nothing has changed then.
-    pub fn enter(&mut self, pass: &mut Pass, entry: Entry) -> Result<(), AllocError>
+    /// Publishes the next entry, which a call of a pass made, in memory that `place_for` took. The
+    /// pass has then seen the journal up to it. `Err` where `publish` answers it, and where the
+    /// journal is shorter than what the pass has seen. Nothing has changed then.
+    pub fn enter(&mut self, pass: &mut Pass, entry: Entry, place: Place) -> Result<(), AllocError>
         requires same_row { pass.old.row ≡ self.old.row }
         requires session { entry.session ≡ pass.old.session }
         requires role { entry.role ≡ pass.old.role }
@@ -143,7 +169,7 @@ impl Publisher {
             return Err(AllocError);
         }
         make_room(&mut pass.front, &mut pass.own, number)?;
-        self.publish(entry)?;
+        self.publish(entry, place)?;
         pass.front.learn(&mut self.front);
         pass.own.push_reserved(number as u64);
         Ok(())

@@ -39,7 +39,7 @@ impl Row {
     }
 
     /// Where its memory comes from.
-    pub(crate) fn alloc(&self) -> Global {
+    pub fn alloc(&self) -> Global {
         *self.cells.allocator()
     }
 

@@ -97,7 +97,7 @@ served_send R W C L d o n l r w c =
             search (source.the_send, r, sendable) depth 8,
             (
               search (sink.the_send, w, sendable) depth 8,
-              (search sendable depth 8, tt),
+              (search sendable depth 12, tt),
             ),
           ),
         ),

@@ -208,7 +208,7 @@ end_for (Err errors.Memory) = ends.Memory
 -- Lines were answered, from a pass that had seen nothing to the one that the session leaves: all of
 -- the input, or the whole lines before its reader failed or without end, and then no byte of a
 -- reply waits for a flush; or those before its writer failed once more. One that had no memory for its
--- buffers, or was not started, did nothing.
+-- buffers, or was not started, did nothing. None ends as `Torn` by itself.
 abbrev pub ServesAs : RowView → ℕ → SessionStart → SessionLeft → End → Type 0
 ServesAs row number s t ends.End =
     AnswersAll (serving_by (SessionAnswers s.gives row.sigs)) s.read t.read t.ended
@@ -220,6 +220,7 @@ ServesAs row number s t ends.Write =
     AnswersPart (serving_by (SessionAnswers s.gives row.sigs)) s.read t.read
     (new_pass row number s.role) t.pass s.written t.written
     × (t.write_faults ≡ s.write_faults + 1)
+ServesAs row number s t ends.Torn = ⊥
 ServesAs row number s t _ =
     (t.read ≡ s.read) × (t.written ≡ s.written) × (t.pass ≡ new_pass row number s.role)
 

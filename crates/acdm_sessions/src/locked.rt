@@ -81,7 +81,7 @@ impl<H: Helpers + Drop, J: Naming> Locked<H, J> {
     {
         let Locked { desk, book } = self;
         let Order { moment, command } = order;
-        let reply = match desk.call(pass, moment, command) {
+        let reply = match desk.call_lent(pass, moment, command) {
             Ok(reply) => reply,
             Err(error) => {
                 if error == DeskError::Full {

@@ -1,5 +1,5 @@
 //! Sessions: before they begin, and when they have ended.
-ghost use Rattle.std.specs.Prelude.{◌≡◌, ◌<◌, ◌-◌, ◌^◌, true, length};
+ghost use Rattle.std.specs.Prelude.{◌≡◌, ◌<◌, ◌-◌, ◌^◌, true, length, if◌then◌else◌};
 ghost use Rattle.acdm_sessions.specs.Passes.{are_from};
 ghost use Rattle.acdm_sessions.specs.Sessions.{new_pass};
 
@@ -41,6 +41,9 @@ pub enum End {
     Memory,
     /// No thread could be started for it, and nothing was read.
     Start,
+    /// Its pass has seen more than the journal of the desk has, as `EndedSession::end` tells. No
+    /// contract of a cell excludes it, and no test meets it.
+    Torn,
 }
 
 /// A session, once it has ended.
@@ -58,13 +61,21 @@ pub struct EndedSession<R: Read + Drop, W: Write + Drop, C: Drop> {
     pub clock: C,
     /// How many of its calls of the desk made an entry.
     pub calls: u64,
-    /// How it ended.
+    /// How it ended, but for a torn one.
     pub end: End,
     /// What it has seen of the journal, and which entries its calls made.
     pub pass: Pass,
-    /// Whether its pass has seen more than the journal of the desk has. What the pass has seen and
-    /// made is not told of then. No contract of a cell excludes it, and no test meets it.
+    /// Whether it is torn. What the pass has seen and made is not told of then.
     pub torn: bool,
+}
+
+impl<R: Read + Drop, W: Write + Drop, C: Drop> EndedSession<R, W, C> {
+    /// How it ended; of a torn one that alone is told.
+    pub fn end(&self) -> End
+        ensures { result ≡ (if self.now.torn then End.Torn else self.now.end) }
+    {
+        if self.torn { End::Torn } else { self.end }
+    }
 }
 
 /// A desk whose sessions have ended.

@@ -10,5 +10,6 @@ pub mod Kept
 pub mod Numbers
 pub mod Long
 pub mod Planned
+pub mod Told
 pub mod Rows
 mod Refused

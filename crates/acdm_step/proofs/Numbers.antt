@@ -26,8 +26,7 @@ use Rattle.acdm_milestones.specs.declared.refusal.Refusal.TheVariants.{AlreadyPl
 use Rattle.acdm_step.specs.declared.entry.Verdict.{Verdict}
 use Rattle.acdm_step.specs.declared.entry.Verdict.TheVariants.{Accepted, Refused}
 use Rattle.acdm_step.specs.declared.command.Command.{Command}
-use Rattle.acdm_step.specs.declared.command.Command.TheVariants as commands
-use Rattle.acdm_step.specs.declared.command.FlightCommand.TheVariants.{Schedule, Report, Deice}
+use Rattle.acdm_step.specs.declared.command.Command.TheVariants.{Schedule, Report, Deice}
 use Rattle.acdm_step.specs.Commands.{assigned_by, bit_of, is_accepted, changes_flight}
 use Rattle.acdm_step.specs.Verdicts.{verdict_for, unless_refused}
 use Rattle.acdm_step.specs.History.{Board}
@@ -172,10 +171,10 @@ none_deiced true (Some x) = refl
 pub room_left : (c : Command) (count : ℕ) (r : Fields) (against : Option Refusal) (role : Role)
     → changes_flight c ≡ true → is_accepted (verdict_for false count r against role c) ≡ true
     → count < MOST_FLIGHTS
-room_left (commands.Flight (Schedule s)) count r against role k h =
+room_left (Schedule s) count r against role k h =
     below count (room_of_schedule _ _ (nat_lt count MOST_FLIGHTS) h)
-room_left (commands.Flight (Report p)) count r against role k h =
+room_left (Report p) count r against role k h =
     below count (room_of_report _ _ (nat_lt count MOST_FLIGHTS) _ h)
-room_left (commands.Flight (Deice d)) count r against role k h =
+room_left (Deice d) count r against role k h =
     absurd (true_false (sym h ∙ none_deiced (owns role actions.Deice) against))
 room_left _ count r against role k h = absurd (cc)

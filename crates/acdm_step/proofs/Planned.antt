@@ -15,9 +15,7 @@ use Rattle.bpf_verifier.specs.Verdict.{Verified}
 use Rattle.acdm_slots.specs.Loaded.{program_in}
 use Rattle.acdm_step.specs.declared.command.Command.{Command}
 use Rattle.acdm_step.specs.declared.command.Command.TheVariants.{Load, Unload, Tick, Migrate}
-use Rattle.acdm_step.specs.declared.command.Command.TheVariants as commands
-use Rattle.acdm_step.specs.declared.command.FlightCommand.{FlightCommand}
-use Rattle.acdm_step.specs.declared.command.FlightCommand.TheVariants.{Schedule, Report, Deice}
+use Rattle.acdm_step.specs.declared.command.Command.TheVariants.{Schedule, Report, Deice}
 use Rattle.acdm_step.specs.declared.command.Load as command_load
 use Rattle.acdm_step.specs.declared.command.Unload as command_unload
 use Rattle.acdm_step.specs.declared.entry.Verdict.{Verdict}
@@ -26,7 +24,7 @@ use Rattle.acdm_step.specs.declared.outcome.Outcome.{Outcome}
 use Rattle.acdm_step.specs.declared.outcome.Outcome.TheVariants as outcomes
 use Rattle.acdm_step.specs.declared.prepare.Change.{Change}
 use Rattle.acdm_step.specs.declared.prepare.Change.TheVariants as changes
-use Rattle.acdm_step.specs.Commands.{is_accepted}
+use Rattle.acdm_step.specs.Commands.{is_accepted, changes_flight}
 use Rattle.acdm_step.specs.InSlots.{with_slots}
 use Rattle.acdm_step.specs.Verdicts.{load_verdict, unload_verdict, tick_verdict, outcome_with}
 use Rattle.acdm_step.specs.Verdicts.{load_obstacle, unload_obstacle, migrate_verdict}
@@ -46,12 +44,13 @@ refuses : (own : Bool) (rest : Verdict) → own ≡ false
 refuses own rest h = sym (ap (λ t. cond (not t) (Refused NotOwner) rest) h)
 
 -- whoever does not own a command is refused, whatever stands on the board
-pub not_owned : (b : Board) (role : Role) (k : FlightCommand) → owns_change role k ≡ false
-    → Refused NotOwner ≡ board_verdict b role (commands.Flight k)
+pub not_owned : (b : Board) (role : Role) (k : Command) → owns_change role k ≡ false
+    → Refused NotOwner ≡ board_verdict b role k
 unfolding board_verdict
 not_owned b role (Schedule s) h = refuses (owns role actions.Schedule) _ h
 not_owned b role (Report r) h = refuses (owns role (actions.Report r.milestone)) _ h
 not_owned b role (Deice d) h = refuses (owns role actions.Deice) _ h
+not_owned b role _ h = absurd (cc)
 
 -- a plan on an equal board, for an equal command
 pub planned_as : (b other : Board) (role : Role) (moment : ℕ) (c same : Command)
@@ -72,11 +71,11 @@ left_so b role moment c from to outcome change e h =
 
 module _ (b : Board) (role : Role) (moment : ℕ) (from to : OracleView) (outcome : Outcome)
     (same : Unasked from to) where
-  pub plans_nothing : (k : FlightCommand) → owns_change role k ≡ false
+  pub plans_nothing : (k : Command) → changes_flight k ≡ true → owns_change role k ≡ false
       → outcome ≡ outcomes.Refused NotOwner
-      → Comes b role moment (commands.Flight k) from to outcome b
-  plans_nothing k h out = comes_refused b role moment (commands.Flight k) from to outcome
-      (Refused NotOwner) refl (not_owned b role k h) refl same out
+      → Comes b role moment k from to outcome b
+  plans_nothing k change h out = comes_refused b role moment k from to outcome
+      (Refused NotOwner) change (not_owned b role k h) refl same out
 
   pub plans_tick : (change : Change) → outcome ≡ outcome_with outcomes.Done (tick_verdict role)
       → change ≡ cond (is_accepted (tick_verdict role)) (changes.Touch moment) changes.Nothing

@@ -31,8 +31,7 @@ use Rattle.acdm_step.specs.Programs.{Programs, Suggestion, Nothing, Usable, Unus
 use Rattle.acdm_step.specs.Programs.{effect, with_suggestion, with_local_alerts, with_effect}
 use Rattle.acdm_step.specs.declared.command.FlightPlan.{FlightPlan}
 use Rattle.acdm_step.specs.declared.command.Command.{Command}
-use Rattle.acdm_step.specs.declared.command.Command.TheVariants as commands
-use Rattle.acdm_step.specs.declared.command.FlightCommand.TheVariants.{Schedule, Report, Deice}
+use Rattle.acdm_step.specs.declared.command.Command.TheVariants.{Schedule, Report, Deice}
 use Rattle.acdm_step.specs.declared.entry.Entry.{Entry}
 use Rattle.acdm_step.specs.Commands.{History, plan_assignments, assigned_by, bit_of, told_milestone, flight_of}
 use Rattle.acdm_step.specs.Commands.{changes_flight, creates, is_of, ticks, migrates, is_accepted, created}
@@ -158,11 +157,11 @@ plain_deicing EstimatedCommencement time = refl
 plain_deicing _ time = refl
 
 pub plain_command : (c : Command) → are_plain (assigned_by c) ≡ true
-plain_command (commands.Flight (Schedule s)) = refl
-plain_command (commands.Flight (Report r)) =
+plain_command (Schedule s) = refl
+plain_command (Report r) =
     plain-append (times_of r.milestone r.time) (plan_assignments r.plan)
     (plain_times r.milestone r.time) (plain_plan r.plan)
-plain_command (commands.Flight (Deice d)) = plain_deicing d.which d.time
+plain_command (Deice d) = plain_deicing d.which d.time
 plain_command _ = refl
 
 marked-record_with : (f : ℕ) (ps : List Assignment) (rs al : ℕ) (bit : Option ℕ)
@@ -298,9 +297,9 @@ touch_kept ps e f t h =
 
 -- a flight that is there was touched
 creates_changes : (c : Command) → creates c ≡ true → changes_flight c ≡ true
-creates_changes (commands.Flight (Schedule s)) h = refl
-creates_changes (commands.Flight (Report r)) h = refl
-creates_changes (commands.Flight (Deice d)) h = refl
+creates_changes (Schedule s) h = refl
+creates_changes (Report r) h = refl
+creates_changes (Deice d) h = refl
 creates_changes _ h = h
 
 has_push : (f : ℕ) (fs : List ℕ) (o : Option ℕ) → list_any (λ g. g == f) (with_flight fs o) ≡ true

@@ -24,7 +24,7 @@ use Rattle.acdm_slots.proofs.PlaceLemmas.{given}
 use Rattle.acdm_step.specs.declared.command.Command.{Command}
 use Rattle.acdm_step.specs.declared.command.Command.TheVariants.{Load, Unload, Tick, Migrate, Show}
 use Rattle.acdm_step.specs.declared.command.Command.TheVariants as commands
-use Rattle.acdm_step.specs.declared.command.FlightCommand.TheVariants.{Schedule, Report, Deice}
+use Rattle.acdm_step.specs.declared.command.Command.TheVariants.{Schedule, Report, Deice}
 use Rattle.acdm_step.specs.declared.outcome.Outcome.TheVariants as outcomes
 use Rattle.acdm_step.specs.declared.entry.Verdict.{Verdict}
 use Rattle.acdm_step.specs.declared.entry.Verdict.TheVariants.{Refused}
@@ -72,10 +72,10 @@ first_owned false false rest h = h
 admitted_creates : (c : Command) (count : ℕ) (r : Fields) (against : Option Refusal) (role : Role)
     → changes_flight c ≡ true → is_accepted (verdict_for false count r against role c) ≡ true
     → creates c ≡ true
-admitted_creates (commands.Flight (Schedule s)) count r against role k h = refl
-admitted_creates (commands.Flight (Report p)) count r against role k h =
+admitted_creates (Schedule s) count r against role k h = refl
+admitted_creates (Report p) count r against role k h =
     first_owned (owns role (actions.Report p.milestone)) (number p.milestone == 1) _ h
-admitted_creates (commands.Flight (Deice d)) count r against role k h =
+admitted_creates (Deice d) count r against role k h =
     absurd (true_false (sym h ∙ none_deiced (owns role actions.Deice) against))
 admitted_creates _ count r against role k h = absurd (cc)
 
@@ -292,7 +292,7 @@ with_slots-sigs _ l = refl
 
 pub programs-replay : (sigs : List (ℕ × Promise)) (J : History) (c : Command)
     → programs_on (slots_of sigs J) c ≡ programs_of J c
-programs-replay sigs J (commands.Flight (Report r)) =
+programs-replay sigs J (Report r) =
     let tobt = slot-replay sigs J r.milestone kinds.Tobt in
     let alert = slot-replay sigs J r.milestone kinds.Alert in
     λ i. record { tobt = tobt i; alert = alert i }
@@ -429,7 +429,9 @@ module _ (sigs : List (ℕ × Promise)) (e : Entry) (J : History) (legal : IsLeg
       later false b h = h
 
   creates_none : (c : Command) → changes_flight c ≡ false → creates c ≡ false
-  creates_none (commands.Flight k) h = absurd (cc)
+  creates_none (commands.Schedule k) h = absurd (cc)
+  creates_none (commands.Report k) h = absurd (cc)
+  creates_none (commands.Deice k) h = absurd (cc)
   creates_none _ h = refl
 
   -- what changes no flight creates none

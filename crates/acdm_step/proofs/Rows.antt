@@ -27,7 +27,7 @@ use Rattle.acdm_slots.specs.declared.kind.Kind.TheVariants.{Alert as AlertProgra
 use Rattle.acdm_step.specs.declared.command.FlightPlan.{FlightPlan}
 use Rattle.acdm_step.specs.declared.command.Command.{Command}
 use Rattle.acdm_step.specs.declared.command.Command.TheVariants.{Load, Unload, Tick, Show}
-use Rattle.acdm_step.specs.declared.command.FlightCommand.TheVariants.{Schedule, Report}
+use Rattle.acdm_step.specs.declared.command.Command.TheVariants.{Schedule, Report}
 use Rattle.acdm_step.specs.declared.command.Command.TheVariants as commands
 use Rattle.acdm_step.specs.declared.outcome.Outcome.TheVariants as outcomes
 use Rattle.acdm_milestones.specs.declared.refusal.Refusal.TheVariants.{Barred, NotOwner, TimeOrder}
@@ -55,7 +55,7 @@ the_plan = record {
 
 abbrev scheduled : Command
 scheduled =
-    commands.Flight (Schedule record {
+    Schedule record {
       flight = 7;
       plan = the_plan;
       sobt = 29000760;
@@ -63,23 +63,23 @@ scheduled =
       exit = 5;
       exot = 10;
       stand = 12;
-    })
+    }
 
 abbrev activated : Command
 activated =
-    commands.Flight (Report record {
+    Report record {
       flight = 7;
       milestone = FlightPlanActivated;
       time = 29000760;
       plan = Some the_plan;
-    })
+    }
 
 abbrev landed : ℕ → Command
-landed t = commands.Flight (Report record { flight = 7; milestone = Landed; time = t; plan = None })
+landed t = Report record { flight = 7; milestone = Landed; time = t; plan = None }
 
 abbrev in_block : ℕ → Command
 in_block t =
-    commands.Flight (Report record { flight = 7; milestone = InBlock; time = t; plan = None })
+    Report record { flight = 7; milestone = InBlock; time = t; plan = None }
 
 abbrev pub first : History
 first = plus (plus (plus [] 1 AirportOperator 29000700 scheduled) 2 NetworkManager 29000700
@@ -172,8 +172,7 @@ abbrev begun : History
 begun = plus planned_alone 1 AirportOperator 29000580 scheduled
 
 abbrev reports : Milestone → ℕ → Command
-reports m time = commands.Flight
-    (Report record { flight = 7; milestone = m; time = time; plan = None })
+reports m time = Report record { flight = 7; milestone = m; time = time; plan = None }
 
 abbrev deleted : History
 deleted =

@@ -15,9 +15,7 @@ use Rattle.bpf_run.specs.declared.outcome.Ended.{Ended}
 use Rattle.bpf_run.specs.Ends.{AsksOver, EndsOver}
 use Rattle.acdm_slots.specs.Loaded.{Loaded}
 use Rattle.acdm_step.specs.declared.command.Command.{Command}
-use Rattle.acdm_step.specs.declared.command.Command.TheVariants as commands
-use Rattle.acdm_step.specs.declared.command.FlightCommand.{FlightCommand}
-use Rattle.acdm_step.specs.declared.command.FlightCommand.TheVariants.{Schedule, Deice}
+use Rattle.acdm_step.specs.declared.command.Command.TheVariants.{Schedule, Deice}
 use Rattle.acdm_step.specs.declared.command.Deice as deice
 use Rattle.acdm_step.specs.Facts.{ScheduleFacts}
 use Rattle.acdm_step.specs.Programs.{Programs, no_programs, no_effect, suggestion, with_suggestion, local_alerts}
@@ -139,31 +137,31 @@ changes_to ps r a s new moment m c from to ea em h e = (
 )
 
 -- an accepted command without programs has
-module _ (l : Loaded) (r a new : Fields) (moment : ℕ) (k : FlightCommand) (from to : OracleView)
+module _ (l : Loaded) (r a new : Fields) (moment : ℕ) (k : Command) (from to : OracleView)
     (e : new ≡ touched moment a) (same : Unasked from to) where
-  changes_alone : (c : FlightCommand) → k ≡ c → a ≡ assigned_to r (commands.Flight c)
-      → programs_on l (commands.Flight c) ≡ no_programs
-      → ChangesTo (programs_on l (commands.Flight k)) r moment (commands.Flight k) from to new
+  changes_alone : (c : Command) → k ≡ c → a ≡ assigned_to r c
+      → programs_on l c ≡ no_programs
+      → ChangesTo (programs_on l k) r moment k from to new
   changes_alone c is ea none =
-      subst (λ x. ChangesTo (programs_on l (commands.Flight x)) r moment (commands.Flight x) from to
+      subst (λ x. ChangesTo (programs_on l x) r moment x from to
       new) (sym is) (
         [],
         no_effect,
         same.log ∙ sym (append-nil from.log),
-        subst (λ ps. HasEffect ps (assigned_to r (commands.Flight c)) moment
-            (told_milestone (commands.Flight c)) [] no_effect) (sym none)
-            (none_ran (assigned_to r (commands.Flight c)) moment
-            (told_milestone (commands.Flight c))),
+        subst (λ ps. HasEffect ps (assigned_to r c) moment
+            (told_milestone c) [] no_effect) (sym none)
+            (none_ran (assigned_to r c) moment
+            (told_milestone c)),
         e ∙ ap (touched moment) ea,
         same.refusals,
       )
 
   pub changes_scheduled : (s : ScheduleFacts) → k ≡ Schedule s
-      → a ≡ assigned_to r (commands.Flight (Schedule s))
-      → ChangesTo (programs_on l (commands.Flight k)) r moment (commands.Flight k) from to new
+      → a ≡ assigned_to r (Schedule s)
+      → ChangesTo (programs_on l k) r moment k from to new
   changes_scheduled s is ea = changes_alone (Schedule s) is ea refl
 
   pub changes_deiced : (d : deice.Deice) → k ≡ Deice d
-      → a ≡ assigned_to r (commands.Flight (Deice d))
-      → ChangesTo (programs_on l (commands.Flight k)) r moment (commands.Flight k) from to new
+      → a ≡ assigned_to r (Deice d)
+      → ChangesTo (programs_on l k) r moment k from to new
   changes_deiced d is ea = changes_alone (Deice d) is ea refl

@@ -73,21 +73,29 @@ record_there b flight place r s at inside is copied =
 -- ---- commands by their kind
 
 pub change_no_tick : (c : Command) → changes_flight c ≡ true → is_tick c ≡ false
-change_no_tick (commands.Flight k) h = refl
+change_no_tick (commands.Schedule k) h = refl
+change_no_tick (commands.Report k) h = refl
+change_no_tick (commands.Deice k) h = refl
 change_no_tick _ h = absurd (cc)
 
 change_keeps_slots : (c : Command) (l : Loaded) → changes_flight c ≡ true → with_slots c l ≡ l
-change_keeps_slots (commands.Flight k) l h = refl
+change_keeps_slots (commands.Schedule k) l h = refl
+change_keeps_slots (commands.Report k) l h = refl
+change_keeps_slots (commands.Deice k) l h = refl
 change_keeps_slots _ l h = absurd (cc)
 
 pub change_no_migrate : (c : Command) → changes_flight c ≡ true → is_migrate c ≡ false
-change_no_migrate (commands.Flight k) h = refl
+change_no_migrate (commands.Schedule k) h = refl
+change_no_migrate (commands.Report k) h = refl
+change_no_migrate (commands.Deice k) h = refl
 change_no_migrate _ h = absurd (cc)
 
 change_outcome_is : (b : Board) (role : Role) (c : Command) → changes_flight c ≡ true
     → outcome_with outcomes.Done (board_verdict b role c) ≡ board_outcome b role c
 unfolding board_outcome
-change_outcome_is b role (commands.Flight x) k = refl
+change_outcome_is b role (commands.Schedule x) k = refl
+change_outcome_is b role (commands.Report x) k = refl
+change_outcome_is b role (commands.Deice x) k = refl
 change_outcome_is b role _ k = absurd (cc)
 
 accepted_is : (v : Verdict) → is_accepted v ≡ true → outcomes.Done ≡ outcome_with outcomes.Done v
@@ -97,7 +105,9 @@ accepted_is (Refused x) h = absurd (cc)
 -- where no program runs, no answer is used
 no_runs : (l : Loaded) (c : Command) (r : Fields) (moment : ℕ) → changes_flight c ≡ false
     → Ran (programs_on l c) r moment (told_milestone c) []
-no_runs l (commands.Flight k) r moment h = absurd (cc)
+no_runs l (commands.Schedule k) r moment h = absurd (cc)
+no_runs l (commands.Report k) r moment h = absurd (cc)
+no_runs l (commands.Deice k) r moment h = absurd (cc)
 no_runs l _ r moment h = (no_effect, none_ran r moment 0)
 
 nothing_gained : (from to : OracleView) → Unasked from to → Gained from to []

@@ -20,7 +20,7 @@ use Rattle.acdm_slots.specs.Migration.{unloaded}
 use Rattle.acdm_milestones.specs.declared.milestone.Milestone.{Milestone}
 use Rattle.acdm_step.specs.declared.command.Command.{Command}
 use Rattle.acdm_step.specs.declared.command.Command.TheVariants.{Load, Unload, Migrate, Show}
-use Rattle.acdm_step.specs.declared.command.FlightCommand.TheVariants.{Report, Deice}
+use Rattle.acdm_step.specs.declared.command.Command.TheVariants.{Report, Deice}
 use Rattle.acdm_step.specs.declared.command.Command.TheVariants as commands
 use Rattle.acdm_step.specs.declared.entry.Verdict.{Verdict}
 use Rattle.acdm_step.specs.declared.outcome.Outcome.{Outcome}
@@ -95,7 +95,7 @@ programs_at l m = record {
 
 -- the programs that a command runs
 abbrev pub programs_on : Loaded → Command → Programs
-programs_on l (commands.Flight (Report r)) = programs_at l r.milestone
+programs_on l (Report r) = programs_at l r.milestone
 programs_on l _ = no_programs
 
 -- what the slots, and the length of the records, have against a command
@@ -103,7 +103,7 @@ abbrev pub obstacle_on : Loaded → Command → Option Refusal
 obstacle_on l (Load c) = load_obstacle l.sigs l.record_length c.program
 obstacle_on l (Unload c) = unload_obstacle (slots.program_in l c.milestone c.kind)
 obstacle_on l Migrate = migrate_obstacle l.record_length
-obstacle_on l (commands.Flight (Deice d)) = deice_obstacle l.record_length
+obstacle_on l (Deice d) = deice_obstacle l.record_length
 obstacle_on l _ = None
 
 unfoldable pub board_verdict : Board → Role → Command → Verdict

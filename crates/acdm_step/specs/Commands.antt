@@ -15,7 +15,7 @@ use Rattle.acdm_milestones.specs.Deicing.{deicing_field}
 use Rattle.acdm_step.specs.declared.command.FlightPlan.{FlightPlan}
 use Rattle.acdm_step.specs.declared.command.Command.{Command}
 use Rattle.acdm_step.specs.declared.command.Command.TheVariants.{Load, Tick, Migrate, Show}
-use Rattle.acdm_step.specs.declared.command.FlightCommand.TheVariants.{Schedule, Report, Deice}
+use Rattle.acdm_step.specs.declared.command.Command.TheVariants.{Schedule, Report, Deice}
 use Rattle.acdm_step.specs.declared.command.Command.TheVariants as commands
 use Rattle.acdm_step.specs.declared.entry.Verdict.{Verdict}
 use Rattle.acdm_step.specs.declared.entry.Verdict.TheVariants.{Accepted, Refused}
@@ -28,15 +28,17 @@ History = List Entry
 
 -- the flight of a command; where it names none this is 0, which is no flight
 abbrev pub flight_of : Command → ℕ
-flight_of (commands.Flight (Schedule s)) = s.flight
-flight_of (commands.Flight (Report r)) = r.flight
-flight_of (commands.Flight (Deice d)) = d.flight
+flight_of (Schedule s) = s.flight
+flight_of (Report r) = r.flight
+flight_of (Deice d) = d.flight
 flight_of (Show f) = f
 flight_of _ = 0
 
 -- whether it changes the record of one flight
 abbrev pub changes_flight : Command → Bool
-changes_flight (commands.Flight k) = true
+changes_flight (Schedule s) = true
+changes_flight (Report r) = true
+changes_flight (Deice d) = true
 changes_flight _ = false
 
 abbrev pub is_tick : Command → Bool
@@ -44,7 +46,7 @@ is_tick Tick = true
 is_tick _ = false
 
 abbrev pub is_deice : Command → Bool
-is_deice (commands.Flight (Deice d)) = true
+is_deice (Deice d) = true
 is_deice _ = false
 
 abbrev pub is_migrate : Command → Bool
@@ -62,31 +64,31 @@ plan_assignments (Some p) = text_is Callsign p.callsign ∷ text_is PlanType p.a
 
 -- what a command assigns to its flight where it is accepted
 abbrev pub assigned_by : Command → List Assignment
-assigned_by (commands.Flight (Schedule s)) =
+assigned_by (Schedule s) =
     text_is Callsign s.plan.callsign ∷ text_is ScheduledType s.plan.aircraft
     ∷ text_is ScheduledRegistration s.plan.registration
     ∷ text_is ScheduledDestination s.plan.destination
     ∷ number_is Sobt s.sobt ∷ number_is Mttt s.mttt ∷ number_is Exit s.exit ∷ number_is Exot s.exot
     ∷ number_is Stand s.stand ∷ []
-assigned_by (commands.Flight (Report r)) = times_of r.milestone r.time ++ plan_assignments r.plan
-assigned_by (commands.Flight (Deice d)) = number_is (deicing_field d.which) d.time ∷ []
+assigned_by (Report r) = times_of r.milestone r.time ++ plan_assignments r.plan
+assigned_by (Deice d) = number_is (deicing_field d.which) d.time ∷ []
 assigned_by _ = []
 
 -- the bit that it sets in the reached word, if any: 0 for a schedule, m for milestone m
 abbrev pub bit_of : Command → Option ℕ
-bit_of (commands.Flight (Schedule s)) = Some 0
-bit_of (commands.Flight (Report r)) = Some (number r.milestone)
+bit_of (Schedule s) = Some 0
+bit_of (Report r) = Some (number r.milestone)
 bit_of _ = None
 
 -- the milestone that its programs are told; a command without programs tells none
 abbrev pub told_milestone : Command → ℕ
-told_milestone (commands.Flight (Report r)) = number r.milestone
+told_milestone (Report r) = number r.milestone
 told_milestone _ = 0
 
 -- whether it creates its flight where that is not there: a schedule and milestone 1 do
 abbrev pub creates : Command → Bool
-creates (commands.Flight (Schedule s)) = true
-creates (commands.Flight (Report r)) = number r.milestone == 1
+creates (Schedule s) = true
+creates (Report r) = number r.milestone == 1
 creates _ = false
 
 -- whether it copies programs where it is accepted

@@ -15,8 +15,7 @@ use Rattle.acdm_slots.specs.Migration.{kept_program, migrated_slots}
 use Rattle.acdm_step.specs.Programs.{Programs, no_programs}
 use Rattle.acdm_step.specs.declared.command.Command.{Command}
 use Rattle.acdm_step.specs.declared.command.Command.TheVariants.{Load, Unload, Migrate}
-use Rattle.acdm_step.specs.declared.command.Command.TheVariants as commands
-use Rattle.acdm_step.specs.declared.command.FlightCommand.TheVariants.{Report}
+use Rattle.acdm_step.specs.declared.command.Command.TheVariants.{Report}
 use Rattle.acdm_step.specs.Commands.{History, is_accepted}
 
 -- ---- the programs
@@ -48,7 +47,7 @@ program_in (e ∷ J) m k = if is_accepted e.verdict then
 
 -- those that a command runs: a report the two of its milestone, any other command none
 abbrev pub programs_of : History → Command → Programs
-programs_of J (commands.Flight (Report r)) =
+programs_of J (Report r) =
     record {
       tobt = program_in J r.milestone kinds.Tobt;
       alert = program_in J r.milestone kinds.Alert;

@@ -7,8 +7,8 @@ use Rattle.acdm_milestones.specs.declared.role.Role.{Role}
 use Rattle.acdm_milestones.specs.declared.role.Action.TheVariants as actions
 use Rattle.acdm_milestones.specs.Tables.{owns}
 use Rattle.acdm_slots.specs.Loaded.{with_program, program_in}
-use Rattle.acdm_step.specs.declared.command.FlightCommand.{FlightCommand}
-use Rattle.acdm_step.specs.declared.command.FlightCommand.TheVariants.{Schedule, Report, Deice}
+use Rattle.acdm_step.specs.declared.command.Command.{Command}
+use Rattle.acdm_step.specs.declared.command.Command.TheVariants.{Schedule, Report, Deice}
 use Rattle.acdm_step.specs.declared.verdicts.TheConstants.{MOST_FLIGHTS}
 use Rattle.acdm_step.specs.declared.prepare.Change.{Change}
 use Rattle.acdm_step.specs.declared.prepare.Change.TheVariants as changes
@@ -17,10 +17,11 @@ use Rattle.acdm_step.specs.Board.{board_of, touched, place_of, is_long}
 use Rattle.acdm_step.specs.Marked.{Keeps}
 
 -- whether a role owns a command that changes a flight
-abbrev pub owns_change : Role → FlightCommand → Bool
+abbrev pub owns_change : Role → Command → Bool
 owns_change role (Schedule s) = owns role actions.Schedule
 owns_change role (Report r) = owns role (actions.Report r.milestone)
 owns_change role (Deice d) = owns role actions.Deice
+owns_change role _ = true
 
 -- the board after a change
 abbrev pub after_change : Board → Change → Board

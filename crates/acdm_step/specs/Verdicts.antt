@@ -25,7 +25,7 @@ use Rattle.bpf_regstate.specs.Lengths.{same_length}
 use Rattle.bpf_verifier.specs.Verdict.{Verified}
 use Rattle.acdm_step.specs.declared.command.Command.{Command}
 use Rattle.acdm_step.specs.declared.command.Command.TheVariants.{Load, Unload, Tick, Migrate, Show}
-use Rattle.acdm_step.specs.declared.command.FlightCommand.TheVariants.{Schedule, Report, Deice}
+use Rattle.acdm_step.specs.declared.command.Command.TheVariants.{Schedule, Report, Deice}
 use Rattle.acdm_step.specs.declared.command.Command.TheVariants as commands
 use Rattle.acdm_step.specs.declared.entry.Verdict.{Verdict}
 use Rattle.acdm_step.specs.declared.entry.Verdict.TheVariants.{Accepted, Refused}
@@ -121,17 +121,17 @@ abbrev pub obstacle : List (ℕ × Promise) → History → Command → Option R
 obstacle sigs J (Load l) = load_obstacle sigs (record_length_after J) l.program
 obstacle sigs J (Unload u) = unload_obstacle (program_in J u.milestone u.kind)
 obstacle sigs J Migrate = migrate_obstacle (record_length_after J)
-obstacle sigs J (commands.Flight (Deice d)) = deice_obstacle (record_length_after J)
+obstacle sigs J (Deice d) = deice_obstacle (record_length_after J)
 obstacle sigs J _ = None
 
 -- ---- of any command
 
 abbrev pub verdict_for : Bool → ℕ → Fields → Option Refusal → Role → Command → Verdict
-verdict_for there count r against role (commands.Flight (Schedule s)) =
+verdict_for there count r against role (Schedule s) =
     schedule_verdict there count r role
-verdict_for there count r against role (commands.Flight (Report p)) =
+verdict_for there count r against role (Report p) =
     report_verdict there count r role p.milestone p.time
-verdict_for there count r against role (commands.Flight (Deice d)) =
+verdict_for there count r against role (Deice d) =
     deice_verdict there r against role d.which d.time
 verdict_for there count r against role (Load l) = load_verdict against role
 verdict_for there count r against role (Unload u) = unload_verdict against role

@@ -1,16 +1,17 @@
 //! What a command does to the record of its flight.
-ghost use Rattle.std.specs.Prelude.{◌≡◌, IsTrue, OnOk, OnErr};
+ghost use Rattle.std.specs.Prelude.{◌≡◌, IsTrue, OnOk, OnErr, true};
 ghost use Rattle.acdm_record.specs.Assign.{with_all};
 ghost use Rattle.acdm_milestones.specs.Tables.{number};
 ghost use Rattle.bpf_helpers.specs.Oracles.{MayBeAsked, SameRule};
-ghost use Rattle.acdm_step.specs.Commands.{told_milestone, plan_assignments, is_deice};
+ghost use Rattle.acdm_step.specs.Commands.{changes_flight, told_milestone, plan_assignments};
+ghost use Rattle.acdm_step.specs.Commands.{is_deice};
 ghost use Rattle.acdm_step.specs.Board.{assigned_to, programs_on, touched};
 ghost use Rattle.acdm_step.specs.Running.{ChangesTo, AsksIn};
 ghost use Rattle.acdm_record.specs.Fields.{length_of};
 ghost use Rattle.bpf_regstate.specs.declared.length.Length.TheVariants.{L160};
 ghost use Rattle.bpf_regstate.specs.Lengths.{bytes_in};
 
-use crate::command::{Command, Deice, FlightCommand, FlightPlan, Report, Schedule};
+use crate::command::{Command, Deice, FlightPlan, Report, Schedule};
 use crate::programs::run_programs;
 use acdm_alerts::builtin;
 use acdm_milestones::{mark_reached, set_deicing_time, set_time};
@@ -28,7 +29,7 @@ pub(crate) fn touch(record: &mut Record, moment: u32)
 
 fn set_scheduled(record: &mut Record, schedule: &Schedule)
     ensures { «record».new ≡ assigned_to «record».old
-        (Command.Flight (FlightCommand.Schedule schedule.now)) }
+        (Command.Schedule schedule.now) }
 {
     record.set_text(TextField::Callsign, schedule.plan.callsign.as_bytes());
     record.set_text(TextField::ScheduledType, schedule.plan.aircraft.as_bytes());
@@ -51,7 +52,7 @@ fn set_scheduled(record: &mut Record, schedule: &Schedule)
 fn set_deiced(record: &mut Record, deice: &Deice)
     requires { length_of «record».old ≡ 160 }
     ensures { «record».new ≡ assigned_to «record».old
-        (Command.Flight (FlightCommand.Deice deice.now)) }
+        (Command.Deice deice.now) }
 {
     set_deicing_time(record, deice.which, deice.time);
 }
@@ -69,7 +70,7 @@ fn set_planned(record: &mut Record, plan: &Option<FlightPlan>)
 
 fn set_reported(record: &mut Record, report: &Report)
     ensures { «record».new ≡ assigned_to «record».old
-        (Command.Flight (FlightCommand.Report report.now)) }
+        (Command.Report report.now) }
 {
     set_time(record, report.milestone, report.time);
     set_planned(record, &report.plan);
@@ -87,12 +88,12 @@ fn change_reported<O: Oracle>(
     requires oracle { MayBeAsked slots.now.sigs (O.view oracle.old) }
     requires long { length_of «record».old ≡ bytes_in slots.now.record_length }
     ensures changed { OnOk result (ChangesTo
-        (programs_on slots.now (Command.Flight (FlightCommand.Report report.now))) «record».old moment
-        (Command.Flight (FlightCommand.Report report.now)) (O.view oracle.old) (O.view oracle.new)
+        (programs_on slots.now (Command.Report report.now)) «record».old moment
+        (Command.Report report.now) (O.view oracle.old) (O.view oracle.new)
         «record».new) }
     ensures unanswered { OnErr result
-        (AsksIn (programs_on slots.now (Command.Flight (FlightCommand.Report report.now)))
-        (assigned_to «record».old (Command.Flight (FlightCommand.Report report.now))) moment
+        (AsksIn (programs_on slots.now (Command.Report report.now))
+        (assigned_to «record».old (Command.Report report.now)) moment
         (number report.now.milestone) (O.view oracle.old) (O.view oracle.new)) }
     ensures same_rule { SameRule (O.view oracle.old) (O.view oracle.new) }
 {
@@ -108,33 +109,35 @@ pub(crate) fn change<O: Oracle>(
     record: &mut Record,
     slots: &Slots,
     moment: u32,
-    command: &FlightCommand,
+    command: &Command,
     oracle: &mut O,
 ) -> Result<(), BadAnswer>
+    requires changes { changes_flight command.now ≡ true }
     requires oracle { MayBeAsked slots.now.sigs (O.view oracle.old) }
     requires long { length_of «record».old ≡ bytes_in slots.now.record_length }
-    requires second { IsTrue (is_deice (Command.Flight command.now))
+    requires second { IsTrue (is_deice command.now)
         → slots.now.record_length ≡ L160 }
-    ensures changed { OnOk result (ChangesTo (programs_on slots.now (Command.Flight command.now))
-        «record».old moment (Command.Flight command.now) (O.view oracle.old) (O.view oracle.new)
+    ensures changed { OnOk result (ChangesTo (programs_on slots.now command.now)
+        «record».old moment command.now (O.view oracle.old) (O.view oracle.new)
         «record».new) }
     ensures unanswered { OnErr result
-        (AsksIn (programs_on slots.now (Command.Flight command.now))
-        (assigned_to «record».old (Command.Flight command.now)) moment
-        (told_milestone (Command.Flight command.now)) (O.view oracle.old) (O.view oracle.new)) }
+        (AsksIn (programs_on slots.now command.now)
+        (assigned_to «record».old command.now) moment
+        (told_milestone command.now) (O.view oracle.old) (O.view oracle.new)) }
     ensures same_rule { SameRule (O.view oracle.old) (O.view oracle.new) }
 {
     match command {
-        FlightCommand::Report(report) => change_reported(record, slots, moment, report, oracle),
-        FlightCommand::Schedule(schedule) => {
+        Command::Report(report) => change_reported(record, slots, moment, report, oracle),
+        Command::Schedule(schedule) => {
             set_scheduled(record, schedule);
             touch(record, moment);
             Ok(())
         }
-        FlightCommand::Deice(deice) => {
+        Command::Deice(deice) => {
             set_deiced(record, deice);
             touch(record, moment);
             Ok(())
         }
+        _ => unreachable!(),
     }
 }

@@ -308,22 +308,15 @@ pub struct Deice {
     pub time: u32,
 }
 
-/// What a partner asks of one flight, whose record changes where it is accepted.
-#[derive(Drop)]
-pub enum FlightCommand {
-    /// To create a flight, or to set what is scheduled of it.
-    Schedule(Schedule),
-    /// To report a milestone.
-    Report(Report),
-    /// To report a time of de-icing.
-    Deice(Deice),
-}
-
 /// What a partner asks for.
 #[derive(Drop)]
 pub enum Command {
-    /// To change the record of a flight.
-    Flight(FlightCommand),
+    /// To create a flight, or to set what is scheduled of it.
+    Schedule(Schedule),
+    /// To report a milestone of a flight.
+    Report(Report),
+    /// To report a time of de-icing of a flight.
+    Deice(Deice),
     /// To load a local program.
     Load(Load),
     /// To take one away.

@@ -1,8 +1,14 @@
 //! The journal's entries.
-ghost use Rattle.std.specs.Prelude.{◌≡◌, [], IfOk, IsOk};
+ghost use Rattle.std.specs.Prelude.{◌≡◌, ◌||◌, ℕ, List, [], ◌∷◌, IfOk, IsOk, IsTrue, OnErr};
+ghost use Rattle.bpf_helpers.specs.Promise.{Promise};
+ghost use Rattle.acdm_step.specs.Commands.{History, is_alerts, is_migrate};
 ghost use Rattle.acdm_step.specs.Commands.{is_accepted as was_accepted};
+ghost use Rattle.acdm_step.specs.History.{IsLegal, replay};
+ghost use Rattle.acdm_step.specs.Verdicts.{outcome_of};
 
 use crate::command::Command;
+use crate::outcome::Outcome;
+use crate::state::Core;
 use acdm_milestones::{Refusal, Role};
 use std::alloc::{AllocError, Global};
 use std::marker::Model;
@@ -48,6 +54,37 @@ impl Answers {
         Answers { items: None }
     }
 
+    /// No answer, with a place for a list of them where so many may come. `Err` only where some may,
+    /// and there is no memory for the place.
+    pub fn with_place(alloc: Global, most: u64) -> Result<Answers, AllocError>
+        ensures value { IfOk result (λ answers. answers ≡ []) }
+        ensures none { most ≡ 0 → IsOk result }
+    {
+        if most == 0 {
+            return Ok(Answers::none());
+        }
+        let place = Box::new(alloc, Vec::new(alloc))?;
+        Ok(Answers { items: Some(place) })
+    }
+
+    /// These answers, in the place that was taken for them. `Err` only where there are some, and no
+    /// place was taken. It takes no memory.
+    pub fn placed(self, items: Vec<u64>) -> Result<Answers, AllocError>
+        ensures value { IfOk result (λ answers. answers ≡ items.items) }
+        ensures none { items.items ≡ [] → IsOk result }
+    {
+        if items.is_empty() {
+            return Ok(Answers::none());
+        }
+        let Answers { items: place } = self;
+        let Some(place) = place else {
+            return Err(AllocError);
+        };
+        let mut place = place;
+        *place = items;
+        Ok(Answers { items: Some(place) })
+    }
+
     /// These answers. `Err` only where there are some, and no memory for them.
     pub fn new(alloc: Global, items: Vec<u64>) -> Result<Answers, AllocError>
         ensures value { IfOk result (λ answers. answers ≡ items.items) }
@@ -71,8 +108,8 @@ impl Answers {
     }
 }
 
-/// One command, with the verdict on it and the answers that its programs used. What an accepted
-/// question was answered can be told from the entries before.
+/// One command, with the verdict on it and the answers that its programs used. What came of it is
+/// told by `outcome`, from the board before it.
 ///
 /// The moment is in minutes since 1970-01-01T00:00Z.
 #[derive(Drop)]
@@ -84,4 +121,21 @@ pub struct Entry {
     pub moment: u32,
     pub command: Command,
     pub answers: Answers,
+}
+
+impl Entry {
+    /// What came of its command, as it was replied, told from the board before it. `Err` only where
+    /// memory was refused, which a list of alerts or of unloaded programs is asked for.
+    pub fn outcome(&self, before: &Core) -> Result<Outcome, AllocError>
+        ensures value { IfOk result (λ outcome. (sigs : List (ℕ × Promise)) (J : History)
+            → IsLegal sigs (self.now ∷ J) → before.now ≡ replay sigs J
+            → outcome ≡ outcome_of sigs J self.now.role self.now.command) }
+        ensures memory { OnErr result
+            (IsTrue (is_alerts self.now.command || is_migrate self.now.command)) }
+    {
+        match self.verdict {
+            Verdict::Accepted => before.answer(&self.command),
+            Verdict::Refused(refusal) => Ok(Outcome::Refused(refusal)),
+        }
+    }
 }

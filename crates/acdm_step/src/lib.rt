@@ -14,10 +14,9 @@ mod state;
 mod verdicts;
 
 pub use command::{
-    Command, Deice, FlightCommand, FlightNumber, FlightPlan, Load, MINUTES_OF_DAY, Report,
-    Schedule, Unload,
+    Command, Deice, FlightNumber, FlightPlan, Load, MINUTES_OF_DAY, Report, Schedule, Unload,
 };
 pub use entry::{Answers, Entry, Verdict};
 pub use outcome::{AlertList, Alerted, Outcome, UnloadedList};
-pub use prepare::{Change, Prepared};
+pub use prepare::{Change, Plan};
 pub use state::Core;

@@ -1,9 +1,9 @@
 //! What a command would do to the board, found out before anything changes.
-ghost use Rattle.std.specs.Prelude.{◌≡◌, ◌↔◌, IsTrue, IfOk, OnErr, if◌then◌else◌};
+ghost use Rattle.std.specs.Prelude.{◌≡◌, ◌↔◌, IsTrue, IfOk, OnErr, if◌then◌else◌, true};
 ghost use Rattle.bpf_helpers.specs.Oracles.{MayBeAsked, SameRule};
 ghost use Rattle.bpf_regstate.specs.declared.length.Length.TheVariants.{L128, L160};
 ghost use Rattle.acdm_slots.specs.Loaded.{program_in};
-ghost use Rattle.acdm_step.specs.Commands.{is_accepted};
+ghost use Rattle.acdm_step.specs.Commands.{changes_flight, is_accepted};
 ghost use Rattle.acdm_step.specs.Verdicts.{load_verdict, outcome_with, show_verdict, tick_verdict};
 ghost use Rattle.acdm_step.specs.Verdicts.{load_obstacle, unload_obstacle, unload_verdict};
 ghost use Rattle.acdm_slots.specs.Migration.{migrated_slots, unloaded};
@@ -14,7 +14,7 @@ ghost use Rattle.acdm_step.specs.Prepared.{Fits, after_change};
 
 use crate::by_flight::Flights;
 use crate::change::change;
-use crate::command::{Command, FlightCommand, Load, Unload};
+use crate::command::{Command, Load, Unload};
 use crate::entry::Verdict;
 use crate::outcome::{Outcome, UnloadedList};
 use crate::verdicts::{
@@ -51,17 +51,17 @@ pub enum Change {
 
 /// What comes of a command, and what it does to the board.
 #[derive(Drop)]
-pub struct Prepared {
+pub struct Plan {
     pub outcome: Outcome,
     pub change: Change,
 }
 
 // What comes of a refused command.
-fn refused(refusal: Refusal) -> Prepared
+fn refused(refusal: Refusal) -> Plan
     ensures outcome { result.outcome ≡ Outcome.Refused refusal }
     ensures change { result.change ≡ Change.Nothing }
 {
-    Prepared {
+    Plan {
         outcome: Outcome::Refused(refusal),
         change: Change::Nothing,
     }
@@ -78,8 +78,8 @@ fn begun_record(record_length: Length, flight: u64) -> Record
     record
 }
 
-// The record at a flight's place, or the one that it begins with.
-fn record_at(flights: &Flights, slots: &Slots, place: usize, flight: u64) -> Record
+/// The record at a flight's place, or the one that it begins with.
+pub(crate) fn record_at(flights: &Flights, slots: &Slots, place: usize, flight: u64) -> Record
     requires { place ≡ place_of flights.now flight }
     ensures { result ≡ record_on (board_of flights.now slots.now) flight }
 {
@@ -90,7 +90,7 @@ fn record_at(flights: &Flights, slots: &Slots, place: usize, flight: u64) -> Rec
     }
 }
 
-/// What a schedule or a report does. It takes no memory, and looks for the flight only where the
+/// What a schedule, a report or a time of de-icing does. It takes no memory, and looks for the flight only where the
 /// role owns the command.
 pub(crate) fn prepare_flight<O: Oracle>(
     flights: &Flights,
@@ -98,11 +98,12 @@ pub(crate) fn prepare_flight<O: Oracle>(
     oracle: &mut O,
     role: Role,
     moment: u32,
-    command: &FlightCommand,
-) -> Prepared
+    command: &Command,
+) -> Plan
+    requires changes { changes_flight command.now ≡ true }
     requires oracle { MayBeAsked slots.now.sigs (O.view oracle.old) }
     requires as_long { AreLong (board_of flights.now slots.now) }
-    ensures comes { Comes (board_of flights.now slots.now) role moment (Command.Flight command.now)
+    ensures comes { Comes (board_of flights.now slots.now) role moment command.now
         (O.view oracle.old) (O.view oracle.new)
         result.outcome (after_change (board_of flights.now slots.now) result.change) }
     ensures fits { Fits (board_of flights.now slots.now) result.change }
@@ -117,7 +118,7 @@ pub(crate) fn prepare_flight<O: Oracle>(
     let mut record = record_at(flights, slots, place, flight);
     let verdict = verdict(&record, place < count, count, slots, role, command);
     if !verdict.is_accepted() {
-        return Prepared {
+        return Plan {
             outcome: Outcome::of(verdict),
             change: Change::Nothing,
         };
@@ -126,12 +127,12 @@ pub(crate) fn prepare_flight<O: Oracle>(
         return refused(Refusal::Unanswered);
     }
     if place < count {
-        Prepared {
+        Plan {
             outcome: Outcome::Done,
             change: Change::Put(place, record),
         }
     } else {
-        Prepared {
+        Plan {
             outcome: Outcome::Done,
             change: Change::Add(record),
         }
@@ -139,7 +140,7 @@ pub(crate) fn prepare_flight<O: Oracle>(
 }
 
 /// A load: a copy of its program comes into its slot. `Err` only where memory was refused.
-pub(crate) fn prepare_load(slots: &Slots, role: Role, load: &Load) -> Result<Prepared, AllocError>
+pub(crate) fn prepare_load(slots: &Slots, role: Role, load: &Load) -> Result<Plan, AllocError>
     ensures outcome { IfOk result (λ p. p.outcome ≡ outcome_with Outcome.Done
         (load_verdict (load_obstacle slots.now.sigs slots.now.record_length load.now.program) role)) }
     ensures change { IfOk result (λ p. p.change ≡ (if is_accepted
@@ -159,7 +160,7 @@ pub(crate) fn prepare_load(slots: &Slots, role: Role, load: &Load) -> Result<Pre
         Verdict::Refused(refusal) => Ok(refused(refusal)),
         Verdict::Accepted => {
             let program = load.program.copy()?;
-            Ok(Prepared {
+            Ok(Plan {
                 outcome: Outcome::Done,
                 change: Change::Load(load.milestone, load.kind, program),
             })
@@ -168,7 +169,7 @@ pub(crate) fn prepare_load(slots: &Slots, role: Role, load: &Load) -> Result<Pre
 }
 
 /// An unload: its slot becomes empty.
-pub(crate) fn prepare_unload(slots: &Slots, role: Role, unload: &Unload) -> Prepared
+pub(crate) fn prepare_unload(slots: &Slots, role: Role, unload: &Unload) -> Plan
     ensures outcome { result.outcome
         ≡ outcome_with Outcome.Done (unload_verdict
         (unload_obstacle (program_in slots.now unload.now.milestone unload.now.kind)) role) }
@@ -179,7 +180,7 @@ pub(crate) fn prepare_unload(slots: &Slots, role: Role, unload: &Unload) -> Prep
 {
     match verdict_on_unload(slots, role, unload) {
         Verdict::Refused(refusal) => refused(refusal),
-        Verdict::Accepted => Prepared {
+        Verdict::Accepted => Plan {
             outcome: Outcome::Done,
             change: Change::Unload(unload.milestone, unload.kind),
         },
@@ -187,13 +188,13 @@ pub(crate) fn prepare_unload(slots: &Slots, role: Role, unload: &Unload) -> Prep
 }
 
 /// A tick: each record is touched.
-pub(crate) fn prepare_tick(role: Role, moment: u32) -> Prepared
+pub(crate) fn prepare_tick(role: Role, moment: u32) -> Plan
     ensures outcome { result.outcome ≡ outcome_with Outcome.Done (tick_verdict role) }
     ensures change { result.change
         ≡ (if is_accepted (tick_verdict role) then Change.Touch moment else Change.Nothing) }
 {
     match verdict_on_tick(role) {
-        Verdict::Accepted => Prepared {
+        Verdict::Accepted => Plan {
             outcome: Outcome::Done,
             change: Change::Touch(moment),
         },
@@ -203,7 +204,7 @@ pub(crate) fn prepare_tick(role: Role, moment: u32) -> Prepared
 
 /// A migrate: each record comes to layout 2, and the programs are judged again beside it. `Err` only
 /// where memory was refused.
-pub(crate) fn prepare_migrate(slots: &Slots, role: Role) -> Result<Prepared, AllocError>
+pub(crate) fn prepare_migrate(slots: &Slots, role: Role) -> Result<Plan, AllocError>
     ensures outcome { IfOk result (λ p. p.outcome ≡ outcome_with
         (Outcome.Migrated (unloaded L160 (program_in slots.now)))
         (migrate_verdict (migrate_obstacle slots.now.record_length) role)) }
@@ -220,7 +221,7 @@ pub(crate) fn prepare_migrate(slots: &Slots, role: Role) -> Result<Prepared, All
         Verdict::Refused(refusal) => Ok(refused(refusal)),
         Verdict::Accepted => {
             let migrated = slots.migrated(Length::L160)?;
-            Ok(Prepared {
+            Ok(Plan {
                 outcome: Outcome::Migrated(UnloadedList::of(migrated.unloaded)),
                 change: Change::Migrate(migrated.slots),
             })

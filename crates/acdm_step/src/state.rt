@@ -5,21 +5,21 @@ ghost use Rattle.std.specs.Option.{option_copied};
 ghost use Rattle.acdm_milestones.specs.Tables.{has_reached};
 ghost use Rattle.bpf_helpers.specs.Promise.{Promise};
 ghost use Rattle.bpf_helpers.specs.Oracles.{Gained, MayBeAsked, SameRule, Unasked};
-ghost use Rattle.acdm_step.specs.Commands.{History, is_accepted, is_alerts};
+ghost use Rattle.acdm_step.specs.Commands.{History, is_accepted, is_alerts, is_migrate};
 ghost use Rattle.acdm_step.specs.InSlots.{answers_room as room_for_answers, asks_in, room_of};
 ghost use Rattle.acdm_step.specs.Summaries.{exists, record_of as record_in, has_come_to};
 ghost use Rattle.acdm_step.specs.Verdicts.{verdict_in};
 ghost use Rattle.acdm_step.specs.History.{IsLegal, replay, after, needs_memory};
-ghost use Rattle.acdm_step.specs.Board.{board_loads};
+ghost use Rattle.acdm_step.specs.Board.{board_answer, board_loads};
 ghost use Rattle.acdm_step.specs.Running.{Comes, ComesOf};
 ghost use Rattle.acdm_step.specs.Prepared.{Fits, after_change};
 
 use crate::by_flight::Flights;
-use crate::command::{Command, FlightCommand};
-use crate::outcome::Outcome;
+use crate::command::Command;
+use crate::outcome::{Outcome, UnloadedList};
 use crate::prepare::{
-    Change, Prepared, prepare_flight, prepare_load, prepare_migrate, prepare_tick, prepare_unload,
-    show,
+    Change, Plan, prepare_flight, prepare_load, prepare_migrate, prepare_tick, prepare_unload,
+    record_at, show,
 };
 use crate::programs::{either_asks, size_in};
 use acdm_milestones::Role;
@@ -90,15 +90,12 @@ impl Core {
         ensures { (sigs : List (ℕ × Promise)) (J : History) → self.now ≡ replay sigs J
             → result ≡ room_of J command.now }
     {
-        let Command::Flight(command) = command else {
-            return 0;
-        };
         match command {
-            FlightCommand::Report(report) => {
+            Command::Report(report) => {
                 size_in(&self.slots, report.milestone, Kind::Tobt)
                     + size_in(&self.slots, report.milestone, Kind::Alert)
             }
-            FlightCommand::Schedule(_) | FlightCommand::Deice(_) => 0,
+            _ => 0,
         }
     }
 
@@ -107,12 +104,9 @@ impl Core {
         ensures { (sigs : List (ℕ × Promise)) (J : History) → self.now ≡ replay sigs J
             → result ≡ asks_in J command.now }
     {
-        let Command::Flight(command) = command else {
-            return false;
-        };
         match command {
-            FlightCommand::Report(report) => either_asks(&self.slots, report.milestone),
-            FlightCommand::Schedule(_) | FlightCommand::Deice(_) => false,
+            Command::Report(report) => either_asks(&self.slots, report.milestone),
+            _ => false,
         }
     }
 
@@ -129,6 +123,31 @@ impl Core {
         }
     }
 
+    /// What an accepted command is answered on this board. `Err` only where memory was refused,
+    /// which a list is asked for.
+    pub(crate) fn answer(&self, command: &Command) -> Result<Outcome, AllocError>
+        ensures value { IfOk result (λ outcome. outcome ≡ board_answer self.now command.now) }
+        ensures memory { OnErr result (IsTrue (is_alerts command.now || is_migrate command.now)) }
+    {
+        match command {
+            Command::Show(flight) => {
+                let flight = flight.get();
+                let at = self.flights.place(flight);
+                let record = record_at(&self.flights, &self.slots, at, flight);
+                Ok(Outcome::Shown(record))
+            }
+            Command::Alerts => {
+                let list = self.flights.alerted()?;
+                Ok(Outcome::Listed(list))
+            }
+            Command::Migrate => {
+                let migrated = self.slots.migrated(Length::L160)?;
+                Ok(Outcome::Migrated(UnloadedList::of(migrated.unloaded)))
+            }
+            _ => Ok(Outcome::Done),
+        }
+    }
+
     /// What would come of a command at a moment, and what it would do to the board, as it is said
     /// of a board alone.
     fn prepare<O: Oracle>(
@@ -137,7 +156,7 @@ impl Core {
         role: Role,
         moment: u32,
         command: &Command,
-    ) -> Result<Prepared, AllocError>
+    ) -> Result<Plan, AllocError>
         requires oracle { MayBeAsked self.now.slots.sigs (O.view oracle.old) }
         ensures comes { IfOk result (λ p. Comes self.now role moment command.now (O.view oracle.old)
             (O.view oracle.new)
@@ -149,7 +168,7 @@ impl Core {
             || board_loads self.now role command.now)) }
     {
         match command {
-            Command::Flight(command) => Ok(prepare_flight(
+            Command::Schedule(_) | Command::Report(_) | Command::Deice(_) => Ok(prepare_flight(
                 &self.flights,
                 &self.slots,
                 oracle,
@@ -167,13 +186,13 @@ impl Core {
                 let prepared = prepare_migrate(&self.slots, role)?;
                 Ok(prepared)
             }
-            Command::Show(flight) => Ok(Prepared {
+            Command::Show(flight) => Ok(Plan {
                 outcome: show(&self.flights, &self.slots, flight.get()),
                 change: Change::Nothing,
             }),
             Command::Alerts => {
                 let list = self.flights.alerted()?;
-                Ok(Prepared {
+                Ok(Plan {
                     outcome: Outcome::Listed(list),
                     change: Change::Nothing,
                 })
@@ -194,7 +213,7 @@ impl Core {
         role: Role,
         moment: u32,
         command: &Command,
-    ) -> Result<Prepared, AllocError>
+    ) -> Result<Plan, AllocError>
         // The oracle answers by the signatures of the board, and may still count one more call
         // without an answer.
         requires oracle { MayBeAsked self.now.slots.sigs (O.view oracle.old) }
@@ -226,12 +245,12 @@ impl Core {
     }
 
     /// Does what was planned on this board. It takes no memory and is never refused.
-    pub fn commit(&mut self, plan: Prepared) -> Outcome
+    pub fn commit(&mut self, plan: Plan) -> Outcome
         requires { Fits self.old plan.change }
         ensures board { self.new ≡ after_change self.old plan.change }
         ensures outcome { result ≡ plan.outcome }
     {
-        let Prepared { outcome, change } = plan;
+        let Plan { outcome, change } = plan;
         match change {
             Change::Nothing => (),
             Change::Put(place, record) => self.flights.put(place, record),

@@ -1,7 +1,7 @@
 //! The verdict on each command: the first refusal that applies.
-ghost use Rattle.std.specs.Prelude.{◌≡◌, ◌↔◌, IsTrue};
+ghost use Rattle.std.specs.Prelude.{◌≡◌, ◌↔◌, IsTrue, true};
 ghost use Rattle.acdm_slots.specs.Loaded.{program_in};
-ghost use Rattle.acdm_step.specs.Commands.{flight_of, is_accepted, is_deice};
+ghost use Rattle.acdm_step.specs.Commands.{changes_flight, flight_of, is_accepted, is_deice};
 ghost use Rattle.acdm_step.specs.Verdicts.{schedule_verdict, report_verdict, load_verdict};
 ghost use Rattle.acdm_step.specs.Verdicts.{unload_verdict, tick_verdict, show_verdict, verdict_for};
 ghost use Rattle.acdm_step.specs.Verdicts.{load_obstacle, unload_obstacle, migrate_obstacle};
@@ -12,7 +12,7 @@ ghost use Rattle.bpf_regstate.specs.declared.length.Length.TheVariants.{L128, L1
 ghost use Rattle.bpf_regstate.specs.Lengths.{bytes_in};
 ghost use Rattle.acdm_step.specs.Prepared.{owns_change};
 
-use crate::command::{Command, Deice, FlightCommand, Load, Unload};
+use crate::command::{Command, Deice, Load, Unload};
 use crate::entry::Verdict;
 use acdm_milestones::{Action, Milestone, Refusal, Role, admit, admit_deicing, has_reached, owns};
 use acdm_record::Record;
@@ -167,43 +167,49 @@ pub(crate) fn verdict(
     count: usize,
     slots: &Slots,
     role: Role,
-    command: &FlightCommand,
+    command: &Command,
 ) -> Verdict
+    requires changes { changes_flight command.now ≡ true }
     requires long { length_of «record».now ≡ bytes_in slots.now.record_length }
     ensures value { result ≡ verdict_for is_there count «record».now
-        (obstacle_on slots.now (Command.Flight command.now)) role (Command.Flight command.now) }
-    ensures second { IsTrue (is_accepted result) → IsTrue (is_deice (Command.Flight command.now))
+        (obstacle_on slots.now command.now) role command.now }
+    ensures second { IsTrue (is_accepted result) → IsTrue (is_deice command.now)
         → slots.now.record_length ≡ L160 }
 {
     match command {
-        FlightCommand::Deice(deice) => {
+        Command::Deice(deice) => {
             verdict_on_deice(record, is_there, slots.record_length(), role, deice)
         }
-        FlightCommand::Schedule(_) => verdict_on_schedule(record, is_there, count, role),
-        FlightCommand::Report(report) => {
+        Command::Schedule(_) => verdict_on_schedule(record, is_there, count, role),
+        Command::Report(report) => {
             verdict_on_report(record, is_there, count, role, report.milestone, report.time)
         }
+        _ => unreachable!(),
     }
 }
 
 /// Whether the role owns a command that changes a flight.
-pub(crate) fn is_owner(role: Role, command: &FlightCommand) -> bool
+pub(crate) fn is_owner(role: Role, command: &Command) -> bool
+    requires { changes_flight command.now ≡ true }
     ensures { result ≡ owns_change role command.now }
 {
     match command {
-        FlightCommand::Schedule(_) => owns(role, Action::Schedule),
-        FlightCommand::Report(report) => owns(role, Action::Report(report.milestone)),
-        FlightCommand::Deice(_) => owns(role, Action::Deice),
+        Command::Schedule(_) => owns(role, Action::Schedule),
+        Command::Report(report) => owns(role, Action::Report(report.milestone)),
+        Command::Deice(_) => owns(role, Action::Deice),
+        _ => unreachable!(),
     }
 }
 
 /// The flight that a command changes.
-pub(crate) fn flight_of_command(command: &FlightCommand) -> u64
-    ensures { result ≡ flight_of (Command.Flight command.now) }
+pub(crate) fn flight_of_command(command: &Command) -> u64
+    requires { changes_flight command.now ≡ true }
+    ensures { result ≡ flight_of command.now }
 {
     match command {
-        FlightCommand::Schedule(schedule) => schedule.flight(),
-        FlightCommand::Report(report) => report.flight(),
-        FlightCommand::Deice(deice) => deice.flight.get(),
+        Command::Schedule(schedule) => schedule.flight(),
+        Command::Report(report) => report.flight(),
+        Command::Deice(deice) => deice.flight.get(),
+        _ => unreachable!(),
     }
 }

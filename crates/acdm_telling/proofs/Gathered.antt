@@ -14,7 +14,7 @@ use Rattle.acdm_step.specs.declared.entry.Entry.{Entry}
 use Rattle.acdm_step.specs.Commands.{History}
 use Rattle.acdm_step.specs.History.{Board, IsLegal, replay}
 use Rattle.acdm_step.specs.Prepared.{after_change}
-use Rattle.acdm_journal.specs.declared.auditing.JournalFault.TheVariants as faults
+use Rattle.acdm_journal.specs.declared.auditing.Fault.TheVariants as faults
 use Rattle.acdm_journal.specs.declared.auditing.TheConstants.{MOST_KEPT}
 use Rattle.acdm_journal.specs.declared.reading.TheConstants.{LONGEST_ENTRY}
 use Rattle.acdm_journal.specs.declared.judge.Clause.{Clause}

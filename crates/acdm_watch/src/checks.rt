@@ -7,7 +7,7 @@ ghost use Rattle.acdm_step.specs.Prepared.{Fits, after_change};
 ghost use Rattle.acdm_watch.specs.Watching.{IsNumbered};
 
 use acdm_journal::plan_with;
-use acdm_step::{Core, Entry, Prepared};
+use acdm_step::{Core, Entry, Plan};
 use bpf_helpers::Sigs;
 use std::alloc::AllocError;
 
@@ -30,11 +30,7 @@ fn is_numbered(entry: &Entry, number: u64, sigs: &Sigs) -> bool
 
 /// What an entry does to the board of the entries before it, of which there are so many, where it
 /// may come next: the journal with it is then legal. `Err` only where memory was refused.
-pub(crate) fn plan_of(
-    core: &Core,
-    number: u64,
-    entry: &Entry,
-) -> Result<Option<Prepared>, AllocError>
+pub(crate) fn plan_of(core: &Core, number: u64, entry: &Entry) -> Result<Option<Plan>, AllocError>
     ensures next { IfOk result (λ o. IfSome o (λ p. (sigs : List (ℕ × Promise)) (J : History) →
         IsLegal sigs J → core.now ≡ replay sigs J → number ≡ length J →
         IsLegal sigs (entry.now ∷ J)

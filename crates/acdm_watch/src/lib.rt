@@ -2,8 +2,12 @@
 #![tactic(auto)]
 
 mod checks;
+mod meet;
 mod sight;
 mod watch;
+mod watched;
 
+pub use meet::Meet;
 pub use sight::Sight;
 pub use watch::Watch;
+pub use watched::Watched;

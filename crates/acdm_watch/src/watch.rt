@@ -59,7 +59,7 @@ impl Watch {
 
     /// The length of the shorter of what was seen and what a pass has seen, which are the same as
     /// far as that.
-    pub fn meet(&mut self, pass: &mut Pass) -> usize
+    pub fn meet_pass(&mut self, pass: &mut Pass) -> usize
         requires { pass.old.row ≡ self.old.row }
         ensures ours { self.new ≡ self.old }
         ensures theirs { pass.new ≡ pass.old }

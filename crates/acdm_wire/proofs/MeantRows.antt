@@ -7,8 +7,7 @@ use Rattle.acdm_milestones.specs.declared.milestone.Milestone.TheVariants.{TobtU
 use Rattle.acdm_milestones.specs.declared.deicing.DeicingTime.TheVariants.{EstimatedCommencement}
 use Rattle.acdm_milestones.specs.declared.deicing.DeicingTime.TheVariants.{ActualEnd}
 use Rattle.acdm_step.specs.declared.command.Command.TheVariants.{Unload, Migrate}
-use Rattle.acdm_step.specs.declared.command.Command.TheVariants as commands
-use Rattle.acdm_step.specs.declared.command.FlightCommand.TheVariants.{Schedule, Report, Deice}
+use Rattle.acdm_step.specs.declared.command.Command.TheVariants.{Schedule, Report, Deice}
 use Rattle.acdm_slots.specs.declared.kind.Kind.TheVariants.{Tobt, Alert}
 use Rattle.bpf_regstate.specs.declared.length.Length.TheVariants.{L128, L160}
 use Rattle.acdm_wire.specs.declared.request.Asked.TheVariants.{Plain, Load}
@@ -22,8 +21,7 @@ landed_line : meant (codes "3 29000700 ATC {\"cmd\":\"report\",\"flight\":7,\"mi
       session = 3;
       moment = 29000700;
       role = AirTrafficControl;
-      asked = Plain (commands.Flight
-          (Report record { flight = 7; milestone = Landed; time = 29000700; plan = None }));
+      asked = Plain (Report record { flight = 7; milestone = Landed; time = 29000700; plan = None });
     }
 unfolding lines_on_literals
 landed_line = refl
@@ -41,21 +39,20 @@ schedule_line : meant (codes "1 29000580 APT {\"cmd\":\"schedule\",\"flight\":7,
       session = 1;
       moment = 29000580;
       role = AirportOperator;
-      asked = Plain (commands.Flight
-          (Schedule record {
-            flight = 7;
-            plan = record {
-              callsign = codes "DLH7";
-              aircraft = codes "A320";
-              registration = codes "DAIBC";
-              destination = codes "EDDM";
-            };
-            sobt = 29000760;
-            mttt = 40;
-            exit = 5;
-            exot = 10;
-            stand = 12;
-          }));
+      asked = Plain (Schedule record {
+        flight = 7;
+        plan = record {
+          callsign = codes "DLH7";
+          aircraft = codes "A320";
+          registration = codes "DAIBC";
+          destination = codes "EDDM";
+        };
+        sobt = 29000760;
+        mttt = 40;
+        exit = 5;
+        exot = 10;
+        stand = 12;
+      });
     }
 unfolding lines_on_literals
 schedule_line = refl
@@ -241,8 +238,7 @@ deice_line : meant (codes "6 29000580 DIC {\"cmd\":\"deice\",\"flight\":7,\"fiel
       session = 6;
       moment = 29000580;
       role = DeicingCompany;
-      asked = Plain (commands.Flight
-          (Deice record { flight = 7; which = EstimatedCommencement; time = 29000760 }));
+      asked = Plain (Deice record { flight = 7; which = EstimatedCommencement; time = 29000760 });
     }
 unfolding lines_on_literals
 deice_line = refl
@@ -252,7 +248,7 @@ cleared_time : meant (codes "6 29000580 DIC {\"cmd\":\"deice\",\"flight\":7,\"fi
       session = 6;
       moment = 29000580;
       role = DeicingCompany;
-      asked = Plain (commands.Flight (Deice record { flight = 7; which = ActualEnd; time = 0 }));
+      asked = Plain (Deice record { flight = 7; which = ActualEnd; time = 0 });
     }
 unfolding lines_on_literals
 cleared_time = refl

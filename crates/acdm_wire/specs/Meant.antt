@@ -29,8 +29,7 @@ use Rattle.acdm_step.specs.declared.command.FlightPlan.{FlightPlan}
 use Rattle.acdm_step.specs.declared.command.Command.{Command}
 use Rattle.acdm_step.specs.declared.command.Command.TheVariants.{Unload, Tick, Migrate, Show}
 use Rattle.acdm_step.specs.declared.command.Command.TheVariants.{Alerts}
-use Rattle.acdm_step.specs.declared.command.Command.TheVariants as commands
-use Rattle.acdm_step.specs.declared.command.FlightCommand.TheVariants.{Schedule, Report, Deice}
+use Rattle.acdm_step.specs.declared.command.Command.TheVariants.{Schedule, Report, Deice}
 use Rattle.acdm_step.specs.Commands.{is_load}
 use Rattle.acdm_wire.specs.declared.fault.RequestFault.{RequestFault}
 use Rattle.acdm_wire.specs.declared.fault.RequestFault.TheVariants.{Prefix, NoJson, UnknownCommand}
@@ -193,7 +192,7 @@ schedule_field d = do
   exit ← number_field (codes "exit") 0 255 d
   exot ← number_field (codes "exot") 0 MINUTES_OF_DAY d
   stand ← number_field (codes "stand") 0 65535 d
-  Ok (commands.Flight (Schedule record {
+  Ok (Schedule record {
     flight = flight;
     plan = plan;
     sobt = sobt;
@@ -201,7 +200,7 @@ schedule_field d = do
     exit = exit;
     exot = exot;
     stand = stand;
-  }))
+  })
 
 -- a plan comes with the first milestone alone
 abbrev pub plan_for : Milestone → Data → Result (Option FlightPlan) RequestFault
@@ -215,12 +214,12 @@ report_field d = do
   milestone ← milestone_field d
   time ← time_for milestone d
   plan ← plan_for milestone d
-  Ok (commands.Flight (Report record {
+  Ok (Report record {
     flight = flight;
     milestone = milestone;
     time = time;
     plan = plan;
-  }))
+  })
 
 -- the time of de-icing whose name stands under `field`
 unfoldable pub deicing_field : Data → Result DeicingTime RequestFault
@@ -233,7 +232,7 @@ deice_field d = do
   flight ← number_field (codes "flight") 1 most_flight d
   which ← deicing_field d
   time ← time_or_null (codes "time") d
-  Ok (commands.Flight (Deice record { flight = flight; which = which; time = time }))
+  Ok (Deice record { flight = flight; which = which; time = time })
 
 -- the flight of which the record is asked
 unfoldable pub show_field : Data → Result Command RequestFault

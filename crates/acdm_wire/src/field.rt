@@ -22,8 +22,7 @@ use acdm_milestones::{DeicingTime, Milestone};
 use acdm_record::Text;
 use acdm_slots::Kind;
 use acdm_step::{
-    Command, Deice, FlightCommand, FlightNumber, FlightPlan, MINUTES_OF_DAY, Report, Schedule,
-    Unload,
+    Command, Deice, FlightNumber, FlightPlan, MINUTES_OF_DAY, Report, Schedule, Unload,
 };
 use bpf_regstate::Length;
 use hex::FromHexError;
@@ -152,7 +151,7 @@ fn schedule_in(value: &LineJson<'_, '_>) -> Result<Command, RequestFault>
     let exit = number_in(value, "exit", 0, 255)?;
     let exot = number_in(value, "exot", 0, MINUTES_OF_DAY)?;
     let stand = number_in(value, "stand", 0, 65535)?;
-    Ok(Command::Flight(FlightCommand::Schedule(Schedule::new(
+    Ok(Command::Schedule(Schedule::new(
         flight,
         plan,
         sobt,
@@ -160,7 +159,7 @@ fn schedule_in(value: &LineJson<'_, '_>) -> Result<Command, RequestFault>
         exit as u8,
         exot as u16,
         stand as u16,
-    ))))
+    )))
 }
 
 fn plan_of(
@@ -185,7 +184,7 @@ fn report_in(value: &LineJson<'_, '_>) -> Result<Command, RequestFault>
     let milestone = milestone_in(value)?;
     let time = time_of(value, milestone)?;
     let plan = plan_of(value, milestone)?;
-    Ok(Command::Flight(FlightCommand::Report(Report::new(flight, milestone, time, plan))))
+    Ok(Command::Report(Report::new(flight, milestone, time, plan)))
 }
 
 #[tactic(auto, unfolding(crate::specs::Meant::deicing_field))]
@@ -210,11 +209,11 @@ fn deice_in(value: &LineJson<'_, '_>) -> Result<Command, RequestFault>
     let which = deicing_time_in(value)?;
     let time = time_or_null_in(value, "time")?;
     let flight = FlightNumber::new(flight);
-    Ok(Command::Flight(FlightCommand::Deice(Deice {
+    Ok(Command::Deice(Deice {
         flight,
         which,
         time,
-    })))
+    }))
 }
 
 #[tactic(auto, unfolding(crate::specs::Meant::show_field))]

@@ -5,16 +5,19 @@ use acdm_milestones::{Milestone, Role};
 use acdm_slots::Kind;
 use acdm_step::Command;
 use bpf_regstate::Length;
+use thiserror::Error;
 
 /// How many bytes a line has at most (this project's profile).
 pub const LONGEST_REQUEST: usize = 70_000;
 
 /// Why a line gave no request.
-#[derive(Clone, Copy, Debug, PartialEq, Eq)]
+#[derive(Clone, Copy, Debug, PartialEq, Eq, Error)]
 pub enum LineError {
     /// There was no memory to read it.
+    #[error("no memory")]
     Memory,
     /// It asks for nothing.
+    #[error("{0}")]
     Fault(RequestFault),
 }
 

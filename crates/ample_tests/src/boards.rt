@@ -4,7 +4,7 @@
 use acdm_board::Desk;
 use acdm_milestones::Role;
 use acdm_record::Text;
-use acdm_step::{Alerted, Command, FlightCommand, FlightPlan, Outcome, Schedule};
+use acdm_step::{Alerted, Command, FlightPlan, Outcome, Schedule};
 use bpf_helpers::{Bank, Helpers};
 use std::alloc::Global;
 use std::process::Abort;
@@ -27,7 +27,7 @@ fn scheduled(rt: &impl Abort, flight: u64) -> Command {
         destination: text(rt, "EDDM"),
     };
     let schedule = Schedule::new(flight, plan, TEN, 40, 5, 10, 12);
-    Command::Flight(FlightCommand::Schedule(schedule))
+    Command::Schedule(schedule)
 }
 
 fn outcome_of<H: Helpers + Drop>(rt: &impl Abort, desk: &mut Desk<H>, command: Command) -> Outcome {

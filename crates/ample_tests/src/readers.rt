@@ -1,6 +1,6 @@
 //! A reader that failed before, and goes on: that is no want of memory.
 use acdm_board::Desk;
-use acdm_journal::{JournalFault, audit};
+use acdm_journal::{Fault, audit};
 use acdm_sessions::{RunError, Sink, Source, run};
 use acdm_tables::{Tables, known_sigs};
 use bpf_helpers::{Bank, Helpers, Sigs};
@@ -74,7 +74,7 @@ fn audits(rt: &impl Abort, alloc: Global, sigs: &Sigs) {
     let mut reader = source_of("0 1 29000700 APT 0 0 tick\n1 1 29000700 NM 201 0 tick\n");
     assert!(rt; reader.faults() == 0);
     let first = audit(alloc, &mut reader, sigs);
-    assert!(rt; matches!(first, Err(JournalFault::Read)));
+    assert!(rt; matches!(first, Err(Fault::Read)));
     audits_on(rt, alloc, &mut reader, sigs);
 }
 

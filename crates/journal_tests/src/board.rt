@@ -28,7 +28,7 @@ static FIVE_LATER: [u8; 32] = [
 // r0 = 0, exit.
 static NOTHING: [u8; 16] = [0xb7, 0, 0, 0, 0, 0, 0, 0, 0x95, 0, 0, 0, 0, 0, 0, 0];
 
-fn sum_signature(rt: &impl Abort, alloc: Global) -> Signature
+pub(crate) fn sum_signature(rt: &impl Abort, alloc: Global) -> Signature
     ensures { result ≡ sum }
 {
     let args = vec![in alloc;

@@ -3,7 +3,7 @@
 //! Minute 29000580 is 2025-02-20T07:00Z, and 29000760 is 10:00Z of that day.
 use acdm_milestones::{DeicingTime, Milestone};
 use acdm_record::Text;
-use acdm_step::{Command, Deice, FlightCommand, FlightNumber, FlightPlan, Report, Schedule};
+use acdm_step::{Command, Deice, FlightNumber, FlightPlan, Report, Schedule};
 use std::process::Abort;
 
 pub(crate) const SEVEN: u32 = 29_000_580;
@@ -18,7 +18,7 @@ fn text<const N: usize>(rt: &impl Abort, letters: &str) -> Text<N> {
     Text::from_bytes(letters.as_bytes()).expect(rt, "a text")
 }
 
-fn plan(rt: &impl Abort) -> FlightPlan {
+pub(crate) fn plan(rt: &impl Abort) -> FlightPlan {
     FlightPlan {
         callsign: text(rt, "DLH7"),
         aircraft: text(rt, "A320"),
@@ -29,26 +29,26 @@ fn plan(rt: &impl Abort) -> FlightPlan {
 
 pub(crate) fn scheduled(rt: &impl Abort) -> Command {
     let schedule = Schedule::new(7, plan(rt), TEN, 40, 5, 10, 12);
-    Command::Flight(FlightCommand::Schedule(schedule))
+    Command::Schedule(schedule)
 }
 
 pub(crate) fn planned(rt: &impl Abort) -> Command {
     let report = Report::new(7, Milestone::FlightPlanActivated, TEN, Some(plan(rt)));
-    Command::Flight(FlightCommand::Report(report))
+    Command::Report(report)
 }
 
 /// A time of de-icing.
 pub(crate) fn deiced(which: DeicingTime, time: u32) -> Command {
     let flight = FlightNumber::new(7);
-    Command::Flight(FlightCommand::Deice(Deice {
+    Command::Deice(Deice {
         flight,
         which,
         time,
-    }))
+    })
 }
 
 /// A report of a milestone after the flight plan.
 pub(crate) fn reported(rt: &impl Abort, milestone: Milestone, time: u32) -> Command {
     assert!(rt; milestone != Milestone::FlightPlanActivated && time > 0);
-    Command::Flight(FlightCommand::Report(Report::new(7, milestone, time, None)))
+    Command::Report(Report::new(7, milestone, time, None))
 }

@@ -7,9 +7,7 @@ use acdm_journal::{
 use acdm_lines::Sink;
 use acdm_milestones::{DeicingTime, Milestone, Refusal, Role};
 use acdm_slots::Kind;
-use acdm_step::{
-    Answers, Command, Entry, FlightCommand, FlightNumber, Load, Report, Schedule, Unload, Verdict,
-};
+use acdm_step::{Answers, Command, Entry, FlightNumber, Load, Report, Schedule, Unload, Verdict};
 use bpf_decode::decode;
 use bpf_helpers::Sigs;
 use bpf_regstate::Length;
@@ -284,9 +282,7 @@ fn a_report_is_read(rt: HostRuntime) {
     );
     tells_its_head(&rt, &stated);
     match &stated.asked {
-        StatedCommand::Plain(Command::Flight(FlightCommand::Report(report))) => tells_a_report(
-            &rt, report,
-        ),
+        StatedCommand::Plain(Command::Report(report)) => tells_a_report(&rt, report),
         _ => panic!(rt; "no report"),
     }
     drop(stated);
@@ -310,7 +306,7 @@ fn a_schedule_is_read(rt: HostRuntime) {
         "0 1 29000580 APT 0 0 schedule 7 DLH7 A320 DAIBC EDDM 29000760 40 5 10 12",
     );
     match &stated.asked {
-        StatedCommand::Plain(Command::Flight(FlightCommand::Schedule(schedule))) => {
+        StatedCommand::Plain(Command::Schedule(schedule)) => {
             tells_a_schedule(&rt, schedule);
         }
         _ => panic!(rt; "no schedule"),
@@ -338,7 +334,7 @@ fn a_time_of_deicing_is_read(rt: HostRuntime) {
     let line = "0 6 29000580 DIC 0 0 deice 7 eezt 29000760";
     let stated = read(&rt, rt.alloc(), line);
     match &stated.asked {
-        StatedCommand::Plain(Command::Flight(FlightCommand::Deice(deice))) => {
+        StatedCommand::Plain(Command::Deice(deice)) => {
             same_number(&rt, deice.flight.get(), 7);
             assert!(rt; deice.which == DeicingTime::EstimatedEnd && deice.time == TEN);
         }

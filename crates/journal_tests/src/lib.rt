@@ -6,6 +6,10 @@
 #[cfg(test)]
 mod board;
 #[cfg(test)]
+mod by_value;
+#[cfg(test)]
+mod embedding;
+#[cfg(test)]
 mod fixture;
 #[cfg(test)]
 mod journal;

@@ -9,7 +9,7 @@ use acdm_milestones::{DeicingTime, Milestone, Role};
 use acdm_record::Field;
 use acdm_row::{Pass, Row};
 use acdm_step::Command;
-use acdm_watch::Watch;
+use acdm_watch::{Meet, Watch};
 use bpf_helpers::{Bank, Helpers};
 use std::alloc::Global;
 use std::process::Abort;
@@ -101,7 +101,7 @@ fn first_calls<H: Helpers + Drop>(rt: &impl Abort, table: &mut Table<H>, time: u
     let target = reported(rt, Milestone::TobtUpdate, time);
     let reply = table
         .desk
-        .call(&mut table.first, SEVEN, target)
+        .call_lent(&mut table.first, SEVEN, target)
         .expect(rt, "a reply");
     same_number(rt, reply.number, number);
 }
@@ -111,7 +111,7 @@ fn second_calls<H: Helpers + Drop>(rt: &impl Abort, table: &mut Table<H>, time: 
     let target = reported(rt, Milestone::TobtUpdate, time);
     let reply = table
         .desk
-        .call(&mut table.second, SEVEN, target)
+        .call_lent(&mut table.second, SEVEN, target)
         .expect(rt, "a reply");
     same_number(rt, reply.number, number);
 }

@@ -4,8 +4,8 @@ use acdm_milestones::{Milestone, Role};
 use acdm_record::{Field, Record, Text};
 use acdm_slots::Kind;
 use acdm_step::{
-    AlertList, Alerted, Answers, Command, Core, Entry, FlightCommand, FlightNumber, FlightPlan,
-    Load, Outcome, Report, Schedule, Unload, Verdict,
+    AlertList, Alerted, Answers, Command, Core, Entry, FlightNumber, FlightPlan, Load, Outcome,
+    Report, Schedule, Unload, Verdict,
 };
 use bpf_helpers::{Logged, Sigs};
 use std::alloc::Global;
@@ -31,12 +31,12 @@ pub(crate) fn plan(rt: &impl Abort) -> FlightPlan {
 // Flight 7, at 2025-02-20T10:00Z.
 fn scheduled(rt: &impl Abort) -> Command {
     let schedule = Schedule::new(7, plan(rt), TEN, 40, 5, 10, 12);
-    Command::Flight(FlightCommand::Schedule(schedule))
+    Command::Schedule(schedule)
 }
 
 fn planned(rt: &impl Abort) -> Command {
     let report = Report::new(7, Milestone::FlightPlanActivated, TEN, Some(plan(rt)));
-    Command::Flight(FlightCommand::Report(report))
+    Command::Report(report)
 }
 
 // A report of flight 7 without a plan.
@@ -44,7 +44,7 @@ fn reported(rt: &impl Abort, milestone: Milestone, time: u32) -> Command {
     if matches!(milestone, Milestone::FlightPlanActivated) || time == 0 {
         panic!(rt; "a plan or no time");
     }
-    Command::Flight(FlightCommand::Report(Report::new(7, milestone, time, None)))
+    Command::Report(Report::new(7, milestone, time, None))
 }
 
 // A load of these bytes, checked against these signatures.
@@ -586,11 +586,11 @@ fn answers_are_kept_in_order(rt: HostRuntime) {
     assert!(rt; Answers::none().as_slice().is_empty());
 }
 
-// With its cell, the length of those before it and what malloc adds, it takes 120 bytes of a journal.
+// With its cell and what malloc adds, it takes 104 bytes of a journal.
 #[test]
-fn an_entry_takes_88_bytes(rt: HostRuntime) {
+fn an_entry_takes_80_bytes(rt: HostRuntime) {
     let command = size_of::<Command>();
-    assert!(rt; command == 56, "a command takes {command}");
+    assert!(rt; command == 48, "a command takes {command}");
     let entry = size_of::<Entry>();
-    assert!(rt; entry == 88, "an entry takes {entry}");
+    assert!(rt; entry == 80, "an entry takes {entry}");
 }

@@ -10,8 +10,7 @@ use acdm_milestones::{
 };
 use acdm_record::{Field, Record, TextField};
 use acdm_step::{
-    Alerted, Command, Core, Deice, FlightCommand, FlightNumber, FlightPlan, Report, Schedule,
-    Verdict,
+    Alerted, Command, Core, Deice, FlightNumber, FlightPlan, Report, Schedule, Verdict,
 };
 use std::alloc::Global;
 use std::process::Abort;
@@ -51,7 +50,7 @@ fn activated(rt: &impl Abort, flight: u64) -> Command {
         panic!(rt; "no flight");
     }
     let report = Report::new(flight, Milestone::FlightPlanActivated, TEN, Some(plan(rt)));
-    Command::Flight(FlightCommand::Report(report))
+    Command::Report(report)
 }
 
 fn scheduled_at(rt: &impl Abort, flight: u64, stand: u16) -> Command {
@@ -59,7 +58,7 @@ fn scheduled_at(rt: &impl Abort, flight: u64, stand: u16) -> Command {
         panic!(rt; "no flight");
     }
     let schedule = Schedule::new(flight, plan(rt), TEN, 40, 5, 10, stand);
-    Command::Flight(FlightCommand::Schedule(schedule))
+    Command::Schedule(schedule)
 }
 
 // A TOBT, or none, which is told as CDM10.
@@ -68,7 +67,7 @@ fn with_tobt(rt: &impl Abort, flight: u64, tobt: u32) -> Command {
         panic!(rt; "no flight");
     }
     let report = Report::new(flight, Milestone::TobtUpdate, tobt, None);
-    Command::Flight(FlightCommand::Report(report))
+    Command::Report(report)
 }
 
 // A time of de-icing.
@@ -76,11 +75,11 @@ fn deiced(rt: &impl Abort, flight: u64) -> Command {
     if flight == 0 {
         panic!(rt; "no flight");
     }
-    Command::Flight(FlightCommand::Deice(Deice {
+    Command::Deice(Deice {
         flight: FlightNumber::new(flight),
         which: DeicingTime::ActualEnd,
         time: TEN,
-    }))
+    })
 }
 
 // The place of a flight's record, or how many there are.
@@ -93,12 +92,13 @@ fn place_in(records: &[Record], flight: u64) -> usize {
     records.len()
 }
 
-// The flight that a command changes.
-fn flight_of(command: &FlightCommand) -> u64 {
+// The flight that a command changes. Only those that change one come here.
+fn flight_of(rt: &impl Abort, command: &Command) -> u64 {
     match command {
-        FlightCommand::Schedule(schedule) => schedule.flight(),
-        FlightCommand::Report(report) => report.flight(),
-        FlightCommand::Deice(deice) => deice.flight.get(),
+        Command::Schedule(schedule) => schedule.flight(),
+        Command::Report(report) => report.flight(),
+        Command::Deice(deice) => deice.flight.get(),
+        _ => panic!(rt; "a change of no flight"),
     }
 }
 
@@ -148,16 +148,18 @@ fn refusal_of_deice(role: Role) -> Refusal {
 
 // Why a command is refused, if it is.
 fn refusal_of(
+    rt: &impl Abort,
     record: &Record,
     is_new: bool,
     count: usize,
     role: Role,
-    command: &FlightCommand,
+    command: &Command,
 ) -> Option<Refusal> {
     match command {
-        FlightCommand::Schedule(_) => refusal_of_schedule(record, is_new, count, role),
-        FlightCommand::Report(report) => refusal_of_report(record, is_new, count, role, report),
-        FlightCommand::Deice(_) => Some(refusal_of_deice(role)),
+        Command::Schedule(_) => refusal_of_schedule(record, is_new, count, role),
+        Command::Report(report) => refusal_of_report(record, is_new, count, role, report),
+        Command::Deice(_) => Some(refusal_of_deice(role)),
+        _ => panic!(rt; "a change of no flight"),
     }
 }
 
@@ -205,14 +207,14 @@ fn touch(record: &mut Record, moment: u32) {
 
 // What an accepted schedule or report does to a record, where no program is loaded. No time of
 // de-icing is accepted.
-fn change(record: &mut Record, moment: u32, command: &FlightCommand) {
+fn change(record: &mut Record, moment: u32, command: &Command) {
     match command {
-        FlightCommand::Schedule(schedule) => {
+        Command::Schedule(schedule) => {
             set_scheduled(record, schedule.plan());
             set_numbers(record, schedule);
         }
-        FlightCommand::Report(report) => set_reported(record, report),
-        FlightCommand::Deice(_) => (),
+        Command::Report(report) => set_reported(record, report),
+        _ => (),
     }
     touch(record, moment);
 }
@@ -240,13 +242,13 @@ fn walked(
     records: &mut Vec<Record>,
     role: Role,
     moment: u32,
-    command: &FlightCommand,
+    command: &Command,
 ) -> Verdict {
-    let flight = flight_of(command);
+    let flight = flight_of(rt, command);
     let place = place_in(records.as_slice(), flight);
     let count = records.len();
     let mut record = record_at(records.as_slice(), place, flight);
-    if let Some(refusal) = refusal_of(&record, place == count, count, role, command) {
+    if let Some(refusal) = refusal_of(rt, &record, place == count, count, role, command) {
         return Verdict::Refused(refusal);
     }
     change(&mut record, moment, command);
@@ -263,11 +265,8 @@ fn both(
     moment: u32,
     command: &Command,
 ) -> bool {
-    let Command::Flight(change) = command else {
-        panic!(rt; "a change of no flight");
-    };
     let verdict = done(rt, core, role, moment, command).verdict();
-    verdict == walked(rt, records, role, moment, change)
+    verdict == walked(rt, records, role, moment, command)
 }
 
 // A tick on both.

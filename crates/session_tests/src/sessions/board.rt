@@ -18,7 +18,7 @@ struct Talk {
     replies: &'static str,
 }
 
-static TALKS: [Talk; 9] = [
+static TALKS: [Talk; 10] = [
     Talk {
         shows: "no alert and the whole record",
         first: START,
@@ -100,17 +100,25 @@ alerts 3 -
         first: "",
         lines: r#"1 29000579 APT {"cmd":"schedule","flight":7,"callsign":"DLH7","type":"A320","reg":"DAIBC","dest":"EDDM","sobt":"2025-02-20T10:00:00Z","mttt":40,"exit":5,"exot":10,"stand":12}
 1 29000579 APT {"cmd":"alerts"}
-2 29000580 NM {"cmd":"tick"}
-1 29000580 APT {"cmd":"alerts"}
 1 29000580 APT {"cmd":"tick"}
 1 29000580 APT {"cmd":"alerts"}
 "#,
         replies: r#"ok 0
 alerts 1 -
-no 2 201
-alerts 3 -
-ok 4
-alerts 5 7:CDM13
+ok 2
+alerts 3 7:CDM13
+"#,
+    },
+    Talk {
+        shows: "a tick of another role tells nothing",
+        first: "",
+        lines: r#"1 29000579 APT {"cmd":"schedule","flight":7,"callsign":"DLH7","type":"A320","reg":"DAIBC","dest":"EDDM","sobt":"2025-02-20T10:00:00Z","mttt":40,"exit":5,"exot":10,"stand":12}
+2 29000580 NM {"cmd":"tick"}
+1 29000580 APT {"cmd":"alerts"}
+"#,
+        replies: r#"ok 0
+no 1 201
+alerts 2 -
 "#,
     },
     Talk {

@@ -1,9 +1,15 @@
 //! Sessions on threads of their own, over one desk.
+ghost use Rattle.std.specs.Prelude.{◌≡◌};
+ghost use Rattle.std.specs.List.{All};
+ghost use Rattle.acdm_board.specs.Desk.{row_of};
+
 use crate::sessions::replies_of;
 use acdm_board::Desk;
 use acdm_milestones::Role;
 use acdm_record::Field;
+use acdm_row::{Pass, Row};
 use acdm_sessions::{Clock, Closed, End, EndedSession, Gate, Session, Sink, Source, run_sessions};
+use acdm_watch::{Meet, Watch, Watched};
 use bpf_helpers::{Bank, Helpers};
 use std::alloc::Global;
 use std::io::{self, Cursor, Read, Write};
@@ -260,11 +266,13 @@ fn closed_by<H: Helpers + Drop + Send, R, W, G: Gate + Sync, Rt: Threads + Wait 
 where
     R: Read + Drop + Send,
     W: Write + Drop + Send,
+    ensures { All (λ e. e.pass.row ≡ row_of result.desk) result.sessions.items }
 {
     assert!(rt; sessions.len() <= 64);
-    run_sessions(rt, alloc, desk, sessions, gate)
-        .ok()
-        .expect(rt, "memory for the sessions")
+    let Ok(closed) = run_sessions(rt, alloc, desk, sessions, gate) else {
+        panic!(rt; "no memory for the sessions");
+    };
+    closed
 }
 
 // The session and the minute of an entry.
@@ -324,7 +332,9 @@ fn both_meet<H: Helpers + Drop + Send, W: Write + Drop + Send, Rt: Threads + Wai
     helpers: H,
     gate: &Meeting,
     sessions: Vec<Opened<W>>,
-) -> Stands<H, W> {
+) -> Stands<H, W>
+    ensures { All (λ e. e.pass.row ≡ row_of result.desk) result.sessions.items }
+{
     let desk = begun(rt, alloc, helpers, 10);
     closed_by(rt, alloc, desk, sessions, gate)
 }
@@ -369,6 +379,94 @@ fn meet<H: Helpers + Drop + Send, Rt: Threads + Wait + Abort + Sync>(
 fn two_sessions_call_one_desk(rt: HostRuntime) {
     let alloc = rt.alloc();
     meet(&rt, alloc, Bank::new(alloc).expect(&rt, "a bank"));
+}
+
+// One look of a watch without a pass, and whether it took an entry.
+fn looks(rt: &impl Abort, watch: &mut Watch, row: &Row, wanted: bool)
+    requires { row.now ≡ watch.old.row }
+    ensures { watch.new.row ≡ watch.old.row }
+{
+    let took = watch.advance(row, None).expect(rt, "memory");
+    assert!(rt; took == wanted);
+}
+
+// One look of a watch with a pass that has seen more.
+fn follows(rt: &impl Abort, watch: &mut Watch, row: &Row, pass: &mut Pass)
+    requires row { row.now ≡ watch.old.row }
+    requires same { pass.old.row ≡ watch.old.row }
+    ensures row { watch.new.row ≡ watch.old.row }
+    ensures pass { pass.new ≡ pass.old }
+{
+    let took = watch.advance(row, Some(pass)).expect(rt, "memory");
+    assert!(rt; took);
+}
+
+// A watch that looks until nothing is in sight shows all four entries, and has seen as much as the pass
+// of session 2, which is three.
+fn shows_all<H: Helpers + Drop>(rt: &impl Abort, desk: &Desk<H>, pass: &mut Pass)
+    requires { pass.old.row ≡ row_of desk.now }
+    ensures { pass.new ≡ pass.old }
+{
+    let row = Arc::try_clone(desk.row()).expect(rt, "the row");
+    let mut watch = desk.row().watch().expect(rt, "a watch");
+    looks(rt, &mut watch, &row, true);
+    looks(rt, &mut watch, &row, true);
+    looks(rt, &mut watch, &row, true);
+    looks(rt, &mut watch, &row, true);
+    looks(rt, &mut watch, &row, false);
+    assert!(rt; watch.len() == 4);
+    let flight = watch.board().record_of(7).expect(rt, "the flight");
+    assert!(rt; flight.get(Field::Tobt) == 29_000_765);
+    assert!(rt; watch.meet(pass) == 3);
+}
+
+// A new watch takes three entries by the pass of session 2.
+fn shows_those<H: Helpers + Drop>(rt: &impl Abort, desk: &Desk<H>, pass: &mut Pass)
+    requires { pass.old.row ≡ row_of desk.now }
+{
+    let row = Arc::try_clone(desk.row()).expect(rt, "the row");
+    let mut watch = desk.row().watch().expect(rt, "a watch");
+    follows(rt, &mut watch, &row, pass);
+    follows(rt, &mut watch, &row, pass);
+    follows(rt, &mut watch, &row, pass);
+    assert!(rt; watch.len() == 3 && watch.meet(pass) == 3);
+}
+
+// The session that has ended last, with its pass.
+fn last_pass<H: Helpers + Drop>(
+    rt: &impl Abort,
+    closed: &mut Stands<H, Vec<u8>>,
+    number: u8,
+) -> Pass
+    requires { All (λ e. e.pass.row ≡ row_of closed.old.desk) closed.old.sessions.items }
+    ensures { result.row ≡ row_of closed.new.desk }
+{
+    let Some(left) = closed.sessions.pop() else {
+        panic!(rt; "no session");
+    };
+    assert!(rt; left.number == number && left.end() == End::End);
+    let EndedSession { pass, .. } = left;
+    pass
+}
+
+fn watches_meet<H: Helpers + Drop + Send, Rt: Threads + Wait + Abort + Sync>(
+    rt: &Rt,
+    alloc: Global,
+    helpers: H,
+) {
+    let gate = Meeting::new();
+    let sessions = both(rt, alloc, Vec::new(alloc), Vec::new(alloc));
+    let mut closed = both_meet(rt, alloc, helpers, &gate, sessions);
+    let mut pass = last_pass(rt, &mut closed, 2);
+    shows_all(rt, &closed.desk, &mut pass);
+    shows_those(rt, &closed.desk, &mut pass);
+    drop(closed);
+}
+
+#[test]
+fn watches_meet_the_pass_of_a_session(rt: HostRuntime) {
+    let alloc = rt.alloc();
+    watches_meet(&rt, alloc, Bank::new(alloc).expect(&rt, "a bank"));
 }
 
 // The writer of session 2 fails at its first write, and its entry stands all the same.

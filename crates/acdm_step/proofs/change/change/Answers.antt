@@ -1,6 +1,5 @@
 use Rattle.std.proofs.Common.{ap, ◌∙◌}
 use Rattle.bpf_helpers.proofs.OracleLemmas.{unasked}
-use Rattle.acdm_step.specs.declared.command.Command.TheVariants as commands
 use Rattle.acdm_step.specs.Commands.{is_deice}
 use Rattle.acdm_step.proofs.Long.{length_160}
 use Rattle.acdm_step.proofs.Runs.{changes_scheduled, changes_deiced}
@@ -24,4 +23,4 @@ returns-in-Deice-clause-changed g c =
 pub set_deiced-requires : goal.set_deiced-requires
 set_deiced-requires g c =
     c.requires.long ∙ length_160 c.args.slots.now.record_length
-    (c.requires.second (ap (λ k. is_deice (commands.Flight k)) c.in-Deice.is))
+    (c.requires.second (ap is_deice c.in-Deice.is))

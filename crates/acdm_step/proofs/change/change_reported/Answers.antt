@@ -6,8 +6,7 @@ use Rattle.acdm_slots.specs.declared.kind.Kind.TheVariants.{Tobt, Alert}
 use Rattle.acdm_slots.specs.Loaded.{program_in}
 use Rattle.acdm_step.specs.Facts.{ReportFacts}
 use Rattle.acdm_step.specs.declared.command.Command.{Command}
-use Rattle.acdm_step.specs.declared.command.Command.TheVariants as commands
-use Rattle.acdm_step.specs.declared.command.FlightCommand.TheVariants.{Report}
+use Rattle.acdm_step.specs.declared.command.Command.TheVariants.{Report}
 use Rattle.acdm_step.specs.Board.{programs_on}
 use Rattle.acdm_step.specs.Running.{EndsIn}
 use Rattle.acdm_step.proofs.Runs.{changes_to}
@@ -15,7 +14,7 @@ use Rattle.acdm_step.proofs.change.change_reported.Goals as goal
 
 pub returns-clause-changed : goal.returns-clause-changed
 returns-clause-changed g c =
-    let command : Command = commands.Flight (Report c.args.report.now) in
+    let command : Command = Report c.args.report.now in
     let from : OracleView = g.O.Oracle.view c.args.oracle.now in
     let to : OracleView = g.O.Oracle.view c.run_programs.new.oracle in
     let same = ap (λ (r : ReportFacts). r.milestone) c.report.view_is in

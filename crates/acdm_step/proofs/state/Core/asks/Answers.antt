@@ -2,8 +2,6 @@ use Rattle.std.proofs.Common.{◌≡◌, ◌||◌, ap, sym, ◌∙◌}
 use Rattle.acdm_slots.specs.Loaded.{program_in}
 use Rattle.acdm_slots.specs.declared.kind.Kind.TheVariants.{Tobt, Alert}
 use Rattle.acdm_step.specs.Facts.{ReportFacts}
-use Rattle.acdm_step.specs.declared.command.FlightCommand.{FlightCommand}
-use Rattle.acdm_step.specs.declared.command.Command.TheVariants as commands
 use Rattle.acdm_step.specs.InSlots as slots_in
 use Rattle.acdm_step.specs.InSlots.{slots_of, may_ask, asks_in}
 use Rattle.acdm_step.specs.History.{Board}
@@ -19,7 +17,6 @@ returns-in-Report c sigs J eq =
     ∙ ap (λ l. may_ask (program_in l m Tobt) || may_ask (program_in l m Alert)) is
     ∙ ap (λ b. b || may_ask (program_in (slots_of sigs J) m Alert)) (may_ask-replay sigs J m Tobt)
     ∙ ap (λ b. may_ask (slots_in.program_in J m Tobt) || b) (may_ask-replay sigs J m Alert)
-    ∙ sym (ap (asks_in J) c.in-Flight.is
-    ∙ ap (λ (k : FlightCommand). asks_in J (commands.Flight k)) c.in-Report.is
+    ∙ sym (ap (asks_in J) c.in-Report.is
     ∙ ap (λ (r : ReportFacts). may_ask (slots_in.program_in J r.milestone Tobt)
     || may_ask (slots_in.program_in J r.milestone Alert)) (sym c.report.view_is))
