@@ -3,8 +3,8 @@
 
     python3 bench/feed/check.py JOURNAL [FEED]
 
-FEED is what a display was sent of the entries of that journal; without it the feed that the model writes is checked by the
-schema alone. The library is `python3-jsonschema`. The status is 1 where a line differs or does not fit.
+FEED is what a display was sent of the entries of that journal, with lines of the journal or its board before and between them or
+without; without FEED the feed that the model writes is checked by the schema alone. The library is `python3-jsonschema`. The status is 1 where a line differs or does not fit.
 """
 
 import json
@@ -22,14 +22,16 @@ def faults(journal, feed):
     """What is wrong with a feed, given as lines of text, or with that of the model."""
     validator = Draft202012Validator(json.loads(SCHEMA.read_text()))
     wanted = [text_of(line) for line in lines(journal)]
-    found = wanted if feed is None else feed
+    told = wanted if feed is None else feed
+    for line in told:
+        for error in validator.iter_errors(json.loads(line)):
+            yield f"{error.json_path}: {error.message}\n{line}"
+    found = [line for line in told if not line.startswith('{"journal":')]
     if len(found) != len(wanted):
         yield f"{len(found)} lines, and the model has {len(wanted)}"
     for line, model in zip(found, wanted):
         if line != model:
             yield f"differs:\n{line}{model}"
-        for error in validator.iter_errors(json.loads(line)):
-            yield f"{error.json_path}: {error.message}\n{line}"
 
 
 def main():

@@ -4,13 +4,15 @@
     python3 bench/feed/listen.py [--program PATH] [--lines N]
 
 Five partners play examples/day.txt and then send N lines more (400). Meanwhile clients listen: one that says nothing, one that says `from 0`,
-one from an entry in the middle, one from an entry that is not there yet, one that begins with the board, one that is cut off at 40
-moments by chance and goes on `from N` each time, and one that never reads. What they were sent is held against `acdm tell` of the saved
-journal; a board against what its lines made of the records before it. A first line that asks for nothing is let go. The clients of
+two from entries that are not there yet, one that begins with the board, one that is cut off at 40 moments by chance and goes on `from N`
+each time, and one that never reads; at the end some from an entry in the middle, from the one that comes next and from one behind it.
+What they were sent is held against `acdm tell` of the saved journal, with its name by its first line; a board against what its lines made
+of the records before it. A first line that asks for nothing is let go. The clients of
 clients/ are run against the same server. The last line is `N cases, M failed`; the status is 1 where one failed.
 """
 
 import argparse
+import hashlib
 import importlib.util
 import json
 import pathlib
@@ -34,6 +36,7 @@ SPEC.loader.exec_module(clients)
 
 ROLES = ["APT", "NM", "ATC", "AO", "GH", "AO", "AO"]
 QUESTION = '{"cmd":"alerts"}'
+ENTRIES = 100_000
 
 
 def free_port():
@@ -60,6 +63,24 @@ def all_of(stream):
     return data
 
 
+def is_head(line):
+    """Whether a line is that of a journal or of its board."""
+    return line.startswith(b'{"journal":')
+
+
+def head(name, begun):
+    """The line of a journal for who is sent the entries from this number on."""
+    return json.dumps({"journal": name, "next": begun, "room": ENTRIES}, separators=(",", ":")).encode("ascii")
+
+
+def next_of(port):
+    """The number of the entry that comes next, by the line of the board."""
+    stream = connect(port, b"board\n")
+    line = stream.makefile("rb").readline()
+    stream.close()
+    return json.loads(line)["next"]
+
+
 class Listener(threading.Thread):
     """A client that is sent all to the end."""
 
@@ -76,11 +97,12 @@ class Cut(threading.Thread):
 
     def __init__(self, port, chance, cuts):
         super().__init__(daemon=True)
-        self.port, self.chance, self.cuts, self.lines = port, chance, cuts, []
+        self.port, self.chance, self.cuts, self.lines, self.heads = port, chance, cuts, [], []
 
     def run(self):
         while True:
-            stream = connect(self.port, f"from {len(self.lines)}\n".encode())
+            asked = len(self.lines)
+            stream = connect(self.port, f"from {asked}\n".encode())
             stream.settimeout(5)
             rest, left = b"", self.chance.randrange(200, 60_000) if self.cuts else 1 << 60
             self.cuts -= 1
@@ -93,13 +115,15 @@ class Cut(threading.Thread):
                     return
                 left -= len(came)
                 *whole, rest = (rest + came).split(b"\n")
-                self.lines += whole
+                self.heads += [(asked, it) for it in whole if is_head(it)]
+                self.lines += [it for it in whole if not is_head(it)]
             stream.close()
 
 
 def boards(data):
     """What a client that began with the board has: the entry that came next then, and the records it knows at the end."""
     first, *rest = data.splitlines()
+    rest = [line for line in rest if not is_head(line)]
     board = clients.Board()
     board.take(json.loads(first))
     begun = board.next
@@ -196,23 +220,36 @@ def main():
         late.join()
         refused(cases, port)
         playing.join()
+        count = next_of(port)
         last = Listener(port, b"board\n")
-        last.start()
+        behind = {it: Listener(port, f"from {it}\n".encode()) for it in (1, 30, count - 1, count, count + 1)}
+        for it in (last, *behind.values()):
+            it.start()
         time.sleep(0.3)
         for partner in partners.values():
             partner.close()
-        for it in (*first, board, last, cut):
+        for it in (*first, board, last, *behind.values(), cut):
             it.join(30)
         cases.same("status", str(server.wait(60)), "0")
         never.close()
         told = subprocess.run([str(words.program), "tell", str(saved)], capture_output=True, check=True).stdout
+        named = hashlib.sha256(saved.read_bytes().split(b"\n")[0]).hexdigest()[:32]
     lines = told.splitlines()
     cases.case("entries", "" if len(lines) >= words.lines else f"{len(lines)}")
-    for name, it, at in (("nothing", first[0], 0), ("from 0", first[1], 0), ("from 30", first[2], 30), ("from 300", first[3], 300)):
-        cases.same(f"asked {name}", it.data.decode("ascii"), b"".join(line + b"\n" for line in lines[at:]).decode("ascii"))
+    cases.same("all entries are there at the end", str(len(lines)), str(count))
+    from_on = [("nothing", first[0], 0), ("from 0", first[1], 0), *((f"from {at}", it, at) for at, it in behind.items() if at <= count)]
+    for name, it, at in from_on:
+        wanted = [head(named, at), *lines[at:]]
+        cases.same(f"asked {name}", it.data.decode("ascii"), b"".join(line + b"\n" for line in wanted).decode("ascii"))
     cases.same("cut off", str(cut.lines == lines), "True")
-    for name, it in (("board in the middle", board), ("board at the end", last)):
+    cases.case("cut off: the journal each time", [it for it in cut.heads if it[1] != head(named, it[0])])
+    cases.same("beyond the end: the board", behind[count + 1].data.decode("ascii"), last.data.decode("ascii"))
+    early = [("from 30 at once", first[2]), ("from 300 at once", first[3])]
+    for name, it in (("board in the middle", board), ("board at the end", last), *early):
         begun, flights, rest = boards(it.data)
+        heads = [line for line in it.data.splitlines()[1:] if is_head(line)]
+        cases.same(f"{name}: the journal behind an empty board alone", str(heads), str([] if begun else [head(named, 0)]))
+        cases.same(f"{name}: the name", json.loads(it.data.splitlines()[0])["journal"], named if begun else "")
         cases.same(f"{name}: as many lines as entries since", str(rest), str(len(lines) - begun))
         cases.case(f"{name}: records then", json.loads(it.data.splitlines()[0])["flights"] != [*known(lines, begun).values()])
         cases.case(f"{name}: records at the end", flights != known(lines))

@@ -5,6 +5,7 @@ A text of a time stands here as a reader writes it; the minutes beside them are 
 """
 
 import calendar
+import hashlib
 import json
 import time
 
@@ -304,11 +305,22 @@ MOMENTS = [
     for place, (text, minute) in enumerate(DAYS)
 ]
 
-# ---- the line of the board: a journal, and the records that it ends with, in order of creation, of layout 1 and then of layout 2
+# ---- the line of a journal for who is sent the entries from this number on, and that of a board: a journal, and the records that it ends
+# with, in order of creation, of layout 1 and then of layout 2
 
 
-def board(entries, flights, room=100_000):
-    return json.dumps({"next": entries, "room": room, "flights": flights}, separators=(",", ":")) + "\n"
+def name_of(journal):
+    """The name of a journal: the first 16 bytes of the SHA-256 of its first line, without the line feed."""
+    return hashlib.sha256(journal[0].encode("ascii")).hexdigest()[:32] if journal else ""
+
+
+def journal_line(journal, begun, room=100_000):
+    return json.dumps({"journal": name_of(journal), "next": begun, "room": room}, separators=(",", ":")) + "\n"
+
+
+def board(journal, flights, room=100_000):
+    told = {"journal": name_of(journal), "next": len(journal), "room": room, "flights": flights}
+    return json.dumps(told, separators=(",", ":")) + "\n"
 
 
 LATE = {"scheduled_type": "B738", "scheduled_reg": "GABCD", "scheduled_dest": "EGLL", "sobt": "2025-02-20T11:00:00Z"}
@@ -331,12 +343,12 @@ ORDERED_FLIGHTS = [
 ]
 WINTER = ["6 1 29000700 APT 0 0 migrate", "7 6 29000700 DIC 0 0 deice 9 eezt 29000761"]
 BOARDS = [
-    ("no entry", [], board(0, [])),
-    ("four flights", ORDERED, board(6, [record(*it[:4], **it[4]) for it in ORDERED_FLIGHTS])),
+    ("no entry", [], board([], [])),
+    ("four flights", ORDERED, board(ORDERED, [record(*it[:4], **it[4]) for it in ORDERED_FLIGHTS])),
     (
         "four flights of layout 2",
         ORDERED + WINTER,
-        board(8, [record(*it[:4], 2, **it[4], **({"eezt": "2025-02-20T10:01:00Z"} if it[0] == 9 else {})) for it in ORDERED_FLIGHTS]),
+        board(ORDERED + WINTER, [record(*it[:4], 2, **it[4], **({"eezt": "2025-02-20T10:01:00Z"} if it[0] == 9 else {})) for it in ORDERED_FLIGHTS]),
     ),
 ]
 

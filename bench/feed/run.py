@@ -3,10 +3,10 @@
 
     python3 bench/feed/run.py [--program PATH] [--model]
 
-Rows (rows.py), the line of the board that a display of `serve --changes` asks for, the journals of examples/ by the model (feed.py), the feed of each of them by docs/schema/feed.json, and all lines of
-partners in examples/ by docs/schema/lines.json. With --model the model is held against the rows instead. The schemas need
-`python3-jsonschema`; without it they are left out, and that is said. The last line is `N cases, M failed`; the status is 1 where one
-failed.
+Rows (rows.py), the lines of the board and of the journal that displays of `serve --changes` ask for, the journals of examples/ by the
+model (feed.py), the feed of each of them by docs/schema/feed.json, and all lines of partners in examples/ by docs/schema/lines.json.
+With --model the model is held against the rows instead. The schemas need `python3-jsonschema`; without it they are left out, and that is
+said. The last line is `N cases, M failed`; the status is 1 where one failed.
 """
 
 import argparse
@@ -102,8 +102,8 @@ def full_board(cases, tell):
     cases.same("a full board: status", str(status), "0")
 
 
-def board_by(program, journal):
-    """The line of the board that a display is sent, where the board goes on from a journal."""
+def first_lines(program, journal, asked):
+    """The first line that a display is sent for each of these first lines, where a board goes on from a journal."""
     with tempfile.TemporaryDirectory() as room, socket.create_server(("127.0.0.1", 0)) as free:
         port, kept = free.getsockname()[1], pathlib.Path(room) / "kept"
         free.close()
@@ -112,16 +112,29 @@ def board_by(program, journal):
         with subprocess.Popen(words, stdout=subprocess.PIPE, stderr=subprocess.DEVNULL) as serving:
             serving.stdout.readline()
             try:
-                with socket.create_connection(("127.0.0.1", port), timeout=20) as display:
-                    display.sendall(b"board\n")
-                    return display.makefile("r", encoding="ascii", newline="\n").readline()
+                return [first_line(port, it) for it in asked]
             finally:
                 serving.kill()
 
 
-def boards(cases, program):
+def first_line(port, asked):
+    with socket.create_connection(("127.0.0.1", port), timeout=20) as display:
+        display.sendall(f"{asked}\n".encode("ascii"))
+        return display.makefile("r", encoding="ascii", newline="\n").readline()
+
+
+def boards(cases, program, check):
+    """The line of the board, and that of the journal: for who asks from 0 on, at the last entry, behind it and beyond it."""
     for name, journal, wanted in rows.BOARDS:
-        cases.same(f"the board: {name}", board_by(program, journal), wanted)
+        count = len(journal)
+        rows_of_it = [("board", wanted), (f"from {count + 1}", wanted), (f"from {2**64 - 1}", wanted)]
+        if journal:
+            rows_of_it += [(f"from {it}", rows.journal_line(journal, it)) for it in (0, 1, count - 1, count)]
+        found = first_lines(program, journal, [it for it, _ in rows_of_it])
+        for (asked, line), it in zip(rows_of_it, found):
+            cases.same(f"{name}: {asked}", it, line)
+            if check:
+                cases.case(f"{name}: {asked}: by the schema", check(json.loads(it)))
 
 
 def examples(cases, tell, check):
@@ -164,7 +177,7 @@ def main():
     rows_of(cases, tell)
     full_board(cases, tell)
     if not words.model:
-        boards(cases, words.program)
+        boards(cases, words.program, feed)
     examples(cases, tell, feed)
     if asked:
         partners(cases, asked)

@@ -10,7 +10,7 @@ use Rattle.acdm_judging.specs.declared.failure.Failure.{Failure}
 use Rattle.acdm_judging.specs.declared.failure.Failure.TheVariants.{Save, Memory}
 use Rattle.acdm_feed.specs.declared.known.Known.{Known}
 use Rattle.acdm_feed.specs.Knowing.{Knows}
-use Rattle.acdm_feed.specs.Resumed.{IsFront, board_text, feed_from}
+use Rattle.acdm_feed.specs.Resumed.{IsFront, board_text, feed_from, journal_line, journal_since, journal_text}
 use Rattle.acdm_feed.specs.Told.{told}
 use Rattle.acdm_web.specs.Answers.{events_head}
 use Rattle.acdm_web.specs.Events.{event_text}
@@ -19,11 +19,12 @@ use Rattle.acdm_displays.specs.declared.asked.Start.{Start}
 use Rattle.acdm_displays.specs.declared.asked.Start.TheVariants as starts
 use Rattle.acdm_displays.specs.Within.{IsAsKept, IsWithin}
 
--- Where what a teller tells has begun: behind these bytes, with the entry of this number, and after these
--- entries.
+-- Where what a teller tells has begun: behind these bytes, with the entry of this number, in a row with room
+-- for so many, and after these entries.
 pub record Begun : Type 0 where
   pub before : List ℕ
   pub from : ℕ
+  pub room : ℕ
   pub front : History
 
 -- What a teller has told, since it has begun so, of what was seen, up to these bytes.
@@ -59,38 +60,64 @@ pub record Took {W X : Type 0} (Says : List Entry → List ℕ → List ℕ → 
 abbrev pub SaysJournal : List Entry → List ℕ → List ℕ → Type 0
 SaysJournal seen before log = Saves (reverse seen) before log
 
--- The feed from an entry on was told, since it has begun so, and what is known is that of the board.
-pub record TellsFrom (known : Known) (from : ℕ) (seen : List Entry) (start : Begun) (log : List ℕ)
+-- what is told behind these first entries: the line of the journal, where there are none of them and it has
+-- an entry, and the feed from the entry of a number on
+abbrev pub feed_since : History → ℕ → ℕ → History → List ℕ
+feed_since K n room J = journal_since K n room J ++ feed_from n J
+
+-- That was told, since it has begun so, and what is known is that of the board.
+pub record TellsFrom (known : Known) (from room : ℕ) (seen : List Entry) (start : Begun) (log : List ℕ)
     : Type 0 where
   pub knows : Knows (reverse seen) known
   pub from_is : from ≡ start.from
+  pub room_is : room ≡ start.room
   pub front : IsFront start.front (reverse seen)
-  pub told : log ≡ start.before ++ feed_from start.from (reverse seen)
+  pub told : log ≡ start.before ++ feed_since start.front start.from start.room (reverse seen)
 
-abbrev pub at_entry : List ℕ → ℕ → Begun
-at_entry before n = record { before = before; from = n; front = [] }
+-- with the entry behind these, and the line of the journal before it, if there is one of them
+abbrev pub at_entry : ℕ → List ℕ → History → Begun
+at_entry room before K = record {
+  before = before ++ journal_line (length K) room K;
+  from = length K;
+  room = room;
+  front = K;
+}
 
+-- with the line of the board of these
 abbrev pub at_board : ℕ → List ℕ → History → Begun
 at_board room before K = record {
   before = before ++ board_text room K;
   from = length K;
+  room = room;
   front = K;
 }
 
--- A teller has begun: with the entry of a number, or with the line of the board of what was seen, in a row
--- with room for so many entries.
-abbrev pub Begins : ℕ → Start → Known → ℕ → List Entry → List ℕ → List ℕ → Type 0
-Begins room (starts.Entry n) known from seen before log =
-    TellsFrom known from seen (at_entry before n) log
-Begins room starts.Board known from seen before log =
-    TellsFrom known from seen (at_board room before (reverse seen)) log
+-- A teller has begun: with the entry of a number, where all before it were seen, or with the line of the board
+-- of what was seen, in a row with room for so many entries.
+abbrev pub Begins : ℕ → Start → Known → ℕ → ℕ → List Entry → List ℕ → List ℕ → Type 0
+Begins room (starts.Entry n) known from room_told seen before log =
+    ((length seen ≡ n) × TellsFrom known from room_told seen (at_entry room before (reverse seen)) log)
+    ⊎ ((length seen < n) × TellsFrom known from room_told seen (at_board room before (reverse seen)) log)
+Begins room starts.Board known from room_told seen before log =
+    TellsFrom known from room_told seen (at_board room before (reverse seen)) log
 
--- the feed from the entry of a number on; or the line of the board after some first entries, and the feed
--- from there on
+-- the line of the journal, as soon as it has an entry, and the feed from the entry of a number on
+abbrev pub named_feed : ℕ → ℕ → History → List ℕ
+named_feed n room J = journal_line n room J ++ feed_from n J
+
+-- the line of the board after these first entries, and what is told behind them
+abbrev pub board_feed : History → ℕ → History → List ℕ
+board_feed K room J = board_text room K ++ feed_since K (length K) room J
+
+-- The feed from the entry of a number on; or, where fewer entries were in sight first, the line of their board,
+-- and the feed behind them, as where the board is asked for.
 abbrev pub SaysFeed : ℕ → Start → List Entry → List ℕ → List ℕ → Type 0
-SaysFeed room (starts.Entry n) seen before log = log ≡ before ++ feed_from n (reverse seen)
+SaysFeed room (starts.Entry n) seen before log =
+    ((n ≤ length seen) × (log ≡ before ++ named_feed n room (reverse seen)))
+    ⊎ ((K : History) × IsFront K (reverse seen) × (length K < n)
+    × (log ≡ before ++ board_feed K room (reverse seen)))
 SaysFeed room starts.Board seen before log = (K : History) × IsFront K (reverse seen)
-    × (log ≡ (before ++ board_text room K) ++ feed_from (length K) (reverse seen))
+    × (log ≡ before ++ board_feed K room (reverse seen))
 
 abbrev pub WasSent : {W X : Type 0} → RowView → Option X → List ℕ → Shown W → Type 0
 WasSent = Took SaysJournal
@@ -113,18 +140,45 @@ events_from n (e ∷ J) = events_from n J
 abbrev pub board_event : ℕ → History → List ℕ
 board_event room K = event_text (length K) (board_text room K)
 
--- The events from an entry on were told, since it has begun so, and what is known is that of the board.
-pub record EventsFrom (known : Known) (from : ℕ) (seen : List Entry) (start : Begun) (log : List ℕ)
+-- the event of the journal, as soon as it has an entry, for a browser for which the entry of a number comes next
+abbrev pub journal_event : ℕ → ℕ → History → List ℕ
+journal_event n room [] = []
+journal_event n room (e ∷ J) = event_text n (journal_text n room (e ∷ J))
+
+-- that event, where none of the entries was passed over before
+abbrev pub journal_event_since : History → ℕ → ℕ → History → List ℕ
+journal_event_since [] n room J = journal_event n room J
+journal_event_since (e ∷ K) n room J = []
+
+-- what is told behind these first entries: the event of the journal, where there are none of them and it has an
+-- entry, and the events from the entry of a number on
+abbrev pub events_since : History → ℕ → ℕ → History → List ℕ
+events_since K n room J = journal_event_since K n room J ++ events_from n J
+
+-- That was told, since it has begun so, and what is known is that of the board.
+pub record EventsFrom (known : Known) (from room : ℕ) (seen : List Entry) (start : Begun) (log : List ℕ)
     : Type 0 where
   pub knows : Knows (reverse seen) known
   pub from_is : from ≡ start.from
+  pub room_is : room ≡ start.room
   pub front : IsFront start.front (reverse seen)
-  pub told : log ≡ start.before ++ events_from start.from (reverse seen)
+  pub told : log ≡ start.before ++ events_since start.front start.from start.room (reverse seen)
 
+-- with the event of the board of these
 abbrev pub at_board_event : ℕ → List ℕ → History → Begun
 at_board_event room before K = record {
   before = before ++ board_event room K;
   from = length K;
+  room = room;
+  front = K;
+}
+
+-- with the entry behind these, and the event of the journal before it, if there is one of them
+abbrev pub at_event : ℕ → List ℕ → History → Begun
+at_event room before K = record {
+  before = before ++ journal_event (length K) room K;
+  from = length K;
+  room = room;
   front = K;
 }
 
@@ -133,26 +187,30 @@ abbrev pub IsPast : Option ℕ → ℕ → Type 0
 IsPast None k = ⊤
 IsPast (Some n) k = k < n
 
--- behind these bytes, with the entry of this number, after these entries
-abbrev pub at_event : List ℕ → ℕ → History → Begun
-at_event before n K = record { before = before; from = n; front = K }
-
--- Events have begun after what was seen: with those that come next for a browser, where that has had none but
--- what was seen; else with the board of what was seen.
-abbrev pub BeginsEvents : ℕ → Option ℕ → Known → ℕ → List Entry → List ℕ → List ℕ → Type 0
-BeginsEvents room last known from seen before log =
-    ((n : ℕ) × (last ≡ Some n) × (n ≤ length seen)
-    × EventsFrom known from seen (at_event before n (reverse seen)) log)
+-- Events have begun after what was seen: with those that come next for a browser, where that has had what was
+-- seen; else with the board of what was seen.
+abbrev pub BeginsEvents : ℕ → Option ℕ → Known → ℕ → ℕ → List Entry → List ℕ → List ℕ → Type 0
+BeginsEvents room last known from room_told seen before log =
+    ((last ≡ Some (length seen))
+    × EventsFrom known from room_told seen (at_event room before (reverse seen)) log)
     ⊎ (IsPast last (length seen)
-    × EventsFrom known from seen (at_board_event room before (reverse seen)) log)
+    × EventsFrom known from room_told seen (at_board_event room before (reverse seen)) log)
 
--- After some first entries, of which a browser has had those before the entry that comes next for it, the events
--- from that one on; or, where it has had none or names an entry behind them, their board, and the events behind
--- them.
+-- the event of the journal, as soon as it has an entry, and the events from the entry of a number on
+abbrev pub named_events : ℕ → ℕ → History → List ℕ
+named_events n room J = journal_event n room J ++ events_from n J
+
+-- the event of the board after these first entries, and what is told behind them
+abbrev pub board_events : History → ℕ → History → List ℕ
+board_events K room J = board_event room K ++ events_since K (length K) room J
+
+-- The events from the entry on that comes next for a browser; or, where it names none, or one behind the
+-- entries that were in sight first, the board of those, and the events behind them.
 abbrev pub SaysEvents : ℕ → Option ℕ → List Entry → List ℕ → List ℕ → Type 0
-SaysEvents room last seen before log = (K : History) × IsFront K (reverse seen)
-    × (((n : ℕ) × (last ≡ Some n) × (n ≤ length K) × (log ≡ before ++ events_from n (reverse seen)))
-    ⊎ (IsPast last (length K) × (log ≡ (before ++ board_event room K) ++ events_from (length K) (reverse seen))))
+SaysEvents room last seen before log =
+    ((n : ℕ) × (last ≡ Some n) × (n ≤ length seen) × (log ≡ before ++ named_events n room (reverse seen)))
+    ⊎ ((K : History) × IsFront K (reverse seen) × IsPast last (length K)
+    × (log ≡ before ++ board_events K room (reverse seen)))
 
 -- the head of the events, and then these
 abbrev pub WasToldEvents : {W X : Type 0} → Option ℕ → RowView → Option X → List ℕ → Shown W → Type 0

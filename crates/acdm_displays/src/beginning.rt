@@ -1,13 +1,13 @@
 //! What a display is sent before the feed.
-ghost use Rattle.std.specs.Prelude.{◌≡◌, [], length, reverse, IfErr, OnOk};
+ghost use Rattle.std.specs.Prelude.{◌≡◌, ◌<◌, [], true, false, length, reverse, IfErr, IfOk, OnOk};
 ghost use Rattle.acdm_feed.specs.Knowing.{Knows};
-ghost use Rattle.acdm_displays.specs.Displayed.{Begins, CutsShort};
+ghost use Rattle.acdm_displays.specs.Displayed.{Begins, CutsShort, TellsFrom, at_board, at_entry};
 ghost use Rattle.acdm_displays.specs.Within.{StaysWithin};
 
 use crate::asked::Start;
 use crate::following::MOST_REFUSALS;
 use crate::telling::Changes;
-use acdm_feed::{Known, pass_next, push_board};
+use acdm_feed::{Known, pass_next, push_board, push_journal};
 use acdm_journal::write_whole;
 use acdm_judging::Failure;
 use acdm_lines::Sink;
@@ -41,24 +41,41 @@ pub(crate) fn pass_all(
     Ok(())
 }
 
-// Writes the line of the board of all entries that are in sight, up to so many.
-fn begin_board<W: Write + Drop>(
-    alloc: Global,
-    teller: &mut Changes,
+/// Passes over the entries before the one of this number, as far as they are in sight, up to so many, and
+/// says whether all of them were.
+pub(crate) fn pass_to(
     watch: &mut Watch,
+    known: &mut Known,
     row: &Row,
+    number: u64,
     most: usize,
-    writer: &mut Sink<W>,
-) -> Result<(), Failure>
+) -> Result<bool, Failure>
     requires row { row.now ≡ watch.old.row }
-    requires knows { Knows (reverse watch.old.seen) teller.old.known }
+    requires empty { watch.old.seen ≡ [] }
     ensures row { watch.new.row ≡ watch.old.row }
-    ensures begins { OnOk result (Begins (length row.now.cells) Start.Board teller.new.known teller.new.from watch.new.seen
-        writer.old.log writer.new.log) }
+    ensures knows { OnOk result (Knows (reverse watch.old.seen) known.old
+        → Knows (reverse watch.new.seen) known.new) }
+    ensures reaches { IfOk result (λ all. all ≡ true → length watch.new.seen ≡ number) }
+    ensures past { IfOk result (λ all. all ≡ false → length watch.new.seen < number) }
     ensures within { OnOk result (StaysWithin most watch.old.seen watch.new.seen) }
     ensures failed { IfErr result CutsShort }
 {
-    pass_all(watch, &mut teller.known, row, most)?;
+    pass_all(watch, known, row, most.min(number as usize))?;
+    Ok(watch.len() as u64 >= number)
+}
+
+// Writes the line of the board of all entries that were seen.
+fn begin_board<W: Write + Drop>(
+    alloc: Global,
+    teller: &mut Changes,
+    watch: &Watch,
+    writer: &mut Sink<W>,
+) -> Result<(), Failure>
+    requires knows { Knows (reverse watch.now.seen) teller.old.known }
+    ensures begins { OnOk result (TellsFrom teller.new.known teller.new.from teller.new.room watch.now.seen
+        (at_board teller.old.room writer.old.log (reverse watch.now.seen)) writer.new.log) }
+    ensures failed { IfErr result CutsShort }
+{
     let entries = watch.len() as u64;
     teller.from = entries;
     let mut text = Vec::new(alloc);
@@ -67,14 +84,37 @@ fn begin_board<W: Write + Drop>(
         &teller.known,
         watch.board(),
         entries,
-        row.len() as u64,
+        teller.room,
     )?;
     write_whole(writer, text.as_slice(), MOST_REFUSALS)?;
     Ok(())
 }
 
-/// Begins as a display asked: at the entry of a number, or with the line of the board of all entries
-/// that are in sight, up to so many.
+// Begins with the entry that comes next, and writes the line of the journal, if there is one before it.
+fn begin_journal<W: Write + Drop>(
+    alloc: Global,
+    teller: &mut Changes,
+    watch: &Watch,
+    writer: &mut Sink<W>,
+) -> Result<(), Failure>
+    requires knows { Knows (reverse watch.now.seen) teller.old.known }
+    ensures begins { OnOk result (TellsFrom teller.new.known teller.new.from teller.new.room watch.now.seen
+        (at_entry teller.old.room writer.old.log (reverse watch.now.seen)) writer.new.log) }
+    ensures failed { IfErr result CutsShort }
+{
+    let next = watch.len() as u64;
+    teller.from = next;
+    if next == 0 {
+        return Ok(());
+    }
+    let mut line = Vec::new(alloc);
+    push_journal(&mut line, &teller.known, next, teller.room)?;
+    write_whole(writer, line.as_slice(), MOST_REFUSALS)?;
+    Ok(())
+}
+
+/// Begins as a display asked: with the entry of a number, or, where not all before it are in sight, and where
+/// it asked for that, with the line of the board of all entries that are, up to so many.
 pub(crate) fn begin<W: Write + Drop>(
     alloc: Global,
     start: Start,
@@ -88,16 +128,21 @@ pub(crate) fn begin<W: Write + Drop>(
     requires empty { watch.old.seen ≡ [] }
     requires knows { Knows [] teller.old.known }
     ensures row { watch.new.row ≡ watch.old.row }
-    ensures begins { OnOk result (Begins (length row.now.cells) start teller.new.known teller.new.from watch.new.seen
-        writer.old.log writer.new.log) }
+    ensures begins { OnOk result (Begins teller.old.room start teller.new.known teller.new.from teller.new.room
+        watch.new.seen writer.old.log writer.new.log) }
     ensures within { OnOk result (StaysWithin most watch.old.seen watch.new.seen) }
     ensures failed { IfErr result CutsShort }
 {
     match start {
         Start::Entry(number) => {
-            teller.from = number;
-            Ok(())
+            if !pass_to(watch, &mut teller.known, row, number, most)? {
+                return begin_board(alloc, teller, watch, writer);
+            }
+            begin_journal(alloc, teller, watch, writer)
         }
-        Start::Board => begin_board(alloc, teller, watch, row, most, writer),
+        Start::Board => {
+            pass_all(watch, &mut teller.known, row, most)?;
+            begin_board(alloc, teller, watch, writer)
+        }
     }
 }

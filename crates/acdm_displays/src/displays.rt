@@ -13,14 +13,15 @@ use acdm_judging::Failure;
 use acdm_keeping::Reach;
 use acdm_lines::{Sink, Source};
 use acdm_row::Row;
-use acdm_web::{PAGE, Wanted, first_wanted};
+use acdm_web::{PAGE, Request, Wanted, first_wanted};
+use httpdate::HttpDate;
 use std::alloc::{AllocError, Global};
 use std::io::{self, ErrorKind};
-use std::net::{Net, Shutdown, SocketAddr, TcpListener, TcpStream};
+use std::net::{Shutdown, TcpListener, TcpStream};
 use std::sync::Arc;
 use std::sync::atomic::Ordering;
 use std::thread::{self, JoinHandle, Threads};
-use std::time::{Clock as SystemClock, Duration, Instant};
+use std::time::{Clock as SystemClock, Duration, Instant, SystemTime};
 
 /// After how many milliseconds it is looked for more, and for a further display.
 const PAUSE: u64 = 25;
@@ -158,16 +159,37 @@ fn show_events(
     Ok(shown)
 }
 
-// Answers a browser that asks for something else.
+// Answers a browser that asks for something else, at this date where it is known.
 fn show_page(
     alloc: Global,
-    wanted: Wanted,
+    request: Request,
+    date: Option<HttpDate>,
     mut reader: TcpStream,
     stream: TcpStream,
 ) -> Result<Sink<TcpStream>, Failure> {
     let mut writer = Sink::new(stream);
-    answer(alloc, wanted, PAGE, &mut writer)?;
+    answer(alloc, request, PAGE, date, &mut writer)?;
     part(&mut reader);
+    Ok(writer)
+}
+
+// Answers a browser for which no place is left, and lets it go. It is read from once, so that what it sent does not
+// cut off the answer.
+fn refuse_browser(
+    alloc: Global,
+    date: Option<HttpDate>,
+    stream: TcpStream,
+) -> Result<Sink<TcpStream>, Failure> {
+    let mut reader = reader_of(&stream)?;
+    let busy = Request {
+        wanted: Wanted::Busy,
+        is_head: false,
+    };
+    let mut writer = Sink::new(stream);
+    answer(alloc, busy, PAGE, date, &mut writer)?;
+    if reader.shutdown(Shutdown::Write).is_ok() {
+        let _ = has_left(&mut reader);
+    }
     Ok(writer)
 }
 
@@ -180,16 +202,16 @@ fn show_web(
 ) -> Result<(), Failure> {
     let mut reader = Source::new(reader_of(&stream)?);
     let limit = shared.limit(HEARING);
-    let Some(wanted) = first_wanted(alloc, &mut reader, shared.name(), &limit) else {
+    let Some(request) = first_wanted(alloc, &mut reader, shared.name(), &limit) else {
         return Err(Failure::Watch);
     };
     let reader = reader.into_inner();
-    match wanted {
-        Wanted::Events(last) => {
+    match request.wanted {
+        Wanted::Events(last) if !request.is_head => {
             let _shown = show_events(alloc, entries, last, reader, stream)?;
         }
-        other => {
-            let _writer = show_page(alloc, other, reader, stream)?;
+        _ => {
+            let _writer = show_page(alloc, request, shared.date(), reader, stream)?;
         }
     }
     Ok(())
@@ -250,14 +272,26 @@ impl<K: SystemClock + Threads + Drop> Admission<K> {
         }
     }
 
-    // Tells the threads of displays how much time has passed since this moment.
+    // Tells the threads of displays the time, and how much of it has passed since this moment.
     fn tell_time(&self, begun: Option<Instant>) {
+        self.shared.seconds.store(self.seconds(), Ordering::SeqCst);
         let (Some(begun), Ok(now)) = (begun, Instant::now(&self.rt)) else {
             return;
         };
         let passed = now.saturating_duration_since(begun).as_millis();
         if let Ok(passed) = u64::try_from(passed) {
             self.shared.passed.store(passed, Ordering::SeqCst);
+        }
+    }
+
+    // The seconds since 1970-01-01T00:00:00Z; 0 where the clock can't be read.
+    fn seconds(&self) -> u64 {
+        let Ok(now) = SystemTime::now(&self.rt) else {
+            return 0;
+        };
+        match now.duration_since(SystemTime::UNIX_EPOCH) {
+            Ok(since) => since.as_secs(),
+            Err(_) => 0,
         }
     }
 
@@ -281,6 +315,9 @@ impl<K: SystemClock + Threads + Drop> Admission<K> {
     // Starts a thread for a display, where a place is left.
     fn admit_one(&self, stream: TcpStream) -> Result<(), Failure> {
         let Some(place) = Place::take(&self.shared)? else {
+            if self.form == Form::Web {
+                let _writer = refuse_browser(self.alloc, self.shared.date(), stream)?;
+            }
             return Ok(());
         };
         let showing = Showing {
@@ -304,38 +341,10 @@ pub struct Displays {
 }
 
 impl Displays {
-    /// Listens for displays at an address, an IP address and a port, and has each sent the entries of a row in a
-    /// form, from the first one on; where the row is kept, as far as it is. Browsers may ask for the board by this
-    /// name, if there is one, beside its addresses. `Watch` where it can't be listened there, `Memory` where that
-    /// was refused.
-    pub fn open<
-        Rt: Net<Listener = TcpListener, Stream = TcpStream>
-            + SystemClock
-            + Threads
-            + Clone
-            + Drop
-            + Send
-            + 'static,
-    >(
-        rt: &Rt,
-        alloc: Global,
-        form: Form,
-        address: &str,
-        name: Option<&str>,
-        row: &Arc<Row>,
-        reach: Option<&Reach>,
-    ) -> Result<Displays, Failure> {
-        let Ok(address) = address.parse::<SocketAddr>() else {
-            return Err(Failure::Watch);
-        };
-        let Ok(listener) = TcpListener::bind(rt, address) else {
-            return Err(Failure::Watch);
-        };
-        Displays::start(rt, alloc, form, listener, name, row, reach)
-    }
-
     /// Has each display that a listener accepts sent the entries of a row in a form, from the first one on; where
-    /// the row is kept, as far as it is.
+    /// the row is kept, as far as it is. Browsers may ask for the board by this name, if there is one, beside its
+    /// addresses. The system's error where the listener can't be used, one of the kind `OutOfMemory` where memory
+    /// was refused.
     pub fn start<Rt: SystemClock + Threads + Clone + Drop + Send + 'static>(
         rt: &Rt,
         alloc: Global,
@@ -344,10 +353,8 @@ impl Displays {
         name: Option<&str>,
         row: &Arc<Row>,
         reach: Option<&Reach>,
-    ) -> Result<Displays, Failure> {
-        if listener.set_nonblocking(true).is_err() {
-            return Err(Failure::Watch);
-        }
+    ) -> io::Result<Displays> {
+        listener.set_nonblocking(true)?;
         let shared = Shared::new(alloc, name)?;
         let admission = Admission {
             rt: rt.clone()?,
@@ -360,7 +367,7 @@ impl Displays {
         };
         match begin(rt, admission) {
             Some(admitting) => Ok(Displays { shared, admitting }),
-            None => Err(Failure::Memory),
+            None => Err(io::Error::from(ErrorKind::OutOfMemory)),
         }
     }
 

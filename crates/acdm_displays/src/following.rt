@@ -93,8 +93,9 @@ pub(crate) fn shown_of<W: Write + Drop>(seen: Seen, writer: Sink<W>) -> Shown<W>
 }
 
 /// Writes the feed of a row, where `follow` writes its journal: what each entry says and changes, as
-/// a line of JSON. It begins with the entry of a number, or with the line of the board of all entries
-/// in sight, and then goes on with the entry that comes next.
+/// a line of JSON. It begins with the entry of a number, and the line of the journal before it, as soon as
+/// that has an entry; or, where it is asked for that, and where not all entries before that number are in
+/// sight, with the line of the board of all entries in sight. Then it goes on with the entry that comes next.
 pub fn follow_changes<R: Read, W: Write + Drop>(
     alloc: Global,
     entries: &Entries<'_>,
@@ -109,6 +110,8 @@ pub fn follow_changes<R: Read, W: Write + Drop>(
     let mut teller = Changes {
         known: Known::new(alloc),
         from: 0,
+        room: entries.row.len() as u64,
+        line: Vec::new(alloc),
     };
     let most = most_shown(seen.receipt);
     begin(

@@ -1,5 +1,6 @@
 //! The places of displays, and what their threads share.
 use acdm_web::TimeLimit;
+use httpdate::HttpDate;
 use std::alloc::{AllocError, Global};
 use std::sync::Arc;
 use std::sync::atomic::{AtomicBool, AtomicU64, Ordering};
@@ -16,6 +17,8 @@ pub(crate) struct Shared {
     pub(crate) taken: AtomicU64,
     /// How many milliseconds have passed since displays are accepted, which the thread that accepts them tells.
     pub(crate) passed: AtomicU64,
+    /// The seconds since 1970-01-01T00:00:00Z, which the same thread tells; 0 where its clock can't be read.
+    pub(crate) seconds: AtomicU64,
     // The name by which browsers may ask for the board, beside its addresses.
     name: Option<String>,
 }
@@ -31,6 +34,7 @@ impl Shared {
             closing: AtomicBool::new(false),
             taken: AtomicU64::new(0),
             passed: AtomicU64::new(0),
+            seconds: AtomicU64::new(0),
             name,
         };
         Ok(Arc::new(alloc, shared)?)
@@ -41,6 +45,14 @@ impl Shared {
         Limit {
             shared: self,
             until: self.passed.load(Ordering::SeqCst).saturating_add(length),
+        }
+    }
+
+    /// The date, where the clock can be read.
+    pub(crate) fn date(&self) -> Option<HttpDate> {
+        match self.seconds.load(Ordering::SeqCst) {
+            0 => None,
+            seconds => HttpDate::from_unix_secs(seconds).ok(),
         }
     }
 

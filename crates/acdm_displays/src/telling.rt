@@ -1,12 +1,15 @@
 //! What a display is told of each entry.
-ghost use Rattle.std.specs.Prelude.{◌≡◌, ◌≤◌, ◌+◌, ℕ, List, [], ◌++◌, reverse, if◌then◌else◌, nat_lt, IfErr};
+ghost use Rattle.std.specs.Prelude.{◌≡◌, ◌==◌, ◌≤◌, ◌+◌, ℕ, List, [], ◌++◌, reverse, if◌then◌else◌, nat_lt, IfErr};
 ghost use Rattle.std.specs.Prelude.{OnOk, length};
 ghost use Rattle.acdm_web.specs.Events.{event_text};
 ghost use Rattle.acdm_step.specs.declared.entry.Entry.{Entry as AnEntry};
 ghost use Rattle.acdm_journal.specs.Whole.{Saves};
+ghost use Rattle.acdm_step.specs.Commands.{History};
+ghost use Rattle.acdm_feed.specs.Knowing.{Knows};
+ghost use Rattle.acdm_feed.specs.Resumed.{journal_text};
 ghost use Rattle.acdm_displays.specs.Displayed.{Adds, Begun, CutsShort, EventsFrom, TellsFrom};
 
-use acdm_feed::{Known, tell_next};
+use acdm_feed::{Known, push_journal, tell_next};
 use acdm_journal::push_entry;
 use acdm_judging::Failure;
 use acdm_row::Row;
@@ -54,15 +57,37 @@ impl Telling for Journal {
     }
 }
 
-/// Tells the feed from the entry of this number on.
+/// Tells the feed from the entry of this number on, and before the first entry, where that was not passed
+/// over, the line of the journal, with room for so many entries.
 #[derive(Drop)]
 pub(crate) struct Changes {
     pub(crate) known: Known,
     pub(crate) from: u64,
+    pub(crate) room: u64,
+    pub(crate) line: Vec<u8>,
+}
+
+// Adds the line of a journal before the entry of this number, where that is the first one.
+fn push_name(
+    text: &mut Vec<u8>,
+    known: &Known,
+    number: u64,
+    next: u64,
+    room: u64,
+) -> Result<(), Failure>
+    ensures added { OnOk result ((J : History) → Knows J known.now → text.new.items ≡ text.old.items
+        ++ (if number == 0 then journal_text next room J else [])) }
+    ensures failed { IfErr result CutsShort }
+{
+    if number != 0 {
+        return Ok(());
+    }
+    push_journal(text, known, next, room)?;
+    Ok(())
 }
 
 impl Telling for Changes {
-    ghost tells = { λ teller seen start log. TellsFrom teller.known teller.from seen start log };
+    ghost tells = { λ teller seen start log. TellsFrom teller.known teller.from teller.room seen start log };
 
     fn add_next(
         &mut self,
@@ -70,16 +95,60 @@ impl Telling for Changes {
         row: &Row,
         text: &mut Vec<u8>,
     ) -> Result<bool, Failure> {
-        Ok(tell_next(watch, &mut self.known, row, self.from, text)?)
+        let number = watch.len() as u64;
+        self.line.clear();
+        if !tell_next(watch, &mut self.known, row, self.from, &mut self.line)? {
+            return Ok(false);
+        }
+        push_name(text, &self.known, number, self.from, self.room)?;
+        text.extend_from_slice(self.line.as_slice())?;
+        Ok(true)
     }
 }
 
-/// Tells the feed from the entry of this number on, each line as an event for browsers.
+/// Tells the same, each line as an event for browsers.
 #[derive(Drop)]
 pub(crate) struct Events {
     pub(crate) known: Known,
     pub(crate) from: u64,
+    pub(crate) room: u64,
     pub(crate) line: Vec<u8>,
+}
+
+/// Adds the line of a journal as an event, whose id is the number of the entry that comes next.
+pub(crate) fn push_journal_event(
+    text: &mut Vec<u8>,
+    known: &Known,
+    next: u64,
+    room: u64,
+) -> Result<(), Failure>
+    ensures added { OnOk result ((J : History) → Knows J known.now
+        → text.new.items ≡ text.old.items ++ event_text next (journal_text next room J)) }
+    ensures failed { IfErr result CutsShort }
+{
+    let mut line = Vec::new(*text.allocator());
+    push_journal(&mut line, known, next, room)?;
+    push_event(text, next, line.as_slice())?;
+    Ok(())
+}
+
+// Adds that event before the entry of this number, where that is the first one.
+fn push_name_event(
+    text: &mut Vec<u8>,
+    known: &Known,
+    number: u64,
+    next: u64,
+    room: u64,
+) -> Result<(), Failure>
+    ensures added { OnOk result ((J : History) → Knows J known.now → text.new.items ≡ text.old.items
+        ++ (if number == 0 then event_text next (journal_text next room J) else [])) }
+    ensures failed { IfErr result CutsShort }
+{
+    if number > 0 {
+        return Ok(());
+    }
+    push_journal_event(text, known, next, room)?;
+    Ok(())
 }
 
 // Adds a line as the event of the entry of this number, where it is none of those before that one. Its id is
@@ -103,7 +172,7 @@ fn push_from(
 }
 
 impl Telling for Events {
-    ghost tells = { λ teller seen start log. EventsFrom teller.known teller.from seen start log };
+    ghost tells = { λ teller seen start log. EventsFrom teller.known teller.from teller.room seen start log };
 
     fn add_next(
         &mut self,
@@ -116,6 +185,7 @@ impl Telling for Events {
         if !tell_next(watch, &mut self.known, row, self.from, &mut self.line)? {
             return Ok(false);
         }
+        push_name_event(text, &self.known, number, self.from, self.room)?;
         let next = watch.len() as u64;
         push_from(text, number, self.from, next, self.line.as_slice())?;
         Ok(true)

@@ -18,7 +18,7 @@ use Rattle.acdm_step.specs.Summaries.{record_of, flights, exists, with_flight}
 use Rattle.acdm_step.proofs.Flights.{and_false, has-with_flight}
 use Rattle.acdm_step.proofs.Records.{record_same}
 use Rattle.acdm_feed.specs.Told.{alerts_of}
-use Rattle.acdm_feed.specs.Knowing.{Knows, Puts, word_of}
+use Rattle.acdm_feed.specs.Knowing.{KnowsFlights, Puts, word_of}
 use Rattle.acdm_feed.specs.declared.known.Known.{Known}
 
 pub word_from_record : (J : History) (f : ℕ) (o : Option Fields)
@@ -42,7 +42,7 @@ word_same J e same f r =
     ∙ ap (λ x. cond (exists (e ∷ J) f) (Some (number_of x Alerts)) None) (sym r)
 
 same_words : (J : History) (e : Entry) (known : Known) → flights (e ∷ J) ≡ flights J
-    → ((f : ℕ) → record_of (e ∷ J) f ≡ record_of J f) → Knows J known → Knows (e ∷ J) known
+    → ((f : ℕ) → record_of (e ∷ J) f ≡ record_of J f) → KnowsFlights J known → KnowsFlights (e ∷ J) known
 same_words J e known same r k = record {
   flights_are = k.flights_are ∙ sym same;
   words = λ f. k.words f ∙ word_same J e same f (r f);
@@ -64,7 +64,9 @@ refused_flights J e none =
     (cond (b && creates e.command) (Some (flight_of e.command)) None)) none
 
 creates_nothing : (c : Command) → changes_flight c ≡ false → creates c ≡ false
-creates_nothing (commands.Flight c) h = absurd (cc)
+creates_nothing (commands.Schedule c) h = absurd (cc)
+creates_nothing (commands.Report c) h = absurd (cc)
+creates_nothing (commands.Deice c) h = absurd (cc)
 creates_nothing (commands.Load l) h = refl
 creates_nothing (commands.Unload u) h = refl
 creates_nothing commands.Tick h = refl
@@ -90,7 +92,9 @@ neither_right true b h = absurd (cc)
 neither_right false b h = h
 
 all_create_nothing : (c : Command) → (is_tick c || is_migrate c) ≡ true → creates c ≡ false
-all_create_nothing (commands.Flight c) h = absurd (cc)
+all_create_nothing (commands.Schedule c) h = absurd (cc)
+all_create_nothing (commands.Report c) h = absurd (cc)
+all_create_nothing (commands.Deice c) h = absurd (cc)
 all_create_nothing (commands.Load l) h = refl
 all_create_nothing (commands.Unload u) h = refl
 all_create_nothing commands.Tick h = refl
@@ -111,7 +115,7 @@ cond_twice false x y = refl
 pub knows_all : (K : History) (new : Known) → new.flights.items ≡ flights K
     → ((f : ℕ) → get nat_eq new.words f
     ≡ cond (list_any (λ g. g == f) new.flights.items) (word_of K f) None)
-    → Knows K new
+    → KnowsFlights K new
 knows_all K new same words = record {
   flights_are = same;
   words = λ f. words f
@@ -156,7 +160,9 @@ is_changed true g f h = (refl, ap (λ o. unwrap_or o g) h)
 is_changed false g f h = absurd (cc)
 
 not_tick : (c : Command) → changes_flight c ≡ true → is_tick c ≡ false
-not_tick (commands.Flight c) h = refl
+not_tick (commands.Schedule c) h = refl
+not_tick (commands.Report c) h = refl
+not_tick (commands.Deice c) h = refl
 not_tick (commands.Load l) h = absurd (cc)
 not_tick (commands.Unload u) h = absurd (cc)
 not_tick commands.Tick h = absurd (cc)
@@ -165,7 +171,9 @@ not_tick (commands.Show f) h = absurd (cc)
 not_tick commands.Alerts h = absurd (cc)
 
 not_migrate : (c : Command) → changes_flight c ≡ true → is_migrate c ≡ false
-not_migrate (commands.Flight c) h = refl
+not_migrate (commands.Schedule c) h = refl
+not_migrate (commands.Report c) h = refl
+not_migrate (commands.Deice c) h = refl
 not_migrate (commands.Load l) h = absurd (cc)
 not_migrate (commands.Unload u) h = absurd (cc)
 not_migrate commands.Tick h = absurd (cc)
@@ -222,7 +230,7 @@ some_is false x = refl
 
 flight_there : (J : History) (e : Entry) (f : ℕ) (old new : Known) → is_accepted e.verdict ≡ true
     → changes_flight e.command ≡ true → flight_of e.command ≡ f → exists (e ∷ J) f ≡ true
-    → Puts (Some (alerts_of (e ∷ J) f)) f old new → Knows J old → Knows (e ∷ J) new
+    → Puts (Some (alerts_of (e ∷ J) f)) f old new → KnowsFlights J old → KnowsFlights (e ∷ J) new
 flight_there J e f old new accepted changes is there puts k =
     let after = flights_after J e f accepted is in
     let grown : flights (e ∷ J) ≡ cond (exists J f) (flights J) (flights J ++ f ∷ []) =
@@ -252,7 +260,7 @@ flight_there J e f old new accepted changes is there puts k =
 
 flight_absent : (J : History) (e : Entry) (f : ℕ) (old : Known) → is_accepted e.verdict ≡ true
     → changes_flight e.command ≡ true → flight_of e.command ≡ f → exists (e ∷ J) f ≡ false
-    → Knows J old → Knows (e ∷ J) old
+    → KnowsFlights J old → KnowsFlights (e ∷ J) old
 flight_absent J e f old accepted changes is absent k =
     let after = flights_after J e f accepted is in
     let same : flights (e ∷ J) ≡ flights J =
@@ -275,13 +283,13 @@ flight_absent J e f old accepted changes is absent k =
 
 pub knows_flight : (J : History) (e : Entry) (f : ℕ) (old new : Known)
     → is_accepted e.verdict ≡ true → changes_flight e.command ≡ true → flight_of e.command ≡ f
-    → Puts (word_of (e ∷ J) f) f old new → Knows J old → Knows (e ∷ J) new
+    → Puts (word_of (e ∷ J) f) f old new → KnowsFlights J old → KnowsFlights (e ∷ J) new
 knows_flight J e f old new accepted changes is puts k =
     elim (exists (e ∷ J) f) as (λ b. exists (e ∷ J) f ≡ b
-    → Puts (cond b (Some (alerts_of (e ∷ J) f)) None) f old new → Knows (e ∷ J) new) [
+    → Puts (cond b (Some (alerts_of (e ∷ J) f)) None) f old new → KnowsFlights (e ∷ J) new) [
       | true ↦ λ t p. flight_there J e f old new accepted changes is t p k
       | false ↦ λ t p.
-          subst (Knows (e ∷ J)) (sym p) (flight_absent J e f old accepted changes is t k)
+          subst (KnowsFlights (e ∷ J)) (sym p) (flight_absent J e f old accepted changes is t k)
     ] refl puts
 
 pub none_left : (l : List ℕ) → length l ≡ 0 → l ≡ []

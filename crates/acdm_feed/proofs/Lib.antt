@@ -3,3 +3,6 @@ pub mod Following
 pub mod Finding
 pub mod Pieces
 pub mod Later
+pub mod Naming
+pub mod Heading
+mod NamingRows

@@ -13,7 +13,6 @@ use Rattle.acdm_step.specs.declared.command.Unload.{Unload}
 use Rattle.acdm_step.specs.declared.command.Deice.{Deice}
 use Rattle.acdm_step.specs.declared.command.Command.{Command}
 use Rattle.acdm_step.specs.declared.command.Command.TheVariants as commands
-use Rattle.acdm_step.specs.declared.command.FlightCommand.TheVariants as commands_of_flight
 use Rattle.acdm_feed.specs.Names.{number_member, text_member, time_member}
 
 abbrev pub cmd_member : List ℕ → List Token
@@ -66,9 +65,9 @@ unload_members u = cmd_member (codes "unload")
     ++ text_member (codes "kind") (kind_name u.kind))
 
 abbrev pub command_members : Command → List Token
-command_members (commands.Flight (commands_of_flight.Schedule s)) = schedule_members s
-command_members (commands.Flight (commands_of_flight.Report r)) = report_members r
-command_members (commands.Flight (commands_of_flight.Deice d)) = deice_members d
+command_members (commands.Schedule s) = schedule_members s
+command_members (commands.Report r) = report_members r
+command_members (commands.Deice d) = deice_members d
 command_members (commands.Load l) = load_members l
 command_members (commands.Unload u) = unload_members u
 command_members commands.Tick = cmd_member (codes "tick")

@@ -3,6 +3,7 @@ pub mod Names
 pub mod Commands
 pub mod Records
 pub mod Told
+pub mod Naming
 pub mod Resumed
 pub mod Knowing
 pub mod Found

@@ -5,7 +5,8 @@ use Rattle.json.specs.Token.{Token}
 use Rattle.json.specs.Print.{print}
 use Rattle.acdm_step.specs.Commands.{History}
 use Rattle.acdm_step.specs.Summaries.{flights}
-use Rattle.acdm_feed.specs.Names.{number_member, list_member, object_of}
+use Rattle.acdm_feed.specs.Names.{number_member, text_member, list_member, object_of}
+use Rattle.acdm_feed.specs.Naming.{journal_name}
 use Rattle.acdm_feed.specs.Told.{flight_tokens, told}
 
 -- the feed from the entry of this number on, of which the newest entry is the first
@@ -13,16 +14,37 @@ abbrev pub feed_from : ℕ → History → List ℕ
 feed_from n [] = []
 feed_from n (e ∷ J) = feed_from n J ++ (if nat_lt (length J) n then [] else told J e)
 
--- the number of the entry that comes next, how many entries there is room for, and the records of all
--- flights in order of creation
+-- the name of a journal, the number of the entry that comes next, and how many entries there is room for
+unfoldable pub head_members : List ℕ → ℕ → ℕ → List Token
+head_members name next room = text_member (codes "journal") name
+    ++ (number_member (codes "next") next ++ number_member (codes "room") room)
+
+-- these of a board, and the records of all flights in order of creation
 abbrev pub board_tokens : ℕ → History → List Token
-board_tokens room J = object_of (number_member (codes "next") (length J)
-    ++ (number_member (codes "room") room
-    ++ list_member (codes "flights") (flat_map (flight_tokens J) (flights J))))
+board_tokens room J = object_of (head_members (journal_name J) (length J) room
+    ++ list_member (codes "flights") (flat_map (flight_tokens J) (flights J)))
 
 -- the line of a board with room for so many entries: one object, without space, and a line feed
 unfoldable pub board_text : ℕ → History → List ℕ
 board_text room J = print (board_tokens room J) ++ 10 ∷ []
+
+abbrev pub journal_tokens : List ℕ → ℕ → ℕ → List Token
+journal_tokens name next room = object_of (head_members name next room)
+
+-- the line of a journal with room for so many entries, for one for whom the entry of this number comes next:
+-- one object, without space, and a line feed
+unfoldable pub journal_text : ℕ → ℕ → History → List ℕ
+journal_text next room J = print (journal_tokens (journal_name J) next room) ++ 10 ∷ []
+
+-- that line, as soon as there is an entry
+abbrev pub journal_line : ℕ → ℕ → History → List ℕ
+journal_line next room [] = []
+journal_line next room (e ∷ J) = journal_text next room (e ∷ J)
+
+-- that line, where none of the entries was passed over before
+abbrev pub journal_since : History → ℕ → ℕ → History → List ℕ
+journal_since [] next room J = journal_line next room J
+journal_since (e ∷ K) next room J = []
 
 -- a history is what another was before
 abbrev pub IsFront : History → History → Type 0

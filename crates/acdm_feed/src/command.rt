@@ -7,9 +7,7 @@ ghost use Rattle.acdm_feed.specs.Commands.{schedule_members, unload_members};
 
 use crate::tokens::{push_number, push_printable, push_text, push_time};
 use acdm_milestones::Refusal;
-use acdm_step::{
-    Command, Deice, FlightCommand, FlightPlan, Load, Report, Schedule, Unload, Verdict,
-};
+use acdm_step::{Command, Deice, FlightPlan, Load, Report, Schedule, Unload, Verdict};
 use json::Writer;
 use std::alloc::AllocError;
 
@@ -104,9 +102,9 @@ fn push_members(line: &mut Writer, command: &Command) -> Result<(), AllocError>
         ≡ line.old.tokens ++ command_members command.now) }
 {
     match command {
-        Command::Flight(FlightCommand::Schedule(schedule)) => push_schedule(line, schedule),
-        Command::Flight(FlightCommand::Report(report)) => push_report(line, report),
-        Command::Flight(FlightCommand::Deice(deice)) => push_deice(line, deice),
+        Command::Schedule(schedule) => push_schedule(line, schedule),
+        Command::Report(report) => push_report(line, report),
+        Command::Deice(deice) => push_deice(line, deice),
         Command::Load(load) => push_load(line, load),
         Command::Unload(unload) => push_unload(line, unload),
         Command::Tick => push_text(line, "cmd", "tick"),

@@ -1,4 +1,4 @@
-//! What is known of the flights of a board beside it: which there are, and their alerts.
+//! What is known of a board beside it: the name of its journal, which flights there are, and their alerts.
 ghost use Rattle.std.specs.Prelude.{◌≡◌, ◌==◌, ◌||◌, ◌++◌, ◌∷◌, ℕ, List, [], OnOk, IfOk, Some, is_some};
 ghost use Rattle.std.specs.Prelude.{None, if◌then◌else◌, nat_eq};
 ghost use Rattle.indexmap.specs.IndexMap.{get};
@@ -7,16 +7,20 @@ ghost use Rattle.acdm_step.specs.Commands.{History, changes_flight, flight_of, i
 ghost use Rattle.acdm_step.specs.Summaries.{flights};
 ghost use Rattle.acdm_step.specs.History.{replay};
 ghost use Rattle.std.specs.List.{list_any};
-ghost use Rattle.acdm_feed.specs.Knowing.{Knows, Puts, word_of};
+ghost use Rattle.acdm_feed.specs.Knowing.{IsNamed, Knows, KnowsFlights, Puts, word_of};
+ghost use Rattle.acdm_feed.specs.Naming.{journal_name};
 
+use crate::name::name_by;
 use acdm_record::Field;
-use acdm_step::{Command, Core, Entry, FlightCommand};
+use acdm_step::{Command, Core, Entry};
 use indexmap::IndexMap;
 use std::alloc::{AllocError, Global};
 
-/// The flights of a board in order of creation, and the alerts of each as they were told last.
+/// The name of a board's journal, if it has an entry; the flights in order of creation, and the alerts of
+/// each as they were told last.
 #[derive(Drop)]
 pub struct Known {
+    pub(crate) name: Option<String>,
     pub(crate) flights: Vec<u64>,
     pub(crate) words: IndexMap<u64, u64>,
 }
@@ -32,23 +36,14 @@ pub(crate) fn word_on(board: &Core, flight: u64) -> Option<u64>
     }
 }
 
-/// The flight of a command.
-pub(crate) fn flight_in(command: &FlightCommand) -> u64
-    ensures { result ≡ flight_of (Command.Flight command.now) }
-{
-    match command {
-        FlightCommand::Schedule(schedule) => schedule.flight(),
-        FlightCommand::Report(report) => report.flight(),
-        FlightCommand::Deice(deice) => deice.flight.get(),
-    }
-}
-
 /// The flight whose record a command changes, if it is that of one.
 pub(crate) fn flight_changed(command: &Command) -> Option<u64>
     ensures { result ≡ (if changes_flight command.now then Some (flight_of command.now) else None) }
 {
     match command {
-        Command::Flight(command) => Some(flight_in(command)),
+        Command::Schedule(schedule) => Some(schedule.flight()),
+        Command::Report(report) => Some(report.flight()),
+        Command::Deice(deice) => Some(deice.flight.get()),
         _ => None,
     }
 }
@@ -66,8 +61,19 @@ impl Known {
         ensures { Knows [] result }
     {
         Known {
+            name: None,
             flights: Vec::new(alloc),
             words: IndexMap::new(alloc),
+        }
+    }
+
+    /// The name of the journal, which is empty where it has no entry.
+    pub(crate) fn name(&self) -> &str
+        ensures { (J : History) → Knows J self.now → result.now ≡ journal_name J }
+    {
+        match &self.name {
+            Some(name) => name.as_str(),
+            None => "",
         }
     }
 
@@ -85,6 +91,7 @@ impl Known {
         ensures flights { OnOk result (self.new.flights.items
             ≡ (if is_some (get nat_eq self.old.words flight) then self.old.flights.items
             else self.old.flights.items ++ flight ∷ [])) }
+        ensures name { self.new.name ≡ self.old.name }
     {
         let Ok(before) = self.words.insert(flight, word) else {
             return Err(AllocError);
@@ -97,8 +104,9 @@ impl Known {
 
     // Puts the alert word of a flight, where that is on the board.
     fn follow_flight(&mut self, board: &Core, flight: u64) -> Result<(), AllocError>
-        ensures { OnOk result ((sigs : List (ℕ × Promise)) (K : History)
+        ensures puts { OnOk result ((sigs : List (ℕ × Promise)) (K : History)
             → board.now ≡ replay sigs K → Puts (word_of K flight) flight self.old self.new) }
+        ensures name { self.new.name ≡ self.old.name }
     {
         match word_on(board, flight) {
             Some(word) => {
@@ -111,9 +119,10 @@ impl Known {
 
     // Reads all alert words from a board with the same flights.
     fn read_all(&mut self, board: &Core) -> Result<(), AllocError>
-        ensures { OnOk result ((sigs : List (ℕ × Promise)) (K : History)
+        ensures knows { OnOk result ((sigs : List (ℕ × Promise)) (K : History)
             → board.now ≡ replay sigs K → self.old.flights.items ≡ flights K
-            → Knows K self.new) }
+            → KnowsFlights K self.new) }
+        ensures name { self.new.name ≡ self.old.name }
     {
         let alloc = *self.flights.allocator();
         let words = words_on(alloc, self.flights.as_slice(), board)?;
@@ -121,11 +130,12 @@ impl Known {
         Ok(())
     }
 
-    /// Follows an entry, after which the board is this.
-    pub fn follow(&mut self, board: &Core, entry: &Entry) -> Result<(), AllocError>
-        ensures { OnOk result ((sigs : List (ℕ × Promise)) (J : History)
-            → board.now ≡ replay sigs (entry.now ∷ J) → Knows J self.old
-            → Knows (entry.now ∷ J) self.new) }
+    // Follows an entry by the flights, after which the board is this.
+    fn follow_flights(&mut self, board: &Core, entry: &Entry) -> Result<(), AllocError>
+        ensures knows { OnOk result ((sigs : List (ℕ × Promise)) (J : History)
+            → board.now ≡ replay sigs (entry.now ∷ J) → KnowsFlights J self.old
+            → KnowsFlights (entry.now ∷ J) self.new) }
+        ensures name { self.new.name ≡ self.old.name }
     {
         if !entry.verdict.is_accepted() {
             return Ok(());
@@ -141,6 +151,32 @@ impl Known {
             }
             None => Ok(()),
         }
+    }
+
+    // Names the journal by an entry, where that is its first one.
+    fn follow_name(&mut self, entry: &Entry) -> Result<(), AllocError>
+        ensures named { OnOk result ((J : History) → Knows J self.old → IsNamed (entry.now ∷ J) self.new) }
+        ensures flights { self.new.flights ≡ self.old.flights }
+        ensures words { self.new.words ≡ self.old.words }
+    {
+        if self.name.is_some() {
+            return Ok(());
+        }
+        let alloc = *self.flights.allocator();
+        let name = name_by(alloc, entry)?;
+        self.name = Some(name);
+        Ok(())
+    }
+
+    /// Follows an entry, after which the board is this.
+    pub fn follow(&mut self, board: &Core, entry: &Entry) -> Result<(), AllocError>
+        ensures { OnOk result ((sigs : List (ℕ × Promise)) (J : History)
+            → board.now ≡ replay sigs (entry.now ∷ J) → Knows J self.old
+            → Knows (entry.now ∷ J) self.new) }
+    {
+        self.follow_name(entry)?;
+        self.follow_flights(board, entry)?;
+        Ok(())
     }
 }
 

@@ -4,6 +4,7 @@
 mod command;
 mod known;
 mod minute;
+mod name;
 mod record;
 mod standing;
 mod telling;
@@ -11,6 +12,6 @@ mod tokens;
 mod told;
 
 pub use known::Known;
-pub use standing::push_board;
+pub use standing::{push_board, push_journal};
 pub use telling::{pass_next, tell_next};
 pub use told::push_line;

@@ -1,4 +1,4 @@
-//! The line of a board.
+//! The lines of a board and of its journal.
 ghost use Rattle.std.specs.Prelude.{◌≡◌, ◌++◌, ℕ, List, OnOk, codes, length};
 ghost use Rattle.std.specs.List.{flat_map};
 ghost use Rattle.bpf_helpers.specs.Promise.{Promise};
@@ -7,11 +7,11 @@ ghost use Rattle.acdm_step.specs.Summaries.{flights};
 ghost use Rattle.acdm_step.specs.History.{replay};
 ghost use Rattle.acdm_feed.specs.Knowing.{Knows};
 ghost use Rattle.acdm_feed.specs.Names.{list_member};
-ghost use Rattle.acdm_feed.specs.Resumed.{board_text, board_tokens};
+ghost use Rattle.acdm_feed.specs.Resumed.{board_text, board_tokens, head_members, journal_text, journal_tokens};
 ghost use Rattle.acdm_feed.specs.Told.{flight_tokens};
 
 use crate::known::Known;
-use crate::tokens::push_number;
+use crate::tokens::{push_number, push_text};
 use crate::told::push_flight;
 use acdm_step::Core;
 use json::Writer;
@@ -47,7 +47,20 @@ fn push_list(line: &mut Writer, known: &Known, board: &Core) -> Result<(), Alloc
     Ok(())
 }
 
-// Adds all of it as one object.
+// Adds the name of a journal, the number of the entry that comes next, and how many entries there is
+// room for.
+#[tactic(auto, unfolding(crate::specs::Resumed::head_members))]
+fn push_head(line: &mut Writer, name: &str, next: u64, room: u64) -> Result<(), AllocError>
+    ensures before { line.new.before ≡ line.old.before }
+    ensures adds { OnOk result (line.new.tokens ≡ line.old.tokens ++ head_members name.now next room) }
+{
+    push_text(line, "journal", name)?;
+    push_number(line, "next", next)?;
+    push_number(line, "room", room)?;
+    Ok(())
+}
+
+// Adds all of a board as one object.
 fn push_object(
     line: &mut Writer,
     known: &Known,
@@ -61,17 +74,16 @@ fn push_object(
         → line.new.tokens ≡ line.old.tokens ++ board_tokens room J) }
 {
     line.begin_object()?;
-    push_number(line, "next", entries)?;
-    push_number(line, "room", room)?;
+    push_head(line, known.name(), entries, room)?;
     push_list(line, known, board)?;
     line.end_object()?;
     Ok(())
 }
 
 /// Adds the line of a board after so many entries: one object of JSON, without space, and a line feed,
-/// with the number of the entry that comes next, how many entries there is room for, and the records of
-/// all flights in order of creation. What is known is that of this board. `Err` only where memory was
-/// refused; nothing was added then.
+/// with the name of its journal, the number of the entry that comes next, how many entries there is room
+/// for, and the records of all flights in order of creation. What is known is that of this board. `Err`
+/// only where memory was refused; nothing was added then.
 pub fn push_board(
     text: &mut Vec<u8>,
     known: &Known,
@@ -85,6 +97,42 @@ pub fn push_board(
 {
     let mut line = Writer::new(Vec::new(*text.allocator()));
     push_object(&mut line, known, board, entries, room)?;
+    let mut bytes = line.into_inner();
+    bytes.push(b'\n')?;
+    text.extend_from_slice(bytes.as_slice())?;
+    Ok(())
+}
+
+// Adds all of a journal as one object.
+fn push_journal_object(
+    line: &mut Writer,
+    name: &str,
+    next: u64,
+    room: u64,
+) -> Result<(), AllocError>
+    ensures before { line.new.before ≡ line.old.before }
+    ensures adds { OnOk result (line.new.tokens ≡ line.old.tokens ++ journal_tokens name.now next room) }
+{
+    line.begin_object()?;
+    push_head(line, name, next, room)?;
+    line.end_object()?;
+    Ok(())
+}
+
+/// Adds the line of a journal: one object of JSON, without space, and a line feed, with its name, the
+/// number of the entry that comes next for who is told it, and how many entries there is room for. What is
+/// known is that of its board. `Err` only where memory was refused; nothing was added then.
+pub fn push_journal(
+    text: &mut Vec<u8>,
+    known: &Known,
+    next: u64,
+    room: u64,
+) -> Result<(), AllocError>
+    ensures { OnOk result ((J : History) → Knows J known.now
+        → text.new.items ≡ text.old.items ++ journal_text next room J) }
+{
+    let mut line = Writer::new(Vec::new(*text.allocator()));
+    push_journal_object(&mut line, known.name(), next, room)?;
     let mut bytes = line.into_inner();
     bytes.push(b'\n')?;
     text.extend_from_slice(bytes.as_slice())?;

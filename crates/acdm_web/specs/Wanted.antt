@@ -6,8 +6,9 @@ use Rattle.std.specs.Str.{str_eq_ignore_ascii_case}
 use Rattle.std.specs.Str.Parse.{IsNumeral, digits_value, without_leading_plus}
 use Rattle.httparse.specs.Grammar.{ReadsRequest, RequestHead}
 use Rattle.httparse.specs.Spans.{RequestOverflows, name_and_value}
+use Rattle.acdm_web.specs.declared.request.Request.{Request}
 use Rattle.acdm_web.specs.declared.request.Wanted.{Wanted}
-use Rattle.acdm_web.specs.declared.request.Wanted.TheVariants.{Page, Events, Nothing, OtherMethod, Misdirected, NoRequest}
+use Rattle.acdm_web.specs.declared.request.Wanted.TheVariants.{Page, Events, Nothing, OtherMethod, Misdirected, NoRequest, Busy}
 
 -- a text with no sign before its digits, and no zero but that of 0
 abbrev pub is_plain : List ℕ → Bool
@@ -42,14 +43,21 @@ IsLast None None = ⊤
 
 -- ---- of whom it is asked (RFC 9110, section 7.4; which hosts there are: this project's profile)
 
--- how many bytes stand before the first colon
-abbrev pub before_colon : List ℕ → ℕ
-before_colon [] = 0
-before_colon (b ∷ bs) = if b == 58 then 0 else 1 + before_colon bs
+-- how many bytes stand before the first that is this one
+abbrev pub count_before : ℕ → List ℕ → ℕ
+count_before mark [] = 0
+count_before mark (b ∷ bs) = if b == mark then 0 else 1 + count_before mark bs
+
+abbrev pub before : ℕ → List ℕ → List ℕ
+before mark text = take (count_before mark text) text
 
 -- an authority without its port
 abbrev pub host_of : List ℕ → List ℕ
-host_of authority = take (before_colon authority) authority
+host_of authority = before 58 authority
+
+-- a target without what stands behind its question mark (RFC 9112, section 3.2.1)
+abbrev pub path_of : List ℕ → List ℕ
+path_of target = before 63 target
 
 -- digits and dots alone, as of an IPv4 address (the URL standard, "ends in a number")
 abbrev pub is_numeric : List ℕ → Bool
@@ -100,17 +108,40 @@ last_of fields = value_of (codes "last-event-id") fields
 abbrev pub IsFor : Option (List ℕ) → RequestHead → Type 0
 IsFor name h = is_meant name (map name_and_value h.fields) ≡ true
 
-abbrev pub Asks : Option (List ℕ) → RequestHead → Wanted → Type 0
-Asks name h Page = IsFor name h × (h.method ≡ codes "GET") × (h.target ≡ codes "/")
-Asks name h (Events last) = IsFor name h × (h.method ≡ codes "GET") × (h.target ≡ codes "/events")
-    × IsLast (last_of (map name_and_value h.fields)) last
-Asks name h Nothing = IsFor name h × (h.method ≡ codes "GET") × (h.target ≢ codes "/")
-    × (h.target ≢ codes "/events")
-Asks name h OtherMethod = IsFor name h × (h.method ≢ codes "GET")
-Asks name h Misdirected = is_meant name (map name_and_value h.fields) ≡ false
-Asks name h NoRequest = ⊥
+-- a method that is answered: it asks for the head of the answer alone, or for all of it
+abbrev pub method_of : Bool → List ℕ
+method_of true = codes "HEAD"
+method_of false = codes "GET"
+
+abbrev pub IsOf : Bool → RequestHead → Type 0
+IsOf true h = h.method ≡ codes "HEAD"
+IsOf false h = h.method ≢ codes "HEAD"
+
+-- what a target names, behind which number, if it has one, a browser goes on
+abbrev pub IsAt : List ℕ → Option (List ℕ) → Wanted → Type 0
+IsAt path number Page = path ≡ codes "/"
+IsAt path number (Events last) = (path ≡ codes "/events") × IsLast number last
+IsAt path number Nothing = (path ≢ codes "/") × (path ≢ codes "/events")
+IsAt path number _ = ⊥
+
+abbrev pub IsRead : Option (List ℕ) → RequestHead → Request → Type 0
+IsRead name h request = IsFor name h × (h.method ≡ method_of request.is_head)
+    × IsAt (path_of h.target) (last_of (map name_and_value h.fields)) request.wanted
+
+abbrev pub AsksFor : Option (List ℕ) → RequestHead → Request → Wanted → Type 0
+AsksFor name h request OtherMethod = IsFor name h × (h.method ≢ codes "GET") × (h.method ≢ codes "HEAD")
+AsksFor name h request Misdirected = is_meant name (map name_and_value h.fields) ≡ false
+AsksFor name h request NoRequest = ⊥
+AsksFor name h request Busy = ⊥
+AsksFor name h request _ = IsRead name h request
+
+abbrev pub Asks : Option (List ℕ) → RequestHead → Request → Type 0
+Asks name h request = IsOf request.is_head h × AsksFor name h request request.wanted
+
+abbrev pub WantsBy : Option (List ℕ) → List ℕ → Request → Wanted → Type 0
+WantsBy name bytes request NoRequest = RequestOverflows 64 bytes × (request.is_head ≡ false)
+WantsBy name bytes request _ = (h : RequestHead) × (rest : List ℕ) × ReadsRequest bytes h rest × Asks name h request
 
 -- What bytes ask for: the head at their front does, or none with at most 64 fields can come of them.
-abbrev pub Wants : Option (List ℕ) → List ℕ → Wanted → Type 0
-Wants name bytes NoRequest = RequestOverflows 64 bytes
-Wants name bytes wanted = (h : RequestHead) × (rest : List ℕ) × ReadsRequest bytes h rest × Asks name h wanted
+abbrev pub Wants : Option (List ℕ) → List ℕ → Request → Type 0
+Wants name bytes request = WantsBy name bytes request request.wanted

@@ -2,7 +2,7 @@
 ghost use Rattle.std.specs.Prelude.{◌≡◌, [], IfSome, option_map};
 ghost use Rattle.acdm_web.specs.Wanted.{Wants};
 
-use crate::request::{Wanted, wanted_in};
+use crate::request::{Request, wanted_in};
 use acdm_lines::Source;
 use std::alloc::Global;
 use std::io::{ErrorKind, Read};
@@ -31,7 +31,7 @@ pub fn first_wanted<R: Read, L: TimeLimit>(
     reader: &mut Source<R>,
     name: Option<&str>,
     limit: &L,
-) -> Option<Wanted>
+) -> Option<Request>
     requires { reader.old.log ≡ [] }
     ensures { IfSome result (Wants (option_map (λ n. n.now) name.entry) reader.new.log) }
 {
@@ -54,8 +54,8 @@ pub fn first_wanted<R: Read, L: TimeLimit>(
         if bytes.len() > LONGEST_HEAD {
             return None;
         }
-        if let Some(wanted) = wanted_in(bytes.as_slice(), name) {
-            return Some(wanted);
+        if let Some(request) = wanted_in(bytes.as_slice(), name) {
+            return Some(request);
         }
     }
     None

@@ -4,7 +4,8 @@ ghost use Rattle.httparse.specs.Grammar.{HasNoRequest, RequestHead};
 ghost use Rattle.httparse.specs.Spans.{IsHeaderWithin, IsRequestAt, IsRequestWithin, header_bytes};
 ghost use Rattle.acdm_web.specs.Wanted.{Asks, IsLast, IsNamed, NamesNone, Wants};
 ghost use Rattle.acdm_web.specs.Wanted.{is_at, is_bracketed, is_given, is_meant, is_name, is_numeric, is_own};
-ghost use Rattle.acdm_web.specs.Wanted.{host_of, is_own_host, is_plain, is_same_site, last_of, value_of};
+ghost use Rattle.acdm_web.specs.Wanted.{before, host_of, is_own_host, is_plain, is_same_site, last_of, path_of, value_of};
+ghost use Rattle.acdm_web.specs.Wanted.{IsAt};
 
 use httparse::Status;
 use httparse::spans::{EMPTY_HEADER_SPAN, HeaderSpan, RequestSpans, parse_request};
@@ -20,14 +21,24 @@ pub enum Wanted {
     /// The events of the feed, `GET /events`: from the entry of this number on, where the browser has
     /// had those before it.
     Events(Option<u64>),
-    /// Something else by `GET`, which is not there.
+    /// Something else by `GET` or `HEAD`, which is not there.
     Nothing,
-    /// Another method than `GET`.
+    /// Another method than `GET` and `HEAD`.
     OtherMethod,
     /// Something of another host, by its field `Host`, or asked by a page of another site, by its `Origin`.
     Misdirected,
     /// No request of HTTP/1.0 or 1.1 with at most 64 fields.
     NoRequest,
+    /// Whatever is asked for, by a browser for which no place is left; no request asks for it.
+    Busy,
+}
+
+/// What a browser asks for, and whether for the head of the answer alone.
+#[derive(Clone, Copy, Debug, PartialEq, Eq)]
+pub struct Request {
+    pub wanted: Wanted,
+    /// Whether the method is `HEAD`.
+    pub is_head: bool,
 }
 
 // Whether no sign stands before the digits of a text, and no zero but that of 0.
@@ -91,20 +102,34 @@ fn last_number(bytes: &[u8], fields: &[HeaderSpan]) -> Option<u64>
     }
 }
 
-// An authority without its port.
-fn host_of(authority: &[u8]) -> &[u8]
-    ensures { result.now ≡ host_of authority.now }
+// What stands before the first byte that is this one, or all.
+fn before(mark: u8, text: &[u8]) -> &[u8]
+    ensures { result.now ≡ before mark text.now }
 {
-    let mut rest = authority;
+    let mut rest = text;
     let mut count = 0;
     while let Some((byte, more)) = rest.split_first() {
-        if *byte == b':' {
-            return &authority[..count];
+        if *byte == mark {
+            return &text[..count];
         }
         count += 1;
         rest = more;
     }
-    &authority[..count]
+    &text[..count]
+}
+
+// An authority without its port.
+fn host_of(authority: &[u8]) -> &[u8]
+    ensures { result.now ≡ host_of authority.now }
+{
+    before(b':', authority)
+}
+
+// A target without what stands behind its question mark.
+fn path_of(target: &[u8]) -> &[u8]
+    ensures { result.now ≡ path_of target.now }
+{
+    before(b'?', target)
 }
 
 // Whether it has digits and dots alone, as an IPv4 address.
@@ -195,31 +220,47 @@ fn is_meant(name: Option<&str>, bytes: &[u8], fields: &[HeaderSpan]) -> bool
     is_own_host(name, host) && is_same_site(origin, host)
 }
 
-// What a whole head asks for, of a board with this name.
-fn asked_in(name: Option<&str>, bytes: &[u8], head: RequestSpans, fields: &[HeaderSpan]) -> Wanted
-    requires within { IsRequestWithin bytes.now fields.now head }
-    ensures { (h : RequestHead) → IsRequestAt bytes.now fields.now head h
-        → Asks (option_map (λ n. n.now) name.entry) h result }
+// What is at a path, by a head with these fields.
+fn found_at(path: &[u8], bytes: &[u8], fields: &[HeaderSpan]) -> Wanted
+    requires { All (IsHeaderWithin (length bytes.now)) fields.now }
+    ensures { IsAt path.now (last_of (map (header_bytes bytes.now) fields.now)) result }
 {
-    if !is_meant(name, bytes, &fields[..head.headers]) {
-        return Wanted::Misdirected;
-    }
-    if head.method.of(bytes) != b"GET".as_slice() {
-        return Wanted::OtherMethod;
-    }
-    let path = head.path.of(bytes);
     if path == b"/".as_slice() {
         return Wanted::Page;
     }
     if path == b"/events".as_slice() {
-        return Wanted::Events(last_number(bytes, &fields[..head.headers]));
+        return Wanted::Events(last_number(bytes, fields));
     }
     Wanted::Nothing
 }
 
+// What a whole head asks for, of a board with this name.
+fn asked_in(name: Option<&str>, bytes: &[u8], head: RequestSpans, fields: &[HeaderSpan]) -> Request
+    requires within { IsRequestWithin bytes.now fields.now head }
+    ensures { (h : RequestHead) → IsRequestAt bytes.now fields.now head h
+        → Asks (option_map (λ n. n.now) name.entry) h result }
+{
+    let method = head.method.of(bytes);
+    let is_head = method == b"HEAD".as_slice();
+    if !is_meant(name, bytes, &fields[..head.headers]) {
+        return Request {
+            wanted: Wanted::Misdirected,
+            is_head,
+        };
+    }
+    if !is_head && method != b"GET".as_slice() {
+        return Request {
+            wanted: Wanted::OtherMethod,
+            is_head,
+        };
+    }
+    let wanted = found_at(path_of(head.path.of(bytes)), bytes, &fields[..head.headers]);
+    Request { wanted, is_head }
+}
+
 /// What the bytes that a browser has sent ask for, of a board with this name, if it has one: those of the
 /// head of a request, and maybe more. `None` where they are not all of a head yet.
-pub fn wanted_in(bytes: &[u8], name: Option<&str>) -> Option<Wanted>
+pub fn wanted_in(bytes: &[u8], name: Option<&str>) -> Option<Request>
     ensures wanted { IfSome result (Wants (option_map (λ n. n.now) name.entry) bytes.now) }
     ensures more { IsNone result → HasNoRequest bytes.now }
 {
@@ -227,6 +268,9 @@ pub fn wanted_in(bytes: &[u8], name: Option<&str>) -> Option<Wanted>
     match parse_request(bytes, &mut fields) {
         Ok(Status::Complete(head)) => Some(asked_in(name, bytes, head, &fields)),
         Ok(Status::Partial) => None,
-        Err(_) => Some(Wanted::NoRequest),
+        Err(_) => Some(Request {
+            wanted: Wanted::NoRequest,
+            is_head: false,
+        }),
     }
 }

@@ -81,7 +81,7 @@ fn free_address<Rt: Net<Listener = TcpListener, Stream = TcpStream> + Abort>(
     listener.local_addr().ok().expect(rt, "an address")
 }
 
-// Displays of the journal of a desk with two ticks, at an address, where they can be had there.
+// Displays of the journal of a desk with two ticks, at an address.
 fn opened<
     H: Helpers + Drop,
     Rt: Net<Listener = TcpListener, Stream = TcpStream>
@@ -95,7 +95,8 @@ fn opened<
 >(rt: &Rt, alloc: Global, helpers: H, address: &str) -> Option<Displays> {
     let mut desk = ticked(rt, alloc, helpers, 10);
     assert!(rt; tick(&mut desk, 9));
-    let displays = Displays::open(rt, alloc, Form::Journal, address, None, desk.row(), None).ok();
+    let listener = TcpListener::bind(rt, address).ok()?;
+    let displays = Displays::start(rt, alloc, Form::Journal, listener, None, desk.row(), None).ok();
     drop(desk);
     displays
 }
@@ -116,13 +117,6 @@ fn displays_connect_at_the_address_that_was_given(rt: HostRuntime) {
     .expect(&rt, "a thread");
     displays.close(&rt);
     assert!(rt; display.join(&rt));
-}
-
-#[test]
-fn at_no_address_there_are_no_displays(rt: HostRuntime) {
-    let alloc = rt.alloc();
-    let bank = Bank::new(alloc).expect(&rt, "a bank");
-    assert!(rt; opened(&rt, alloc, bank, "nowhere").is_none());
 }
 
 #[test]

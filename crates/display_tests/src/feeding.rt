@@ -17,6 +17,23 @@ pub(crate) const SECOND: &str =
     r#"{"entry":1,"minute":"1970-01-01T00:09:00Z","session":1,"role":"APT","command":{"cmd":"tick"},"outcome":"ok","answers":[],"changed":[]}
 "#;
 
+/// The line of the journal that begins with the first of them, with room for ten, for who is sent all: the name
+/// is by `printf '0 1 7 APT 0 0 tick' | sha256sum`.
+pub(crate) const NAMED: &str =
+    "{\"journal\":\"c0b427712fc5e9818a1f171ebf555ecb\",\"next\":0,\"room\":10}\n";
+
+/// The same for who has the first entry.
+pub(crate) const NAMED_BEHIND_ONE: &str =
+    "{\"journal\":\"c0b427712fc5e9818a1f171ebf555ecb\",\"next\":1,\"room\":10}\n";
+
+/// The same for who has both.
+pub(crate) const NAMED_BEHIND_BOTH: &str =
+    "{\"journal\":\"c0b427712fc5e9818a1f171ebf555ecb\",\"next\":2,\"room\":10}\n";
+
+/// The line of the board after both.
+pub(crate) const BOARD: &str =
+    "{\"journal\":\"c0b427712fc5e9818a1f171ebf555ecb\",\"next\":2,\"room\":10,\"flights\":[]}\n";
+
 // What a display is told of two ticks.
 fn told<H: Helpers + Drop>(rt: &impl Abort, alloc: Global, helpers: H, start: Start) -> Vec<u8> {
     let mut desk = ticked(rt, alloc, helpers, 10);
@@ -32,12 +49,13 @@ fn told<H: Helpers + Drop>(rt: &impl Abort, alloc: Global, helpers: H, start: St
 }
 
 // Where a display begins, and what it is told.
-static STARTS: [(Start, &[&str]); 5] = [
-    (Start::Entry(0), &[FIRST, SECOND]),
-    (Start::Entry(1), &[SECOND]),
-    (Start::Entry(2), &[]),
-    (Start::Entry(u64::MAX), &[]),
-    (Start::Board, &["{\"next\":2,\"room\":10,\"flights\":[]}\n"]),
+static STARTS: [(Start, &[&str]); 6] = [
+    (Start::Entry(0), &[NAMED, FIRST, SECOND]),
+    (Start::Entry(1), &[NAMED_BEHIND_ONE, SECOND]),
+    (Start::Entry(2), &[NAMED_BEHIND_BOTH]),
+    (Start::Entry(3), &[BOARD]),
+    (Start::Entry(u64::MAX), &[BOARD]),
+    (Start::Board, &[BOARD]),
 ];
 
 #[test]

@@ -74,9 +74,9 @@ impl<H: Helpers + Drop> Write for Growing<H> {
 
 /// Fails so at each of so many reads, and ends then.
 #[derive(Drop)]
-struct Failing {
-    kind: ErrorKind,
-    times: u64,
+pub(crate) struct Failing {
+    pub(crate) kind: ErrorKind,
+    pub(crate) times: u64,
 }
 
 impl Read for Failing {

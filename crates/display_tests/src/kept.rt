@@ -5,7 +5,7 @@ ghost use Rattle.std.specs.Arc.{arc_value};
 use crate::following::{TICKS, row_of, tick, ticked};
 use acdm_board::Desk;
 use acdm_displays::{Entries, Shown, follow};
-use acdm_keeping::{Keeper, Opening, Reach, SharedKeeper};
+use acdm_keeping::{Keeper, Opening, Reach, SharedKeeper, Waits};
 use acdm_lines::Sink;
 use acdm_row::Row;
 use bpf_helpers::{Bank, Helpers};
@@ -57,7 +57,7 @@ fn shows_what_is_kept<J: Opening, H: Helpers + Drop>(
         .expect(rt, "a keeper");
     let reach = shared.reach().expect(rt, "how far it is kept");
     assert!(rt; is_shown(alloc, row, &reach, ""));
-    assert!(rt; shared.wait_for_all(rt).is_ok());
+    assert!(rt; shared.wait_for_all(rt, &mut Waits::new()).is_ok());
     assert!(rt; is_shown(alloc, row, &reach, FIRST));
     assert!(rt; tick(desk, 9));
     assert!(rt; is_shown(alloc, row, &reach, FIRST));

@@ -13,3 +13,5 @@ mod feeding;
 mod following;
 #[cfg(test)]
 mod kept;
+#[cfg(test)]
+mod naming;

@@ -9,16 +9,14 @@ pub returns-clause-begins : goal.returns-clause-begins
 returns-clause-begins g c =
     let seen = c.args.watch.now.seen in
     let sigs = c.args.watch.now.row.sigs in
-    let room = length c.args.row.now.cells in
+    let room = c.args.teller.now.room in
     let count : c.len-entries.result ≡ length (reverse seen) =
     ◌∙◌ {A = ℕ} c.len-entries.ensures (sym (length-reverse seen)) in
     board_event_told room seen c.args.teller.now.known c.args.writer.now.log c.as_slice.result.now
     c.as_slice-2.result.now c.write_whole.new.writer.log c.len-entries.result c.requires.knows count
     (◌∙◌ {A = List ℕ} c.as_slice.ensures.value (◌∙◌ {A = List ℕ}
     (c.in_ok-push_board.ensures.stands sigs (reverse seen) c.board.ensures.replays c.requires.knows count)
-    (◌∙◌ {A = List ℕ}
-    (ap (λ t. t ++ board_text c.len.result (reverse seen)) c.new-line.ensures.items)
-    (ap (λ r. board_text r (reverse seen)) c.len.ensures))))
+    (ap (λ t. t ++ board_text room (reverse seen)) c.new-line.ensures.items)))
     (◌∙◌ {A = List ℕ} c.as_slice-2.ensures.value
     (rw c.new-text.ensures.items at c.in_ok-push_event.ensures))
     c.in_ok-write_whole.ensures.takes

@@ -1,4 +1,4 @@
-use Rattle.std.proofs.Common.{◌≡◌, length, rules, subst}
+use Rattle.std.proofs.Common.{◌≡◌, ap, length, rules, subst, ◌∙◌}
 use Rattle.std.specs.Arc.{arc_value}
 use Rattle.acdm_row.specs.Views.{RowView}
 use Rattle.acdm_displays.specs.Displayed.{SaysEvents}
@@ -14,9 +14,9 @@ returns-clause-sent g c =
     c.shown_of.ensures.writer (search rules) c.shown_of.ensures.legal
     (subst (λ b. SaysEvents (length (arc_value c.args.entries.now.row.now).cells) c.args.last
     c.send_on.new.seen.watch.seen b c.send_on.new.writer.log) c.in_ok-answer.ensures.answered
-    (subst (λ (r : RowView). SaysEvents (length r.cells) c.args.last c.send_on.new.seen.watch.seen
-    c.answer.new.writer.log c.send_on.new.writer.log) same
-    (says_events (length c.deref.result.now.cells) c.args.last _ _ _ _ _ _ _ _ _
-    c.in_ok-begin_events.ensures.begins c.in_ok-send_on.ensures.sent)))
+    (subst (λ n. SaysEvents n c.args.last c.send_on.new.seen.watch.seen c.answer.new.writer.log
+    c.send_on.new.writer.log) (c.len.ensures ∙ ap (λ (r : RowView). length r.cells) same)
+    (says_events c.len.result c.args.last _ _ _ _ _ _ _ _ _ _ _ c.in_ok-begin_events.ensures.begins
+    c.in_ok-send_on.ensures.sent)))
     c.in_ok-send_on.ensures.flushed c.in_ok-seen.ensures.kept c.in_ok-send_on.ensures.kept
     c.in_ok-send_on.ensures.within

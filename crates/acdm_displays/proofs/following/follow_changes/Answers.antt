@@ -1,4 +1,4 @@
-use Rattle.std.proofs.Common.{◌≡◌, length, rules, subst}
+use Rattle.std.proofs.Common.{◌≡◌, ap, length, rules, subst, ◌∙◌}
 use Rattle.std.specs.Arc.{arc_value}
 use Rattle.acdm_row.specs.Views.{RowView}
 use Rattle.acdm_displays.specs.Displayed.{SaysFeed}
@@ -12,9 +12,9 @@ returns-clause-sent g c =
     took _ _ _ c.args.writer.log c.shown_of.result c.send_on.new.seen.watch c.in_ok-seen.seen.receipt
     c.send_on.new.seen.receipt c.send_on.new.writer c.shown_of.ensures.watch c.shown_of.ensures.receipt
     c.shown_of.ensures.writer (search rules) c.shown_of.ensures.legal
-    (subst (λ (r : RowView). SaysFeed (length r.cells) c.args.start c.send_on.new.seen.watch.seen
-    c.args.writer.log c.send_on.new.writer.log) same
-    (says_feed (length c.deref.result.now.cells) c.args.start _ _ _ _ _ _ c.args.writer.log _ _
-    c.in_ok-begin.ensures.begins c.in_ok-send_on.ensures.sent))
+    (subst (λ n. SaysFeed n c.args.start c.send_on.new.seen.watch.seen c.args.writer.log c.send_on.new.writer.log)
+    (c.len.ensures ∙ ap (λ (r : RowView). length r.cells) same)
+    (says_feed c.len.result c.args.start _ _ _ _ _ _ _ _ c.args.writer.log _ _ c.in_ok-begin.ensures.begins
+    c.in_ok-send_on.ensures.sent))
     c.in_ok-send_on.ensures.flushed c.in_ok-seen.ensures.kept c.in_ok-send_on.ensures.kept
     c.in_ok-send_on.ensures.within

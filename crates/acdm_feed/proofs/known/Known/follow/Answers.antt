@@ -1,16 +1,13 @@
-use Rattle.std.proofs.Common.{sym, ◌∙◌, ◌∷◌}
-use Rattle.acdm_feed.proofs.Following.{same_flights, knows_flight, is_changed}
+use Rattle.std.proofs.Common.{ap, ◌∙◌, nat_eq}
+use Rattle.std.specs.Prelude.{option_map, string_bytes}
+use Rattle.indexmap.specs.IndexMap.{get}
 use Rattle.acdm_feed.proofs.known.Known.follow.Goals as goal
 
-pub returns-then-touches_all : goal.returns-then-touches_all
-returns-then-touches_all c sigs J eq k =
-    c.in_ok-read_all.ensures sigs (c.args.entry.now ∷ J) eq
-    (k.flights_are ∙ sym (same_flights J c.args.entry.now
-    (sym c.touches_all.ensures ∙ c.if-touches_all.true)))
-
-pub returns-in_ok-follow_flight-in-Some : goal.returns-in_ok-follow_flight-in-Some
-returns-in_ok-follow_flight-in-Some c sigs J eq k =
-    let changed = is_changed _ _ _ (sym c.flight_changed.ensures ∙ c.in-Some.is) in
-    knows_flight J c.args.entry.now c.in-Some.flight c.args.self.now c.follow_flight.new.self
-    (sym c.is_accepted.ensures ∙ c.if-not-is_accepted.false) changed.0 changed.1
-    (c.in_ok-follow_flight-in-Some.ensures sigs (c.args.entry.now ∷ J) eq) k
+pub returns : goal.returns
+returns c sigs J eq k = record {
+  named = ap (option_map string_bytes) c.follow_flights.ensures.name ∙ c.in_ok-follow_name.ensures.named J k;
+  of_flights = c.in_ok-follow_flights.ensures.knows sigs J eq (record {
+    flights_are = ap (λ v. v.items) c.follow_name.ensures.flights ∙ k.of_flights.flights_are;
+    words = λ f. ap (λ w. get nat_eq w f) c.follow_name.ensures.words ∙ k.of_flights.words f;
+  });
+}

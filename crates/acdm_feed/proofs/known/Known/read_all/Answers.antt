@@ -4,8 +4,8 @@ use Rattle.acdm_feed.specs.Knowing.{word_of}
 use Rattle.acdm_feed.proofs.Following.{knows_all}
 use Rattle.acdm_feed.proofs.known.Known.read_all.Goals as goal
 
-pub returns : goal.returns
-returns c sigs K eq same =
-    knows_all K record { flights = c.args.self.now.flights; words = c.in_ok-words.words } same
+pub returns-clause-knows : goal.returns-clause-knows
+returns-clause-knows c sigs K eq same =
+    knows_all K record { name = c.args.self.now.name; flights = c.args.self.now.flights; words = c.in_ok-words.words } same
     (λ f. c.in_ok-words.ensures sigs K eq f
     ∙ ap (λ fs. cond (list_any (λ g. g == f) fs) (word_of K f) None) c.as_slice.ensures.value)
