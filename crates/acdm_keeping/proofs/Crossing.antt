@@ -13,6 +13,7 @@ use Rattle.acdm_watch.specs.contracts.sight.Sight as sight
 use Rattle.acdm_keeping.specs.declared.receipt.Opening as opening
 use Rattle.acdm_keeping.proofs.progress.Progress.TheSendSync as progress
 use Rattle.acdm_keeping.proofs.reach.Reach.TheSendSync as reach
+use Rattle.acdm_keeping.proofs.shared.Waits.TheSendSync as waits
 use Rattle.acdm_keeping.specs.contracts.keeper.Keeper as keeper
 use Rattle.acdm_keeping.specs.contracts.keeper.Keeper.TheInside as keeper_inside
 use Rattle.acdm_keeping.specs.contracts.receipt.Writing as writing
@@ -96,5 +97,5 @@ replies_send κ F J W Q o n f w q =
     let all = shared_sync F J o n f in
     declared_send (replies.the_type κ F J W Q o n) (
       search (q, sendable) depth 10,
-      (search (all, sendable) depth 10, (search (w, sendable) depth 8, tt)),
+      (search (all, sendable) depth 10, (search (w, sendable) depth 8, (search (waits.the_send, sendable) depth 8, tt))),
     )

@@ -1,2 +1,4 @@
 mod Behind
+mod Copied
 pub mod Crossing
+mod Waiting

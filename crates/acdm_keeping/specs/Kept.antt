@@ -1,7 +1,7 @@
 -- What is kept of a journal.
-use Rattle.std.specs.Prelude.{Bool, ℕ, ◌++◌, List, reverse}
+use Rattle.std.specs.Prelude.{◌≡◌, Bool, false, ℕ, ◌+◌, ◌++◌, ◌⊎◌, List, Option, Result, MatchOption, OnOk, IsErr, reverse}
 use Rattle.acdm_judging.specs.declared.failure.Failure.{Failure}
-use Rattle.acdm_judging.specs.declared.failure.Failure.TheVariants.{InUse, Keep, Memory, Save}
+use Rattle.acdm_judging.specs.declared.failure.Failure.TheVariants.{Memory, Save}
 use Rattle.acdm_journal.specs.Whole.{Saves}
 use Rattle.acdm_lines.specs.Counted.{SinkView}
 use Rattle.acdm_row.specs.Views.{RowView}
@@ -30,14 +30,18 @@ CutsShort Save = Unit {0}
 CutsShort Memory = Unit {0}
 CutsShort _ = ⊥
 
--- why the file in which a journal is kept is not opened
-abbrev pub FailsToOpen : Failure → Type 0
-FailsToOpen Keep = Unit {0}
-FailsToOpen InUse = Unit {0}
-FailsToOpen _ = ⊥
+-- Bytes were handed to a writer once all entries in sight were kept, and none of those waits for a flush; or
+-- they could not be kept, and the writer was left alone, which is told.
+abbrev pub HandsBehind : {F W T E : Type 0} → KeeperView F → KeeperView F → W → W → Result T E → Type 0
+HandsBehind old new before after r =
+    (Keeps old.seen new.seen old.writer.log new.writer.log × (new.writer.waits ≡ false))
+    ⊎ ((after ≡ before) × IsErr r)
 
--- why no new file is put in its place
-abbrev pub FailsToRenew : Failure → Type 0
-FailsToRenew Keep = Unit {0}
-FailsToRenew Memory = Unit {0}
-FailsToRenew _ = ⊥
+-- A keeper that is shared, if there is one, has told once more that all entries in sight are kept, or failed.
+abbrev pub Waited : {K T E : Type 0} → Option K → ℕ → ℕ → Result T E → Type 0
+Waited keeper waits later r = MatchOption keeper (Unit {0}) (λ _. OnOk r (later ≡ waits + 1))
+
+-- Bytes were handed to a writer once it had, or the writer was left alone, which is told.
+abbrev pub WaitsBefore : {K W T E : Type 0} → Option K → ℕ → ℕ → W → W → Result T E → Type 0
+WaitsBefore keeper waits later before after r =
+    MatchOption keeper (Unit {0}) (λ _. (later ≡ waits + 1) ⊎ ((after ≡ before) × IsErr r))

@@ -1,66 +1,63 @@
 //! The file in which a journal is kept.
-ghost use Rattle.std.specs.Prelude.{IfErr};
-ghost use Rattle.acdm_keeping.specs.Kept.{FailsToOpen, FailsToRenew};
+ghost use Rattle.std.specs.Prelude.{◌≡◌};
+ghost use Rattle.std.specs.IoError.{error_kind};
 
+use crate::copying::copy_bytes;
 use crate::replacement::{Replacement, is_special, leads_to, sync_folder};
-use acdm_judging::Failure;
+use acdm_lines::{Sink, Source};
 use std::alloc::Global;
 use std::fs::{File, Files, OpenOptions, TryLockError};
-use std::io::{self, ErrorKind, Read, Seek, SeekFrom, Write};
+use std::io::{self, ErrorKind, Seek, SeekFrom};
 use std::os::unix::fs::{MetadataExt, fchown};
-
-/// How many bytes are copied at once at most.
-const PIECE: usize = 65_536;
 
 /// Opens the file in which a journal is kept, for reading and for writing at its end. It is made where
 /// it is not there, and its name is on the disk then. As long as it is open, nobody else opens it so.
 ///
-/// `Keep` where it can't be opened, or where it is no plain file, which is not waited for; `InUse` where
-/// somebody else has opened it so, or has just put another in its place.
-pub fn open<Rt: Files<File = File>>(rt: &Rt, path: &str) -> Result<File, Failure>
-    ensures fails { IfErr result FailsToOpen }
-{
+/// The system's error where it can't be opened; one of the kind `InvalidInput` where it is no plain file, which
+/// is not waited for; one of the kind `WouldBlock` where somebody else has opened it so, or has just put another
+/// in its place.
+pub fn open<Rt: Files<File = File>>(rt: &Rt, path: &str) -> io::Result<File> {
     if is_special(rt, path) {
-        return Err(Failure::Keep);
+        return Err(no_file());
     }
     let mut options = OpenOptions::new();
     options.read(true).append(true).create(true);
-    let Ok(file) = options.open(rt, path) else {
-        return Err(Failure::Keep);
-    };
+    let file = options.open(rt, path)?;
     match file.try_lock() {
         Ok(()) => {}
-        Err(TryLockError::WouldBlock) => return Err(Failure::InUse),
-        Err(TryLockError::Error(_)) => return Err(Failure::Keep),
+        Err(TryLockError::WouldBlock) => return Err(in_use()),
+        Err(TryLockError::Error(error)) => return Err(error),
     }
-    match file.metadata() {
-        Ok(found) if !found.is_file() => Err(Failure::Keep),
-        Ok(found) if !leads_to(rt, path, &found) => Err(Failure::InUse),
-        Ok(_) if sync_folder(rt, path).is_ok() => Ok(file),
-        _ => Err(Failure::Keep),
+    let found = file.metadata()?;
+    if !found.is_file() {
+        return Err(no_file());
     }
+    if !leads_to(rt, path, &found) {
+        return Err(in_use());
+    }
+    sync_folder(rt, path)?;
+    Ok(file)
+}
+
+// That a path is that of something else than a plain file.
+fn no_file() -> io::Error
+    ensures { error_kind result ≡ ErrorKind.InvalidInput }
+{
+    io::Error::new(ErrorKind::InvalidInput, "no plain file")
+}
+
+// That somebody else has the file.
+fn in_use() -> io::Error
+    ensures { error_kind result ≡ ErrorKind.WouldBlock }
+{
+    io::Error::new(ErrorKind::WouldBlock, "another board keeps a journal in it")
 }
 
 // Copies the first bytes of a file, so many, to the end of another.
 fn copy_first(old: &File, new: &File, bytes: u64) -> io::Result<()> {
-    let mut reader = old;
-    let mut writer = new;
-    let mut left = bytes;
-    reader.seek(SeekFrom::Start(0))?;
-    for _ in 0..u64::MAX {
-        if left == 0 {
-            return Ok(());
-        }
-        let mut piece = [0u8; PIECE];
-        let most = left.min(PIECE as u64) as usize;
-        let count = reader.read(&mut piece[..most])?;
-        if count == 0 {
-            break;
-        }
-        writer.write_all(&piece[..count])?;
-        left -= count as u64;
-    }
-    Err(io::Error::from(ErrorKind::UnexpectedEof))
+    let mut whole = old;
+    whole.seek(SeekFrom::Start(0))?;
+    copy_bytes(&mut Source::new(whole), &mut Sink::new(new), bytes)
 }
 
 // Makes a new file what an old one is up to so many bytes: who may read it, that nobody else opens it to
@@ -71,32 +68,40 @@ fn fill(old: &File, new: &File, bytes: u64) -> io::Result<()> {
     // Whose it is stays so where that may be said.
     let _ = fchown(new, Some(found.uid()), Some(found.gid()));
     if new.try_lock().is_err() {
-        return Err(io::Error::from(ErrorKind::WouldBlock));
+        return Err(in_use());
     }
     copy_first(old, new, bytes)
 }
 
 /// Puts a new file in the place of the one of a path in which a journal is kept: it has the first bytes of
 /// that, so many, and all of them are on the disk. What a failed write had left in the memory of the system
-/// alone is written anew so. `Keep` where that failed, `Memory` where it was refused; the old file stays then.
+/// alone is written anew so. The system's error where that failed, one of the kind `OutOfMemory` where memory was
+/// refused; the old file stays then.
 pub fn renew<Rt: Files<File = File>>(
     rt: &Rt,
     alloc: Global,
     path: &str,
     old: &File,
     bytes: u64,
-) -> Result<File, Failure>
-    ensures fails { IfErr result FailsToRenew }
-{
-    let Ok(made) = Replacement::create(rt, alloc, path, None) else {
-        return Err(Failure::Memory);
-    };
-    let Some((new, replacement)) = made else {
-        return Err(Failure::Keep);
-    };
-    if fill(old, &new, bytes).is_ok() && replacement.put_in_place(rt, &new).is_ok() {
-        return Ok(new);
+) -> io::Result<File> {
+    let (new, replacement) = Replacement::create(rt, alloc, path, None)?;
+    match put_anew(rt, old, &new, bytes, &replacement) {
+        Ok(()) => Ok(new),
+        Err(error) => {
+            replacement.remove(rt);
+            Err(error)
+        }
     }
-    replacement.remove(rt);
-    Err(Failure::Keep)
+}
+
+// Fills a new file with the first bytes of an old one, so many, and puts it in the place of that.
+fn put_anew<Rt: Files<File = File>>(
+    rt: &Rt,
+    old: &File,
+    new: &File,
+    bytes: u64,
+    replacement: &Replacement,
+) -> io::Result<()> {
+    fill(old, new, bytes)?;
+    replacement.put_in_place(rt, new)
 }

@@ -1,4 +1,7 @@
 //! How far a journal is kept, for those who show it.
+ghost use Rattle.std.specs.Prelude.{◌≡◌, IfOk};
+ghost use Rattle.std.specs.Arc.{arc_value};
+
 use crate::receipt::Receipt;
 use std::alloc::{AllocError, Global};
 use std::sync::Arc;
@@ -20,7 +23,9 @@ impl Reach {
     }
 
     /// The same once more. `Err` only where memory was refused.
-    pub fn copy(&self) -> Result<Reach, AllocError> {
+    pub fn copy(&self) -> Result<Reach, AllocError>
+        ensures { IfOk result (λ reach. arc_value reach.kept ≡ arc_value self.now.kept) }
+    {
         Ok(Reach {
             kept: Arc::try_clone(&self.kept)?,
         })

@@ -1,5 +1,8 @@
 //! A file that is written beside another one, whose place it takes once it is whole.
+ghost use Rattle.std.specs.Prelude.{◌≡◌, None, IfOk, string_bytes};
+ghost use Rattle.acdm_keeping.specs.Settled.{IsPartOf, part_name};
 
+use crate::settling::{Settling, settle};
 use std::alloc::{AllocError, Global};
 use std::fs::{self, Files, Metadata, OpenFile, OpenOptions};
 use std::io::{self, ErrorKind};
@@ -14,6 +17,30 @@ const MOST_NAMES: u32 = 100;
 pub struct Replacement {
     part: String,
     whole: String,
+}
+
+// A file of the system that was written, and the names that it has and is to have.
+#[derive(Drop)]
+struct Written<'a, Rt: Files> {
+    rt: &'a Rt,
+    file: &'a Rt::File,
+    names: &'a Replacement,
+}
+
+impl<Rt: Files> Settling for Written<'_, Rt> {
+    ghost done = { λ _. None };
+
+    fn sync_contents(&mut self) -> io::Result<()> {
+        self.file.sync_all()
+    }
+
+    fn rename(&mut self) -> io::Result<()> {
+        fs::rename(self.rt, self.names.part.as_str(), self.names.whole.as_str())
+    }
+
+    fn sync_folder(&mut self) -> io::Result<()> {
+        sync_folder(self.rt, self.names.whole.as_str())
+    }
 }
 
 /// Whether two files are one.
@@ -55,12 +82,15 @@ fn target_of<Rt: Files>(rt: &Rt, alloc: Global, path: &str) -> Result<String, Al
 }
 
 // The name that is tried first, or so many tries later.
-fn part_of(alloc: Global, whole: &str, tries: u32) -> Result<String, AllocError> {
+fn part_of(alloc: Global, whole: &str, tries: u32) -> Result<String, AllocError>
+    ensures { IfOk result (λ part. string_bytes part ≡ part_name whole.now tries) }
+{
     let mut part = String::from_str(alloc, whole)?;
     part.push_str(".part")?;
-    if tries > 0 {
-        write!(part, "{tries}")?;
+    if tries == 0 {
+        return Ok(part);
     }
+    write!(part, "{tries}")?;
     Ok(part)
 }
 
@@ -88,36 +118,37 @@ fn is_named_by<Rt: Files>(rt: &Rt, file: &Rt::File, other: Option<&str>) -> bool
 
 impl Replacement {
     /// Makes a new file, for reading and for writing at its end, beside the one of a path, or of what its
-    /// links lead to. Its name was not there before, and is none of the other path. `None` where it can't be
-    /// made. `Err` only where memory was refused.
+    /// links lead to. Its name was not there before, and is none of the other path. The system's error where it
+    /// can't be made, one of the kind `OutOfMemory` where memory was refused.
     pub fn create<Rt: Files>(
         rt: &Rt,
         alloc: Global,
         path: &str,
         other: Option<&str>,
-    ) -> Result<Option<(Rt::File, Replacement)>, AllocError> {
+    ) -> io::Result<(Rt::File, Replacement)>
+        ensures { IfOk result (λ made. IsPartOf (string_bytes made.1.whole) (string_bytes made.1.part)) }
+    {
         let whole = target_of(rt, alloc, path)?;
         for tries in 0..MOST_NAMES {
             let part = part_of(alloc, whole.as_str(), tries)?;
-            match create_new(rt, part.as_str()) {
-                Ok(Some(file)) => {
-                    if !is_named_by(rt, &file, other) {
-                        return Ok(Some((file, Replacement { part, whole })));
-                    }
-                    let _ = fs::remove_file(rt, part.as_str());
+            if let Some(file) = create_new(rt, part.as_str())? {
+                if !is_named_by(rt, &file, other) {
+                    return Ok((file, Replacement { part, whole }));
                 }
-                Ok(None) => {}
-                Err(_) => return Ok(None),
+                let _ = fs::remove_file(rt, part.as_str());
             }
         }
-        Ok(None)
+        Err(io::Error::new(ErrorKind::AlreadyExists, "no name is free beside it"))
     }
 
     /// Puts the file in its place, once all of it is on the disk, and has its name there too.
     pub fn put_in_place<Rt: Files>(&self, rt: &Rt, file: &Rt::File) -> io::Result<()> {
-        file.sync_all()?;
-        fs::rename(rt, self.part.as_str(), self.whole.as_str())?;
-        sync_folder(rt, self.whole.as_str())
+        let mut written = Written {
+            rt,
+            file,
+            names: self,
+        };
+        settle(&mut written)
     }
 
     /// Takes the file away, where it was not put in its place.

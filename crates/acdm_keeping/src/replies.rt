@@ -1,10 +1,11 @@
 //! The replies of a session, behind the keeping of the entries that they tell of.
-ghost use Rattle.std.specs.Prelude.{◌≡◌, IfOk, IfSome, IsErr, IsSome, OnErr};
+ghost use Rattle.std.specs.Prelude.{◌≡◌, IsErr, OnErr};
 ghost use Rattle.std.specs.Io.{WritesAtMost};
 ghost use Rattle.std.specs.Io.KnownBytes.{Keeps, WriteAppends};
+ghost use Rattle.acdm_keeping.specs.Kept.{Waited, WaitsBefore};
 
 use crate::receipt::{Opening, Receipt};
-use crate::shared::SharedKeeper;
+use crate::shared::{SharedKeeper, Waits};
 use acdm_judging::Failure;
 use std::io::{self, ErrorKind, Write};
 use std::sync::Wait;
@@ -17,6 +18,8 @@ pub struct Replies<'r, F: Write + Drop, J: Opening, W: Write + Drop, Rt> {
     rt: &'r Rt,
     keeper: Option<&'r SharedKeeper<F, J>>,
     writer: W,
+    // How often it was told that all entries in sight were kept.
+    waits: Waits,
 }
 
 impl<'r, F: Write + Drop, J: Opening, W: Write + Drop, Rt: Wait> Replies<'r, F, J, W, Rt> {
@@ -26,22 +29,33 @@ impl<'r, F: Write + Drop, J: Opening, W: Write + Drop, Rt: Wait> Replies<'r, F, 
         keeper: Option<&'r SharedKeeper<F, J>>,
         writer: W,
     ) -> Replies<'r, F, J, W, Rt>
-        ensures { result.writer ≡ writer }
+        ensures keeper { result.keeper ≡ keeper.entry }
+        ensures writer { result.writer ≡ writer }
+        ensures waits { result.waits.count ≡ 0 }
     {
-        Replies { rt, keeper, writer }
-    }
-
-    // Waits until all entries that are in sight are kept, where there is a keeper.
-    fn wait(&self) -> Result<Option<Receipt>, Failure>
-        ensures kept { IfOk result (λ receipt. IfSome self.now.keeper (λ _. IsSome receipt)) }
-    {
-        let Some(keeper) = self.keeper else {
-            return Ok(None);
-        };
-        match keeper.wait_for_all(self.rt) {
-            Ok(receipt) => Ok(Some(receipt)),
-            Err(failure) => Err(failure),
+        Replies {
+            rt,
+            keeper,
+            writer,
+            waits: Waits::new(),
         }
+    }
+}
+
+// Waits until all entries that are in sight are kept, where there is a keeper.
+fn wait<F: Write + Drop, J: Opening, Rt: Wait>(
+    rt: &Rt,
+    keeper: Option<&SharedKeeper<F, J>>,
+    waits: &mut Waits,
+) -> Result<Option<Receipt>, Failure>
+    ensures { Waited keeper.entry waits.old.count waits.new.count result }
+{
+    let Some(keeper) = keeper else {
+        return Ok(None);
+    };
+    match keeper.wait_for_all(rt, waits) {
+        Ok(receipt) => Ok(Some(receipt)),
+        Err(failure) => Err(failure),
     }
 }
 
@@ -76,11 +90,27 @@ impl<'r, F: Write + Drop, J: Opening, W: Write + Drop, Rt: Wait> Write
     for Replies<'r, F, J, W, Rt> {
     ghost contents = { λ r. W.contents r.writer };
 
-    fn write(&mut self, buf: &[u8]) -> io::Result<usize> {
-        hand_on(self.wait(), &mut self.writer, buf)
+    #[tactic(auto, using(crate::proofs::Waiting::waited_before))]
+    fn write(&mut self, buf: &[u8]) -> io::Result<usize>
+        ensures keeper { self.new.keeper ≡ self.old.keeper }
+        ensures behind { WaitsBefore self.old.keeper self.old.waits.count self.new.waits.count
+            self.old.writer self.new.writer result }
+        ensures bound { WritesAtMost result buf.now }
+        ensures bytes { WriteAppends (W.contents self.old.writer) (W.contents self.new.writer)
+            result buf.now }
+    {
+        let kept = wait(self.rt, self.keeper, &mut self.waits);
+        hand_on(kept, &mut self.writer, buf)
     }
 
-    fn flush(&mut self) -> io::Result<()> {
-        flush_kept(self.wait(), &mut self.writer)
+    #[tactic(auto, using(crate::proofs::Waiting::waited_before))]
+    fn flush(&mut self) -> io::Result<()>
+        ensures keeper { self.new.keeper ≡ self.old.keeper }
+        ensures behind { WaitsBefore self.old.keeper self.old.waits.count self.new.waits.count
+            self.old.writer self.new.writer result }
+        ensures bytes { Keeps (W.contents self.old.writer) (W.contents self.new.writer) }
+    {
+        let kept = wait(self.rt, self.keeper, &mut self.waits);
+        flush_kept(kept, &mut self.writer)
     }
 }

@@ -1,5 +1,5 @@
 //! A keeper that many sessions share.
-ghost use Rattle.std.specs.Prelude.{◌≡◌, ◌≤◌, [], false, IfErr, IfOk};
+ghost use Rattle.std.specs.Prelude.{◌≡◌, ◌+◌, ◌≤◌, [], false, IfErr, IfOk, OnErr, OnOk};
 ghost use Rattle.std.specs.Arc.{arc_value};
 ghost use Rattle.acdm_judging.specs.declared.failure.Failure.TheVariants.{Memory, Save};
 ghost use Rattle.acdm_keeping.specs.Kept.{Keeps};
@@ -15,6 +15,21 @@ use std::alloc::{AllocError, Global};
 use std::io::Write;
 use std::sync::atomic::{AtomicBool, Ordering};
 use std::sync::{Arc, Condvar, Mutex, Wait};
+
+/// How often somebody was told that all entries in sight were kept. Only a keeper counts on.
+#[derive(Drop)]
+pub struct Waits {
+    count: u64,
+}
+
+impl Waits {
+    /// Never yet.
+    pub fn new() -> Waits
+        ensures { result.count ≡ 0 }
+    {
+        Waits { count: 0 }
+    }
+}
 
 /// Who keeps the entries of a row for many who wait. One of those who wait writes and flushes all
 /// entries in sight, the others are told once he has: so many are served by one write and one flush.
@@ -63,14 +78,21 @@ impl<F: Write + Drop, J: Opening> SharedKeeper<F, J> {
         })
     }
 
-    /// Waits until all entries that are in sight are kept.
+    /// Waits until all entries that are in sight are kept, and counts that.
     ///
-    /// `Save` where keeping has failed.
-    pub fn wait_for_all<Rt: Wait>(&self, rt: &Rt) -> Result<Receipt, Failure>
+    /// `Save` where keeping has failed, or where so much was counted as 64 bits hold.
+    pub fn wait_for_all<Rt: Wait>(&self, rt: &Rt, waits: &mut Waits) -> Result<Receipt, Failure>
+        ensures counted { OnOk result (waits.new.count ≡ waits.old.count + 1) }
+        ensures same { OnErr result (waits.new ≡ waits.old) }
         ensures failed { IfErr result (λ e. e ≡ Save) }
     {
-        let count = self.in_sight(rt);
-        self.wait_for(rt, count)
+        let Some(count) = waits.count.checked_add(1) else {
+            return Err(Failure::Save);
+        };
+        let in_sight = self.in_sight(rt);
+        let receipt = self.wait_for(rt, in_sight)?;
+        waits.count = count;
+        Ok(receipt)
     }
 
     /// Waits until so many entries are kept, and answers how many are.
@@ -88,7 +110,9 @@ impl<F: Write + Drop, J: Opening> SharedKeeper<F, J> {
     }
 
     /// How far the row is kept, for those who show it. `Err` only where memory was refused.
-    pub fn reach(&self) -> Result<Reach, AllocError> {
+    pub fn reach(&self) -> Result<Reach, AllocError>
+        ensures { IfOk result (λ reach. arc_value reach.kept ≡ arc_value self.now.reach.kept) }
+    {
         self.reach.copy()
     }
 

@@ -6,7 +6,7 @@ use crate::doors::Door;
 use crate::request::{ControlRequest, control_request};
 use crate::stamp::moment_text;
 use std::alloc::{AllocError, Global};
-use std::io::{Read, Write};
+use std::io::{self, ErrorKind, Read, Write};
 use std::net::{Net, SocketAddr, TcpListener, TcpStream};
 
 /// How many may be connected there at once. For one more, the one that has asked for nothing for the longest
@@ -35,6 +35,9 @@ pub trait Standing {
 
     /// Whether it still stands where it is kept, if it is.
     fn stands(&self) -> bool;
+
+    /// How many seconds lie between the board's own ticks, if it gives any.
+    fn ticks(&self) -> Option<u32>;
 }
 
 // Who is connected, the line that was begun, and when the one before was answered, in milliseconds.
@@ -65,6 +68,10 @@ fn status<S: Standing>(alloc: Global, doors: &[Door], standing: &S) -> Result<St
     let mut text = String::new(alloc);
     for door in doors {
         door.add_status(&mut text)?;
+    }
+    if let Some(seconds) = standing.ticks() {
+        let number = doors.len().saturating_add(1);
+        writeln!(text, "session {number} APT ticks each {seconds} s")?;
     }
     let used = standing.used();
     let room = standing.room();
@@ -168,20 +175,24 @@ impl Caller {
 }
 
 impl Control {
-    /// Listens at an address, an IP address and a port, or a port of the loopback interface. `None` where
-    /// it is none, where it can't be listened there, or where memory was refused.
+    /// Listens at an address, an IP address and a port, or a port of the loopback interface. The system's error
+    /// where it can't be listened there, one of the kind `InvalidInput` where it is no address, one of the kind
+    /// `OutOfMemory` where memory was refused.
     pub fn open<Rt: Net<Listener = TcpListener, Stream = TcpStream>>(
         rt: &Rt,
         alloc: Global,
         address: &str,
-    ) -> Option<Control> {
-        let address = address_of(address)?;
-        let listener = TcpListener::bind(rt, address).ok()?;
-        if listener.set_nonblocking(true).is_err() {
-            return None;
-        }
-        let callers = Vec::with_capacity(alloc, MOST_CALLERS).ok()?;
-        Some(Control { listener, callers })
+    ) -> io::Result<Control> {
+        let Some(address) = address_of(address) else {
+            return Err(io::Error::new(
+                ErrorKind::InvalidInput,
+                "neither an IP address with a port nor a port",
+            ));
+        };
+        let listener = TcpListener::bind(rt, address)?;
+        listener.set_nonblocking(true)?;
+        let callers = Vec::with_capacity(alloc, MOST_CALLERS)?;
+        Ok(Control { listener, callers })
     }
 
     /// Where it listens.

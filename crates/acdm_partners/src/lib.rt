@@ -13,6 +13,7 @@ mod hearing;
 mod held_lines;
 mod levels;
 mod newcomers;
+mod outlet;
 mod pace;
 mod patient;
 mod places;

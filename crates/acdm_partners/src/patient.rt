@@ -1,4 +1,6 @@
 //! A writer that is waited for, and that a signal does not stop.
+ghost use Rattle.std.specs.Prelude.{◌≡◌};
+
 use std::io::{self, ErrorKind, Write};
 
 // How often one call is taken up again that a signal interrupted.
@@ -16,12 +18,17 @@ pub struct Patient<W> {
 
 impl<W> Patient<W> {
     /// This writer.
-    pub fn new(stream: W) -> Patient<W> {
+    pub fn new(stream: W) -> Patient<W>
+        ensures { result ≡ record { stream = stream } }
+    {
         Patient { stream }
     }
 }
 
 impl<W: Write> Write for Patient<W> {
+    // What the writer holds: it took what this says that it took, and nothing where this failed.
+    ghost contents = { λ p. W.contents p.stream };
+
     fn write(&mut self, buf: &[u8]) -> io::Result<usize> {
         let mut refusals = 0;
         for _ in 0..MOST_SIGNALS {

@@ -1,7 +1,10 @@
 //! The replies to whoever is served at a place, as a writer.
-ghost use Rattle.std.specs.Prelude.{◌≡◌, ◌≤◌, length, IfOk};
+ghost use Rattle.std.specs.Prelude.{◌≡◌, None, IfOk};
+ghost use Rattle.std.specs.Io.{WritesAtMost};
+ghost use Rattle.std.specs.Io.KnownBytes.{WriteAppends};
+ghost use Rattle.acdm_partners.specs.Sending as sending;
 
-use crate::patient::Patient;
+use crate::outlet::Outlet;
 use crate::places::Place;
 use std::io::{self, ErrorKind, Write};
 use std::net::{Shutdown, TcpStream};
@@ -14,36 +17,27 @@ use std::sync::{Arc, Wait};
 pub struct Replies<'r, Rt> {
     rt: &'r Rt,
     place: Arc<Place>,
-    number: u64,
-    stream: Option<Patient<TcpStream>>,
-}
-
-// How many bytes a connection takes, if there is one and it does not fail.
-fn taken_by(stream: &mut Option<Patient<TcpStream>>, buf: &[u8]) -> usize
-    ensures { result ≤ length buf.now }
-{
-    match stream {
-        Some(stream) => stream.write(buf).unwrap_or(0),
-        None => 0,
-    }
+    outlet: Outlet<TcpStream>,
 }
 
 impl<'r, Rt: Wait> Replies<'r, Rt> {
     /// The replies of the session at a place.
-    pub fn new(rt: &'r Rt, place: Arc<Place>) -> Replies<'r, Rt> {
+    pub fn new(rt: &'r Rt, place: Arc<Place>) -> Replies<'r, Rt>
+        ensures { result.outlet ≡ record { number = 0; log = None } }
+    {
         Replies {
             rt,
             place,
-            number: 0,
-            stream: None,
+            outlet: Outlet::new(),
         }
     }
 
     // Cuts the connection off. What was to go to it is dropped, or the writer fails.
     fn cut_off(&mut self, dropped: usize) -> io::Result<usize>
-        ensures { IfOk result (λ n. n ≡ dropped) }
+        ensures all { IfOk result (λ n. n ≡ dropped) }
+        ensures cut { sending.IsCut self.new.outlet }
     {
-        self.stream = None;
+        self.outlet.cut();
         self.place.stop(self.rt, Shutdown::Both);
         if self.place.terms.again || self.place.is_closing() {
             Ok(dropped)
@@ -54,20 +48,23 @@ impl<'r, Rt: Wait> Replies<'r, Rt> {
 }
 
 impl<'r, Rt: Wait> Write for Replies<'r, Rt> {
-    fn write(&mut self, buf: &[u8]) -> io::Result<usize> {
+    fn write(&mut self, buf: &[u8]) -> io::Result<usize>
+        ensures bound { WritesAtMost result buf.now }
+        ensures bytes { WriteAppends None None result buf.now }
+        ensures replies { sending.Replies self.old.outlet self.new.outlet result buf.now }
+    {
         if buf.is_empty() {
             return Ok(0);
         }
         let served = self.place.served();
-        if self.number != served {
-            self.number = served;
-            self.stream = self.place.take_replies(self.rt).map(Patient::new);
+        if self.outlet.number() != served {
+            let stream = self.place.take_replies(self.rt);
+            self.outlet.turn_to(served, stream);
         }
-        let taken = taken_by(&mut self.stream, buf);
-        if taken > 0 {
-            return Ok(taken);
+        match self.outlet.send(served, buf) {
+            Some(taken) => Ok(taken),
+            None => self.cut_off(buf.len()),
         }
-        self.cut_off(buf.len())
     }
 
     fn flush(&mut self) -> io::Result<()> {

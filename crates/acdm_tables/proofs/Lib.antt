@@ -1,2 +1,3 @@
 pub mod Promised
 pub mod Rows
+pub mod Same

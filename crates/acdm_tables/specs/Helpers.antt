@@ -1,6 +1,6 @@
 -- The helpers that programs may call, by their numbers, with the tables of an airport (this project's
 -- profile).
-use Rattle.std.specs.Prelude.{ℕ, List, [], ◌∷◌, Bool, ◌&&◌, ◌==◌, nat_le, if◌then◌else◌}
+use Rattle.std.specs.Prelude.{ℕ, List, [], ◌∷◌, Bool, true, false, ◌&&◌, ◌==◌, nat_le, if◌then◌else◌}
 use Rattle.std.specs.List.{list_all}
 use Rattle.bpf_helpers.specs.Promise.{Promise, is_in, is_well_formed}
 use Rattle.bpf_helpers.specs.Known.{turn_round, taxi, sum}
@@ -22,6 +22,17 @@ built_in = record {
   stands = taxi.table;
   steps = (0, 10) ∷ (100, 15) ∷ (500, 20) ∷ [];
 }
+
+-- two tables of pairs are one
+abbrev pub same_pairs : List (ℕ × ℕ) → List (ℕ × ℕ) → Bool
+same_pairs [] [] = true
+same_pairs (a ∷ one) (b ∷ other) = a.0 == b.0 && (a.1 == b.1 && same_pairs one other)
+same_pairs _ _ = false
+
+-- tables of an airport are one
+abbrev pub same_tables : TablesView → TablesView → Bool
+same_tables one other = one.other == other.other && (same_pairs one.types other.types
+    && (same_pairs one.stands other.stands && same_pairs one.steps other.steps))
 
 -- ---- what the helpers promise by them
 

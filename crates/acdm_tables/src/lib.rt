@@ -8,5 +8,5 @@ mod tables;
 
 pub use fault::{TablesError, Why};
 pub use helpers::{KnownHelpers, known_sigs};
-pub use reading::{MOST_TEXT, read_tables};
+pub use reading::{MOST_TEXT, line_at, read_tables};
 pub use tables::Tables;

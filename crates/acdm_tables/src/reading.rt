@@ -416,8 +416,8 @@ fn tables_in(alloc: Global, table: &Table) -> Result<Tables, TablesError>
     }
 }
 
-// The line of a place, from 1.
-fn line_at(text: &[u8], place: usize) -> usize
+/// The line, from 1, of the byte that so many others stand before in a text.
+pub fn line_at(text: &[u8], place: usize) -> usize
     requires { place ≤ length text.now }
     ensures { result ≡ line_at text.now place }
 {

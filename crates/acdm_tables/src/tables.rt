@@ -4,7 +4,7 @@ ghost use Rattle.std.specs.Prelude.{◌≡◌, ◌↔◌, is_some, IsSome, IsTru
 ghost use Rattle.std.specs.List.{list_all};
 ghost use Rattle.bpf_helpers.specs.Known.{taxi, turn_round};
 ghost use Rattle.bpf_helpers.specs.Promise.{is_in, is_well_formed};
-ghost use Rattle.acdm_tables.specs.Helpers.{built_in, is_right, listed_or, step_or};
+ghost use Rattle.acdm_tables.specs.Helpers.{built_in, is_right, listed_or, same_pairs, same_tables, step_or};
 ghost use Rattle.acdm_tables.specs.Helpers.{taxi_by, taxi_minutes, turn_round_by, turn_round_minutes};
 
 use bpf_helpers::{Range, Signature};
@@ -91,6 +91,25 @@ fn step_or(minutes: u64, steps: &[(u64, u64)], stand: u64) -> u64
         rest = more;
     }
     found
+}
+
+// Whether two tables of pairs are one.
+fn are_same(one: &[(u64, u64)], other: &[(u64, u64)]) -> bool
+    ensures { result ≡ same_pairs one.now other.now }
+{
+    let mut left = one;
+    let mut right = other;
+    while let Some((first, rest)) = left.split_first() {
+        let Some((second, more)) = right.split_first() else {
+            return false;
+        };
+        if first.0 != second.0 || first.1 != second.1 {
+            return false;
+        }
+        left = rest;
+        right = more;
+    }
+    right.is_empty()
 }
 
 /// The turn-round times of types that are built in.
@@ -203,6 +222,24 @@ impl Tables {
         } else {
             Ok(None)
         }
+    }
+
+    /// Whether these tables are those: helpers promise and answer the same by both.
+    #[tactic(auto, using(crate::proofs::Same::same_tables_is))]
+    pub fn is_same(&self, other: &Tables) -> bool
+        ensures { IsTrue result ↔ (self.now ≡ other.now) }
+    {
+        self.compares(other)
+    }
+
+    // The same, by what they are compared.
+    fn compares(&self, other: &Tables) -> bool
+        ensures { result ≡ same_tables self.now other.now }
+    {
+        self.other == other.other
+            && are_same(&self.types, &other.types)
+            && are_same(&self.stands, &other.stands)
+            && are_same(&self.steps, &other.steps)
     }
 
     /// The least turn-round time of an aircraft type, in minutes, by its number.

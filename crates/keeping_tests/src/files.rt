@@ -1,14 +1,22 @@
 //! What is written to a file in which a journal is kept, where flushes wait for the disk and where they
 //! do not. The file is in the folder that tests run in.
-use acdm_judging::Failure;
-use acdm_keeping::{Named, Paths, Synced, open};
+use acdm_keeping::{Named, Paths, Synced, copy_bytes, open};
+use acdm_lines::{Sink, Source};
 use std::fs::{self, File, Files};
-use std::io::Write;
+use std::io::{self, ErrorKind, Write};
 use std::process::Abort;
 
 const KEPT: &str = "kept-by-a-writer.txt";
 
 const TAKEN: &str = "taken-from-a-writer.txt";
+
+// Whether a file was not opened since somebody else has.
+fn is_in_use(opened: io::Result<File>) -> bool {
+    match opened {
+        Ok(_) => false,
+        Err(error) => error.kind() == ErrorKind::WouldBlock,
+    }
+}
 
 // Writes a line at the end of the file, and flushes it.
 fn add_line<Rt: Files<File = File> + Paths + AllocGlobal + Abort + Clone + Drop>(
@@ -23,7 +31,7 @@ fn add_line<Rt: Files<File = File> + Paths + AllocGlobal + Abort + Clone + Drop>
     let written = writer.write(b"kept\n").ok().expect(rt, "a line");
     assert!(rt; written == 5 && writer.flush().is_ok());
     // Nobody else opens it meanwhile.
-    assert!(rt; open(rt, KEPT).err() == Some(Failure::InUse));
+    assert!(rt; is_in_use(open(rt, KEPT)));
 }
 
 // A flush of a file that was removed, or that somebody else has written to, fails.
@@ -44,9 +52,44 @@ fn a_file_that_is_not_as_written_fails(rt: HostRuntime) {
         } else {
             let _ = fs::write(&rt, TAKEN, b"less");
         }
+        assert!(rt; same.failure().is_none());
         assert!(rt; writer.flush().is_err() && !same.stands(&rt));
+        // The other name of the file knows why.
+        assert!(rt; matches!(same.failure(), Some(error) if error.kind() == ErrorKind::NotFound));
     }
     let _ = fs::remove_file(&rt, TAKEN);
+}
+
+// What is copied of a text of so many bytes, where so many are asked for.
+fn copied(rt: &(impl AllocGlobal + Abort), length: usize, bytes: u64) -> Option<usize> {
+    let mut text = Vec::new(rt.alloc());
+    for count in 0..length {
+        text.push((count % 251) as u8).expect(rt, "room for a byte");
+    }
+    let mut reader = Source::new(text.as_slice());
+    let mut writer = Sink::new(Vec::new(rt.alloc()));
+    let done = copy_bytes(&mut reader, &mut writer, bytes);
+    let taken = writer.into_inner();
+    assert!(rt; text.starts_with(taken.as_slice()));
+    match done {
+        Ok(()) => Some(taken.len()),
+        Err(error) => {
+            assert!(rt; error.kind() == ErrorKind::UnexpectedEof);
+            None
+        }
+    }
+}
+
+// Just so many bytes are copied, also where that is more than are copied at once; none further is.
+#[test]
+fn the_first_bytes_are_copied(rt: HostRuntime) {
+    assert!(rt; copied(&rt, 0, 0) == Some(0));
+    assert!(rt; copied(&rt, 0, 1).is_none());
+    assert!(rt; copied(&rt, 3, 2) == Some(2));
+    assert!(rt; copied(&rt, 70_000, 65_535) == Some(65_535));
+    assert!(rt; copied(&rt, 70_000, 65_537) == Some(65_537));
+    assert!(rt; copied(&rt, 140_000, 131_073) == Some(131_073));
+    assert!(rt; copied(&rt, 65_536, 65_537).is_none());
 }
 
 #[test]
