@@ -6,7 +6,9 @@ mod spared;
 mod streams;
 mod words;
 
-use acdm_commands::{Failure, Paths, complete, is_error_file};
+use acdm_commands::{
+    Failure, Noting, Paths, Why, WordsGiven, complete, is_error_file, words_given,
+};
 use acdm_lines::{Sink, Source};
 use resumed::Resumed;
 use spared::Spared;
@@ -57,27 +59,42 @@ fn status<
         Ok(words) => words,
         Err(failure) => return failure.complain(&mut errors),
     };
-    let Ok(words) = words
-        .iter()
-        .map(|word| word.as_str())
-        .collect::<Vec<&str>>(alloc)
-    else {
+    let Ok(given) = words::texts(alloc, &words) else {
         return Failure::Memory.complain(&mut errors);
     };
-    let output = Sink::new(Resumed::new(output));
+    let settled = words_given(rt, alloc, given.as_slice(), &mut errors);
+    drop(given);
+    let whole = match settled {
+        WordsGiven::AsTheyAre => words,
+        WordsGiven::Words(whole) => whole,
+        WordsGiven::Refused => return 2,
+    };
+    let Ok(words) = words::texts(alloc, &whole) else {
+        return Failure::Memory.complain(&mut errors);
+    };
+    // What a word names is told before a stream, whose failure alone need not end the command.
+    let (why, streams) = (Why::new(), Why::new());
+    let output = Noting::new(alloc, Resumed::new(output), "standard output", "", &streams);
+    let output = Sink::new(output);
     let Ok(output) = BufWriter::with_capacity(alloc, BUFFER, output) else {
         return Failure::Memory.complain(&mut errors);
     };
     let is_spared = words.iter().skip(1).any(|word| is_error_file(rt, word));
     let mut errors = Sink::new(Spared::new(errors, is_spared));
-    let mut input = Source::new(Resumed::new(input));
+    let input = Noting::new(alloc, Resumed::new(input), "standard input", "", &streams);
+    let mut input = Source::new(input);
     let mut output = Sink::new(output);
-    complete(
+    let status = complete(
         alloc,
         rt,
         words.as_slice(),
+        &why,
         &mut input,
         &mut output,
         &mut errors,
-    )
+    );
+    if status == 2 && !why.tell(&mut errors) {
+        let _ = streams.tell(&mut errors);
+    }
+    status
 }

@@ -1,6 +1,7 @@
 //! The words of the command line.
 
 use acdm_commands::Failure;
+use std::alloc::{AllocError, Global};
 use std::env::{self, Env};
 use std::io::{self, ErrorKind};
 
@@ -18,4 +19,9 @@ fn failure_of(error: &io::Error) -> Failure {
         ErrorKind::OutOfMemory => Failure::Memory,
         _ => Failure::Word,
     }
+}
+
+/// These words as texts.
+pub(crate) fn texts(alloc: Global, words: &[String]) -> Result<Vec<&str>, AllocError> {
+    words.iter().map(|word| word.as_str()).collect(alloc)
 }

@@ -1,5 +1,5 @@
 -- What the words of a command line ask for, as `clap` reads them.
-use Rattle.std.specs.Prelude.{ℕ, ◌≡◌, ◌<◌, ◌≤◌, ◌^◌, ◌⊎◌, Bool, true, false, List, [], ◌∷◌, codes, Option, Some, None}
+use Rattle.std.specs.Prelude.{ℕ, ◌≡◌, ◌≤◌, ◌⊎◌, Bool, true, false, List, [], ◌∷◌, codes, Option, Some, None}
 use Rattle.std.specs.Prelude.{map, option_and_then, option_map, if◌then◌else◌}
 use Rattle.std.specs.Str.{bytes_eq}
 use Rattle.std.specs.Str.Parse.{IsNumeral, digits_value, without_leading_plus}
@@ -13,7 +13,7 @@ use Rattle.clap.specs.declared.error.kind.ErrorKind.TheVariants.{OutOfMemory}
 use Rattle.bpf_regstate.specs.declared.length.Length.{Length}
 use Rattle.bpf_regstate.specs.declared.length.Length.TheVariants.{L128, L160}
 use Rattle.acdm_command_line.specs.declared.command_line.Subcommand.{Subcommand}
-use Rattle.acdm_command_line.specs.declared.command_line.Invocation.{Invocation}
+use Rattle.acdm_command_line.specs.declared.command_line.Line.{Line}
 use Rattle.acdm_command_line.specs.declared.command_line.Subcommand.TheVariants.{Run, Serve, Verify, Audit}
 use Rattle.acdm_command_line.specs.declared.command_line.Subcommand.TheVariants.{Explain, Tell}
 
@@ -53,7 +53,7 @@ web_rule = record (new_rule (codes "web")) { long = Some (codes "web"); value_na
 abbrev pub web_name_rule : Rule
 web_name_rule = record (new_rule (codes "web-name")) { long = Some (codes "web-name"); value_names = 1 }
 
--- `--again`, `--control ADDR`, `--pace N`
+-- `--again`, `--control ADDR`, `--pace N`, `--tick SECONDS`
 abbrev pub again_rule : Rule
 again_rule = record (new_rule (codes "again")) { long = Some (codes "again"); action = Some SetTrue }
 
@@ -62,6 +62,9 @@ control_rule = record (new_rule (codes "control")) { long = Some (codes "control
 
 abbrev pub pace_rule : Rule
 pace_rule = record (new_rule (codes "pace")) { long = Some (codes "pace"); value_names = 1 }
+
+abbrev pub tick_rule : Rule
+tick_rule = record (new_rule (codes "tick")) { long = Some (codes "tick"); value_names = 1 }
 
 -- `--tables FILE`
 abbrev pub tables_rule : Rule
@@ -80,7 +83,8 @@ abbrev pub run_app : App
 run_app = keeping_app (codes "run")
 
 -- `serve [--journal N] [--save FILE] [--keep FILE] [--sync] [--tables FILE] [--watch ADDR] [--changes ADDR]
--- [--web ADDR] [--web-name NAME] [--again] [--control ADDR] [--pace N] ROLE=ADDR...`, of at least one partner
+-- [--web ADDR] [--web-name NAME] [--again] [--control ADDR] [--pace N] [--tick SECONDS] ROLE=ADDR...`, of at
+-- least one partner
 abbrev pub partners_rule : Rule
 partners_rule = record (new_rule (codes "partners")) {
   value_names = 1;
@@ -94,7 +98,8 @@ serve_options_app =
     web_name_rule
 
 abbrev pub lasting_app : App
-lasting_app = with_rule (with_rule (with_rule serve_options_app again_rule) control_rule) pace_rule
+lasting_app =
+    with_rule (with_rule (with_rule (with_rule serve_options_app again_rule) control_rule) pace_rule) tick_rule
 
 abbrev pub serve_app : App
 serve_app = with_rule lasting_app partners_rule
@@ -180,26 +185,33 @@ abbrev pub IsJournal : Text → Type 0
 IsJournal text =
     IsNumeral 10 (without_leading_plus text) × (1 ≤ number_of text) × (number_of text ≤ 1000000)
 
--- a text names a number from 1 to 4,294,967,295
-abbrev pub IsPace : Text → Type 0
-IsPace text =
-    IsNumeral 10 (without_leading_plus text) × (1 ≤ number_of text) × (number_of text < 2 ^ 32)
+-- a text names a number from 1 to this one
+abbrev pub IsCount : ℕ → Text → Type 0
+IsCount most text =
+    IsNumeral 10 (without_leading_plus text) × (1 ≤ number_of text) × (number_of text ≤ most)
 
--- the pace that `serve` is asked for: none, or the number that its text names
-abbrev pub HasPace : Option (Text × List Row) → Option ℕ → Type 0
-HasPace found None = value_in (codes "serve") (codes "pace") found ≡ None
-HasPace found (Some pace) =
-    (text : Text) × (value_in (codes "serve") (codes "pace") found ≡ Some text) × IsPace text
-    × (pace ≡ number_of text)
+-- the number from 1 to this one that `serve` is given by an option: none, or that which its text names
+abbrev pub HasCount : List ℕ → ℕ → Option (Text × List Row) → Option ℕ → Type 0
+HasCount id most found None = value_in (codes "serve") id found ≡ None
+HasCount id most found (Some count) =
+    (text : Text) × (value_in (codes "serve") id found ≡ Some text) × IsCount most text
+    × (count ≡ number_of text)
 
 -- that it is one, or none
-abbrev pub IsPaced : Option (Text × List Row) → Type 0
-IsPaced found = (pace : Option ℕ) × HasPace found pace
+abbrev pub IsCounted : List ℕ → ℕ → Option (Text × List Row) → Type 0
+IsCounted id most found = (count : Option ℕ) × HasCount id most found count
 
 -- the same as an answer
-abbrev pub AnswersPace : Option (Text × List Row) → Option (Option ℕ) → Type 0
-AnswersPace found (Some pace) = HasPace found pace
-AnswersPace found None = IsPaced found → ⊥
+abbrev pub AnswersCount : List ℕ → ℕ → Option (Text × List Row) → Option (Option ℕ) → Type 0
+AnswersCount id most found (Some count) = HasCount id most found count
+AnswersCount id most found None = IsCounted id most found → ⊥
+
+-- how many lines in a minute, and how many seconds between ticks
+abbrev pub HasPace : Option (Text × List Row) → Option ℕ → Type 0
+HasPace = HasCount (codes "pace") 4294967295
+
+abbrev pub HasTick : Option (Text × List Row) → Option ℕ → Type 0
+HasTick = HasCount (codes "tick") 86400
 
 -- the length of a record that a text names
 abbrev pub length_named : Text → Option Length
@@ -217,7 +229,8 @@ Runs found text = value_in (codes "run") (codes "journal") found ≡ Some text
 
 abbrev pub Serves : Option (Text × List Row) → Text → Type 0
 Serves found text =
-    (value_in (codes "serve") (codes "journal") found ≡ Some text) × IsPaced found
+    (value_in (codes "serve") (codes "journal") found ≡ Some text)
+    × IsCounted (codes "pace") 4294967295 found × IsCounted (codes "tick") 86400 found
 
 abbrev pub Judges : List ℕ → Option (Text × List Row) → Length → Text → Type 0
 Judges name found length file =
@@ -243,7 +256,7 @@ Asks found (Run journal save keep sync) =
     × (option_map (λ s. s.now) save ≡ value_in (codes "run") (codes "save") found)
     × (option_map (λ s. s.now) keep ≡ value_in (codes "run") (codes "keep") found)
     × (sync ≡ is_set_in (codes "run") (codes "sync") found)
-Asks found (Serve journal save keep sync watch changes web web_name again control pace partners) =
+Asks found (Serve journal save keep sync watch changes web web_name again control pace tick partners) =
     (text : Text) × Serves found text × IsJournal text × (journal ≡ number_of text)
     × (option_map (λ s. s.now) save ≡ value_in (codes "serve") (codes "save") found)
     × (option_map (λ s. s.now) keep ≡ value_in (codes "serve") (codes "keep") found)
@@ -254,7 +267,7 @@ Asks found (Serve journal save keep sync watch changes web web_name again contro
     × (option_map (λ s. s.now) web_name ≡ value_in (codes "serve") (codes "web-name") found)
     × (again ≡ is_set_in (codes "serve") (codes "again") found)
     × (option_map (λ s. s.now) control ≡ value_in (codes "serve") (codes "control") found)
-    × HasPace found pace
+    × HasPace found pace × HasTick found tick
     × (map (λ s. s.now) partners.items ≡ partners_in found)
 Asks found (Verify length file) = Verifies found length file.now
 Asks found (Audit file) = AuditsFile found file.now
@@ -265,10 +278,10 @@ Asks found (Tell file) = TellsFile found file.now
 abbrev pub AsksWith : Option (Text × List Row) → Subcommand → Option Text → Type 0
 AsksWith found subcommand tables = Asks found subcommand × (tables ≡ tables_in found)
 
-abbrev pub AsksFor : List Text → Invocation → Type 0
-AsksFor words invocation =
-    AsksWith (subcommand_of program words) invocation.subcommand
-    (option_map (λ s. s.now) invocation.tables)
+abbrev pub AsksFor : List Text → Line → Type 0
+AsksFor words line =
+    AsksWith (subcommand_of program words) line.subcommand
+    (option_map (λ s. s.now) line.tables)
 
 -- it is none of the six
 pub record AsksNothing (found : Option (Text × List Row)) : Type 0 where

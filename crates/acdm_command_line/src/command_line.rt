@@ -14,7 +14,7 @@ ghost use Rattle.acdm_command_line.specs.CommandLine.{changes_rule, journal_rule
 ghost use Rattle.acdm_command_line.specs.CommandLine.{is_set_in, watch_rule, web_name_rule, web_rule};
 ghost use Rattle.acdm_command_line.specs.CommandLine.{journal_app, tables_in, tables_rule};
 ghost use Rattle.acdm_command_line.specs.CommandLine.{again_rule, control_rule, lasting_app, pace_rule};
-ghost use Rattle.acdm_command_line.specs.CommandLine.{AnswersPace, IsPace};
+ghost use Rattle.acdm_command_line.specs.CommandLine.{AnswersCount, IsCount, tick_rule};
 ghost use Rattle.acdm_command_line.specs.CommandLine.{partners_in, value_in, values_in};
 ghost use Rattle.acdm_command_line.specs.CommandLine.{number_of, IsJournal, AsksFor, Refuses};
 ghost use Rattle.acdm_command_line.specs.CommandLine.{Answers, AnswersJournal, AnswersRun, AnswersServe};
@@ -26,6 +26,12 @@ use std::alloc::{AllocError, Global};
 use std::io::Write;
 
 const MOST_ENTRIES: usize = 1_000_000;
+
+/// How many lines of a partner are taken in a minute at most.
+const MOST_PACE: u32 = 4_294_967_295;
+
+/// How many seconds lie between ticks at most: a day.
+const MOST_TICK: u32 = 86_400;
 
 /// What a command line asks for.
 #[derive(Debug, Drop, PartialEq, Eq)]
@@ -43,7 +49,7 @@ pub enum Subcommand<'a> {
     /// saved in this file, and kept as that of `run`, may be watched at this address, whose changes are told at that one, and for
     /// which browsers have a page at a third, by this name beside its addresses, for the partners of these words, as they stand: who may
     /// come again where `again` is true, of whom so many lines are taken in a minute; it is closed at the
-    /// control address.
+    /// control address, and ticks by itself each so many seconds, from 1 to 86,400.
     Serve {
         journal: usize,
         save: Option<&'a str>,
@@ -56,6 +62,7 @@ pub enum Subcommand<'a> {
         again: bool,
         control: Option<&'a str>,
         pace: Option<u32>,
+        tick: Option<u32>,
         partners: Vec<&'a str>,
     },
     /// `audit`, of the journal in this file.
@@ -81,7 +88,7 @@ pub enum Subcommand<'a> {
 /// What the words of a command line ask for: a subcommand, and the file of the airport's tables, if it is
 /// named.
 #[derive(Debug, Drop, PartialEq, Eq)]
-pub struct Invocation<'a> {
+pub struct Line<'a> {
     pub subcommand: Subcommand<'a>,
     pub tables: Option<&'a str>,
 }
@@ -218,6 +225,17 @@ fn pace<'a>(alloc: Global) -> Arg<'a>
     )
 }
 
+// `--tick SECONDS`.
+fn tick<'a>(alloc: Global) -> Arg<'a>
+    ensures rule { rule_of result ≡ tick_rule }
+    ensures optional { (result.required ≡ false) × (result.global ≡ false) }
+{
+    Arg::new(alloc, "tick")
+        .long("tick")
+        .value_name("SECONDS")
+        .help("The board ticks by itself, in role APT, each so many seconds, 1 to 86400")
+}
+
 // A subcommand that has a journal.
 fn with_journal<'a>(alloc: Global, name: &'a str, about: &'a str) -> Result<Command<'a>, AllocError>
     ensures shape { IfOk result (λ c. app_of c ≡ journal_app name.now) }
@@ -252,7 +270,8 @@ fn serve_options<'a>(alloc: Global) -> Result<Command<'a>, AllocError>
     ensures shape { IfOk result (λ c. app_of c ≡ serve_options_app) }
     ensures local { IfOk result (λ c. (fields_of c).has_globals ≡ false) }
 {
-    let about = "Accepts a partner at each address, and serves all at once";
+    let about =
+        "Accepts a partner at each address, and serves all at once; --config FILE puts in its place the words of a file in TOML";
     keeping(alloc, "serve", about)?
         .arg(watch(alloc))?
         .arg(changes(alloc))?
@@ -268,7 +287,8 @@ fn lasting<'a>(alloc: Global) -> Result<Command<'a>, AllocError>
     serve_options(alloc)?
         .arg(again(alloc))?
         .arg(control(alloc))?
-        .arg(pace(alloc))
+        .arg(pace(alloc))?
+        .arg(tick(alloc))
 }
 
 fn serve_command<'a>(alloc: Global) -> Result<Command<'a>, AllocError>
@@ -522,23 +542,23 @@ fn run_of<'a>(matches: &ArgMatches<'a>) -> Option<Subcommand<'a>>
     })
 }
 
-// How many lines are to be taken in a minute, if a text names such a number.
-fn pace_in(text: &str) -> Option<u32>
-    ensures { SomeIff result (IsPace text.now) (number_of text.now) }
+// The number from 1 to another that a text names, if it names one.
+fn count_in(text: &str, most: u32) -> Option<u32>
+    ensures { SomeIff result (IsCount most text.now) (number_of text.now) }
 {
     match text.parse::<u32>() {
-        Ok(pace) if 1 <= pace => Some(pace),
+        Ok(count) if 1 <= count && count <= most => Some(count),
         _ => None,
     }
 }
 
-// The pace that `serve` is asked for, if it is one or none.
-fn pace_for(matches: &ArgMatches) -> Option<Option<u32>>
-    ensures { AnswersPace (subcommand_rows_of matches.now) result }
+// The number from 1 to another that `serve` is given by an option, if it is one or none.
+fn count_for(matches: &ArgMatches, id: &str, most: u32) -> Option<Option<u32>>
+    ensures { AnswersCount id.now most (subcommand_rows_of matches.now) result }
 {
-    match value(matches, "serve", "pace") {
-        Some(text) => match pace_in(text) {
-            Some(pace) => Some(Some(pace)),
+    match value(matches, "serve", id) {
+        Some(text) => match count_in(text, most) {
+            Some(count) => Some(Some(count)),
             None => None,
         },
         None => Some(None),
@@ -564,7 +584,10 @@ fn serve_of<'a>(
     let web_name = value(matches, "serve", "web-name");
     let again = is_set(matches, "serve", "again");
     let control = value(matches, "serve", "control");
-    let Some(pace) = pace_for(matches) else {
+    let Some(pace) = count_for(matches, "pace", MOST_PACE) else {
+        return Ok(None);
+    };
+    let Some(tick) = count_for(matches, "tick", MOST_TICK) else {
         return Ok(None);
     };
     let partners = partners_of(alloc, matches)?;
@@ -580,6 +603,7 @@ fn serve_of<'a>(
         again,
         control,
         pace,
+        tick,
         partners,
     }))
 }
@@ -618,8 +642,11 @@ fn reason(matches: &ArgMatches) -> &'static str {
     if name == "verify" || name == "explain" {
         return "invalid value for '--length <N>': it is neither 128 nor 160";
     }
-    if pace_for(matches).is_none() {
+    if count_for(matches, "pace", MOST_PACE).is_none() {
         return "invalid value for '--pace <N>': it is not a number from 1 to 4294967295";
+    }
+    if count_for(matches, "tick", MOST_TICK).is_none() {
+        return "invalid value for '--tick <SECONDS>': it is not a number from 1 to 86400";
     }
     "invalid value for '--journal <N>': it is not a number from 1 to 1000000"
 }
@@ -629,7 +656,7 @@ fn parse_by<'a>(
     alloc: Global,
     command: &mut Command<'a>,
     words: &'a [&'a str],
-) -> Result<Invocation<'a>, Error>
+) -> Result<Line<'a>, Error>
     requires shape { app_of command.old ≡ the_program }
     requires local { (fields_of command.old).has_globals ≡ false }
     ensures asks { IfOk result (AsksFor (map (λ w. w.now) words.entry.now)) }
@@ -639,7 +666,7 @@ fn parse_by<'a>(
     let matches = command.try_get_matches_from_mut(words)?;
     let tables = tables_of(&matches);
     if let Some(subcommand) = subcommand_in(alloc, &matches)? {
-        return Ok(Invocation { subcommand, tables });
+        return Ok(Line { subcommand, tables });
     }
     Err(command.error(ErrorKind::ValueValidation, reason(&matches))?)
 }
@@ -648,9 +675,10 @@ fn parse_by<'a>(
 ///
 /// The journal is what `--journal` says, else 100,000, the length what `--length` says, else 128,
 /// and the other words are taken as they stand. Words that name no such command are refused by
-/// `clap`; a journal outside 1 to 1,000,000 is refused, a length that is neither 128 nor 160, and a
-/// pace that is no number from 1 to 4,294,967,295. A request for help counts as a refusal.
-pub fn parse<'a>(alloc: Global, words: &'a [&'a str]) -> Result<Invocation<'a>, Error>
+/// `clap`; a journal outside 1 to 1,000,000 is refused, a length that is neither 128 nor 160, a pace that
+/// is no number from 1 to 4,294,967,295, and a tick that is none from 1 to 86,400 seconds. A request for help
+/// counts as a refusal.
+pub fn parse<'a>(alloc: Global, words: &'a [&'a str]) -> Result<Line<'a>, Error>
     ensures asks { IfOk result (AsksFor (map (λ w. w.now) words.entry.now)) }
     ensures refuses { IfErr result (λ error.
         Refuses (map (λ w. w.now) words.entry.now) (kind_of error)) }
@@ -666,13 +694,13 @@ pub fn asked<'a, E: Write>(
     alloc: Global,
     words: &'a [&'a str],
     errors: &mut E,
-) -> Result<Invocation<'a>, ErrorKind>
+) -> Result<Line<'a>, ErrorKind>
     ensures asks { IfOk result (AsksFor (map (λ w. w.now) words.entry.now)) }
     ensures refuses { IfErr result (Refuses (map (λ w. w.now) words.entry.now)) }
     ensures quiet { OnOk result (errors.new ≡ errors.old) }
 {
     match parse(alloc, words) {
-        Ok(invocation) => Ok(invocation),
+        Ok(line) => Ok(line),
         Err(error) => {
             let _ = write!(errors, "{error}");
             Err(error.kind())

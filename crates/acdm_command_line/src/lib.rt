@@ -4,4 +4,4 @@
 
 mod command_line;
 
-pub use command_line::{Invocation, Subcommand, asked, parse};
+pub use command_line::{Line, Subcommand, asked, parse};

@@ -22,7 +22,7 @@ use Rattle.acdm_commands.specs.Completed.{written_to}
 use Rattle.acdm_board.specs.Desk.{DeskView}
 use Rattle.acdm_commands.specs.Keeping.{KeepsTo, ServesKeptTo, ServesKeptWords, StopsFrom}
 use Rattle.acdm_commands.specs.Served.{FailsToSave, IsSaved, Runs, RunsTo, empty_desk}
-use Rattle.acdm_commands.specs.Partners.{SavesSo, ServesNamed, ServesWords, ServesWordsTo}
+use Rattle.acdm_commands.specs.Partners.{Named, SavesSo, ServesNamed, ServesWords, ServesWordsTo}
 use Rattle.acdm_serving.specs.Partners.{Telling}
 
 -- ---- files that are read
@@ -243,14 +243,14 @@ runs_any sigs capacity read read_after old new file later (Err failure) (inr p) 
     (λ J. FailsToSave (option_map written_to file) (option_map written_to later) failure)
     (λ J. fails_any file later failure) p)
 
-named_as : {W : Type 0} (opening : DeskView) (words : List (List ℕ)) (old new : SinkView W)
+named_as : {W : Type 0} (opening : DeskView) (words : Named) (old new : SinkView W)
     (said : Telling) (Kept Known : History → Type 0) → ((J : History) → Kept J → Known J)
     → ServesNamed opening words old new said Kept → ServesNamed opening words old new said Known
 named_as opening words old new said Kept Known knows named =
     let all = named.partners in
     record {
       roles = named.roles;
-      named = named.named;
+      are_named = named.are_named;
       partners = record {
         closed = all.closed;
         sessions = all.sessions;
@@ -260,7 +260,7 @@ named_as opening words old new said Kept Known knows named =
       };
     }
 
-served_as : {W : Type 0} (sigs : List (ℕ × Promise)) (capacity : ℕ) (words : List (List ℕ))
+served_as : {W : Type 0} (sigs : List (ℕ × Promise)) (capacity : ℕ) (words : Named)
     (old new : SinkView W) (said : Telling) (Kept Known : History → Type 0)
     → ((J : History) → Kept J → Known J) → ServesWords sigs capacity words old new said Kept
     → ServesWords sigs capacity words old new said Known
@@ -276,7 +276,7 @@ saves_any : {F : Type 0} (said : Telling) (J : History) (file later : Option (Si
 saves_any said J file later failure (inl p) = inl (fails_any file later failure p)
 saves_any said J file later failure (inr p) = inr (p.0, p.1, saved_any J file later p.2)
 
-pub served_any : {W F : Type 0} (sigs : List (ℕ × Promise)) (capacity : ℕ) (words : List (List ℕ))
+pub served_any : {W F : Type 0} (sigs : List (ℕ × Promise)) (capacity : ℕ) (words : Named)
     (old new : SinkView W) (file later : Option (SinkView F)) (work : Result ℕ Failure)
     → ServesWordsTo sigs capacity words old new file later work
     → ServesWordsTo sigs capacity words old new (option_map written_to file)
@@ -336,7 +336,7 @@ ran_line sigs journal path file later input input_after output output_after =
 
 -- `serve`
 pub served_line : {W F E : Type 0} (sigs : List (ℕ × Promise)) (journal : ℕ) (path : Option (List ℕ))
-    (partners : List (List ℕ)) (file later : Option (SinkView F)) (output output_after : SinkView W)
+    (partners : Named) (file later : Option (SinkView F)) (output output_after : SinkView W)
     (work given : Result ℕ Failure) (status : ℕ) (errors last : SinkView E) → IsUnwritten path file
     → ServesWordsTo sigs journal partners output output_after file later work
     → Settles path work given → Ends given status errors last
@@ -401,7 +401,7 @@ kept_line sigs journal path file later input input_after output output_after =
     ((input_after ≡ input) × (output_after ≡ output))
     (keeps_any sigs journal input input_after output output_after file later)
 
-kept_words_any : {W F : Type 0} (opening : DeskView) (words : List (List ℕ)) (old new : SinkView W)
+kept_words_any : {W F : Type 0} (opening : DeskView) (words : Named) (old new : SinkView W)
     (file later : Option (SinkView F)) (failure : Failure)
     → ServesKeptWords {T = Unit {0}} opening words old new file later (Err failure)
     → ServesKeptWords {T = Unit {0}} opening words old new (option_map written_to file)
@@ -418,7 +418,7 @@ kept_words_any opening words old new file later failure (inr (inr (said, p))) =
           (λ J. saves_any said J file later failure) p,
     ))
 
-serves_kept_any : {W F : Type 0} (sigs : List (ℕ × Promise)) (capacity : ℕ) (words : List (List ℕ)) (old new : SinkView W)
+serves_kept_any : {W F : Type 0} (sigs : List (ℕ × Promise)) (capacity : ℕ) (words : Named) (old new : SinkView W)
     (file later : Option (SinkView F)) (work : Result ℕ Failure)
     → ServesKeptTo sigs capacity words old new file later work
     → ServesKeptTo sigs capacity words old new (option_map written_to file)
@@ -447,7 +447,7 @@ serves_kept_any sigs capacity words old new file later (Err failure) (inr (inr p
 
 -- `serve --keep`
 pub served_kept_line : {W F E : Type 0} (sigs : List (ℕ × Promise)) (journal : ℕ) (path : Option (List ℕ))
-    (partners : List (List ℕ)) (file later : Option (SinkView F)) (output output_after : SinkView W)
+    (partners : Named) (file later : Option (SinkView F)) (output output_after : SinkView W)
     (work given : Result ℕ Failure) (status : ℕ) (errors last : SinkView E) → IsUnwritten path file
     → ServesKeptTo sigs journal partners output output_after file later work
     → Settles path work given → Ends given status errors last

@@ -1,12 +1,12 @@
 -- Partners who were served by a desk that is kept.
-use Rattle.std.proofs.Common.{◌≡◌, ℕ, List, sym, subst, map, Option, Some, Result, Ok, Err, inl, inr}
+use Rattle.std.proofs.Common.{◌≡◌, ℕ, List, ◌++◌, sym, subst, map, Option, Some, Result, Ok, Err, inl, inr}
 use Rattle.acdm_milestones.specs.declared.role.Role.{Role}
 use Rattle.acdm_lines.specs.Counted.{SinkView}
 use Rattle.acdm_board.specs.Desk.{DeskView}
 use Rattle.acdm_sessions.specs.Sessions.{SessionStart, new_session}
 use Rattle.acdm_commands.specs.Keeping.{ServesKeptAt, ServesKeptWords}
 use Rattle.acdm_commands.specs.Minutes.{is_minute}
-use Rattle.acdm_commands.specs.Partners.{SavesSo, ServesPartners, role_in}
+use Rattle.acdm_commands.specs.Partners.{Named, SavesSo, ServesNamed, ServesPartners, role_in, ticking}
 use Rattle.acdm_serving.specs.Partners.{Telling}
 use Rattle.acdm_commands.specs.Served.{IsSaved}
 use Rattle.acdm_commands.proofs.Told.{serves_named}
@@ -40,19 +40,23 @@ module _ {W : Type 0} (desk : DeskView) (roles : List Role) (starts : List Sessi
         kept_as said J (λ K. SavesSo {T = Unit {0}} said K saved later (Err failure)) kept served,
       ))
 
-module _ {W P : Type 0} (ps : List P) (role : P → Role) (desk : DeskView) (words : List (List ℕ))
-    (old new : SinkView W) (named : map role_in words ≡ map (λ p. Some (role p)) ps) where
+module _ {W P : Type 0} (ps : List P) (role : P → Role) (behind : List SessionStart) (desk : DeskView)
+    (named : Named) (old new : SinkView W) (are_named : map role_in named.words ≡ map (λ p. Some (role p)) ps)
+    (is_behind : behind ≡ ticking named.ticks) where
+  as_named : (said : Telling) (Kept : History → Type 0)
+      → ServesPartners desk (map role ps) (map (λ p. new_session (role p) is_minute) ps ++ behind) old new said Kept
+      → ServesNamed desk named old new said Kept
+  as_named = serves_named ps role behind desk named old new are_named is_behind
+
   pub comes_named_kept : {F T : Type 0} (saved later : Option (SinkView F)) (result : Result T Failure)
-      → ServesKeptAt desk (map role ps) (map (λ p. new_session (role p) is_minute) ps) old new saved later
-      result → ServesKeptWords desk words old new saved later result
-  comes_named_kept saved later (Ok x) served =
-      serves_named ps role desk words old new named (Ok tt) (λ J. IsSaved J saved later) served
+      → ServesKeptAt desk (map role ps) (map (λ p. new_session (role p) is_minute) ps ++ behind) old new saved
+      later result → ServesKeptWords desk named old new saved later result
+  comes_named_kept saved later (Ok x) served = as_named (Ok tt) (λ J. IsSaved J saved later) served
   comes_named_kept saved later (Err failure) (inl p) = inl (inr p)
   comes_named_kept saved later (Err failure) (inr (inl (is, (said, served)))) =
-      inr (inl (is, (said, serves_named ps role desk words old new named said (λ J. Unit {0}) served)))
+      inr (inl (is, (said, as_named said (λ J. Unit {0}) served)))
   comes_named_kept saved later (Err failure) (inr (inr (said, served))) =
       inr (inr (
         said,
-        serves_named ps role desk words old new named said
-            (λ J. SavesSo {T = Unit {0}} said J saved later (Err failure)) served,
+        as_named said (λ J. SavesSo {T = Unit {0}} said J saved later (Err failure)) served,
       ))

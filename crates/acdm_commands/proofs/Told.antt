@@ -9,7 +9,7 @@ use Rattle.acdm_sessions.specs.Sessions.{ServesSessions, SessionStart, SessionTo
 use Rattle.acdm_sessions.proofs.Seats.{map_map}
 use Rattle.acdm_serving.specs.Partners.{Telling, TellsPartners, told_text}
 use Rattle.acdm_commands.specs.Minutes.{is_minute}
-use Rattle.acdm_commands.specs.Partners.{SavesSo, ServesNamed, ServesNamedTo, ServesPartners, ServesPartnersTo, role_in}
+use Rattle.acdm_commands.specs.Partners.{Named, SavesSo, ServesNamed, ServesNamedTo, ServesPartners, ServesPartnersTo, role_in, ticking}
 use Rattle.acdm_commands.specs.Served.{IsSaved}
 use Rattle.acdm_judging.specs.declared.failure.Failure.{Failure}
 use Rattle.acdm_step.specs.Commands.{History}
@@ -48,23 +48,24 @@ comes_served desk roles starts old new saved later J said (Ok x) served kept =
 comes_served desk roles starts old new saved later J said (Err failure) served kept =
     inr (said, served (λ K. SavesSo {T = Unit {0}} said K saved later (Err failure)) kept)
 
-module _ {W P : Type 0} (ps : List P) (role : P → Role) (desk : DeskView) (words : List (List ℕ))
-    (old new : SinkView W) (named : map role_in words ≡ map (λ p. Some (role p)) ps) where
+module _ {W P : Type 0} (ps : List P) (role : P → Role) (behind : List SessionStart) (desk : DeskView)
+    (named : Named) (old new : SinkView W) (are_named : map role_in named.words ≡ map (λ p. Some (role p)) ps)
+    (is_behind : behind ≡ ticking named.ticks) where
   -- the partners that words name were served
   pub serves_named : (said : Telling) (Kept : History → Type 0)
-      → ServesPartners desk (map role ps) (map (λ p. new_session (role p) is_minute) ps) old new said Kept
-      → ServesNamed desk words old new said Kept
+      → ServesPartners desk (map role ps) (map (λ p. new_session (role p) is_minute) ps ++ behind) old new said Kept
+      → ServesNamed desk named old new said Kept
   serves_named said Kept served = record {
     roles = map role ps;
-    named = named ∙ map_map Some role ps;
+    are_named = are_named ∙ map_map Some role ps;
     partners = subst (λ starts. ServesPartners desk (map role ps) starts old new said Kept)
-        (map_map (λ r. new_session r is_minute) role ps) served;
+        (λ i. map_map (λ r. new_session r is_minute) role ps i ++ is_behind i) served;
   }
 
   pub comes_named : {F T : Type 0} (saved later : Option (SinkView F)) (result : Result T Failure)
-      → ServesPartnersTo desk (map role ps) (map (λ p. new_session (role p) is_minute) ps) old new
+      → ServesPartnersTo desk (map role ps) (map (λ p. new_session (role p) is_minute) ps ++ behind) old new
       saved later result
-      → ServesNamedTo desk words old new saved later result
+      → ServesNamedTo desk named old new saved later result
   comes_named saved later (Ok x) served = serves_named (Ok tt) (λ J. IsSaved J saved later) served
   comes_named saved later (Err failure) (inl p) = inl (inr p)
   comes_named saved later (Err failure) (inr (said, served)) =

@@ -1,6 +1,10 @@
 -- By which tables a command works (this project's profile).
-use Rattle.std.specs.Prelude.{ℕ, ◌≡◌, ◌⊎◌, ⊤, List, [], ◌∷◌, ◌++◌, codes, Option, Some, None, Ok, Err}
+use Rattle.std.specs.Prelude.{ℕ, ◌≡◌, ◌≢◌, ◌⊎◌, ⊤, List, [], ◌∷◌, ◌++◌, codes, Option, Some, None, Ok, Err}
+use Rattle.std.specs.Prelude.{option_map}
 use Rattle.std.specs.Fmt.{decimal}
+use Rattle.acdm_command_line.specs.declared.command_line.Subcommand.{Subcommand}
+use Rattle.acdm_command_line.specs.declared.command_line.Subcommand.TheVariants.{Audit, Explain, Run, Serve}
+use Rattle.acdm_command_line.specs.declared.command_line.Subcommand.TheVariants.{Tell, Verify}
 use Rattle.acdm_judging.specs.Failures.{Complains, failure_text}
 use Rattle.acdm_judging.specs.declared.failure.Failure.TheVariants.{Memory}
 use Rattle.acdm_judging.specs.Explained.{TellsUnread}
@@ -60,3 +64,47 @@ RefusesTables None errors errors_after = Complains errors errors_after (failure_
 RefusesTables (Some path) errors errors_after =
     ((file file_after : SourceView ⊤) × IsUnread file × GivesNone path file file_after errors errors_after)
     ⊎ TellsUnread path errors errors_after
+
+-- ---- the tables by which a journal was made
+
+-- the file beside the journal of a path, which has them
+abbrev pub beside : List ℕ → List ℕ
+beside path = path ++ codes ".tables"
+
+-- what is told where it has others
+abbrev pub other_text : List ℕ → List ℕ
+other_text path = named (beside path) (codes "other tables than those of this command")
+
+-- the text that it gave means other tables than these, and that was told
+pub record TellsOther {R E : Type 0} (path : List ℕ) (tables : TablesView) (read read_after : SourceView R)
+    (errors errors_after : SinkView E) : Type 0 where
+  pub others : TablesView
+  pub reads : ReadsTables read read_after others
+  pub differs : others ≢ tables
+  pub told : Complains errors errors_after (other_text path)
+
+-- what it gave keeps a command with these tables from its work: others, or none
+abbrev pub GivesOther : {R E : Type 0} → List ℕ → TablesView → SourceView R → SourceView R → SinkView E
+    → SinkView E → Type 0
+GivesOther path tables read read_after errors errors_after =
+    TellsOther path tables read read_after errors errors_after
+    ⊎ GivesNone (beside path) read read_after errors errors_after
+
+-- a journal, if there is one at that path, is not touched with these tables: of the file beside it comes
+-- that, or it can't be read, or there was no memory
+abbrev pub RefusesJournal : {E : Type 0} → Option (List ℕ) → TablesView → SinkView E → SinkView E → Type 0
+RefusesJournal None tables errors errors_after = ⊥
+RefusesJournal (Some path) tables errors errors_after =
+    ((file file_after : SourceView ⊤) × IsUnread file
+    × GivesOther path tables file file_after errors errors_after)
+    ⊎ (TellsUnread (beside path) errors errors_after ⊎ Complains errors errors_after (failure_text Memory))
+
+-- the journals that a command names: of which it reads one and may write another
+abbrev pub journals_of : Subcommand → Option (List ℕ) × Option (List ℕ)
+journals_of (Run journal save keep sync) = (option_map (λ s. s.now) keep, option_map (λ s. s.now) save)
+journals_of (Serve journal save keep sync watch changes web web_name again control pace tick partners) =
+    (option_map (λ s. s.now) keep, option_map (λ s. s.now) save)
+journals_of (Audit file) = (Some file.now, None)
+journals_of (Tell file) = (Some file.now, None)
+journals_of (Verify long file) = (None, None)
+journals_of (Explain long file) = (None, None)

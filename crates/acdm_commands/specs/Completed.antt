@@ -15,7 +15,7 @@ use Rattle.acdm_judging.specs.Verdicts.{Verifies}
 use Rattle.acdm_lines.specs.Counted.{SinkView, SourceView}
 use Rattle.acdm_telling.specs.Told.{Told}
 use Rattle.acdm_commands.specs.Keeping.{KeepsTo, ServesKeptTo}
-use Rattle.acdm_commands.specs.Partners.{ServesWordsTo}
+use Rattle.acdm_commands.specs.Partners.{Named, ServesWordsTo, named_by}
 use Rattle.acdm_commands.specs.Served.{RunsTo}
 
 -- ---- files
@@ -118,20 +118,20 @@ RunsWords sigs journal path (Some kept) input input_after output output_after st
     EndsBy (KeepsLine sigs journal path input input_after output output_after) status errors errors_after
 
 -- `serve`
-abbrev pub ServesLine : {W : Type 0} → List (ℕ × Promise) → ℕ → Option (List ℕ) → List (List ℕ)
+abbrev pub ServesLine : {W : Type 0} → List (ℕ × Promise) → ℕ → Option (List ℕ) → Named
     → SinkView W → SinkView W → Result ℕ Failure → Type 0
 ServesLine sigs journal path partners output output_after work =
     InFile path (ServesWordsTo sigs journal partners output output_after) (output_after ≡ output) work
 
 -- the same with a journal that is kept
-abbrev pub ServesKeptLine : {W : Type 0} → List (ℕ × Promise) → ℕ → Option (List ℕ) → List (List ℕ)
+abbrev pub ServesKeptLine : {W : Type 0} → List (ℕ × Promise) → ℕ → Option (List ℕ) → Named
     → SinkView W → SinkView W → Result ℕ Failure → Type 0
 ServesKeptLine sigs journal path partners output output_after work =
     InFile path (ServesKeptTo sigs journal partners output output_after) (output_after ≡ output) work
 
 -- `serve`, with a journal that is kept in the file of this path, if there is one
 abbrev pub ServesLines : {W E : Type 0} → List (ℕ × Promise) → ℕ → Option (List ℕ) → Option (List ℕ)
-    → List (List ℕ) → SinkView W → SinkView W → ℕ → SinkView E → SinkView E → Type 0
+    → Named → SinkView W → SinkView W → ℕ → SinkView E → SinkView E → Type 0
 ServesLines sigs journal path None partners output output_after status errors errors_after =
     EndsBy (ServesLine sigs journal path partners output output_after) status errors errors_after
 ServesLines sigs journal path (Some kept) partners output output_after status errors errors_after =
@@ -179,9 +179,9 @@ abbrev pub Does : {R W E : Type 0} → List (ℕ × Promise) → Subcommand → 
 Does sigs (Run journal save keep sync) input input_after output output_after status errors errors_after =
     RunsWords sigs journal (option_map (λ s. s.now) save) (option_map (λ s. s.now) keep) input input_after
     output output_after status errors errors_after
-Does sigs (Serve journal save keep sync watch changes web web_name again control pace partners) input input_after output output_after status errors errors_after =
+Does sigs (Serve journal save keep sync watch changes web web_name again control pace tick partners) input input_after output output_after status errors errors_after =
     (input_after ≡ input) × ServesLines sigs journal (option_map (λ s. s.now) save)
-    (option_map (λ s. s.now) keep) (map (λ s. s.now) partners.items) output output_after status errors
+    (option_map (λ s. s.now) keep) (named_by (map (λ s. s.now) partners.items) tick) output output_after status errors
     errors_after
 Does sigs (Audit file) input input_after output output_after status errors errors_after =
     (input_after ≡ input) × EndsBy (AuditsLine sigs output output_after) status errors errors_after

@@ -14,7 +14,7 @@ use Rattle.acdm_judging.specs.declared.failure.Failure.TheVariants.{Write}
 use Rattle.acdm_milestones.specs.declared.role.Role.{Role}
 use Rattle.acdm_sessions.specs.Sessions.{SessionStart}
 use Rattle.acdm_sessions.specs.Stream.{AnswersAll, AnswersPart, AnswersWhole}
-use Rattle.acdm_commands.specs.Partners.{FailsServed, FailsToServe, FailsToServeAll, ServesNamed}
+use Rattle.acdm_commands.specs.Partners.{FailsServed, FailsToServe, FailsToServeAll, Named, ServesNamed}
 use Rattle.acdm_commands.specs.Partners.{ServesPartners}
 use Rattle.acdm_serving.specs.Partners.{Telling}
 use Rattle.acdm_step.specs.Commands.{History}
@@ -150,45 +150,45 @@ ServesKeptAt desk roles starts written written_after saved saved_after (Err fail
     FailsToServeKept desk roles starts written written_after saved saved_after failure
 
 -- the same of the partners that words name, or none was accepted
-abbrev pub ServesKeptWords : {W F T : Type 0} → DeskView → List (List ℕ) → SinkView W → SinkView W
+abbrev pub ServesKeptWords : {W F T : Type 0} → DeskView → Named → SinkView W → SinkView W
     → Option (SinkView F) → Option (SinkView F) → Result T Failure → Type 0
-ServesKeptWords desk words written written_after saved saved_after (Ok x) =
-    ServesNamed desk words written written_after (Ok tt) (λ J. IsSaved J saved saved_after)
-ServesKeptWords desk words written written_after saved saved_after (Err failure) =
-    FailsToServe words written written_after failure
+ServesKeptWords desk named written written_after saved saved_after (Ok x) =
+    ServesNamed desk named written written_after (Ok tt) (λ J. IsSaved J saved saved_after)
+ServesKeptWords desk named written written_after saved saved_after (Err failure) =
+    FailsToServe named.words written written_after failure
     ⊎ ((failure ≡ Keep)
-    × ((told : Telling) × ServesNamed desk words written written_after told (λ J. Unit {0})))
-    ⊎ FailsServed (ServesNamed desk words written written_after) saved saved_after failure
+    × ((told : Telling) × ServesNamed desk named written written_after told (λ J. Unit {0})))
+    ⊎ FailsServed (ServesNamed desk named written written_after) saved saved_after failure
 
 -- That desk had room for so many entries, and went on from a kept journal.
-pub record ServesFrom {W : Type 0} (sigs : List (ℕ × Promise)) (capacity : ℕ) (words : List (List ℕ))
+pub record ServesFrom {W : Type 0} (sigs : List (ℕ × Promise)) (capacity : ℕ) (named : Named)
     (written written_after : SinkView W) (told : Telling) (Kept : History → Type 0) : Type 0 where
   pub opening : DeskView
   pub room : opening.capacity ≡ capacity
   pub helpers : opening.sigs ≡ sigs
-  pub serves : ServesNamed opening words written written_after told Kept
+  pub serves : ServesNamed opening named written written_after told Kept
 
 -- That desk went on so, and its partners were not served to their end, or what they made was not kept or
 -- saved, or not told.
 pub record StopsServing {W F : Type 0} (sigs : List (ℕ × Promise)) (capacity : ℕ)
-    (words : List (List ℕ)) (written written_after : SinkView W) (saved saved_after : Option (SinkView F))
+    (named : Named) (written written_after : SinkView W) (saved saved_after : Option (SinkView F))
     (failure : Failure) : Type 0 where
   pub opening : DeskView
   pub room : opening.capacity ≡ capacity
   pub helpers : opening.sigs ≡ sigs
-  pub why : ServesKeptWords {T = Unit {0}} opening words written written_after saved saved_after
+  pub why : ServesKeptWords {T = Unit {0}} opening named written written_after saved saved_after
       (Err failure)
 
 -- What comes of it: all was done, with the status 0; or the kept journal is not legal, which was told, with
 -- the status 1; or it was not gone on from, or that could not be told, and nobody was served; or something
 -- failed then.
-abbrev pub ServesKeptTo : {W F : Type 0} → List (ℕ × Promise) → ℕ → List (List ℕ) → SinkView W
+abbrev pub ServesKeptTo : {W F : Type 0} → List (ℕ × Promise) → ℕ → Named → SinkView W
     → SinkView W → Option (SinkView F) → Option (SinkView F) → Result ℕ Failure → Type 0
-ServesKeptTo sigs capacity words written written_after saved saved_after (Ok status) =
-    (ServesFrom sigs capacity words written written_after (Ok tt) (λ J. IsSaved J saved saved_after)
+ServesKeptTo sigs capacity named written written_after saved saved_after (Ok status) =
+    (ServesFrom sigs capacity named written written_after (Ok tt) (λ J. IsSaved J saved saved_after)
     × (status ≡ 0))
     ⊎ TellsFault written written_after (Ok status)
-ServesKeptTo sigs capacity words written written_after saved saved_after (Err failure) =
+ServesKeptTo sigs capacity named written written_after saved saved_after (Err failure) =
     (FailsToGoOn failure × (written_after ≡ written))
     ⊎ TellsFault written written_after (Err failure)
-    ⊎ StopsServing sigs capacity words written written_after saved saved_after failure
+    ⊎ StopsServing sigs capacity named written written_after saved saved_after failure

@@ -1,5 +1,7 @@
 pub mod Asked
+pub mod BySettings
 pub mod ByTables
+pub mod Causes
 pub mod Completed
 pub mod Keeping
 pub mod Minutes

@@ -1,12 +1,13 @@
 -- What `serve` does for its partners and tells of them, from its words on.
-use Rattle.std.specs.Prelude.{ℕ, ◌+◌, ◌≡◌, ◌≢◌, ◌⊎◌, ◌==◌, Bool, nat_lt, true}
+use Rattle.std.specs.Prelude.{ℕ, ◌+◌, ◌≡◌, ◌≢◌, ◌⊎◌, ◌==◌, Bool, nat_lt}
 use Rattle.std.specs.Prelude.{if◌then◌else◌, List, []}
 use Rattle.std.specs.Prelude.{◌∷◌, ◌++◌, length, map, Option, Some, None, Result, Ok, Err}
-use Rattle.std.specs.Prelude.{IsSome}
+use Rattle.std.specs.Prelude.{IsSome, is_some, true, false}
 use Rattle.std.specs.List.{AllByRecursion, after_first, before_first, flat_map, position_or_len}
 use Rattle.bpf_helpers.specs.Promise.{Promise}
 use Rattle.acdm_milestones.specs.Names.{role_named}
 use Rattle.acdm_milestones.specs.declared.role.Role.{Role}
+use Rattle.acdm_milestones.specs.declared.role.Role.TheVariants.{AirportOperator}
 use Rattle.acdm_board.specs.Desk.{DeskView}
 use Rattle.acdm_judging.specs.declared.failure.Failure.{Failure}
 use Rattle.acdm_judging.specs.declared.failure.Failure.TheVariants as failures
@@ -31,6 +32,19 @@ role_in word =
 
 abbrev pub address_in : List ℕ → List ℕ
 address_in word = after_first is_equals word
+
+-- what the words of `serve` name: its partners, and whether the board ticks by itself
+pub record Named : Type 0 where
+  pub words : List (List ℕ)
+  pub ticks : Bool
+
+abbrev pub named_by : List (List ℕ) → Option ℕ → Named
+named_by words tick = record { words = words; ticks = is_some tick }
+
+-- the session of those ticks, in role `APT`, whose clock may give any minute
+abbrev pub ticking : Bool → List SessionStart
+ticking true = new_session AirportOperator is_minute ∷ []
+ticking false = []
 
 -- one partner more, whose role is that of a word
 pub record AddsNamed {P : Type 0} (role : P → Role) (word : List ℕ) (old new : List P) : Type 0 where
@@ -70,20 +84,20 @@ pub record ServesPartners {W : Type 0} (desk : DeskView) (roles : List Role)
       written_after told
 
 -- The partners that the words name, in order, were served so by a desk, on new connections, each with a
--- clock that may give any minute.
-pub record ServesNamed {W : Type 0} (desk : DeskView) (words : List (List ℕ))
+-- clock that may give any minute, and behind them the board's own ticks, if it gives any.
+pub record ServesNamed {W : Type 0} (desk : DeskView) (named : Named)
     (written written_after : SinkView W) (told : Telling) (Kept : History → Type 0) : Type 0 where
   pub roles : List Role
-  pub named : map role_in words ≡ map Some roles
-  pub partners : ServesPartners desk roles (map (λ role. new_session role is_minute) roles) written
-      written_after told Kept
+  pub are_named : map role_in named.words ≡ map Some roles
+  pub partners : ServesPartners desk roles
+      (map (λ role. new_session role is_minute) roles ++ ticking named.ticks) written written_after told Kept
 
 -- that desk was empty at first, with room for so many entries
 pub record ServesWords {W : Type 0} (sigs : List (ℕ × Promise)) (capacity : ℕ)
-    (words : List (List ℕ)) (written written_after : SinkView W) (told : Telling)
+    (named : Named) (written written_after : SinkView W) (told : Telling)
     (Kept : History → Type 0) : Type 0 where
   pub cells : List ℕ
-  pub serves : ServesNamed (empty_desk sigs capacity cells) words written written_after told Kept
+  pub serves : ServesNamed (empty_desk sigs capacity cells) named written written_after told Kept
 
 -- why no partner was accepted: of the words, one names no role, or its address or that of displays or of
 -- the control is none or can't be listened at; or memory was refused
@@ -133,20 +147,20 @@ ServesPartnersTo desk roles starts written written_after saved saved_after (Err 
     ⊎ FailsServed (ServesPartners desk roles starts written written_after) saved saved_after failure
 
 -- the same of the partners that words name, or none was accepted
-abbrev pub ServesNamedTo : {W F T : Type 0} → DeskView → List (List ℕ) → SinkView W → SinkView W
+abbrev pub ServesNamedTo : {W F T : Type 0} → DeskView → Named → SinkView W → SinkView W
     → Option (SinkView F) → Option (SinkView F) → Result T Failure → Type 0
-ServesNamedTo desk words written written_after saved saved_after (Ok x) =
-    ServesNamed desk words written written_after (Ok tt) (λ J. IsSaved J saved saved_after)
-ServesNamedTo desk words written written_after saved saved_after (Err failure) =
-    FailsToServe words written written_after failure
-    ⊎ FailsServed (ServesNamed desk words written written_after) saved saved_after failure
+ServesNamedTo desk named written written_after saved saved_after (Ok x) =
+    ServesNamed desk named written written_after (Ok tt) (λ J. IsSaved J saved saved_after)
+ServesNamedTo desk named written written_after saved saved_after (Err failure) =
+    FailsToServe named.words written written_after failure
+    ⊎ FailsServed (ServesNamed desk named written written_after) saved saved_after failure
 
 -- what comes of the words: all was done, with the status 0, or what kept it from that, as before
-abbrev pub ServesWordsTo : {W F : Type 0} → List (ℕ × Promise) → ℕ → List (List ℕ) → SinkView W
+abbrev pub ServesWordsTo : {W F : Type 0} → List (ℕ × Promise) → ℕ → Named → SinkView W
     → SinkView W → Option (SinkView F) → Option (SinkView F) → Result ℕ Failure → Type 0
-ServesWordsTo sigs capacity words written written_after saved saved_after (Ok status) =
-    ServesWords sigs capacity words written written_after (Ok tt) (λ J. IsSaved J saved saved_after)
+ServesWordsTo sigs capacity named written written_after saved saved_after (Ok status) =
+    ServesWords sigs capacity named written written_after (Ok tt) (λ J. IsSaved J saved saved_after)
     × (status ≡ 0)
-ServesWordsTo sigs capacity words written written_after saved saved_after (Err failure) =
-    FailsToServe words written written_after failure
-    ⊎ FailsServed (ServesWords sigs capacity words written written_after) saved saved_after failure
+ServesWordsTo sigs capacity named written written_after saved saved_after (Err failure) =
+    FailsToServe named.words written written_after failure
+    ⊎ FailsServed (ServesWords sigs capacity named written written_after) saved saved_after failure

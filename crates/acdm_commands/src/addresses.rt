@@ -4,9 +4,11 @@ ghost use Rattle.acdm_commands.specs.Partners.{AddsNamed, FailsToListen, FailsTo
 ghost use Rattle.acdm_commands.specs.Partners.{role_in};
 
 use crate::minutes::SystemMinutes;
+use crate::why::Why;
 use acdm_judging::Failure;
 use acdm_milestones::Role;
 use std::alloc::Global;
+use std::io::{self, ErrorKind};
 use std::net::{Net, SocketAddr, TcpListener, TcpStream};
 use std::time::Clock as SystemClock;
 
@@ -28,37 +30,54 @@ fn partner_of<'a>(number: usize, word: &'a str) -> Result<(Role, &'a str), Failu
     }
 }
 
-// Listens at an address, an IP address and a port.
-fn listener_at<Rt: Net<Listener = TcpListener, Stream = TcpStream>>(
+/// Listens at an address, an IP address and a port. The system's error where it can't, one of the kind
+/// `InvalidInput` where it is no address.
+pub(crate) fn listener_at<Rt: Net<Listener = TcpListener, Stream = TcpStream>>(
     rt: &Rt,
-    number: usize,
     address: &str,
-) -> Result<TcpListener, Failure>
-    ensures { IfErr result (λ failure. failure ≡ Failure.Address number) }
-{
+) -> io::Result<TcpListener> {
     let Ok(address) = address.parse::<SocketAddr>() else {
-        return Err(Failure::Address(number));
+        return Err(io::Error::new(ErrorKind::InvalidInput, "no IP address with a port"));
     };
-    TcpListener::bind(rt, address).map_err(|_| Failure::Address(number))
+    TcpListener::bind(rt, address)
 }
 
-// Listens for the partner that a word names, the `number`-th.
+// Listens for the partner that a word names, the `number`-th. Why not is noted.
 fn listen_for<'r, Rt: Net<Listener = TcpListener, Stream = TcpStream> + SystemClock>(
     rt: &'r Rt,
+    alloc: Global,
+    why: &Why,
     number: usize,
     word: &str,
 ) -> Result<Partner<'r, Rt>, Failure>
     ensures role { IfOk result (λ p. role_in word.now ≡ Some p.0) }
     ensures fails { IfErr result (FailsToName number word.now) }
 {
-    let (role, address) = partner_of(number, word)?;
-    let listener = listener_at(rt, number, address)?;
-    Ok((role, listener, SystemMinutes { system: rt }))
+    let (role, address) = match partner_of(number, word) {
+        Ok(partner) => partner,
+        Err(failure) => {
+            let error = io::Error::new(
+                ErrorKind::InvalidInput,
+                "no role before =: NM, ATC, APT, AO, GH or DIC",
+            );
+            why.note(alloc, "", word, &error);
+            return Err(failure);
+        }
+    };
+    match listener_at(rt, address) {
+        Ok(listener) => Ok((role, listener, SystemMinutes { system: rt })),
+        Err(error) => {
+            why.note(alloc, "", word, &error);
+            Err(Failure::Address(number))
+        }
+    }
 }
 
 // Listens for the partner that a word names, the next.
 fn add<'r, Rt: Net<Listener = TcpListener, Stream = TcpStream> + SystemClock>(
     rt: &'r Rt,
+    alloc: Global,
+    why: &Why,
     partners: &mut Vec<Partner<'r, Rt>>,
     word: &str,
 ) -> Result<(), Failure>
@@ -67,16 +86,17 @@ fn add<'r, Rt: Net<Listener = TcpListener, Stream = TcpStream> + SystemClock>(
     ensures fails { IfErr result (FailsToName (length partners.old.items + 1) word.now) }
 {
     let number = partners.len() + 1;
-    let partner = listen_for(rt, number, word)?;
+    let partner = listen_for(rt, alloc, why, number, word)?;
     partners.push(partner)?;
     Ok(())
 }
 
 /// Listens for each partner that the words name, in order, from 1. The first word whose role is not
-/// readable, or whose address is not readable or can't be bound, is the failure.
+/// readable, or whose address is not readable or can't be bound, is the failure, and is noted.
 pub(crate) fn listen<'r, Rt: Net<Listener = TcpListener, Stream = TcpStream> + SystemClock>(
     rt: &'r Rt,
     alloc: Global,
+    why: &Why,
     words: &[&str],
 ) -> Result<Vec<Partner<'r, Rt>>, Failure>
     ensures roles { IfOk result (λ partners.
@@ -85,7 +105,7 @@ pub(crate) fn listen<'r, Rt: Net<Listener = TcpListener, Stream = TcpStream> + S
 {
     let mut partners = Vec::new(alloc);
     for word in words {
-        add(rt, &mut partners, word)?;
+        add(rt, alloc, why, &mut partners, word)?;
     }
     Ok(partners)
 }

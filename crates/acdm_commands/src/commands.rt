@@ -3,17 +3,20 @@ ghost use Rattle.std.specs.Prelude.{◌≡◌, ◌-◌, ◌^◌, ◌<◌, map, o
 ghost use Rattle.acdm_commands.specs.Asked.{Completes};
 ghost use Rattle.acdm_commands.specs.Completed.{AuditsLine, Does, ExplainsLine, RunsLine, RunsWords};
 ghost use Rattle.acdm_commands.specs.Completed.{ServesKeptLine, ServesLine, ServesLines, TellsLine, VerifiesLine};
+ghost use Rattle.acdm_commands.specs.Partners.{named_by};
 ghost use Rattle.acdm_judging.specs.Failures.{EndsBy};
 ghost use Rattle.acdm_tables.specs.Helpers.{helpers_by};
 
+use crate::beside::are_made_by;
 use crate::keeping::{KeepIn, keep_line};
 use crate::saving::{Others, saving_in, settle};
 use crate::serve_command::{Audience, serve_words};
 use crate::serve_keeping::serve_kept;
 use crate::service::Service;
 use crate::serving::run_by;
-use crate::tables::tables_of;
-use acdm_command_line::{Invocation, Subcommand, asked};
+use crate::tables::{TablesFile, tables_of};
+use crate::why::{Noting, Why};
+use acdm_command_line::{Line, Subcommand, asked};
 use acdm_judging::{Failure, audit_on, ended, explain_on, unread, verify_on};
 use acdm_keeping::Paths;
 use acdm_serving::Host;
@@ -35,7 +38,8 @@ use std::time::Clock;
 /// opened. What `--save` names is written beside it, in a file that is made before anything is
 /// answered, and that takes its place once all of it is on the disk: what was there stays until
 /// then, and where the command fails, but for one that could only not tell how its partners ended.
-/// What is wrong is told on the errors' writer; where that fails, the status alone says it.
+/// What is wrong is told on the errors' writer; where that fails, the status alone says it. Which file or address
+/// it was, and what the system says of it, is noted.
 pub fn complete<
     Rt: Files<File = File>
         + Paths
@@ -56,6 +60,7 @@ pub fn complete<
     alloc: Global,
     rt: &Rt,
     words: &[&str],
+    why: &Why,
     input: &mut Source<R>,
     output: &mut Sink<W>,
     errors: &mut Sink<E>,
@@ -65,26 +70,37 @@ pub fn complete<
     ensures { Completes (map (λ w. w.now) words.entry.now) input.old input.new output.old output.new
         result errors.old errors.new }
 {
-    let Invocation {
+    let Line {
         subcommand,
         tables: named,
     } = match asked(alloc, words, errors) {
-        Ok(invocation) => invocation,
+        Ok(line) => line,
         Err(_) => return 2,
     };
-    match tables_of(rt, alloc, named, errors) {
-        Some(tables) => complete_by(alloc, rt, tables, named, subcommand, input, output, errors),
-        None => 2,
+    let mut text = Vec::new(alloc);
+    let Some(tables) = tables_of(rt, alloc, named, &mut text, errors) else {
+        return 2;
+    };
+    if !are_made_by(rt, alloc, &subcommand, &tables, errors) {
+        return 2;
     }
+    let file = TablesFile {
+        path: named,
+        text: text.as_slice(),
+    };
+    complete_by(
+        alloc, rt, tables, file, subcommand, why, input, output, errors,
+    )
 }
 
-// Does what is asked for, by these tables, which a file has where one is named.
+// Does what is asked for, by these tables, which that file has.
 fn complete_by<Rt: Host + Files<File = File>, R: Read, W: Write, E: Write>(
     alloc: Global,
     rt: &Rt,
     tables: Tables,
-    named: Option<&str>,
+    named: TablesFile<'_>,
     subcommand: Subcommand<'_>,
+    why: &Why,
     input: &mut Source<R>,
     output: &mut Sink<W>,
     errors: &mut Sink<E>,
@@ -101,7 +117,7 @@ fn complete_by<Rt: Host + Files<File = File>, R: Read, W: Write, E: Write>(
             keep,
             sync,
         } => run_words(
-            rt, alloc, tables, named, journal, save, keep, sync, input, output, errors,
+            rt, alloc, tables, named, journal, save, keep, sync, why, input, output, errors,
         ),
         Subcommand::Serve {
             journal,
@@ -115,6 +131,7 @@ fn complete_by<Rt: Host + Files<File = File>, R: Read, W: Write, E: Write>(
             again,
             control,
             pace,
+            tick,
             partners,
         } => serve_lines(
             rt,
@@ -130,24 +147,26 @@ fn complete_by<Rt: Host + Files<File = File>, R: Read, W: Write, E: Write>(
                 changes,
                 web,
                 web_name,
+                why,
             },
             Service {
                 again,
                 control,
                 pace,
+                tick,
             },
             partners.as_slice(),
             output,
             errors,
         ),
-        Subcommand::Audit { file } => audit_line(rt, alloc, &tables, file, output, errors),
+        Subcommand::Audit { file } => audit_line(rt, alloc, &tables, file, why, output, errors),
         Subcommand::Verify { length, file } => verify_line(
-            rt, alloc, &tables, length, file, output, errors,
+            rt, alloc, &tables, length, file, why, output, errors,
         ),
         Subcommand::Explain { length, file } => {
             explain_line(rt, alloc, &tables, length, file, output, errors)
         }
-        Subcommand::Tell { file } => tell_line(rt, alloc, &tables, file, output, errors),
+        Subcommand::Tell { file } => tell_line(rt, alloc, &tables, file, why, output, errors),
     }
 }
 
@@ -156,11 +175,12 @@ fn run_words<Rt: Files<File = File> + Paths + Clone + Drop, R: Read, W: Write, E
     rt: &Rt,
     alloc: Global,
     tables: Tables,
-    named: Option<&str>,
+    named: TablesFile<'_>,
     journal: usize,
     save: Option<&str>,
     keep: Option<&str>,
     sync: bool,
+    why: &Why,
     input: &mut Source<R>,
     output: &mut Sink<W>,
     errors: &mut Sink<E>,
@@ -177,25 +197,27 @@ fn run_words<Rt: Files<File = File> + Paths + Clone + Drop, R: Read, W: Write, E
                 path,
                 is_synced: sync,
                 tables: named,
+                why,
             };
             keep_line(
                 rt, alloc, tables, journal, save, keep, input, output, errors,
             )
         }
         None => run_line(
-            rt, alloc, tables, named, journal, save, input, output, errors,
+            rt, alloc, tables, named, journal, save, why, input, output, errors,
         ),
     }
 }
 
 // `run`, with the file that the journal is to be saved in.
-fn run_line<Rt: Files<File = File>, R: Read, W: Write, E: Write>(
+fn run_line<'a, Rt: Files<File = File>, R: Read, W: Write, E: Write>(
     rt: &Rt,
     alloc: Global,
     tables: Tables,
-    named: Option<&str>,
+    named: TablesFile<'a>,
     journal: usize,
-    save: Option<&str>,
+    save: Option<&'a str>,
+    why: &'a Why,
     input: &mut Source<R>,
     output: &mut Sink<W>,
     errors: &mut Sink<E>,
@@ -207,38 +229,43 @@ fn run_line<Rt: Files<File = File>, R: Read, W: Write, E: Write>(
 {
     let others = Others {
         kept: None,
-        tables: named,
+        tables: named.path,
+        why,
     };
     match saving_in(rt, alloc, save, others) {
         Ok(mut saving) => {
             let saved = &mut saving.file;
             let work = run_by(alloc, tables, journal, input, output, saved);
-            ended(settle(rt, save, saving, work), errors)
+            ended(
+                settle(rt, alloc, save, named.text, why, saving, work),
+                errors,
+            )
         }
         Err(failure) => ended(Err(failure), errors),
     }
 }
 
 // `serve`, with the file that the journal is to be saved in.
-fn serve_line<Rt: Host + Files<File = File>, W: Write, E: Write>(
+fn serve_line<'a, Rt: Host + Files<File = File>, W: Write, E: Write>(
     rt: &Rt,
     alloc: Global,
     tables: Tables,
-    named: Option<&str>,
+    named: TablesFile<'a>,
     journal: usize,
-    save: Option<&str>,
-    audience: Audience<'_>,
+    save: Option<&'a str>,
+    audience: Audience<'a>,
     service: Service<'_>,
     partners: &[&str],
     output: &mut Sink<W>,
     errors: &mut Sink<E>,
 ) -> u8
     ensures { EndsBy (ServesLine (helpers_by tables) journal (option_map (λ s. s.now) save.entry)
-        (map (λ w. w.now) partners.now) output.old output.new) result errors.old errors.new }
+        (named_by (map (λ w. w.now) partners.now) service.entry.tick) output.old output.new) result errors.old errors.new }
 {
     let others = Others {
         kept: None,
-        tables: named,
+        tables: named.path,
+        why: audience.why,
     };
     match saving_in(rt, alloc, save, others) {
         Ok(mut saving) => {
@@ -246,7 +273,10 @@ fn serve_line<Rt: Host + Files<File = File>, W: Write, E: Write>(
             let work = serve_words(
                 rt, alloc, tables, journal, audience, service, partners, output, saved,
             );
-            ended(settle(rt, save, saving, work), errors)
+            ended(
+                settle(rt, alloc, save, named.text, audience.why, saving, work),
+                errors,
+            )
         }
         Err(failure) => ended(Err(failure), errors),
     }
@@ -257,7 +287,7 @@ fn serve_lines<Rt: Host + Files<File = File>, W: Write, E: Write>(
     rt: &Rt,
     alloc: Global,
     tables: Tables,
-    named: Option<&str>,
+    named: TablesFile<'_>,
     journal: usize,
     save: Option<&str>,
     keep: Option<&str>,
@@ -269,7 +299,7 @@ fn serve_lines<Rt: Host + Files<File = File>, W: Write, E: Write>(
     errors: &mut Sink<E>,
 ) -> u8
     ensures { ServesLines (helpers_by tables) journal (option_map (λ s. s.now) save.entry)
-        (option_map (λ s. s.now) keep.entry) (map (λ w. w.now) partners.now) output.old output.new
+        (option_map (λ s. s.now) keep.entry) (named_by (map (λ w. w.now) partners.now) service.entry.tick) output.old output.new
         result errors.old errors.new }
 {
     match keep {
@@ -278,6 +308,7 @@ fn serve_lines<Rt: Host + Files<File = File>, W: Write, E: Write>(
                 path,
                 is_synced: sync,
                 tables: named,
+                why: audience.why,
             };
             serve_kept_line(
                 rt, alloc, tables, journal, save, keep, audience, service, partners, output, errors,
@@ -304,7 +335,7 @@ fn serve_kept_line<Rt: Host + Files<File = File>, W: Write, E: Write>(
     errors: &mut Sink<E>,
 ) -> u8
     ensures { EndsBy (ServesKeptLine (helpers_by tables) journal (option_map (λ s. s.now) save.entry)
-        (map (λ w. w.now) partners.now) output.old output.new) result errors.old errors.new }
+        (named_by (map (λ w. w.now) partners.now) service.entry.tick) output.old output.new) result errors.old errors.new }
 {
     match saving_in(rt, alloc, save, keep.others()) {
         Ok(mut saving) => {
@@ -312,9 +343,28 @@ fn serve_kept_line<Rt: Host + Files<File = File>, W: Write, E: Write>(
             let work = serve_kept(
                 rt, alloc, tables, journal, keep, audience, service, partners, output, saved,
             );
-            ended(settle(rt, save, saving, work), errors)
+            ended(
+                settle(rt, alloc, save, keep.tables.text, keep.why, saving, work),
+                errors,
+            )
         }
         Err(failure) => ended(Err(failure), errors),
+    }
+}
+
+// The file of a path, to be read. `None` where it can't be opened. Why is noted, also where a read fails later.
+fn reader_of<'a, Rt: Files>(
+    rt: &Rt,
+    alloc: Global,
+    path: &'a str,
+    why: &'a Why,
+) -> Option<Noting<'a, Rt::File>> {
+    match fs::open(rt, path) {
+        Ok(file) => Some(Noting::new(alloc, file, "", path, why)),
+        Err(error) => {
+            why.note(alloc, "", path, &error);
+            None
+        }
     }
 }
 
@@ -324,14 +374,15 @@ fn audit_line<Rt: Files, W: Write, E: Write>(
     alloc: Global,
     tables: &Tables,
     file: &str,
+    why: &Why,
     output: &mut Sink<W>,
     errors: &mut Sink<E>,
 ) -> u8
     ensures { EndsBy (AuditsLine (helpers_by tables.now) output.old output.new) result errors.old errors.new }
 {
-    match fs::open(rt, file) {
-        Ok(file) => audit_on(alloc, tables, &mut Source::new(file), output, errors),
-        Err(_) => ended(Err(Failure::Read), errors),
+    match reader_of(rt, alloc, file, why) {
+        Some(file) => audit_on(alloc, tables, &mut Source::new(file), output, errors),
+        None => ended(Err(Failure::Read), errors),
     }
 }
 
@@ -341,14 +392,15 @@ fn tell_line<Rt: Files, W: Write, E: Write>(
     alloc: Global,
     tables: &Tables,
     file: &str,
+    why: &Why,
     output: &mut Sink<W>,
     errors: &mut Sink<E>,
 ) -> u8
     ensures { EndsBy (TellsLine (helpers_by tables.now) output.old output.new) result errors.old errors.new }
 {
-    match fs::open(rt, file) {
-        Ok(file) => tell_on(alloc, tables, &mut Source::new(file), output, errors),
-        Err(_) => ended(Err(Failure::Read), errors),
+    match reader_of(rt, alloc, file, why) {
+        Some(file) => tell_on(alloc, tables, &mut Source::new(file), output, errors),
+        None => ended(Err(Failure::Read), errors),
     }
 }
 
@@ -359,13 +411,14 @@ fn verify_line<Rt: Files, W: Write, E: Write>(
     tables: &Tables,
     length: Length,
     file: &str,
+    why: &Why,
     output: &mut Sink<W>,
     errors: &mut Sink<E>,
 ) -> u8
     ensures { EndsBy (VerifiesLine (helpers_by tables.now) length output.old output.new) result errors.old errors.new }
 {
-    match fs::open(rt, file) {
-        Ok(file) => verify_on(
+    match reader_of(rt, alloc, file, why) {
+        Some(file) => verify_on(
             alloc,
             tables,
             length,
@@ -373,7 +426,7 @@ fn verify_line<Rt: Files, W: Write, E: Write>(
             output,
             errors,
         ),
-        Err(_) => ended(Err(Failure::Read), errors),
+        None => ended(Err(Failure::Read), errors),
     }
 }
 

@@ -3,12 +3,18 @@ ghost use Rattle.std.specs.Prelude.{◌-◌, ◌^◌, ◌<◌, ◌≡◌, [], If
 ghost use Rattle.acdm_board.specs.Desk.{row_of};
 ghost use Rattle.acdm_commands.specs.Completed.{KeepsLine};
 ghost use Rattle.acdm_commands.specs.Keeping.{AnswersBehind, FailsToGoOn, GoesOn, KeepsTo, ServesKept};
+ghost use Rattle.acdm_commands.specs.Causes.{keep_failure};
 ghost use Rattle.acdm_commands.specs.Keeping.{StopsAnswering, StopsKept};
+ghost use Rattle.std.specs.IoError.{error_kind};
 ghost use Rattle.acdm_judging.specs.Failures.{EndsBy};
+ghost use Rattle.acdm_judging.specs.declared.failure.Failure.TheVariants.{Room};
 ghost use Rattle.acdm_tables.specs.Helpers.{helpers_by};
 
-use crate::saving::{Others, buffer_for, is_one, save, saving_in, settle};
+use crate::beside::note_tables;
+use crate::saving::{Others, buffer_for, is_one, save, saving_in, settle, taken};
 use crate::standard::is_standard;
+use crate::tables::TablesFile;
+use crate::why::{Noting, Why};
 use acdm_board::Desk;
 use acdm_judging::{Failure, Finding, ended};
 use acdm_keeping::{Keeper, Kept, Named, Paths, Synced, open, renew};
@@ -18,20 +24,22 @@ use acdm_tables::{KnownHelpers, Tables};
 use bpf_helpers::Helpers;
 use std::alloc::Global;
 use std::fs::{File, Files};
-use std::io::{BufWriter, Read, Write};
+use std::io::{self, BufWriter, ErrorKind, Read, Write};
 
 /// How many bytes of replies are held until the entries before them are kept, at most.
 const BUFFER: usize = 65_536;
 
 /// Where a journal is kept.
-#[derive(Clone, Copy, Debug, PartialEq, Eq)]
+#[derive(Clone, Copy)]
 pub(crate) struct KeepIn<'a> {
     /// The file.
     pub(crate) path: &'a str,
     /// Whether what is kept stands on the disk before it is replied to.
     pub(crate) is_synced: bool,
-    /// The file of the tables, if one is named.
-    pub(crate) tables: Option<&'a str>,
+    /// The file of the tables by which it is made.
+    pub(crate) tables: TablesFile<'a>,
+    /// Where it is noted why the file could not be used.
+    pub(crate) why: &'a Why,
 }
 
 impl<'a> KeepIn<'a> {
@@ -39,7 +47,40 @@ impl<'a> KeepIn<'a> {
     pub(crate) fn others(&self) -> Others<'a> {
         Others {
             kept: Some(self.path),
-            tables: self.tables,
+            tables: self.tables.path,
+            why: self.why,
+        }
+    }
+
+    /// Notes why the file could not be used, and answers what the command fails by: `InUse` where another board
+    /// keeps a journal in it, `Memory` where that was refused, else `Keep`.
+    fn failure(&self, alloc: Global, error: &io::Error) -> Failure
+        ensures { result ≡ keep_failure (error_kind error.now) }
+    {
+        let failure = match error.kind() {
+            ErrorKind::WouldBlock => Failure::InUse,
+            _ => Failure::Keep,
+        };
+        self.why
+            .failure(alloc, failure, "--keep ", self.path, error)
+    }
+
+    // Notes that the journal of the file has more entries than there is room for, and answers that failure.
+    fn without_room(&self, alloc: Global) -> Failure
+        ensures { result ≡ Room }
+    {
+        let error = io::Error::new(
+            ErrorKind::InvalidInput,
+            "it has more entries than --journal says",
+        );
+        self.why.note(alloc, "--keep ", self.path, &error);
+        Failure::Room
+    }
+
+    /// Notes why the file that has this name could not be written any more, where it could not.
+    pub(crate) fn note_failure(&self, alloc: Global, named: &Named) {
+        if let Some(error) = named.failure() {
+            self.why.note(alloc, "--keep ", self.path, &error);
         }
     }
 }
@@ -78,24 +119,30 @@ pub(crate) fn keep_line<Rt: Files<File = File> + Paths + Clone + Drop, R: Read, 
                 output,
                 &mut saving.file,
             );
-            ended(settle(rt, saved, saving, served), errors)
+            ended(
+                settle(rt, alloc, saved, keep.tables.text, keep.why, saving, served),
+                errors,
+            )
         }
         Err(failure) => ended(Err(failure), errors),
     }
 }
 
 /// Opens the file in which a journal is kept. `Keep` where it can't be opened, or where it is that of a
-/// standard stream or of the tables; `InUse` where somebody else keeps a journal there.
-pub(crate) fn open_kept<Rt: Files<File = File>>(rt: &Rt, keep: KeepIn<'_>) -> Result<File, Failure>
+/// standard stream or of the tables; `InUse` where somebody else keeps a journal there. Why is noted.
+pub(crate) fn open_kept<Rt: Files<File = File>>(
+    rt: &Rt,
+    alloc: Global,
+    keep: KeepIn<'_>,
+) -> Result<File, Failure>
     ensures fails { IfErr result FailsToGoOn }
 {
-    if is_standard(rt, keep.path) || is_one(rt, keep.path, keep.tables) {
-        return Err(Failure::Keep);
+    if is_standard(rt, keep.path) || is_one(rt, keep.path, keep.tables.path) {
+        return Err(keep.failure(alloc, &taken()));
     }
     match open(rt, keep.path) {
         Ok(file) => Ok(file),
-        Err(Failure::InUse) => Err(Failure::InUse),
-        Err(_) => Err(Failure::Keep),
+        Err(error) => Err(keep.failure(alloc, &error)),
     }
 }
 
@@ -114,7 +161,7 @@ fn run_kept<Rt: Files<File = File> + Paths + Clone + Drop, R: Read, W: Write, F:
     ensures { KeepsTo (helpers_by tables) journal input.old input.new output.old output.new saved.old
         saved.new result }
 {
-    let file = open_kept(rt, keep)?;
+    let file = open_kept(rt, alloc, keep)?;
     let helpers = KnownHelpers::new(alloc, tables);
     keep_with(
         rt, alloc, helpers, journal, file, keep, input, output, saved,
@@ -145,17 +192,20 @@ fn keep_with<
 {
     let mut buffer = buffer_for(alloc, saved)?;
     let mut desk = Desk::new(alloc, helpers, journal)?;
-    let (file, found) = go_on(rt, alloc, keep.path, file, &mut desk)?;
+    let (file, found) = go_on(rt, alloc, keep, file, &mut desk)?;
     if let Some(finding) = found {
         return match finding.tell(output) {
             Ok(status) => Ok(status),
             Err(failure) => Err(failure),
         };
     }
-    let (synced, _named) = synced_in(rt, alloc, keep, file)?;
+    let (synced, named) = synced_in(rt, alloc, keep, file)?;
     match serve_from(alloc, &mut desk, synced, input, output) {
         Ok(()) => {}
-        Err(failure) => return Err(failure),
+        Err(failure) => {
+            keep.note_failure(alloc, &named);
+            return Err(failure);
+        }
     }
     match save(&mut buffer, &mut desk, saved) {
         Ok(()) => Ok(0),
@@ -163,13 +213,13 @@ fn keep_with<
     }
 }
 
-/// Puts the journal of the file of a path into a desk, and a new file in the place of that, which has what was
-/// read but a rest without a line feed, and all of it on the disk. Answers the file, and what is to be told of a
-/// journal that is not legal, whose file stays.
+/// Puts the journal of a file into a desk, and a new file in the place of that, which has what was read but a rest
+/// without a line feed, and all of it on the disk. Beside it the text of the tables is put, by which it is made.
+/// Answers the file, and what is to be told of a journal that is not legal, whose file stays.
 pub(crate) fn go_on<Rt: Files<File = File>, H: Helpers + Drop>(
     rt: &Rt,
     alloc: Global,
-    path: &str,
+    keep: KeepIn<'_>,
     file: File,
     desk: &mut Desk<H>,
 ) -> Result<(File, Option<Finding>), Failure>
@@ -177,43 +227,57 @@ pub(crate) fn go_on<Rt: Files<File = File>, H: Helpers + Drop>(
     ensures goes { IfOk result (λ went. GoesOn desk.old desk.new went.1) }
     ensures fails { IfErr result FailsToGoOn }
 {
-    let Ok(reader) = file.try_clone() else {
-        return Err(Failure::Keep);
+    let reader = match file.try_clone() {
+        Ok(reader) => Noting::new(alloc, reader, "--keep ", keep.path, keep.why),
+        Err(error) => return Err(keep.failure(alloc, &error)),
     };
     match restore(alloc, &mut Source::new(reader), desk) {
-        Ok(bytes) => match renewed(rt, alloc, path, file, bytes) {
+        Ok(bytes) => match renewed(rt, alloc, keep, file, bytes) {
             Ok(file) => Ok((file, None)),
             Err(failure) => Err(failure),
         },
         Err(RestoreError::Faulty { entry, clause }) => {
             Ok((file, Some(Finding::Faulty { entry, clause })))
         }
-        Err(RestoreError::Full) => Err(Failure::Room),
+        Err(RestoreError::Full) => Err(keep.without_room(alloc)),
         Err(RestoreError::Read) => Err(Failure::Read),
         Err(RestoreError::Memory) => Err(Failure::Memory),
     }
 }
 
-// Puts the first bytes of a file, so many, into a new one in its place, where it has any. What the system holds
-// of a file may be more than what is on the disk, where a write of it failed before.
+// Puts the first bytes of a file, so many, into a new one in its place, where it has any, and the text of the
+// tables beside it. What the system holds of a file may be more than what is on the disk, where a write of it
+// failed before.
 fn renewed<Rt: Files<File = File>>(
     rt: &Rt,
     alloc: Global,
-    path: &str,
+    keep: KeepIn<'_>,
     file: File,
     bytes: u64,
 ) -> Result<File, Failure>
     ensures fails { IfErr result FailsToGoOn }
 {
-    match file.metadata() {
-        Ok(found) if found.len() == 0 => Ok(file),
-        Ok(_) => match renew(rt, alloc, path, &file, bytes) {
-            Ok(file) => Ok(file),
-            Err(Failure::Memory) => Err(Failure::Memory),
-            Err(_) => Err(Failure::Keep),
-        },
-        Err(_) => Err(Failure::Keep),
+    if let Err(error) = note_tables(rt, alloc, keep.path, keep.tables.text) {
+        return Err(keep.failure(alloc, &error));
     }
+    match new_or_old(rt, alloc, keep.path, file, bytes) {
+        Ok(file) => Ok(file),
+        Err(error) => Err(keep.failure(alloc, &error)),
+    }
+}
+
+// The same of the file alone.
+fn new_or_old<Rt: Files<File = File>>(
+    rt: &Rt,
+    alloc: Global,
+    path: &str,
+    file: File,
+    bytes: u64,
+) -> io::Result<File> {
+    if file.metadata()?.len() == 0 {
+        return Ok(file);
+    }
+    renew(rt, alloc, path, &file, bytes)
 }
 
 /// The file in which a journal is kept, as a writer, and once more by its name. `Keep` where it can't be asked
@@ -226,8 +290,9 @@ pub(crate) fn synced_in<Rt: Paths + Clone + Drop>(
 ) -> Result<(Synced<Rt>, Named), Failure>
     ensures fails { IfErr result FailsToGoOn }
 {
-    let Ok(named) = Named::new(alloc, keep.path, &file) else {
-        return Err(Failure::Keep);
+    let named = match Named::new(alloc, keep.path, &file) {
+        Ok(named) => named,
+        Err(error) => return Err(keep.failure(alloc, &error)),
     };
     let Ok(same) = named.copy(alloc) else {
         return Err(Failure::Memory);

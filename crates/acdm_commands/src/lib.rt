@@ -3,6 +3,7 @@
 #![tactic(auto)]
 
 mod addresses;
+mod beside;
 mod commands;
 mod keeping;
 mod minutes;
@@ -11,12 +12,16 @@ mod serve_command;
 mod serve_keeping;
 mod service;
 mod serving;
+mod settings;
 mod standard;
 mod tables;
+mod why;
 
 pub use acdm_judging::{Failure, ServeError, audit_on, explain_on, verify_on};
 pub use acdm_keeping::Paths;
-pub use acdm_serving::serve_on;
+pub use acdm_serving::{serve_on, serve_partners};
 pub use commands::complete;
 pub use serving::run_on;
+pub use settings::{WordsGiven, words_given};
 pub use standard::is_error_file;
+pub use why::{Noting, Why};

@@ -7,7 +7,9 @@ ghost use Rattle.acdm_commands.specs.Partners.{SavesSo};
 ghost use Rattle.acdm_commands.specs.Served.{FailsToSave, IsSaved};
 ghost use Rattle.acdm_journal.specs.Whole.{Saves};
 
+use crate::beside::note_tables;
 use crate::standard::is_standard;
+use crate::why::{Noting, Why};
 use acdm_board::Desk;
 use acdm_journal::{MOST_KEPT, write_entry_by};
 use acdm_judging::Failure;
@@ -17,7 +19,7 @@ use acdm_sessions::{RunError, Sink};
 use bpf_helpers::Helpers;
 use std::alloc::Global;
 use std::fs::{self, File, Files, TryLockError};
-use std::io::{self, BufWriter, Write};
+use std::io::{self, BufWriter, ErrorKind, Write};
 use std::sync::Arc;
 
 /// How many bytes are written at once at most.
@@ -32,11 +34,26 @@ pub(crate) struct Saving<F: Write + Drop> {
     replacement: Option<Replacement>,
 }
 
-/// What else the words of a command name: the file that its journal is kept in, and that of the tables.
+/// What else the words of a command name: the file that its journal is kept in, and that of the tables. And where
+/// it is noted why the file could not be used.
 #[derive(Clone, Copy)]
 pub(crate) struct Others<'a> {
     pub(crate) kept: Option<&'a str>,
     pub(crate) tables: Option<&'a str>,
+    pub(crate) why: &'a Why,
+}
+
+/// That a file is something else too, which is not written over.
+pub(crate) fn taken() -> io::Error {
+    io::Error::new(
+        ErrorKind::InvalidInput,
+        "it is a standard stream, or another file of this command",
+    )
+}
+
+// That a board keeps its journal in a file.
+fn kept_there() -> io::Error {
+    io::Error::new(ErrorKind::WouldBlock, "a board keeps its journal in it")
 }
 
 /// Whether two paths are one, or lead to one file.
@@ -64,46 +81,41 @@ fn is_kept<Rt: Files<File = File>>(rt: &Rt, path: &str) -> bool {
     matches!(file.try_lock(), Err(TryLockError::WouldBlock))
 }
 
-// Whether a path is that of something that a journal may not take the place of.
+// Whether a path is that of a standard stream, or of what else the words name.
 fn is_taken<Rt: Files<File = File>>(rt: &Rt, path: &str, others: Others<'_>) -> bool {
-    is_standard(rt, path)
-        || is_one(rt, path, others.kept)
-        || is_one(rt, path, others.tables)
-        || is_kept(rt, path)
+    is_standard(rt, path) || is_one(rt, path, others.kept) || is_one(rt, path, others.tables)
 }
 
-// Makes the file to be written. `None` where it can't be made.
+// Makes the file to be written, where its path is that of something that a journal may take the place of.
 fn create<Rt: Files<File = File>>(
     rt: &Rt,
     alloc: Global,
     path: &str,
     others: Others<'_>,
-) -> Result<Option<(File, Option<Replacement>)>, Failure>
-    ensures fails { IfErr result (λ e. e ≡ Memory) }
-{
+) -> io::Result<(File, Option<Replacement>)> {
+    if is_taken(rt, path, others) {
+        return Err(taken());
+    }
+    if is_kept(rt, path) {
+        return Err(kept_there());
+    }
     if is_special(rt, path) {
-        return match fs::create(rt, path) {
-            Ok(file) => Ok(Some((file, None))),
-            Err(_) => Ok(None),
-        };
+        return Ok((fs::create(rt, path)?, None));
     }
-    match Replacement::create(rt, alloc, path, others.kept) {
-        Ok(Some((file, replacement))) => Ok(Some((file, Some(replacement)))),
-        Ok(None) => Ok(None),
-        Err(_) => Err(Failure::Memory),
-    }
+    let (file, replacement) = Replacement::create(rt, alloc, path, others.kept)?;
+    Ok((file, Some(replacement)))
 }
 
 /// Makes the file that a journal is to be saved in by this path, if there is one, and leaves the one
 /// that is there. `Save` where it can't be made, or where the one that is there is that of a standard
 /// stream or of what else the words name, or another board keeps its journal there; `Memory` where that was
-/// refused.
-pub(crate) fn saving_in<Rt: Files<File = File>>(
+/// refused. Why is noted, also why it can't be written later.
+pub(crate) fn saving_in<'a, Rt: Files<File = File>>(
     rt: &Rt,
     alloc: Global,
-    path: Option<&str>,
-    others: Others<'_>,
-) -> Result<Saving<File>, Failure>
+    path: Option<&'a str>,
+    others: Others<'a>,
+) -> Result<Saving<Noting<'a, File>>, Failure>
     ensures made { IfOk result (λ s. IsUnwritten (option_map (λ p. p.now) path.entry) s.file) }
     ensures fails { IfErr result (FailsToMake (option_map (λ p. p.now) path.entry)) }
 {
@@ -113,15 +125,17 @@ pub(crate) fn saving_in<Rt: Files<File = File>>(
             replacement: None,
         });
     };
-    if is_taken(rt, path, others) {
-        return Err(Failure::Save);
-    }
-    let Ok(made) = create(rt, alloc, path, others) else {
-        return Err(Failure::Memory);
+    let (file, replacement) = match create(rt, alloc, path, others) {
+        Ok(made) => made,
+        Err(error) => {
+            return Err(
+                others
+                    .why
+                    .failure(alloc, Failure::Save, "--save ", path, &error),
+            );
+        }
     };
-    let Some((file, replacement)) = made else {
-        return Err(Failure::Save);
-    };
+    let file = Noting::new(alloc, file, "--save ", path, others.why);
     match BufWriter::with_capacity(alloc, BUFFER, file) {
         Ok(writer) => Ok(Saving {
             file: Some(Sink::new(writer)),
@@ -140,13 +154,26 @@ pub(crate) fn saving_in<Rt: Files<File = File>>(
 fn put_in_place<Rt: Files<File = File>>(
     rt: &Rt,
     path: &str,
-    file: Sink<BufWriter<File>>,
+    file: Sink<BufWriter<Noting<'_, File>>>,
     replacement: &Replacement,
 ) -> io::Result<()> {
     if is_kept(rt, path) {
-        return Err(io::Error::from(io::ErrorKind::WouldBlock));
+        return Err(kept_there());
     }
-    replacement.put_in_place(rt, file.into_inner().get_ref())
+    replacement.put_in_place(rt, file.into_inner().get_ref().get_ref())
+}
+
+// The same, once the text of the tables stands beside it.
+fn put_with_tables<Rt: Files<File = File>>(
+    rt: &Rt,
+    alloc: Global,
+    path: &str,
+    tables: &[u8],
+    file: Sink<BufWriter<Noting<'_, File>>>,
+    replacement: &Replacement,
+) -> io::Result<()> {
+    note_tables(rt, alloc, path, tables)?;
+    put_in_place(rt, path, file, replacement)
 }
 
 // Whether a command's work was done, and the journal written.
@@ -156,12 +183,15 @@ fn is_done(work: Result<u8, Failure>) -> bool
     matches!(work, Ok(0) | Err(Failure::Untold))
 }
 
-/// Puts the file of a command whose work came so in its place, where its journal was written; else what
-/// was there stays. `Save` where that failed.
+/// Puts the file of a command whose work came so in its place, where its journal was written, and beside it the
+/// text of the tables by which it was made; else what was there stays. `Save` where that failed, and why is noted.
 pub(crate) fn settle<Rt: Files<File = File>>(
     rt: &Rt,
+    alloc: Global,
     path: Option<&str>,
-    saving: Saving<File>,
+    tables: &[u8],
+    why: &Why,
+    saving: Saving<Noting<'_, File>>,
     work: Result<u8, Failure>,
 ) -> Result<u8, Failure>
     ensures { Settles (option_map (λ p. p.now) path.entry) work result }
@@ -180,11 +210,14 @@ pub(crate) fn settle<Rt: Files<File = File>>(
         replacement.remove(rt);
         return work;
     }
-    if put_in_place(rt, target, file, &replacement).is_ok() {
-        return work;
+    match put_with_tables(rt, alloc, target, tables, file, &replacement) {
+        Ok(()) => work,
+        Err(error) => {
+            why.note(alloc, "--save ", target, &error);
+            replacement.remove(rt);
+            Err(Failure::Save)
+        }
     }
-    replacement.remove(rt);
-    Err(Failure::Save)
 }
 
 /// A buffer for `save` to write lines by, with room for the longest, where there is a writer. `Memory`

@@ -1,13 +1,17 @@
 //! The command `serve`, from its words on.
-ghost use Rattle.std.specs.Prelude.{◌≡◌, ◌≤◌, IfOk, IfErr, Some, map, vec_len};
+ghost use Rattle.std.specs.Prelude.{◌≡◌, ◌≤◌, IfOk, IfErr, Some, is_some, length, map, option_map, vec_len};
+ghost use Rattle.acdm_commands.specs.Minutes.{is_minute};
 ghost use Rattle.acdm_commands.specs.Partners.{FailsToOpen, ServesNamedTo, ServesPartnersTo};
-ghost use Rattle.acdm_commands.specs.Partners.{ServesWordsTo, role_in};
+ghost use Rattle.acdm_commands.specs.Partners.{ServesWordsTo, named_by, role_in};
+ghost use Rattle.acdm_serving.specs.Partners.{starts_of};
 ghost use Rattle.acdm_tables.specs.Helpers.{helpers_by};
 ghost use Rattle.acdm_sessions.specs.Sessions.{new_session};
 
-use crate::addresses::{Partner, listen};
+use crate::addresses::{listen, listener_at};
+use crate::minutes::SystemMinutes;
 use crate::saving::{buffer_for, save_served};
 use crate::service::Service;
+use crate::why::Why;
 use acdm_board::Desk;
 use acdm_displays::{Displays, Form};
 use acdm_judging::Failure;
@@ -15,12 +19,12 @@ use acdm_keeping::{Opening, Reach};
 use acdm_milestones::Role;
 use acdm_partners::Control;
 use acdm_row::Row;
-use acdm_serving::{FileKeeper, Host, Operation, serve_again, serve_on};
+use acdm_serving::{FileKeeper, Host, Operation, Partners, Ticking, serve_again, serve_partners};
 use acdm_sessions::{Clock, Sink};
 use acdm_tables::{KnownHelpers, Tables};
 use bpf_helpers::Helpers;
 use std::alloc::Global;
-use std::io::Write;
+use std::io::{self, ErrorKind, Write};
 use std::marker::Brand;
 use std::net::{Net, TcpListener, TcpStream};
 use std::sync::atomic::AtomicBool;
@@ -36,6 +40,8 @@ pub(crate) struct Audience<'a> {
     pub(crate) changes: Option<&'a str>,
     pub(crate) web: Option<&'a str>,
     pub(crate) web_name: Option<&'a str>,
+    // Where it is noted what could not be listened at.
+    pub(crate) why: &'a Why,
 }
 
 /// Serves a partner for each word `ROLE=ADDR`, at most 64, all at once, with room for so many
@@ -55,7 +61,7 @@ pub(crate) fn serve_words<Rt: Host, W: Write, F: Write + Drop>(
     writer: &mut Sink<W>,
     saved: &mut Option<Sink<F>>,
 ) -> Result<u8, Failure>
-    ensures { ServesWordsTo (helpers_by tables) journal (map (λ w. w.now) words.now) writer.old writer.new
+    ensures { ServesWordsTo (helpers_by tables) journal (named_by (map (λ w. w.now) words.now) service.entry.tick) writer.old writer.new
         saved.old saved.new result }
 {
     let helpers = KnownHelpers::new(alloc, tables);
@@ -76,7 +82,7 @@ fn serve_with<Rt: Host, H: Helpers + Drop + Send, W: Write, F: Write + Drop>(
     writer: &mut Sink<W>,
     saved: &mut Option<Sink<F>>,
 ) -> Result<u8, Failure>
-    ensures { ServesWordsTo (H.entries helpers) journal (map (λ w. w.now) words.now) writer.old
+    ensures { ServesWordsTo (H.entries helpers) journal (named_by (map (λ w. w.now) words.now) asked.entry.tick) writer.old
         writer.new saved.old saved.new result }
 {
     let desk = Desk::new(alloc, helpers, journal)?;
@@ -95,32 +101,66 @@ fn serve_at<Rt: Host, H: Helpers + Drop + Send, W: Write, F: Write + Drop>(
     writer: &mut Sink<W>,
     saved: &mut Option<Sink<F>>,
 ) -> Result<(), Failure>
-    ensures { ServesNamedTo desk (map (λ w. w.now) words.now) writer.old writer.new saved.old
+    ensures { ServesNamedTo desk (named_by (map (λ w. w.now) words.now) service.entry.tick) writer.old writer.new saved.old
         saved.new result }
 {
-    let control = service.control(rt, alloc)?;
-    let (partners, displays) = opened(rt, alloc, desk.row(), None, audience, words)?;
+    let control = service.control(rt, alloc, audience.why)?;
+    let (partners, displays) = opened(rt, alloc, desk.row(), None, audience, service.tick, words)?;
     let ended = serve_all(rt, alloc, partners, desk, service, control, writer, saved);
     close_all(rt, displays);
     ended
 }
 
-// Listens for the partners of the words.
+// Notes that a word, by its place from 0, names one partner too many.
+fn note_word(alloc: Global, why: &Why, words: &[&str], place: usize) {
+    let error = io::Error::new(
+        ErrorKind::InvalidInput,
+        "more sessions than 64, of which ticks take one",
+    );
+    if let Some(word) = words.get(place) {
+        why.note(alloc, "", word, &error);
+    }
+}
+
+// Listens for the partners of the words, and has the clock of ticks, each so many seconds, if there are any.
 fn few_partners<'r, Rt: Net<Listener = TcpListener, Stream = TcpStream> + SystemClock>(
     rt: &'r Rt,
     alloc: Global,
+    why: &Why,
+    tick: Option<u32>,
     words: &[&str],
-) -> Result<Vec<Partner<'r, Rt>>, Failure>
-    ensures few { IfOk result (λ partners. vec_len partners ≤ 64) }
-    ensures roles { IfOk result (λ partners.
-        map role_in (map (λ w. w.now) words.now) ≡ map (λ p. Some p.0) partners.items) }
+) -> Result<Partners<SystemMinutes<'r, Rt>>, Failure>
+    ensures few { IfOk result (λ p. length (starts_of (λ _. is_minute) p.listeners.items
+        (option_map (λ t. t.clock) p.ticks)) ≤ 64) }
+    ensures roles { IfOk result (λ p.
+        map role_in (map (λ w. w.now) words.now) ≡ map (λ p. Some p.0) p.listeners.items) }
+    ensures ticks { IfOk result (λ p. is_some p.ticks ≡ is_some tick) }
     ensures fails { IfErr result (FailsToOpen (map (λ w. w.now) words.now)) }
 {
-    let partners = listen(rt, alloc, words)?;
-    if partners.len() > 64 {
-        return Err(Failure::Address(65));
+    let listeners = listen(rt, alloc, why, words)?;
+    match tick {
+        Some(seconds) => {
+            if listeners.len() > 63 {
+                note_word(alloc, why, words, 63);
+                return Err(Failure::Address(64));
+            }
+            let clock = SystemMinutes { system: rt };
+            Ok(Partners {
+                listeners,
+                ticks: Some(Ticking { seconds, clock }),
+            })
+        }
+        None => {
+            if listeners.len() > 64 {
+                note_word(alloc, why, words, 64);
+                return Err(Failure::Address(65));
+            }
+            Ok(Partners {
+                listeners,
+                ticks: None,
+            })
+        }
     }
-    Ok(partners)
 }
 
 /// Displays that are sent the journal, those that are told what it changes, and browsers.
@@ -137,23 +177,54 @@ pub(crate) fn close_all<Rt: SystemClock + Threads>(rt: &Rt, outlets: Outlets) {
     }
 }
 
-// Listens for displays of a row at an address, if there is one.
+// The option that names the address of displays of a form.
+fn option_of(form: Form) -> &'static str {
+    match form {
+        Form::Journal => "--watch ",
+        Form::Changes => "--changes ",
+        Form::Web => "--web ",
+    }
+}
+
+// Displays of a row that connect at an address.
+fn displays_at<Rt: Host>(
+    rt: &Rt,
+    alloc: Global,
+    form: Form,
+    address: &str,
+    name: Option<&str>,
+    row: &Arc<Row>,
+    reach: Option<&Reach>,
+) -> io::Result<Displays> {
+    let listener = listener_at(rt, address)?;
+    Displays::start(rt, alloc, form, listener, name, row, reach)
+}
+
+// Listens for displays of a row at an address, if there is one. Why not is noted.
 fn add_outlet<Rt: Host>(
     rt: &Rt,
     alloc: Global,
     form: Form,
     address: Option<&str>,
-    name: Option<&str>,
     row: &Arc<Row>,
     reach: Option<&Reach>,
+    audience: Audience<'_>,
     outlets: &mut Outlets,
 ) -> Result<(), Failure> {
     let Some(address) = address else {
         return Ok(());
     };
-    let displays = Displays::open(rt, alloc, form, address, name, row, reach)?;
-    outlets.open.push(displays)?;
-    Ok(())
+    match displays_at(rt, alloc, form, address, audience.web_name, row, reach) {
+        Ok(displays) => {
+            outlets.open.push(displays)?;
+            Ok(())
+        }
+        Err(error) => Err(
+            audience
+                .why
+                .failure(alloc, Failure::Watch, option_of(form), address, &error),
+        ),
+    }
 }
 
 // Listens for all displays of a row, which are shown it as far as it is kept where it is.
@@ -169,11 +240,29 @@ fn add_outlets<Rt: Host>(
         journal,
         changes,
         web,
-        web_name,
+        ..
     } = audience;
-    add_outlet(rt, alloc, Form::Journal, journal, None, row, reach, outlets)?;
-    add_outlet(rt, alloc, Form::Changes, changes, None, row, reach, outlets)?;
-    add_outlet(rt, alloc, Form::Web, web, web_name, row, reach, outlets)
+    add_outlet(
+        rt,
+        alloc,
+        Form::Journal,
+        journal,
+        row,
+        reach,
+        audience,
+        outlets,
+    )?;
+    add_outlet(
+        rt,
+        alloc,
+        Form::Changes,
+        changes,
+        row,
+        reach,
+        audience,
+        outlets,
+    )?;
+    add_outlet(rt, alloc, Form::Web, web, row, reach, audience, outlets)
 }
 
 // Listens for all displays of a row, or for none. The room for them is there before the first.
@@ -203,14 +292,17 @@ pub(crate) fn opened<'r, Rt: Host>(
     row: &Arc<Row>,
     reach: Option<&Reach>,
     audience: Audience<'_>,
+    tick: Option<u32>,
     words: &[&str],
-) -> Result<(Vec<Partner<'r, Rt>>, Outlets), Failure>
-    ensures few { IfOk result (λ opened. vec_len opened.0 ≤ 64) }
+) -> Result<(Partners<SystemMinutes<'r, Rt>>, Outlets), Failure>
+    ensures few { IfOk result (λ opened. length (starts_of (λ _. is_minute) opened.0.listeners.items
+        (option_map (λ t. t.clock) opened.0.ticks)) ≤ 64) }
     ensures roles { IfOk result (λ opened.
-        map role_in (map (λ w. w.now) words.now) ≡ map (λ p. Some p.0) opened.0.items) }
+        map role_in (map (λ w. w.now) words.now) ≡ map (λ p. Some p.0) opened.0.listeners.items) }
+    ensures ticks { IfOk result (λ opened. is_some opened.0.ticks ≡ is_some tick) }
     ensures fails { IfErr result (FailsToOpen (map (λ w. w.now) words.now)) }
 {
-    let partners = few_partners(rt, alloc, words)?;
+    let partners = few_partners(rt, alloc, audience.why, tick, words)?;
     match outlets_of(rt, alloc, row, reach, audience) {
         Ok(displays) => Ok((partners, displays)),
         Err(Failure::Memory) => Err(Failure::Memory),
@@ -222,20 +314,23 @@ pub(crate) fn opened<'r, Rt: Host>(
 fn serve_all<Rt: Host, H: Helpers + Drop + Send, C: Clock + Drop + Send, W: Write, F: Write + Drop>(
     rt: &Rt,
     alloc: Global,
-    partners: Vec<(Role, TcpListener, C)>,
+    partners: Partners<C>,
     desk: Desk<H>,
     service: Service<'_>,
     control: Option<Control>,
     writer: &mut Sink<W>,
     saved: &mut Option<Sink<F>>,
 ) -> Result<(), Failure>
-    requires { vec_len partners ≤ 64 }
-    ensures { ServesPartnersTo desk (map (λ p. p.0) partners.items)
-        (map (λ p. new_session p.0 (C.gives p.2)) partners.items) writer.old writer.new saved.old
-        saved.new result }
+    requires ticks { is_some partners.ticks ≡ is_some service.tick }
+    requires few { length (starts_of C.gives partners.listeners.items
+        (option_map (λ t. t.clock) partners.ticks)) ≤ 64 }
+    ensures { ServesPartnersTo desk (map (λ p. p.0) partners.listeners.items)
+        (starts_of C.gives partners.listeners.items (option_map (λ t. t.clock) partners.ticks))
+        writer.old writer.new saved.old saved.new result }
 {
     if service.is_plain() {
-        return serve_once(rt, alloc, partners, desk, writer, saved);
+        let Partners { listeners, .. } = partners;
+        return serve_once(rt, alloc, listeners, desk, writer, saved);
     }
     let operation = Operation {
         terms: service.terms(),
@@ -258,16 +353,17 @@ fn serve_unkept<
 >(
     rt: &'r Rt,
     alloc: Global,
-    partners: Vec<(Role, TcpListener, C)>,
+    partners: Partners<C>,
     desk: Desk<H>,
     operation: Operation,
     writer: &mut Sink<W>,
     saved: &mut Option<Sink<F>>,
 ) -> Result<(), Failure>
-    requires { vec_len partners ≤ 64 }
-    ensures { ServesPartnersTo desk (map (λ p. p.0) partners.items)
-        (map (λ p. new_session p.0 (C.gives p.2)) partners.items) writer.old writer.new saved.old
-        saved.new result }
+    requires few { length (starts_of C.gives partners.listeners.items
+        (option_map (λ t. t.clock) partners.ticks)) ≤ 64 }
+    ensures { ServesPartnersTo desk (map (λ p. p.0) partners.listeners.items)
+        (starts_of C.gives partners.listeners.items (option_map (λ t. t.clock) partners.ticks))
+        writer.old writer.new saved.old saved.new result }
 {
     let mut buffer = buffer_for(alloc, saved)?;
     let keeper: Option<&'r FileKeeper<J, Rt>> = None;
@@ -297,7 +393,7 @@ fn serve_once<
         saved.new result }
 {
     let mut buffer = buffer_for(alloc, saved)?;
-    let mut served = serve_on(rt, alloc, partners, desk, writer)?;
+    let mut served = serve_partners(rt, alloc, partners, desk, writer)?;
     let told = served.told;
     save_served(&mut buffer, &mut served.desk, told, saved)
 }

@@ -1,11 +1,10 @@
 //! The command `serve` with a journal that is kept in a file.
-ghost use Rattle.std.specs.Prelude.{◌≡◌, ◌≤◌, [], IfErr, IfOk, length, map, vec_len};
+ghost use Rattle.std.specs.Prelude.{◌≡◌, ◌≤◌, [], IfErr, IfOk, length, map, option_map};
 ghost use Rattle.acdm_board.specs.Desk.{row_of};
 ghost use Rattle.acdm_commands.specs.Keeping.{ServesKeptAt, ServesKeptTo, ServesKeptWords};
-ghost use Rattle.acdm_commands.specs.Partners.{ServesPartners};
-ghost use Rattle.acdm_serving.specs.Partners.{FailsToTell};
+ghost use Rattle.acdm_commands.specs.Partners.{ServesPartners, named_by};
+ghost use Rattle.acdm_serving.specs.Partners.{FailsToTell, starts_of};
 ghost use Rattle.acdm_tables.specs.Helpers.{helpers_by};
-ghost use Rattle.acdm_sessions.specs.Sessions.{new_session};
 
 use crate::keeping::{KeepIn, go_on, keeper_of, open_kept, synced_in};
 use crate::saving::{buffer_for, save_served};
@@ -14,8 +13,7 @@ use crate::service::Service;
 use acdm_board::Desk;
 use acdm_judging::{Failure, ServeError};
 use acdm_keeping::{Keeper, Named, Opening, SharedKeeper, Synced};
-use acdm_milestones::Role;
-use acdm_serving::{FileKeeper, Host, Operation, Served, serve_again};
+use acdm_serving::{FileKeeper, Host, Operation, Partners, Served, serve_again};
 use acdm_sessions::{Clock, RunError, Sink};
 use acdm_tables::{KnownHelpers, Tables};
 use bpf_helpers::Helpers;
@@ -23,7 +21,6 @@ use std::alloc::Global;
 use std::fs::{File, Files};
 use std::io::Write;
 use std::marker::Brand;
-use std::net::TcpListener;
 use std::sync::Arc;
 use std::sync::atomic::AtomicBool;
 
@@ -38,16 +35,17 @@ fn desk_after<
 >(
     rt: &Rt,
     alloc: Global,
-    partners: Vec<(Role, TcpListener, C)>,
+    partners: Partners<C>,
     desk: Desk<H>,
     operation: Operation,
     keeper: &FileKeeper<J, Rt>,
     writer: &mut Sink<W>,
 ) -> Result<(Desk<H>, Result<(), RunError>), ServeError>
-    requires few { vec_len partners ≤ 64 }
-    ensures serves { IfOk result (λ after. ServesPartners desk (map (λ p. p.0) partners.items)
-        (map (λ p. new_session p.0 (C.gives p.2)) partners.items) writer.old writer.new after.1
-        (λ J. J ≡ after.0.history)) }
+    requires few { length (starts_of C.gives partners.listeners.items
+        (option_map (λ t. t.clock) partners.ticks)) ≤ 64 }
+    ensures serves { IfOk result (λ after. ServesPartners desk (map (λ p. p.0) partners.listeners.items)
+        (starts_of C.gives partners.listeners.items (option_map (λ t. t.clock) partners.ticks))
+        writer.old writer.new after.1 (λ J. J ≡ after.0.history)) }
     ensures fails { IfErr result (FailsToTell writer.old writer.new) }
 {
     let Served {
@@ -70,7 +68,7 @@ fn serve_shared<
 >(
     rt: &Rt,
     alloc: Global,
-    partners: Vec<(Role, TcpListener, C)>,
+    partners: Partners<C>,
     desk: Desk<H>,
     keeper: FileKeeper<J, Rt>,
     operation: Operation,
@@ -78,10 +76,11 @@ fn serve_shared<
     writer: &mut Sink<W>,
     saved: &mut Option<Sink<F>>,
 ) -> Result<(), Failure>
-    requires few { vec_len partners ≤ 64 }
-    ensures { ServesKeptAt desk (map (λ p. p.0) partners.items)
-        (map (λ p. new_session p.0 (C.gives p.2)) partners.items) writer.old writer.new saved.old
-        saved.new result }
+    requires few { length (starts_of C.gives partners.listeners.items
+        (option_map (λ t. t.clock) partners.ticks)) ≤ 64 }
+    ensures { ServesKeptAt desk (map (λ p. p.0) partners.listeners.items)
+        (starts_of C.gives partners.listeners.items (option_map (λ t. t.clock) partners.ticks))
+        writer.old writer.new saved.old saved.new result }
 {
     let served = desk_after(rt, alloc, partners, desk, operation, &keeper, writer);
     let kept = keeper.into_keeper();
@@ -110,6 +109,7 @@ fn serve_named<
     keeper: Keeper<Synced<Rt>>,
     audience: Audience<'_>,
     operation: Operation,
+    tick: Option<u32>,
     words: &[&str],
     buffer: &mut Vec<u8>,
     writer: &mut Sink<W>,
@@ -119,7 +119,7 @@ fn serve_named<
     requires row { keeper.row ≡ J.desk_row }
     requires opening { keeper.seen ≡ J.opening }
     requires fresh { keeper.writer.log ≡ [] }
-    ensures { ServesKeptWords desk (map (λ w. w.now) words.now) writer.old writer.new saved.old
+    ensures { ServesKeptWords desk (named_by (map (λ w. w.now) words.now) tick) writer.old writer.new saved.old
         saved.new result }
 {
     let shared: FileKeeper<J, Rt> = SharedKeeper::new(
@@ -129,7 +129,7 @@ fn serve_named<
         &operation.closing,
     )?;
     let reach = shared.reach()?;
-    let (partners, displays) = opened(rt, alloc, desk.row(), Some(&reach), audience, words)?;
+    let (partners, displays) = opened(rt, alloc, desk.row(), Some(&reach), audience, tick, words)?;
     let ended = serve_shared(
         rt, alloc, partners, desk, shared, operation, buffer, writer, saved,
     );
@@ -155,17 +155,27 @@ fn serve_kept_at<Rt: Host, H: Helpers + Drop + Send, W: Write, F: Write + Drop>(
     requires row { keeper.row ≡ row_of desk }
     requires all { length keeper.seen ≡ length desk.history }
     requires fresh { keeper.writer.log ≡ [] }
-    ensures { ServesKeptWords desk (map (λ w. w.now) words.now) writer.old writer.new saved.old
+    ensures { ServesKeptWords desk (named_by (map (λ w. w.now) words.now) service.entry.tick) writer.old writer.new saved.old
         saved.new result }
 {
     let operation = Operation {
         terms: service.terms(),
-        control: service.control(rt, alloc)?,
+        control: service.control(rt, alloc, audience.why)?,
         closing,
         kept: Some(named),
     };
     serve_named::<Brand, Rt, H, W, F>(
-        rt, alloc, desk, keeper, audience, operation, words, buffer, writer, saved,
+        rt,
+        alloc,
+        desk,
+        keeper,
+        audience,
+        operation,
+        service.tick,
+        words,
+        buffer,
+        writer,
+        saved,
     )
 }
 
@@ -188,13 +198,13 @@ fn serve_kept_with<
     writer: &mut Sink<W>,
     saved: &mut Option<Sink<F>>,
 ) -> Result<u8, Failure>
-    ensures { ServesKeptTo (H.entries helpers) journal (map (λ w. w.now) words.now) writer.old
+    ensures { ServesKeptTo (H.entries helpers) journal (named_by (map (λ w. w.now) words.now) service.entry.tick) writer.old
         writer.new saved.old saved.new result }
 {
     let mut buffer = buffer_for(alloc, saved)?;
     let closing = Arc::new(alloc, AtomicBool::new(false))?;
     let mut desk = Desk::new(alloc, helpers, journal)?;
-    let (file, found) = go_on(rt, alloc, keep.path, file, &mut desk)?;
+    let (file, found) = go_on(rt, alloc, keep, file, &mut desk)?;
     if let Some(finding) = found {
         return match finding.tell(writer) {
             Ok(status) => Ok(status),
@@ -202,6 +212,9 @@ fn serve_kept_with<
         };
     }
     let (synced, named) = synced_in(rt, alloc, keep, file)?;
+    let Ok(same) = named.copy(alloc) else {
+        return Err(Failure::Memory);
+    };
     let keeper = keeper_of(alloc, &desk, synced)?;
     match serve_kept_at(
         rt,
@@ -218,7 +231,10 @@ fn serve_kept_with<
         saved,
     ) {
         Ok(()) => {}
-        Err(failure) => return Err(failure),
+        Err(failure) => {
+            keep.note_failure(alloc, &same);
+            return Err(failure);
+        }
     }
     Ok(0)
 }
@@ -241,10 +257,10 @@ pub(crate) fn serve_kept<Rt: Host + Files<File = File>, W: Write, F: Write + Dro
     writer: &mut Sink<W>,
     saved: &mut Option<Sink<F>>,
 ) -> Result<u8, Failure>
-    ensures { ServesKeptTo (helpers_by tables) journal (map (λ w. w.now) words.now) writer.old writer.new
+    ensures { ServesKeptTo (helpers_by tables) journal (named_by (map (λ w. w.now) words.now) service.entry.tick) writer.old writer.new
         saved.old saved.new result }
 {
-    let file = open_kept(rt, keep)?;
+    let file = open_kept(rt, alloc, keep)?;
     let helpers = KnownHelpers::new(alloc, tables);
     serve_kept_with(
         rt, alloc, helpers, journal, file, keep, audience, service, words, writer, saved,

@@ -3,21 +3,33 @@ ghost use Rattle.std.specs.Prelude.{◌≡◌, ◌⊎◌, IfNone, IfOk, IfSome, 
 ghost use Rattle.acdm_commands.specs.ByTables.{AreTables, GivesNone, ReadsTables, RefusesTables, refusal_text};
 ghost use Rattle.acdm_judging.specs.Failures.{Complains, failure_text};
 ghost use Rattle.acdm_judging.specs.declared.failure.Failure.TheVariants.{Memory};
+ghost use Rattle.acdm_tables.specs.Helpers.{built_in};
 
 use acdm_judging::{BytesError, Failure, bytes_of, unread};
 use acdm_sessions::{Sink, Source};
 use acdm_tables::{MOST_TEXT, Tables, TablesError, read_tables};
 use acdm_wire::write_out;
-use std::alloc::Global;
+use std::alloc::{AllocError, Global};
 use std::fs::{self, Files};
 use std::io::{self, Read, Write};
 
-/// The tables of the airport in the file of a path, or those that are built in where none is named.
-/// `None` where it gives none, with lines on the errors' writer that say why.
+/// What a file says that has the tables that are built in.
+const BUILT_IN: &[u8] = b"# the tables that are built in\n";
+
+/// The file of a command's tables: its path, if one is named, and the text that means them.
+#[derive(Clone, Copy, Debug, PartialEq, Eq)]
+pub(crate) struct TablesFile<'a> {
+    pub(crate) path: Option<&'a str>,
+    pub(crate) text: &'a [u8],
+}
+
+/// The tables of the airport in the file of a path, or those that are built in where none is named. Their
+/// text is put into a buffer. `None` where it gives none, with lines on the errors' writer that say why.
 pub(crate) fn tables_of<Rt: Files, E: Write>(
     rt: &Rt,
     alloc: Global,
     path: Option<&str>,
+    text: &mut Vec<u8>,
     errors: &mut Sink<E>,
 ) -> Option<Tables>
     ensures some { IfSome result (AreTables (option_map (λ p. p.now) path.entry)) }
@@ -26,8 +38,8 @@ pub(crate) fn tables_of<Rt: Files, E: Write>(
         (RefusesTables (option_map (λ p. p.now) path.entry) errors.old errors.new) }
 {
     match path {
-        Some(path) => tables_at(rt, alloc, path, errors),
-        None => match Tables::built_in(alloc) {
+        Some(path) => tables_at(rt, alloc, path, text, errors),
+        None => match built_in(alloc, text) {
             Ok(tables) => Some(tables),
             Err(_) => {
                 let _ = Failure::Memory.complain(errors);
@@ -37,11 +49,20 @@ pub(crate) fn tables_of<Rt: Files, E: Write>(
     }
 }
 
+// The tables that are built in, and their text.
+fn built_in(alloc: Global, text: &mut Vec<u8>) -> Result<Tables, AllocError>
+    ensures { IfOk result (λ tables. tables ≡ built_in) }
+{
+    *text = Vec::from_slice(alloc, BUILT_IN)?;
+    Tables::built_in(alloc)
+}
+
 // The tables in the file of a path.
 fn tables_at<Rt: Files, E: Write>(
     rt: &Rt,
     alloc: Global,
     path: &str,
+    text: &mut Vec<u8>,
     errors: &mut Sink<E>,
 ) -> Option<Tables>
     ensures some { IfSome result (AreTables (Some path.now)) }
@@ -49,7 +70,7 @@ fn tables_at<Rt: Files, E: Write>(
     ensures none { IfNone result (RefusesTables (Some path.now) errors.old errors.new) }
 {
     match fs::open(rt, path) {
-        Ok(file) => tables_on(alloc, path, &mut Source::new(file), errors),
+        Ok(file) => tables_on(alloc, path, &mut Source::new(file), text, errors),
         Err(error) => {
             let _ = unread(alloc, path, &error, errors);
             None
@@ -57,19 +78,20 @@ fn tables_at<Rt: Files, E: Write>(
     }
 }
 
-// The tables that a reader of the file of a path gives.
-fn tables_on<R: Read, E: Write>(
+/// The tables that a reader of the file of a path gives. Their text is put into a buffer.
+pub(crate) fn tables_on<R: Read, E: Write>(
     alloc: Global,
     path: &str,
     reader: &mut Source<R>,
+    text: &mut Vec<u8>,
     errors: &mut Sink<E>,
 ) -> Option<Tables>
     ensures some { IfSome result (ReadsTables reader.old reader.new) }
     ensures quiet { OnSome result (errors.new ≡ errors.old) }
     ensures none { IfNone result (GivesNone path.now reader.old reader.new errors.old errors.new) }
 {
-    let text = match bytes_of(alloc, reader, MOST_TEXT) {
-        Ok(text) => text,
+    let given = match bytes_of(alloc, reader, MOST_TEXT) {
+        Ok(given) => given,
         Err(BytesError::Read(error)) => {
             let _ = unread(alloc, path, &error, errors);
             return None;
@@ -79,8 +101,11 @@ fn tables_on<R: Read, E: Write>(
             return None;
         }
     };
-    match read_tables(alloc, text.as_slice()) {
-        Ok(tables) => Some(tables),
+    match read_tables(alloc, given.as_slice()) {
+        Ok(tables) => {
+            *text = given;
+            Some(tables)
+        }
         Err(error) => {
             refuse(alloc, path, &error, errors);
             None

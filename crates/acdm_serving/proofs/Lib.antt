@@ -1,4 +1,5 @@
-pub mod Crossing
 mod EndRows
 mod Failing
 mod Told
+pub mod Behind
+pub mod Crossing

@@ -1,17 +1,31 @@
 -- What is told of partners who are served, and how that fails.
 use Rattle.std.specs.Prelude.{ℕ, ◌+◌, ◌≡◌, Bool, true, false, OnOk}
-use Rattle.std.specs.Prelude.{List, [], ◌∷◌, ◌++◌, codes, map, Result, Ok, Err}
+use Rattle.std.specs.Prelude.{List, [], ◌∷◌, ◌++◌, codes, map, Option, Some, None, Result, Ok, Err}
 use Rattle.std.specs.Fmt.{decimal}
 use Rattle.acdm_milestones.specs.Names.{role_name}
 use Rattle.acdm_milestones.specs.declared.role.Role.{Role}
+use Rattle.acdm_milestones.specs.declared.role.Role.TheVariants.{AirportOperator}
 use Rattle.acdm_judging.specs.declared.failure.ServeError.{ServeError}
 use Rattle.acdm_judging.specs.declared.failure.ServeError.TheVariants as serve_errors
 use Rattle.acdm_lines.specs.Counted.{SinkView, faults_after}
 use Rattle.acdm_lines.specs.declared.run_error.RunError.{RunError}
 use Rattle.acdm_wire.specs.Writes.{Writes, Wrote}
-use Rattle.acdm_sessions.specs.Sessions.{SessionTold}
+use Rattle.acdm_sessions.specs.Sessions.{SessionStart, SessionTold, new_session}
 use Rattle.acdm_sessions.specs.declared.session.End.{End}
 use Rattle.acdm_sessions.specs.declared.session.End.TheVariants as ends
+
+-- ---- the sessions
+
+-- the session of a board's own ticks, by this clock, if there is one
+abbrev pub tick_starts : {C : Type 0} → (C → ℕ → Bool) → Option C → List SessionStart
+tick_starts gives None = []
+tick_starts gives (Some clock) = new_session AirportOperator (gives clock) ∷ []
+
+-- those of partners at listeners, in order, and behind them that one
+abbrev pub starts_of : {L C : Type 0} → (C → ℕ → Bool) → List (Role × L × C) → Option C → List SessionStart
+starts_of gives partners ticks = map (λ p. new_session p.0 (gives p.2)) partners ++ tick_starts gives ticks
+
+-- ---- what is told
 
 -- how the end of a session is told, as codes
 abbrev pub end_text : End → Bool → List ℕ
@@ -21,6 +35,7 @@ end_text ends.Read false = codes "read"
 end_text ends.Write false = codes "write"
 end_text ends.Memory false = codes "memory"
 end_text ends.Start false = codes "start"
+end_text ends.Torn false = codes "torn"
 
 -- `listen K ROLE ADDR`
 abbrev pub listen_text : ℕ → Role → List ℕ → List ℕ

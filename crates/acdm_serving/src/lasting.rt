@@ -1,14 +1,15 @@
 //! Partners who come and go, and a control address.
-ghost use Rattle.std.specs.Prelude.{◌≡◌, ◌+◌, ◌≤◌, IfOk, IfErr, OnOk, length, map};
+ghost use Rattle.std.specs.Prelude.{◌≡◌, ◌+◌, ◌++◌, ◌≤◌, IfOk, IfErr, OnOk, length, map, option_map};
 ghost use Rattle.std.specs.Prelude.{vec_len};
 ghost use Rattle.std.specs.List.{flat_map};
 ghost use Rattle.acdm_serving.specs.Partners.{Announces, FailsToTell, IsOfAccepting, TellsPartners};
-ghost use Rattle.acdm_serving.specs.Partners.{session_text};
+ghost use Rattle.acdm_serving.specs.Partners.{session_text, starts_of, tick_starts};
 ghost use Rattle.acdm_sessions.specs.Sessions.{ServesSessions, new_session, session_start};
 ghost use Rattle.acdm_sessions.specs.Sessions.{session_told};
 
 use crate::host::Host;
 use crate::partners::{REPLIES_HELD, Served, announce, served_by, tell};
+use crate::ticks::{Ticks, Timer};
 use acdm_board::Desk;
 use acdm_judging::ServeError;
 use acdm_keeping::{Named, Opening, Paths, Replies as Behind, SharedKeeper, Synced};
@@ -22,24 +23,78 @@ use acdm_sessions::{Clock, Closed, Gate, Session, Sink, Source};
 use acdm_wire::LONGEST_REQUEST;
 use bpf_helpers::Helpers;
 use std::alloc::{AllocError, Global};
-use std::io::{BufWriter, Write};
+use std::io::{self, BufWriter, Read, Write};
 use std::net::TcpListener;
-use std::sync::atomic::AtomicBool;
+use std::sync::atomic::{AtomicBool, AtomicUsize, Ordering};
 use std::sync::{Arc, Wait};
 use std::time::Clock as SystemClock;
 
 // One byte more than the longest line has, so that a longer one is told by what is kept of it.
 const MOST_KEPT: usize = LONGEST_REQUEST + 1;
 
-/// What the lines of a session come from: all its connections.
-pub type Reading<'r, Rt> = WholeLines<Arriving<'r, Rt>, Connection, MOST_KEPT>;
+/// What the lines of a session come from: all its connections, or the board's own ticks.
+#[derive(Drop)]
+pub enum Reading<'r, Rt: Wait + SystemClock> {
+    Partner(WholeLines<Arriving<'r, Rt>, Connection, MOST_KEPT>),
+    Ticks(Ticks<Timer<'r, Rt>>),
+}
+
+impl<'r, Rt: Wait + SystemClock> Read for Reading<'r, Rt> {
+    fn read(&mut self, buf: &mut [u8]) -> io::Result<usize> {
+        match self {
+            Reading::Partner(lines) => lines.read(buf),
+            Reading::Ticks(ticks) => ticks.read(buf),
+        }
+    }
+}
+
+/// Where the replies of a session go: to the connection whose lines they answer, or to nobody.
+#[derive(Drop)]
+pub enum Answering<'r, Rt> {
+    Partner(Replies<'r, Rt>),
+    Nobody,
+}
+
+impl<'r, Rt: Wait + SystemClock> Write for Answering<'r, Rt> {
+    fn write(&mut self, buf: &[u8]) -> io::Result<usize> {
+        match self {
+            Answering::Partner(replies) => replies.write(buf),
+            Answering::Nobody => Ok(buf.len()),
+        }
+    }
+
+    fn flush(&mut self) -> io::Result<()> {
+        match self {
+            Answering::Partner(replies) => replies.flush(),
+            Answering::Nobody => Ok(()),
+        }
+    }
+}
 
 /// Who keeps the journal, where it is kept, for all whose replies wait.
 pub type FileKeeper<J, Rt> = SharedKeeper<Synced<Rt>, J>;
 
-/// What its replies go to: the connection whose lines they answer, once their entries are kept, where
-/// the journal is.
-pub type Writing<'r, J, Rt> = BufWriter<Behind<'r, Synced<Rt>, J, Replies<'r, Rt>, Rt>>;
+/// What its replies go to, once their entries are kept, where the journal is.
+pub type Writing<'r, J, Rt> = BufWriter<Behind<'r, Synced<Rt>, J, Answering<'r, Rt>, Rt>>;
+
+/// Partners at listeners, in the order of their sessions, and behind these the session of the board's own ticks, if
+/// it gives any.
+#[derive(Drop)]
+pub struct Partners<C: Drop> {
+    /// The role, the listener and the clock of each.
+    pub listeners: Vec<(Role, TcpListener, C)>,
+    /// The ticks.
+    pub ticks: Option<Ticking<C>>,
+}
+
+/// Ticks in role `APT`.
+#[derive(Drop)]
+pub struct Ticking<C: Drop> {
+    /// How many seconds lie between two, from 1 to 86,400.
+    pub seconds: u32,
+    /// Their clock.
+    pub clock: C,
+}
 
 /// How a board is run whose partners come and go: by which terms they are served, where it can be closed, the word
 /// that says that it closes, and the file in which its journal is kept, if it is.
@@ -56,6 +111,8 @@ pub struct Operation {
 struct Addresses {
     doors: Vec<Door>,
     places: Vec<Arc<Place>>,
+    // How many seconds lie between ticks, if there are any.
+    ticks: Option<u32>,
 }
 
 impl Addresses {
@@ -63,6 +120,7 @@ impl Addresses {
         Addresses {
             doors: Vec::new(alloc),
             places: Vec::new(alloc),
+            ticks: None,
         }
     }
 
@@ -96,11 +154,15 @@ impl Addresses {
     }
 }
 
-// Has nobody served where a session has ended. It holds nobody up.
+// Has nobody served where a session has ended, and the board closed once those of all partners have. It holds
+// nobody up.
 #[derive(Drop)]
 struct Places<'r, Rt> {
     rt: &'r Rt,
     places: Vec<Arc<Place>>,
+    // How many have ended.
+    ended: AtomicUsize,
+    closing: Arc<AtomicBool>,
 }
 
 impl<Rt: Wait> Gate for Places<'_, Rt> {
@@ -109,8 +171,13 @@ impl<Rt: Wait> Gate for Places<'_, Rt> {
     fn answered(&self, _session: u8, _call: u64) {}
 
     fn ended(&self, session: u8) {
-        if let Some(place) = self.places.get(usize::from(session).saturating_sub(1)) {
-            place.finish(self.rt);
+        let Some(place) = self.places.get(usize::from(session).saturating_sub(1)) else {
+            return;
+        };
+        place.finish(self.rt);
+        let before = self.ended.fetch_add(1, Ordering::SeqCst);
+        if before.saturating_add(1) >= self.places.len() {
+            self.closing.store(true, Ordering::SeqCst);
         }
     }
 }
@@ -121,6 +188,7 @@ struct Tally<K: Drop> {
     rt: K,
     row: Arc<Row>,
     kept: Option<Named>,
+    ticks: Option<u32>,
 }
 
 impl<K: Paths + Drop> Tally<K> {
@@ -167,6 +235,37 @@ impl<K: Paths + Drop> Standing for Tally<K> {
             None => true,
         }
     }
+
+    fn ticks(&self) -> Option<u32> {
+        self.ticks
+    }
+}
+
+// A session that reads so, and whose replies go there once their entries are kept.
+fn session_of<'r, J: Opening, Rt: Host, C: Clock + Drop>(
+    rt: &'r Rt,
+    alloc: Global,
+    role: Role,
+    ends: (Reading<'r, Rt>, Answering<'r, Rt>),
+    keeper: Option<&'r FileKeeper<J, Rt>>,
+    clock: C,
+) -> Result<Session<Reading<'r, Rt>, Writing<'r, J, Rt>, C>, ServeError>
+    ensures role { IfOk result (λ session. session.role ≡ role) }
+    ensures start { IfOk result (λ s. session_start s.role s.reader s.writer (C.gives s.clock)
+        ≡ new_session role (C.gives clock)) }
+    ensures fails { IfErr result IsOfAccepting }
+{
+    let (reading, answering) = ends;
+    let replies = Behind::new(rt, keeper, answering);
+    let Ok(writer) = BufWriter::with_capacity(alloc, REPLIES_HELD, replies) else {
+        return Err(ServeError::Memory);
+    };
+    Ok(Session {
+        role,
+        reader: Source::new(reading),
+        writer: Sink::new(writer),
+        clock,
+    })
 }
 
 // A session over all connections at a place.
@@ -186,19 +285,63 @@ fn session_at<'r, J: Opening, Rt: Host, C: Clock + Drop>(
     let Ok(same) = Arc::try_clone(&place) else {
         return Err(ServeError::Memory);
     };
-    let Ok(reader) = WholeLines::new(alloc, Arriving::new(rt, same)) else {
+    let Ok(lines) = WholeLines::new(alloc, Arriving::new(rt, same)) else {
         return Err(ServeError::Memory);
     };
-    let replies = Behind::new(rt, keeper, Replies::new(rt, place));
-    let Ok(writer) = BufWriter::with_capacity(alloc, REPLIES_HELD, replies) else {
+    let ends = (
+        Reading::Partner(lines),
+        Answering::Partner(Replies::new(rt, place)),
+    );
+    session_of(rt, alloc, role, ends, keeper, clock)
+}
+
+// The session of a board's own ticks.
+fn session_ticking<'r, J: Opening, Rt: Host, C: Clock + Drop>(
+    rt: &'r Rt,
+    alloc: Global,
+    ticks: Ticking<C>,
+    operation: &Operation,
+    keeper: Option<&'r FileKeeper<J, Rt>>,
+) -> Result<Session<Reading<'r, Rt>, Writing<'r, J, Rt>, C>, ServeError>
+    ensures start { IfOk result (λ s. session_start s.role s.reader s.writer (C.gives s.clock)
+        ≡ new_session Role.AirportOperator (C.gives ticks.clock)) }
+    ensures fails { IfErr result IsOfAccepting }
+{
+    let Ok(closing) = Arc::try_clone(&operation.closing) else {
         return Err(ServeError::Memory);
     };
-    Ok(Session {
-        role,
-        reader: Source::new(reader),
-        writer: Sink::new(writer),
-        clock,
-    })
+    let Ticking { seconds, clock } = ticks;
+    let ends = (
+        Reading::Ticks(Ticks::new(Timer::new(rt, seconds, closing))),
+        Answering::Nobody,
+    );
+    session_of(rt, alloc, Role::AirportOperator, ends, keeper, clock)
+}
+
+// Adds that session, if there is one, for which there is room.
+fn add_ticks<'r, J: Opening, Rt: Host, C: Clock + Drop>(
+    rt: &'r Rt,
+    alloc: Global,
+    ticks: Option<Ticking<C>>,
+    operation: &Operation,
+    keeper: Option<&'r FileKeeper<J, Rt>>,
+    sessions: &mut Vec<Session<Reading<'r, Rt>, Writing<'r, J, Rt>, C>>,
+) -> Result<(), ServeError>
+    ensures starts { OnOk result (map (λ s. session_start s.role s.reader s.writer
+        (C.gives s.clock)) sessions.new.items
+        ≡ map (λ s. session_start s.role s.reader s.writer (C.gives s.clock)) sessions.old.items
+        ++ tick_starts C.gives (option_map (λ t. t.clock) ticks)) }
+    ensures fails { IfErr result IsOfAccepting }
+{
+    let Some(ticks) = ticks else {
+        return Ok(());
+    };
+    let session = session_ticking(rt, alloc, ticks, operation, keeper)?;
+    match sessions.push(session) {
+        Ok(()) => {}
+        Err(_) => return Err(ServeError::Memory),
+    }
+    Ok(())
 }
 
 // Opens the address of a partner, and its session.
@@ -253,7 +396,7 @@ fn open_all<'r, J: Opening, Rt: Host, C: Clock + Drop>(
 fn acceptor_of<Rt: Host>(
     rt: &Rt,
     alloc: Global,
-    doors: Vec<Door>,
+    addresses: (Vec<Door>, Option<u32>),
     operation: Operation,
     row: &Arc<Row>,
 ) -> Result<Acceptor<Rt, Tally<Rt>>, AllocError> {
@@ -263,10 +406,12 @@ fn acceptor_of<Rt: Host>(
         kept,
         ..
     } = operation;
+    let (doors, ticks) = addresses;
     let tally = Tally {
         rt: rt.clone()?,
         row: Arc::try_clone(row)?,
         kept,
+        ticks,
     };
     let console = Console::begin(rt, rt.clone()?, alloc)?;
     Acceptor::new(rt.clone()?, alloc, console, doors, control, tally, closing)
@@ -276,13 +421,13 @@ fn acceptor_of<Rt: Host>(
 fn receive<Rt: Host>(
     rt: &Rt,
     alloc: Global,
-    doors: Vec<Door>,
+    addresses: (Vec<Door>, Option<u32>),
     operation: Operation,
     row: &Arc<Row>,
 ) -> Result<Reception, ServeError>
     ensures fails { IfErr result IsOfAccepting }
 {
-    let Ok(acceptor) = acceptor_of(rt, alloc, doors, operation, row) else {
+    let Ok(acceptor) = acceptor_of(rt, alloc, addresses, operation, row) else {
         return Err(ServeError::Memory);
     };
     match Reception::begin(rt, acceptor) {
@@ -291,28 +436,34 @@ fn receive<Rt: Host>(
     }
 }
 
-// Tells of the listeners, and opens the sessions of their partners.
+// Tells of the listeners, and opens the sessions of their partners and that of ticks.
 fn opened<'r, J: Opening, Rt: Host, C: Clock + Drop, W: Write>(
     rt: &'r Rt,
     alloc: Global,
-    partners: Vec<(Role, TcpListener, C)>,
+    partners: Partners<C>,
     operation: &Operation,
     keeper: Option<&'r FileKeeper<J, Rt>>,
     addresses: &mut Addresses,
     writer: &mut Sink<W>,
 ) -> Result<Vec<Session<Reading<'r, Rt>, Writing<'r, J, Rt>, C>>, ServeError>
-    requires few { vec_len partners ≤ 64 }
-    ensures len { IfOk result (λ sessions. vec_len sessions ≡ vec_len partners) }
-    ensures roles { IfOk result (λ sessions. map (λ s. s.role) sessions.items
-        ≡ map (λ p. p.0) partners.items) }
+    requires few { vec_len partners.listeners ≤ 64 }
     ensures starts { IfOk result (λ sessions. map (λ s. session_start s.role s.reader s.writer
         (C.gives s.clock)) sessions.items
-        ≡ map (λ p. new_session p.0 (C.gives p.2)) partners.items) }
-    ensures tells { OnOk result (Announces (map (λ p. p.0) partners.items) writer.old writer.new) }
+        ≡ starts_of C.gives partners.listeners.items (option_map (λ t. t.clock) partners.ticks)) }
+    ensures tells { OnOk result (Announces (map (λ p. p.0) partners.listeners.items) writer.old writer.new) }
     ensures fails { IfErr result (FailsToTell writer.old writer.new) }
 {
-    announce(alloc, partners.as_slice(), writer)?;
-    open_all(rt, alloc, partners, operation, keeper, addresses)
+    let Partners { listeners, ticks } = partners;
+    addresses.ticks = match &ticks {
+        Some(ticks) => Some(ticks.seconds),
+        None => None,
+    };
+    announce(alloc, listeners.as_slice(), writer)?;
+    let mut sessions = open_all(rt, alloc, listeners, operation, keeper, addresses)?;
+    match add_ticks(rt, alloc, ticks, operation, keeper, &mut sessions) {
+        Ok(()) => Ok(sessions),
+        Err(error) => Err(error),
+    }
 }
 
 // Serves the sessions while partners are accepted.
@@ -337,18 +488,33 @@ fn served_while<
         c.sessions.items)) }
     ensures fails { IfErr result IsOfAccepting }
 {
-    let Addresses { doors, places } = addresses;
-    let reception = receive(rt, alloc, doors, operation, desk.row())?;
-    let closed = served_by(rt, alloc, desk, sessions, &Places { rt, places });
+    let Addresses {
+        doors,
+        places,
+        ticks,
+    } = addresses;
+    let Ok(closing) = Arc::try_clone(&operation.closing) else {
+        return Err(ServeError::Memory);
+    };
+    let places = Places {
+        rt,
+        places,
+        ended: AtomicUsize::new(0),
+        closing,
+    };
+    let reception = receive(rt, alloc, (doors, ticks), operation, desk.row())?;
+    let closed = served_by(rt, alloc, desk, sessions, &places);
     reception.end(rt);
     closed
 }
 
-/// Serves a partner on each listener, all at once against one desk, as `serve_on`, by these terms: who
+/// Serves a partner on each listener, all at once against one desk, as `serve_partners`, by these terms: who
 /// connects is served once its first line is there and begins with `{`, whoever else is there; who sends
 /// another is answered `bad 101` and closed. Where the terms say so, each session goes on with the next who connects.
 /// At the control address the board can be closed, as by the word: all sessions end then, and so they do where
-/// the file of the journal is removed, renamed, replaced or cut. Replies wait for the keeper, if there is one.
+/// the file of the journal is removed, renamed, replaced or cut. Replies wait for the keeper, if there is one. Where
+/// the board gives ticks itself, one more session behind the others enters them, in role `APT`, until all others
+/// have ended.
 ///
 /// `Accept` where a listener has no address or can't be asked; `Write` where the writer failed before the
 /// sessions; `Memory` where it was refused before they began, or no thread could be made.
@@ -362,18 +528,19 @@ pub fn serve_again<
 >(
     rt: &'r Rt,
     alloc: Global,
-    partners: Vec<(Role, TcpListener, C)>,
+    partners: Partners<C>,
     operation: Operation,
     keeper: Option<&'r FileKeeper<J, Rt>>,
     desk: Desk<H>,
     writer: &mut Sink<W>,
 ) -> Result<Served<H, Reading<'r, Rt>, Writing<'r, J, Rt>, C>, ServeError>
-    requires few { vec_len partners ≤ 64 }
+    requires few { length (starts_of C.gives partners.listeners.items
+        (option_map (λ t. t.clock) partners.ticks)) ≤ 64 }
     ensures serves { IfOk result (λ c. ServesSessions desk c.desk
-        (map (λ p. new_session p.0 (C.gives p.2)) partners.items)
+        (starts_of C.gives partners.listeners.items (option_map (λ t. t.clock) partners.ticks))
         (map (λ e. session_told e.number e.role e.calls e.end e.torn e.reader e.writer e.pass)
         c.sessions.items)) }
-    ensures tells { IfOk result (λ c. TellsPartners (map (λ p. p.0) partners.items)
+    ensures tells { IfOk result (λ c. TellsPartners (map (λ p. p.0) partners.listeners.items)
         (flat_map (λ e. session_text e.number e.calls e.end e.torn) c.sessions.items)
         (length c.desk.history) writer.old writer.new c.told) }
     ensures fails { IfErr result (FailsToTell writer.old writer.new) }

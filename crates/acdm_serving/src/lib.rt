@@ -6,7 +6,11 @@
 mod host;
 mod lasting;
 mod partners;
+mod ticks;
 
 pub use host::Host;
-pub use lasting::{FileKeeper, Operation, Reading, Writing, serve_again};
-pub use partners::{ReplyWriter, Served, serve_on};
+pub use lasting::{
+    Answering, FileKeeper, Operation, Partners, Reading, Ticking, Writing, serve_again,
+};
+pub use partners::{ReplyWriter, Served, serve_on, serve_partners};
+pub use ticks::{Beat, Ticks, Timer};

@@ -1,6 +1,6 @@
 //! Partners who are accepted once, over the listeners that are handed.
 ghost use Rattle.std.specs.Prelude.{◌≡◌, ◌+◌, ◌≤◌, ◌++◌, false, IfOk, IfErr, OnOk, length, map};
-ghost use Rattle.std.specs.Prelude.{vec_len};
+ghost use Rattle.std.specs.Prelude.{vec_len, Ok};
 ghost use Rattle.std.specs.List.{flat_map};
 ghost use Rattle.std.specs.Net.Text.{socket_text};
 ghost use Rattle.acdm_serving.specs.Partners.{Announces, AnnouncesOne, FailsToTell, TellsPartners};
@@ -84,11 +84,44 @@ pub struct Served<H: Helpers + Drop, R: Read + Drop, S: Write + Drop, C: Drop> {
 /// Accepts one partner on each listener, in order, serves all at once against one desk, and tells
 /// on the writer what it does: `listen K ROLE ADDR` for each listener, K from 1, then, once all
 /// partners are gone, `session K CALLS END` for each session and `closed N` with the number of
-/// entries. Where the writer fails then, that is told beside what they leave.
+/// entries. Whoever wants what they leave even where the writer fails then calls `serve_partners`.
 ///
 /// `Accept` where a listener has no address or a partner can't be accepted; `Write` where the
-/// writer failed before; `Memory` where it was refused before they began.
+/// writer failed; `Memory` where it was refused before they began.
 pub fn serve_on<
+    Rt: Threads + Wait + Sync,
+    H: Helpers + Drop + Send,
+    C: Clock + Drop + Send,
+    W: Write,
+>(
+    rt: &Rt,
+    alloc: Global,
+    partners: Vec<(Role, TcpListener, C)>,
+    desk: Desk<H>,
+    writer: &mut Sink<W>,
+) -> Result<Closed<H, TcpStream, ReplyWriter, C>, ServeError>
+    requires few { vec_len partners ≤ 64 }
+    ensures serves { IfOk result (λ c. ServesSessions desk c.desk
+        (map (λ p. new_session p.0 (C.gives p.2)) partners.items)
+        (map (λ e. session_told e.number e.role e.calls e.end e.torn e.reader e.writer e.pass)
+        c.sessions.items)) }
+    ensures tells { IfOk result (λ c. TellsPartners (map (λ p. p.0) partners.items)
+        (flat_map (λ e. session_text e.number e.calls e.end e.torn) c.sessions.items)
+        (length c.desk.history) writer.old writer.new (Ok tt)) }
+    ensures fails { IfErr result (FailsToTell writer.old writer.new) }
+{
+    let served = serve_partners(rt, alloc, partners, desk, writer)?;
+    match served.told {
+        Ok(()) => Ok(Closed {
+            desk: served.desk,
+            sessions: served.sessions,
+        }),
+        Err(_) => Err(ServeError::Write),
+    }
+}
+
+/// The same, but that a writer that fails once all partners are gone is told beside what they leave.
+pub fn serve_partners<
     Rt: Threads + Wait + Sync,
     H: Helpers + Drop + Send,
     C: Clock + Drop + Send,
@@ -303,6 +336,7 @@ fn end_name(end: End, torn: bool) -> &'static str
         End::Write => "write",
         End::Memory => "memory",
         End::Start => "start",
+        End::Torn => "torn",
     }
 }
 

@@ -1,12 +1,12 @@
 //! What command lines ask for.
-use acdm_command_line::{Invocation, Subcommand, parse};
+use acdm_command_line::{Line, Subcommand, parse};
 use bpf_regstate::Length;
 use std::alloc::Global;
 
 // Whether these words ask for this.
 fn asks_for(alloc: Global, words: &[&str], wanted: &Subcommand<'_>) -> bool {
     match parse(alloc, words) {
-        Ok(invocation) => invocation.subcommand == *wanted && invocation.tables.is_none(),
+        Ok(line) => line.subcommand == *wanted && line.tables.is_none(),
         Err(_) => false,
     }
 }
@@ -120,7 +120,7 @@ fn asks_to_keep(
 ) -> bool {
     match parse(alloc, words) {
         Ok(
-            Invocation {
+            Line {
                 subcommand: Subcommand::Serve { save, watch, .. },
                 ..
             },
@@ -187,7 +187,7 @@ fn a_journal_is_kept_where_it_is_said(rt: HostRuntime) {
 fn asks_to_serve(alloc: Global, words: &[&str], wanted: usize, words_wanted: &[&str]) -> bool {
     match parse(alloc, words) {
         Ok(
-            Invocation {
+            Line {
                 subcommand: Subcommand::Serve {
                     journal,
                     save,
@@ -200,6 +200,7 @@ fn asks_to_serve(alloc: Global, words: &[&str], wanted: usize, words_wanted: &[&
                     again: false,
                     control: None,
                     pace: None,
+                    tick: None,
                     partners,
                 },
                 ..
@@ -240,7 +241,7 @@ fn a_board_is_watched_where_it_is_said(rt: HostRuntime) {
 fn asks_to_serve_from(alloc: Global, words: &[&str], file: &str, is_synced: bool) -> bool {
     match parse(alloc, words) {
         Ok(
-            Invocation {
+            Line {
                 subcommand: Subcommand::Serve { keep, sync, .. },
                 ..
             },
@@ -271,7 +272,7 @@ fn partners_make_a_journal_that_is_kept_where_it_is_said(rt: HostRuntime) {
 fn asks_for_page(alloc: Global, words: &[&str], address: &str, name: Option<&str>) -> bool {
     match parse(alloc, words) {
         Ok(
-            Invocation {
+            Line {
                 subcommand: Subcommand::Serve { web, web_name, .. },
                 ..
             },

@@ -1,5 +1,6 @@
 //! Command lines, and the statuses and lines of the commands.
 mod audit;
+mod causes;
 mod displays;
 mod explain;
 mod files;
@@ -9,7 +10,7 @@ mod tell;
 mod unreliable;
 
 use acdm_board::Desk;
-use acdm_commands::{Paths, complete, run_on, verify_on};
+use acdm_commands::{Paths, Why, complete, run_on, verify_on};
 use acdm_judging::Failure;
 use acdm_sessions::{Sink, Source, run};
 use acdm_tables::Tables;
@@ -153,7 +154,15 @@ fn status_of<
     let mut input = Source::new(input);
     let mut output = Sink::new(output);
     let mut errors = Sink::new(errors);
-    complete(alloc, rt, words, &mut input, &mut output, &mut errors)
+    complete(
+        alloc,
+        rt,
+        words,
+        &Why::new(),
+        &mut input,
+        &mut output,
+        &mut errors,
+    )
 }
 
 const TICK: &str = "1 29000580 APT {\"cmd\":\"tick\"}\n";

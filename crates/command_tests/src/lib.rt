@@ -8,3 +8,7 @@ mod command_line;
 mod commands;
 #[cfg(test)]
 mod partners;
+#[cfg(test)]
+mod settings;
+#[cfg(test)]
+mod ticks;

@@ -1,5 +1,5 @@
 //! Partners that come and go: the words for them, and the reader over their connections.
-use acdm_command_line::{Invocation, Subcommand, parse};
+use acdm_command_line::{Line, Subcommand, parse};
 use acdm_partners::{
     Arrivals, ControlRequest, FirstLine, WholeLines, control_request, judge_first,
 };
@@ -130,7 +130,7 @@ fn asks_to_serve(
 ) -> bool {
     match parse(alloc, words) {
         Ok(
-            Invocation {
+            Line {
                 subcommand: Subcommand::Serve {
                     again,
                     control,
@@ -144,13 +144,19 @@ fn asks_to_serve(
     }
 }
 
-static REFUSED: [&[&str]; 6] = [
+static REFUSED: [&[&str]; 12] = [
     &["acdm", "run", "--again"],
     &["acdm", "serve", "--again=yes", "NM=[::1]:1"],
     &["acdm", "serve", "--control"],
     &["acdm", "serve", "--pace", "0", "NM=[::1]:1"],
     &["acdm", "serve", "--pace", "many", "NM=[::1]:1"],
     &["acdm", "serve", "--pace", "4294967296", "NM=[::1]:1"],
+    &["acdm", "run", "--tick", "60"],
+    &["acdm", "serve", "--tick", "0", "NM=[::1]:1"],
+    &["acdm", "serve", "--tick", "86401", "NM=[::1]:1"],
+    &["acdm", "serve", "--tick", "-60", "NM=[::1]:1"],
+    &["acdm", "serve", "--tick", "1.5", "NM=[::1]:1"],
+    &["acdm", "serve", "--tick", "NM=[::1]:1"],
 ];
 
 #[test]
@@ -174,4 +180,28 @@ fn partners_come_again_where_it_is_said(rt: HostRuntime) {
     for words in &REFUSED {
         assert!(rt; parse(alloc, *words).is_err(), "{words:?}");
     }
+}
+
+// Whether these words ask to serve with ticks each so many seconds.
+fn asks_to_tick(alloc: Global, words: &[&str], wanted: Option<u32>) -> bool {
+    match parse(alloc, words) {
+        Ok(
+            Line {
+                subcommand: Subcommand::Serve { tick, .. },
+                ..
+            },
+        ) => tick == wanted,
+        _ => false,
+    }
+}
+
+#[test]
+fn a_board_ticks_where_it_is_said(rt: HostRuntime) {
+    let alloc = rt.alloc();
+    let none = ["acdm", "serve", "NM=[::1]:1"];
+    assert!(rt; asks_to_tick(alloc, &none, None));
+    let least = ["acdm", "serve", "--tick", "1", "NM=[::1]:1"];
+    assert!(rt; asks_to_tick(alloc, &least, Some(1)));
+    let most = ["acdm", "serve", "--tick=86400", "NM=[::1]:1"];
+    assert!(rt; asks_to_tick(alloc, &most, Some(86_400)));
 }

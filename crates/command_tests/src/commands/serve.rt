@@ -3,7 +3,7 @@ ghost use Rattle.std.specs.Prelude.{◌≡◌, vec_len};
 
 use super::status_of;
 use acdm_board::Desk;
-use acdm_commands::{Paths, serve_on};
+use acdm_commands::{Paths, serve_on, serve_partners};
 use acdm_milestones::Role;
 use acdm_sessions::{Clock, RunError, Sink};
 use bpf_helpers::{Bank, Helpers};
@@ -157,7 +157,7 @@ fn left_untold<H: Helpers + Drop + Send, Rt: Threads + Wait + Abort + Sync>(
     let desk = Desk::new(alloc, helpers, 10).expect(rt, "a desk");
     let partners = both(rt, alloc, first, second);
     let mut output = Sink::new(Narrow::new(alloc, 100, 2, Fault::Fails));
-    let served = serve_on(rt, alloc, partners, desk, &mut output)
+    let served = serve_partners(rt, alloc, partners, desk, &mut output)
         .ok()
         .expect(rt, "partners who were served");
     assert!(rt; served.told == Err(RunError::Write));

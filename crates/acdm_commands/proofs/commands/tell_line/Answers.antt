@@ -5,8 +5,8 @@ use Rattle.acdm_commands.specs.Completed.{read_from}
 use Rattle.acdm_commands.proofs.Files.{told_any}
 use Rattle.acdm_commands.proofs.commands.tell_line.Goals as goal
 
-pub returns-in-Ok : goal.returns-in-Ok
-returns-in-Ok g c =
+pub returns-in-Some : goal.returns-in-Some
+returns-in-Some g c =
     let e = c.tell_on.ensures in
     let file = c.new.result in
     let later = c.tell_on.new.reader in
@@ -21,6 +21,6 @@ returns-in-Ok g c =
       ends = e.ends;
     }
 
-pub returns-in-Err : goal.returns-in-Err
-returns-in-Err g c =
+pub returns-in-None : goal.returns-in-None
+returns-in-None g c =
     record { work = Err Read; comes = inr (refl, refl); ends = c.ended.ensures }

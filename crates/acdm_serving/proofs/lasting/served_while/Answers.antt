@@ -3,12 +3,13 @@ use denote.Exit.{no}
 use denote.Param.{param}
 use denote.Param.Send.{param_send, param_sync, arg_send}
 use Rattle.acdm_keeping.specs.contracts.synced.SyncedWrite.TheImpl as kept
-use Rattle.acdm_serving.proofs.Crossing.{reading_send, writing_send}
+use Rattle.acdm_serving.proofs.Crossing.{either_send, writing_send}
 use Rattle.acdm_serving.proofs.lasting.served_while.Goals as goal
 
 pub served_by-closed-requires-send-R : goal.served_by-closed-requires-send-R
 served_by-closed-requires-send-R g c κs within =
-    param_send 2 _ (arg_send _ no _ (reading_send (record { mir = named 0; lft = _ }) _ _ _ c.type_bounds.sync-Rt))
+    param_send 2 _ (arg_send _ no _ (either_send (record { mir = named 4; lft = _ }) (param 1 g.row.Rt) g.Rt.Wait
+    g.Rt.Clock (param_sync 1 _ c.type_bounds.sync-Rt)))
 
 pub served_by-closed-requires-send-S : goal.served_by-closed-requires-send-S
 served_by-closed-requires-send-S g c κs within =

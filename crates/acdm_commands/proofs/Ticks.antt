@@ -1,0 +1,34 @@
+-- The board's own ticks, behind the partners that words name.
+use Rattle.std.proofs.Common.{◌≡◌, ℕ, ◌+◌, ◌≤◌, Bool, true, false, List, [], ◌++◌, length, map, Option, Some, None, option_map, is_some, arith, length-append, append-nil, sym, subst, refl}
+use Rattle.std.proofs.lemmas.List.{length-map}
+use Rattle.acdm_milestones.specs.declared.role.Role.{Role}
+use Rattle.acdm_sessions.specs.Sessions.{SessionStart, new_session}
+use Rattle.acdm_serving.specs.Partners.{starts_of, tick_starts}
+use Rattle.acdm_commands.specs.Minutes.{is_minute}
+use Rattle.acdm_commands.specs.Partners.{ticking}
+
+-- their session, where the words ask for it
+pub ticking_is : {C T : Type 0} (clock : T → C) (ticks : Option T) (tick : Option ℕ)
+    → is_some ticks ≡ is_some tick → tick_starts (λ _. is_minute) (option_map clock ticks) ≡ ticking (is_some tick)
+ticking_is clock None None same = refl
+ticking_is clock None (Some n) same = absurd (cc)
+ticking_is clock (Some t) None same = absurd (cc)
+ticking_is clock (Some t) (Some n) same = refl
+
+-- partners and ticks are no more than they are together
+pub few_in_all : {L C : Type 0} (gives : C → ℕ → Bool) (partners : List (Role × L × C)) (ticks : Option C) (n : ℕ)
+    → length partners + length (tick_starts gives ticks) ≤ n → length (starts_of gives partners ticks) ≤ n
+few_in_all gives partners ticks n few =
+    omega (
+      arith,
+      few,
+      length-append (map (λ p. new_session p.0 (gives p.2)) partners) (tick_starts gives ticks),
+      length-map partners (λ p. new_session p.0 (gives p.2)),
+    )
+
+-- where there are none, there are partners alone
+pub without_ticks : {L C T : Type 0} (gives : C → ℕ → Bool) (clock : T → C) (partners : List (Role × L × C))
+    (ticks : Option T) → is_some ticks ≡ false
+    → starts_of gives partners (option_map clock ticks) ≡ map (λ p. new_session p.0 (gives p.2)) partners
+without_ticks gives clock partners None none = append-nil (map (λ p. new_session p.0 (gives p.2)) partners)
+without_ticks gives clock partners (Some t) none = absurd (cc)

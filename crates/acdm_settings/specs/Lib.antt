@@ -1,0 +1,2 @@
+-- The words that a file of settings stands for.
+pub mod Settings

@@ -1,0 +1,60 @@
+//! What is wrong with a file of settings.
+
+ghost use Rattle.std.specs.Prelude.{◌≡◌};
+ghost use Rattle.acdm_settings.specs.Settings.{why_text};
+
+use std::alloc::AllocError;
+
+/// Why what stands at a key of a file of settings is refused.
+#[derive(Clone, Copy, Debug, PartialEq, Eq)]
+pub enum Why {
+    /// There is no such key.
+    Unknown,
+    /// It is neither true nor false.
+    NoFlag,
+    /// It is no whole number from 0.
+    NoNumber,
+    /// It is no text.
+    NoText,
+    /// It is no list of texts, or one of them is empty or begins with a hyphen.
+    NoPartners,
+}
+
+impl Why {
+    /// What is told of it.
+    pub fn text(self) -> &'static str
+        ensures { result.now ≡ why_text self }
+    {
+        match self {
+            Why::Unknown => "no such key",
+            Why::NoFlag => "not true or false",
+            Why::NoNumber => "not a whole number",
+            Why::NoText => "not a text",
+            Why::NoPartners => "not a list of texts as APT=127.0.0.1:4001",
+        }
+    }
+}
+
+/// Why a text gives no words.
+#[derive(Debug, Drop)]
+pub enum SettingsError {
+    /// It has more than 65,536 bytes.
+    TooLong,
+    /// It is no TOML, as is found in this line, from 1.
+    NoToml(usize),
+    /// What stands at this key is wrong.
+    Wrong { key: Vec<u8>, why: Why },
+    /// There was no memory.
+    Memory,
+}
+
+impl From<AllocError> for SettingsError {
+    ghost use Rattle.std.specs.Prelude.{◌≡◌};
+    ghost use Rattle.acdm_settings.specs.declared.fault.SettingsError.TheVariants.{Memory};
+
+    ghost from_gives = { λ _ error. error ≡ Memory };
+
+    fn from(_error: AllocError) -> SettingsError {
+        SettingsError::Memory
+    }
+}
