@@ -18,7 +18,19 @@ import time
 import tty
 from pathlib import Path
 
-from feed import Arguments, Board, Closed, Line, Link, NoFeed, alert_names, clock, parse_address, words_of
+from feed import (
+    Arguments,
+    Board,
+    Closed,
+    Line,
+    Link,
+    NoFeed,
+    OtherJournal,
+    alert_names,
+    clock,
+    parse_address,
+    words_of,
+)
 from words import REFUSALS
 
 MARKS = "S" + "".join(str(place % 10) for place in range(1, 17))
@@ -184,7 +196,7 @@ def step(looking: Looking) -> bytes:
         if looking.link and looking.link.stream.fileno() in ready:
             looking.hear()
         return (os.read(0, 16) or b"q") if 0 in ready else b""
-    except (Closed, NoFeed) as why:
+    except (Closed, NoFeed, OtherJournal) as why:
         looking.lost(str(why))
         return b""
 
@@ -240,7 +252,7 @@ def main() -> int:
         else:
             watch(looking)
         return 0
-    except (Closed, NoFeed) as why:
+    except (Closed, NoFeed, OtherJournal) as why:
         print(f"board.py: {given.address[0]}:{given.address[1]}: {why}", file=sys.stderr)
     except OSError as error:
         print(f"board.py: {given.names}: {error.strerror}", file=sys.stderr)

@@ -1,17 +1,20 @@
 #!/usr/bin/env python3
 """Makes the lines by which a new board goes on from the open flights of an old one: for a journal that is full.
 
-    clients/carry.py JOURNAL [--departed] > lines
+    clients/carry.py JOURNAL [--departed] [--tables FILE] > lines
     ./acdm run --keep next.journal < lines
 
 JOURNAL is the text of a journal that was kept or saved. Printed are, as `SESSION MINUTE ROLE JSON`, the accepted
 commands that made the records of the flights that have not taken off (of all flights with --departed), the loads,
 unloads and the migrate, and the ticks that changed an alert of one of them; questions, refused commands and departed
-flights stay behind. Each line keeps its moment, so the new board has the same records, alerts and programs. Nothing is
-printed of a faulty journal, and the status is 1; it is 2 where the file can't be read. Outside what is proved.
+flights stay behind. Each line keeps its moment, so the new board has the same records, alerts and programs; before them
+stands a question of this moment, so that the new journal does not begin as the old one did. Nothing is
+printed of a faulty journal, and the status is 1; it is 2 where the file can't be read. A board with --tables had FILE.
+Outside what is proved.
 """
 import json
 import sys
+import time
 from pathlib import Path
 
 from feed import Arguments, Board, Line, NoFeed, parsed
@@ -22,9 +25,9 @@ class Faulty(Exception):
     """The first fault of a journal."""
 
 
-def entries_of(journal: Path) -> list[Line]:
+def entries_of(journal: Path, tables: Path | None) -> list[Line]:
     """The lines of the feed of a journal."""
-    lines = lines_of("tell", journal)
+    lines = lines_of("tell", *(["--tables", tables] if tables else []), journal)
     if lines and not lines[-1].startswith("{"):
         raise Faulty(lines[-1])
     return [parsed(line.encode()) for line in lines]
@@ -49,23 +52,32 @@ def line_of(entry: Line, text: str) -> str:
     return f"{entry['session']} {minute} {entry['role']} {json.dumps(command, separators=(',', ':'))}"
 
 
-def carried(journal: Path, departed: bool) -> list[str]:
+def first_line(lines: list[str], before: int) -> str:
+    """A question of this moment, or of one after the old journal's first: by its first entry a journal has its name."""
+    session, _, role = lines[0].split()[:3] if lines else ("1", "", "APT")
+    return f'{session} {max(int(time.time()) // 60, before + 1)} {role} {{"cmd":"alerts"}}'
+
+
+def carried(journal: Path, departed: bool, tables: Path | None = None) -> list[str]:
     """The lines that make the open flights anew."""
-    entries, board = entries_of(journal), Board()
+    entries, board = entries_of(journal, tables), Board()
     for entry in entries:
         board.take(entry)
     flights = {flight["flight"] for flight in board.shown(departed=departed)}
-    with open(journal, encoding="ascii") as texts:
-        return [line_of(entry, text) for entry, text in zip(entries, texts) if is_carried(entry, flights)]
+    with open(journal, encoding="ascii") as file:
+        texts = file.readlines()
+    lines = [line_of(entry, text) for entry, text in zip(entries, texts) if is_carried(entry, flights)]
+    return [first_line(lines, int(texts[0].split()[2]) if entries else 0), *lines]
 
 
 def main() -> int:
     words = Arguments(description="Makes the lines by which a new board goes on from the open flights of an old one.")
     words.add_argument("journal", type=Path, metavar="JOURNAL")
     words.add_argument("--departed", action="store_true", help="all flights, those too that have taken off")
+    words.add_argument("--tables", type=Path, metavar="FILE", help="the tables of the board, where it has some")
     given = words.parse_args()
     try:
-        for line in carried(given.journal, given.departed):
+        for line in carried(given.journal, given.departed, given.tables):
             print(line)
         return 0
     except Faulty as fault:

@@ -22,7 +22,7 @@ from listeners import Listener, listener_at, purpose
 ANSWER = 5
 # (at the end partners are given 5 seconds and displays 5; a large journal is saved in less than the rest)
 END = 120
-LINE = re.compile(rb"(session \d+ [A-Z]+ (here|gone)|entries \d+ of \d+|last )[ -~]*\n")
+LINE = re.compile(rb"(session \d+ [A-Z]+ (here|gone|ticks)|entries \d+ of \d+|last )[ -~]*\n")
 
 
 class Fault(Exception):

@@ -8,6 +8,7 @@ import re
 import socket
 import time
 from collections.abc import Callable, Iterator
+from dataclasses import dataclass
 from pathlib import Path
 from typing import Any, NoReturn
 
@@ -16,6 +17,8 @@ from words import ALERTS
 PATIENCE = 60
 # (a board of 4,096 flights has 4 MB)
 LONGEST_LINE = 1 << 24
+# (the first half of the SHA-256 of a journal's first entry)
+NAME = re.compile("[0-9a-f]{32}")
 Address = tuple[str, int]
 Line = dict[str, Any]
 
@@ -26,6 +29,23 @@ class Closed(Exception):
 
 class NoFeed(Exception):
     """What answers does not speak the feed of changes."""
+
+
+class OtherJournal(Exception):
+    """The board has another journal than before, or one that ends before the entry that comes next."""
+
+    def __init__(self, before: "Place", line: Line) -> None:
+        self.journal, self.next = str(line["journal"]), int(line["next"])
+        self.is_same = bool(self.journal) and self.journal == before.journal
+        if self.is_same:
+            text = f"journal {self.journal} ends before entry {before.next}: it has {self.next}"
+        elif not self.journal:
+            text = "the board has another journal, without an entry yet"
+        else:
+            text = f"the board has another journal, {self.journal}" + (
+                f" for {before.journal}" if before.journal else ""
+            )
+        super().__init__(text)
 
 
 class BadAddress(argparse.ArgumentTypeError, ValueError):
@@ -138,14 +158,35 @@ def is_record(record: Any) -> bool:
     )
 
 
+def is_count(value: Any) -> bool:
+    return isinstance(value, int) and not isinstance(value, bool) and value >= 0
+
+
+def is_named(line: Line) -> bool:
+    """Whether a line tells of a journal: its name, the entry that comes next, and its room."""
+    return (
+        isinstance(line.get("journal"), str)
+        and NAME.fullmatch(line["journal"]) is not None
+        and is_count(line.get("next"))
+        and is_count(line.get("room"))
+    )
+
+
+def is_empty(line: Line) -> bool:
+    """Whether a line tells of a journal without an entry, which has no name yet."""
+    return line.get("journal") == "" and line.get("next") == 0 and is_count(line["next"]) and is_count(line.get("room"))
+
+
 def is_line(line: Line) -> bool:
-    """Whether a value is a line of the feed: of a board, or of an entry."""
+    """Whether a value is a line of the feed: of a board, of a journal, or of an entry."""
     if "flights" in line:
         return (
-            isinstance(line.get("next"), int)
+            (is_empty(line) or (is_named(line) and line["next"] > 0))
             and isinstance(line["flights"], list)
             and all(map(is_record, line["flights"]))
         )
+    if "journal" in line:
+        return "entry" not in line and is_named(line)
     outcome, command, changed = line.get("outcome"), line.get("command"), line.get("changed")
     return (
         all(isinstance(line.get(name), kind) for name, kind in (("entry", int), ("session", int), ("role", str)))
@@ -158,22 +199,50 @@ def is_line(line: Line) -> bool:
     )
 
 
+@dataclass
+class Place:
+    """Where a reader stands: in which journal, by its name, empty until it was told, and before which entry."""
+
+    journal: str = ""
+    next: int = 0
+
+    def meet(self, line: Line) -> None:
+        """Takes the first line that comes for `from NEXT`. OtherJournal where one can't go on from here."""
+        if "entry" in line:
+            raise NoFeed("it sends an entry before the name of its journal, as boards before version 0.10.0 do")
+        if "flights" in line and line["next"] < self.next:
+            raise OtherJournal(self, line)
+        if "flights" in line or line["next"] != self.next:
+            raise NoFeed(f"it begins at entry {line['next']} in place of {self.next}")
+        if self.journal not in ("", line["journal"]):
+            raise OtherJournal(self, line)
+        self.journal = line["journal"]
+
+
 class Board:
-    """All flights, in order of creation, and the entry that comes next."""
+    """All flights, in order of creation, the journal's name, and the entry that comes next."""
 
     def __init__(self) -> None:
         self.flights: dict[int, Line] = {}
-        self.next = 0
+        self.journal, self.next = "", 0
         self.minute = ""
         self.refused: list[Line] = []
         self.partners: dict[tuple[int, str], Line] = {}
 
     def take(self, line: Line) -> bool:
-        """Takes a line, of a board or of an entry, and says whether it was one that was not known."""
+        """Takes a line, and says whether it was that of a board, or of an entry that was not known.
+
+        OtherJournal where it is that of a journal, and of another one than before.
+        """
         if "flights" in line:
             self.flights = {record["flight"]: record for record in line["flights"]}
-            self.next = line["next"]
+            self.journal, self.next = line.get("journal", ""), line["next"]
             return True
+        if "journal" in line:
+            if self.journal not in ("", line["journal"]):
+                raise OtherJournal(Place(self.journal, self.next), line)
+            self.journal = line["journal"]
+            return False
         if line["entry"] < self.next:
             return False
         self.next, self.minute = line["entry"] + 1, line["minute"]
@@ -203,28 +272,45 @@ def board_order(flight: Line) -> tuple[str, str, int]:
     return flight["tobt"] or flight["eobt"] or flight["sobt"] or "~", flight["eobt"] or "~", flight["flight"]
 
 
-def followed(link: Link, first: int) -> Iterator[Line]:
-    """The lines of a connection that was asked for the entries from one on, as long as they come in order."""
-    number = first
+def followed(link: Link, place: Place) -> Iterator[list[Line]]:
+    """The entries of a connection that was asked for those from a place on, as many at a time as have come.
+
+    The place learns the name of its journal, and is moved by who takes the entries. OtherJournal where they are not of
+    its journal, Closed where they are out of order.
+    """
+    number, is_met = place.next, False
     while True:
-        for line in link.lines():
+        found = link.lines()
+        if not is_met and found:
+            place.meet(found.pop(0))
+            is_met = True
+        for line in found:
             if line.get("entry") != number:
-                raise Closed(f"entry {line.get('entry')} came in place of {number}")
-            yield line
+                raise Closed(f"{what_came(line)} came in place of entry {number}")
             number += 1
+        if found:
+            yield found
 
 
-def entries(where: Address, first: int = 0, is_wanted: Callable[[], bool] = lambda: True) -> Iterator[Line]:
-    """The lines of the feed from an entry on, over all breaks, each once and in order."""
-    number, pause = first, 1
+def what_came(line: Line) -> str:
+    return f"entry {line['entry']}" if "entry" in line else "a board" if "flights" in line else "the name of a journal"
+
+
+def entries(where: Address, place: Place | None = None, is_wanted: Callable[[], bool] = lambda: True) -> Iterator[Line]:
+    """The lines of the entries from a place on, over all breaks, each once and in order; the place moves with them.
+
+    OtherJournal where the board has another journal by then: none of its entries was given.
+    """
+    place, pause = place or Place(), 1
     while is_wanted():
         link = None
         try:
-            link = Link(where, f"from {number}")
-            for line in followed(link, number):
+            link = Link(where, f"from {place.next}")
+            for lines in followed(link, place):
                 pause = 1
-                yield line
-                number += 1
+                for line in lines:
+                    place.next = line["entry"] + 1
+                    yield line
         except Closed:
             pass
         finally:

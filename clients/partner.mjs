@@ -6,8 +6,8 @@
 // ADDRESS is the partner's own, as 127.0.0.1:4002; standard input has one JSON object a line (docs/CONNECT.md). Each
 // line waits for the reply to the one before. After a break it connects again. Was a line sent and not replied, it may
 // have been entered. With --feed, the address of `serve --changes`, it is looked for there, and sent again only where
-// it made no entry; else its reply is that of the feed. Without --feed the program stops, and names the line. A question
-// and a tick are sent again in any case. A line is sent as it stands, and a flight's number is read as its digits: one
+// it made no entry; else its reply is that of the feed. Without --feed, or where the board has another journal by then,
+// the program stops, and names the line. A question and a tick are sent again in any case. A line is sent as it stands, and a flight's number is read as its digits: one
 // above 2^53 would lose some as a number of JavaScript's. Status 0 where each line was accepted, 1 where one was not, 2
 // where it had to stop. Needs no library. Outside what is proved.
 import net from "node:net";
@@ -18,6 +18,7 @@ const CHANGES = new Set(["report", "schedule", "deice", "load", "unload", "migra
 // (answered `bad 102`, behind all lines of the connection before, and makes no entry)
 const NO_COMMAND = "{}";
 const QUESTION = '{"cmd":"show","flight":1}';
+const NAME = /^[0-9a-f]{32}$/;
 const REPLY = /^((ok|no|rec|alerts|migrated) \d+|bad \d+)( [ -~]*)?$/;
 const INSTANT =
   /^(\d{4})-?(\d\d)-?(\d\d)[Tt ](\d\d)(?::?(\d\d)(?::?\d\d(?:[.,]\d+)?)?)?(?:[Zz]|([+-])(\d\d)(?::?(\d\d))?)(?:\[.*)?$/;
@@ -93,7 +94,8 @@ function open({ host, port }, seconds = 0) {
 // A connection to a partner's address, which is made again after a break.
 class Connection {
   constructor(where, patience) {
-    Object.assign(this, { where, patience, link: null, until: null });
+    // (whether it is not known yet which journal the lines of this connection go to)
+    Object.assign(this, { where, patience, link: null, until: null, isNew: true });
   }
 
   // Waits before another trial, while there is patience: it counts from the first fault of a line on.
@@ -108,11 +110,11 @@ class Connection {
     for (let wait = 100; this.link === null; wait = Math.min(2 * wait, 5000)) {
       try {
         this.link = await open(this.where);
+        this.isNew = true;
       } catch (error) {
         await this.wait(wait, `${named(this.where)}: ${error.message}`);
       }
     }
-    return this.link;
   }
 
   close() {
@@ -121,9 +123,9 @@ class Connection {
     this.link = null;
   }
 
-  // Sends a line, and gives its reply; nothing where the connection broke.
+  // Sends a line on the connection that there is, and gives its reply; nothing where the connection broke.
   async exchange(line) {
-    const { stream, line: next } = await this.connect();
+    const { stream, line: next } = this.link;
     stream.write(line + "\n");
     const reply = await next();
     if (reply !== null && REPLY.test(reply)) return reply;
@@ -137,19 +139,20 @@ class Connection {
   // The reply to a line that may be sent more than once.
   async insist(line) {
     for (;;) {
+      await this.connect();
       const reply = await this.exchange(line);
       if (reply !== null) return reply;
     }
   }
 }
 
-// A partner, each of whose lines is entered once. `known` is the last entry that was replied here, with its command,
-// `first` the first one that may have the next line, `line` the line in hand with its number, `isUncertain` whether it
-// may have been entered.
+// A partner, each of whose lines is entered once. `journal` is the name of the journal that the lines of this connection
+// go to. Of it, `known` is the last entry that was replied here, with its command, and `first` the first one that may
+// have the next line. `line` is the line in hand with its number, `isUncertain` whether it may have been entered.
 class Partner {
   constructor(where, feed, patience) {
     Object.assign(this, { connection: new Connection(where, patience), feed, known: null, first: null, line: null });
-    this.isUncertain = false;
+    Object.assign(this, { journal: "", isUncertain: false });
   }
 
   // The reply to a line, which is entered once, and how it came.
@@ -158,17 +161,15 @@ class Partner {
     this.isUncertain = false;
     const command = parsed(line);
     const isChange = CHANGES.has(command?.cmd);
-    if (this.feed && isChange && this.first === null) {
-      await this.connection.insist(NO_COMMAND);
-      this.first = await this.count();
-    }
-    await this.connection.connect();
-    this.isUncertain = isChange;
     for (let note = ""; ; note = " (sent again)") {
+      await this.connection.connect();
+      if (this.feed && isChange && await this.meet()) note = " (in another journal)";
+      this.isUncertain = isChange;
       const reply = await this.connection.exchange(line);
       const entry = reply === null && isChange ? await this.find(command) : null;
       if (reply === null && entry === null) continue;
-      this.take(entry ? entry.entry : numberOf(reply), command);
+      // (an entry counts of a journal whose name is known)
+      if (entry || !this.feed || !this.connection.isNew) this.take(entry ? entry.entry : numberOf(reply), command);
       return entry ? [replyOf(entry), " (from the feed)"] : [reply, note];
     }
   }
@@ -178,6 +179,28 @@ class Partner {
     Object.assign(this, { known: { number, command }, first: number + 1, isUncertain: false });
   }
 
+  // Learns which journal the lines of a new connection go to, and says whether it is another than before.
+  async meet() {
+    const before = this.journal;
+    // (a journal that was empty has got its name with its first entry)
+    if (!this.connection.isNew && (before || !this.known)) return false;
+    // (behind this reply all lines before it are entered or dropped; it may come by another new connection)
+    await this.connection.insist(NO_COMMAND);
+    const told = await this.board();
+    if (before && told.journal !== before) Object.assign(this, { known: null, first: told.next });
+    this.first ??= told.next;
+    this.journal = told.journal;
+    this.connection.isNew = false;
+    return before !== "" && this.journal !== before;
+  }
+
+  // Stops where a board has another journal than the one that lines went to.
+  check({ journal }) {
+    if (this.journal && journal !== this.journal)
+      throw new Stop(`the feed at ${named(this.feed)}: ${otherJournal(journal, this.journal)}`);
+    this.journal = journal;
+  }
+
   // The entry of a command that was sent and not replied, once that is decided; `null` where there is none.
   async find(command) {
     if (!this.feed) throw new Stop("the connection broke, and without --feed nobody can say whether it was entered");
@@ -185,13 +208,15 @@ class Partner {
     let known = this.known;
     // Lines of a session are answered in order, over all its connections: behind this reply the line was entered or
     // dropped. Where no entry is known to be of this session, a question makes one.
-    if (known) {
-      await this.connection.insist(NO_COMMAND);
-    } else {
+    await this.connection.insist(NO_COMMAND);
+    this.check(await this.board());
+    if (!known) {
+      // (it may come by a new connection; whether that has the same journal is asked behind it)
       const number = numberOf(await this.connection.insist(QUESTION));
       known = number === null ? null : { number, command: parsed(QUESTION) };
     }
     const lines = await this.entriesFrom(known ? Math.min(first, known.number) : first);
+    this.connection.isNew = false;
     if (known === null) {
       if (lines.some((line) => isSame(line.command, command)))
         throw new Stop("the feed has such an entry, and it is not known whose");
@@ -206,16 +231,25 @@ class Partner {
     return mine.find((line) => isSame(line.command, command)) ?? null;
   }
 
-  // How many entries there are.
-  async count() {
+  // The board as it is now.
+  async board() {
     const [board] = await this.read("board", 1);
-    return board.next ?? 0;
+    if (!board.flights) throw new Stop(`the feed at ${named(this.feed)} sends no board where one is asked for`);
+    return board;
   }
 
-  // The entries from one on.
+  // The entries from one on, of the journal that lines go to.
   async entriesFrom(first) {
-    const count = await this.count();
-    return first < count ? this.read(`from ${first}`, count - first) : [];
+    const board = await this.board();
+    this.check(board);
+    if (first >= board.next) return [];
+    const [told, ...entries] = await this.read(`from ${first}`, board.next - first + 1);
+    if (told.journal === undefined)
+      throw new Stop(`the feed at ${named(this.feed)} sends an entry before the name of its journal`);
+    this.check(told);
+    if (told.flights || entries.some(({ entry }, place) => entry !== first + place))
+      throw new Stop(`the feed at ${named(this.feed)} does not have the entries from ${first} on any more`);
+    return entries;
   }
 
   // So many lines of the feed.
@@ -230,6 +264,8 @@ class Partner {
           const text = await link.line();
           if (text === null) break;
           found.push(lineOf(text, this.feed));
+          // (a journal that ends before what is asked for is another one)
+          if (found[0].flights) return found;
         }
         if (found.length === wanted) return found;
       } catch (error) {
@@ -242,11 +278,15 @@ class Partner {
   }
 }
 
-// A line of the feed, as a value.
+// What is said of another journal than before.
+const otherJournal = (name, before) =>
+  name ? `the board has another journal, ${name} for ${before}` : "the board has another journal, without an entry yet";
+
+// A line of the feed, as a value: of a board, of a journal, or of an entry.
 function lineOf(text, where) {
   try {
-    const line = parsed(text);
-    if (line.flights || line.command.cmd) return line;
+    const line = parsed(text), isEmpty = line.flights && line.journal === "" && line.next === 0;
+    if (line.journal === undefined ? line.command.cmd : isEmpty || (NAME.test(line.journal) && line.next >= 0)) return line;
   } catch {
     // (told below)
   }

@@ -6,22 +6,36 @@
 ADDRESS is the partner's own, as 127.0.0.1:4002; standard input has one JSON object a line (docs/CONNECT.md). Each line
 waits for the reply to the one before. After a break it connects again. Was a line sent whole and not replied, it may
 have been entered. With --feed, the address of `serve --changes`, it is looked for there, and sent again only where it
-made no entry; else its reply is that of the feed. Without --feed the program stops, and names the line. A question and
-a tick are sent again in any case. Status 0 where each line was accepted, 1 where one was not, 2 where it had to stop.
-Outside what is proved.
+made no entry; else its reply is that of the feed. Without --feed, or where the board has another journal by then, the
+program stops, and names the line. A question and a tick are sent again in any case. Status 0 where each line was
+accepted, 1 where one was not, 2 where it had to stop. Outside what is proved.
 """
+import contextlib
 import json
 import re
+import select
 import signal
 import socket
 import sys
 import time
-from collections.abc import Iterator
+from collections.abc import Callable, Iterator
 from dataclasses import dataclass
 from datetime import datetime, timedelta, timezone
-from typing import Any, BinaryIO, NoReturn
+from typing import Any, BinaryIO, NoReturn, TypeVar
 
-from feed import Address, Arguments, Closed, Line, Link, NoFeed, parse_address, shortened
+from feed import (
+    Address,
+    Arguments,
+    Closed,
+    Line,
+    Link,
+    NoFeed,
+    OtherJournal,
+    Place,
+    followed,
+    parse_address,
+    shortened,
+)
 
 # What changes the board: it is never sent again on a guess.
 CHANGES = ("report", "schedule", "deice", "load", "unload", "migrate")
@@ -38,8 +52,19 @@ INSTANT = re.compile(
 )
 
 
+Found = TypeVar("Found")
+
+
 class Stop(Exception):
     """Why no line is sent any more."""
+
+
+class Elsewhere(Stop):
+    """The board has another journal than the one that a line was sent to."""
+
+
+class Unsent(Exception):
+    """The connection broke before a line was handed over: it is no line of a session that goes on."""
 
 
 @dataclass
@@ -98,12 +123,14 @@ class Connection:
         self.stream: socket.socket | None = None
         self.replies: BinaryIO | None = None
         self.until: float | None = None
+        # Whether it is not known yet which journal its lines go to.
+        self.is_new = True
 
     def close(self) -> None:
-        if self.stream is not None and self.replies is not None:
-            self.replies.close()
-            self.stream.close()
-        self.stream = self.replies = None
+        stream, replies, self.stream, self.replies = self.stream, self.replies, None, None
+        if stream is not None and replies is not None:
+            replies.close()
+            stream.close()
 
     def wait(self, seconds: float, why: str) -> None:
         """Waits before another trial, while there is patience: it counts from the first fault of a line on."""
@@ -115,10 +142,12 @@ class Connection:
 
     def connect(self) -> tuple[socket.socket, BinaryIO]:
         pause = 0.1
+        if self.stream is not None and has_ended(self.stream):
+            self.close()
         while self.stream is None or self.replies is None:
             try:
                 # (the answer may be long in coming: a board of many partners begins when all are there)
-                self.stream = socket.create_connection(self.where, timeout=5)
+                self.stream, self.is_new = socket.create_connection(self.where, timeout=5), True
                 self.stream.settimeout(None)
                 self.replies = self.stream.makefile("rb")
             except OSError as error:
@@ -127,16 +156,19 @@ class Connection:
         return self.stream, self.replies
 
     def exchange(self, line: str) -> Reply | None:
-        """Sends a line, and gives its reply; nothing where the connection broke behind it."""
-        while True:
-            stream, replies = self.connect()
-            try:
-                stream.sendall(line.encode() + b"\n")
-                break
-            except OSError as error:
-                # (its line feed was not handed over, so it is no line of a session that goes on)
-                self.close()
-                self.wait(0.1, fault_of(self.where, error))
+        """Sends a line on the connection that there is, and gives its reply.
+
+        It gives nothing where the connection broke behind the line, and raises Unsent where it broke before.
+        """
+        stream, replies = self.stream, self.replies
+        if stream is None or replies is None:
+            raise Unsent
+        try:
+            stream.sendall(line.encode() + b"\n")
+        except OSError as error:
+            self.close()
+            self.wait(0.1, fault_of(self.where, error))
+            raise Unsent from None
         try:
             reply = replies.readline(LONGEST_REPLY)
         except OSError:
@@ -151,9 +183,20 @@ class Connection:
 
     def insist(self, line: str) -> Reply:
         """The reply to a line that may be sent more than once."""
-        while (reply := self.exchange(line)) is None:
-            pass
+        reply: Reply | None = None
+        while reply is None:
+            self.connect()
+            with contextlib.suppress(Unsent):
+                reply = self.exchange(line)
         return reply
+
+
+def has_ended(stream: socket.socket) -> bool:
+    """Whether the other side has closed a connection on which nothing is waited for."""
+    try:
+        return bool(select.select([stream], [], [], 0)[0]) and not stream.recv(1, socket.MSG_PEEK)
+    except OSError:
+        return True
 
 
 class Partner:
@@ -161,7 +204,9 @@ class Partner:
 
     def __init__(self, where: Address, feed: Address | None = None, patience: float = 60) -> None:
         self.connection, self.feed = Connection(where, patience), feed
-        # The last entry that was replied here, with its command; and the first one that may have the next line.
+        # The journal that the lines of this connection go to, by its name. Of it, the last entry that was replied here,
+        # with its command, and the first one that may have the next line.
+        self.journal = ""
         self.known: tuple[int, Any] | None = None
         self.first: int | None = None
         # Whether the line in hand may have been entered.
@@ -175,38 +220,67 @@ class Partner:
         self.connection.until, self.is_uncertain, note = None, False, ""
         command = json.loads(line)
         is_change = command.get("cmd") in CHANGES
-        if self.feed and is_change and self.first is None:
-            self.connection.insist(NO_COMMAND)
-            self.first = self.count()
-        self.connection.connect()
-        self.is_uncertain = is_change
-        while (reply := self.connection.exchange(line)) is None:
+        while True:
+            self.connection.connect()
+            if self.feed and is_change and self.meet():
+                note = "in another journal"
+            was_sent, self.is_uncertain = self.is_uncertain, is_change
+            try:
+                reply = self.connection.exchange(line)
+            except Unsent:
+                self.is_uncertain = was_sent
+                continue
+            if reply:
+                break
             entry = self.find(command) if is_change else None
             if entry:
                 self.take(entry["entry"], command)
                 return Reply(reply_of(entry), "from the feed")
             note = "sent again"
         reply.note, number = note, reply.number()
-        if number is not None:
+        # (an entry counts of a journal whose name is known)
+        if number is not None and not (self.feed and self.connection.is_new):
             self.take(number, command)
         return reply
 
     def take(self, number: int, command: Any) -> None:
         self.known, self.first, self.is_uncertain = (number, command), number + 1, False
 
+    def meet(self) -> bool:
+        """Learns which journal the lines of a new connection go to, and says whether it is another than before."""
+        before = self.journal
+        # (a journal that was empty has got its name with its first entry)
+        if not self.connection.is_new and (before or not self.known):
+            return False
+        # (behind this reply all lines before it are entered or dropped; it may come by another new connection)
+        self.connection.insist(NO_COMMAND)
+        told = self.board()
+        if before not in ("", told["journal"]):
+            self.go_over(told)
+        if self.first is None:
+            self.first = told["next"]
+        self.journal, self.connection.is_new = told["journal"], False
+        return self.journal != before != ""
+
+    def go_over(self, told: Line) -> None:
+        """Goes over to another journal: what is known of the one before counts no more."""
+        self.known, self.first = None, told["next"]
+
     def find(self, command: Any) -> Line | None:
-        """The entry of a command that was sent and not replied, once that is decided."""
+        """The entry of a command that was sent and not replied, once that is decided. Elsewhere where it can't be."""
         if not self.feed:
             raise Stop("the connection broke, and without --feed nobody can say whether it was entered")
         first, known = self.first or 0, self.known
         # Lines of a session are answered in order, over all its connections: behind this reply the line was entered or
         # dropped. Where no entry is known to be of this session, a question makes one.
-        if known:
-            self.connection.insist(NO_COMMAND)
-        else:
+        self.connection.insist(NO_COMMAND)
+        self.check(self.board())
+        if not known:
+            # (it may come by a new connection; whether that has the same journal is asked behind it)
             number = self.connection.insist(json.dumps(QUESTION)).number()
             known = None if number is None else (number, QUESTION)
         lines = self.entries_from(min(first, known[0]) if known else first)
+        self.connection.is_new = False
         if known is None:
             if any(is_same(line["command"], command) for line in lines):
                 raise Stop("the feed has such an entry, and it is not known whose")
@@ -215,6 +289,12 @@ class Partner:
         return next(
             (line for line in lines if line["entry"] >= first and is_own(line, session, known[0], command)), None
         )
+
+    def check(self, told: Line) -> None:
+        """Elsewhere where a board has another journal than the one that lines went to."""
+        if self.journal not in ("", told["journal"]):
+            raise Elsewhere(f"the feed at {named(self.feed)}: {OtherJournal(Place(self.journal), told)}")
+        self.journal = told["journal"]
 
     def session(self, lines: list[Line], number: int, command: Any) -> int:
         """The session of an entry that was replied here."""
@@ -227,31 +307,55 @@ class Partner:
 
     def count(self) -> int:
         """How many entries there are."""
-        return int(self.read("board", 1)[0].get("next", 0))
+        return int(self.board()["next"])
+
+    def board(self) -> Line:
+        """The board as it is now."""
+        return self.read("board", first_board)
 
     def entries_from(self, first: int) -> list[Line]:
-        """The entries from one on."""
-        count = self.count()
-        return self.read(f"from {first}", count - first) if first < count else []
+        """The entries from one on, of the journal that lines go to. Elsewhere where the board has another one."""
+        told = self.board()
+        self.check(told)
+        place, wanted = Place(self.journal, first), told["next"] - first
+        return self.read(f"from {first}", lambda link: first_entries(link, place, wanted)) if wanted > 0 else []
 
-    def read(self, words: str, wanted: int) -> list[Line]:
-        """So many lines of the feed."""
+    def read(self, words: str, take: Callable[[Link], Found]) -> Found:
+        """What is taken of the feed."""
         assert self.feed is not None
         while True:
             link: Link | None = None
-            found: list[Line] = []
             try:
                 link = Link(self.feed, words, 5)
-                while len(found) < wanted:
-                    found += link.lines()
-                return found[:wanted]
+                return take(link)
             except Closed as closed:
                 self.connection.wait(0.2, f"the feed at {named(self.feed)}: {closed}")
             except NoFeed as fault:
                 raise Stop(f"the feed at {named(self.feed)}: {fault}") from None
+            except OtherJournal as other:
+                raise Elsewhere(f"the feed at {named(self.feed)}: {other}") from None
             finally:
                 if link:
                     link.close()
+
+
+def first_board(link: Link) -> Line:
+    """The first line of a connection, which is that of a board."""
+    while not (found := link.lines()):
+        pass
+    if "flights" not in found[0]:
+        raise NoFeed("it sends no board where one is asked for")
+    return found[0]
+
+
+def first_entries(link: Link, place: Place, wanted: int) -> list[Line]:
+    """So many entries from a place on."""
+    found: list[Line] = []
+    for lines in followed(link, place):
+        found += lines
+        if len(found) >= wanted:
+            break
+    return found[:wanted]
 
 
 def is_own(line: Line, session: int, known: int, command: Any) -> bool:

@@ -4,8 +4,9 @@
     clients/report.py JOURNAL [FLIGHT ..] > report.html
     ./acdm tell JOURNAL | clients/report.py - > report.html
 
-JOURNAL is the text of a journal, which `./acdm tell` is asked to tell, or what it told (docs/FORMATS.md, "The feed of
-changes"). All flights are shown, or those named. After a faulty entry nothing is shown. Outside what is proved.
+JOURNAL is the text of a journal, which `./acdm tell` is asked to tell, or what it told, or what `serve --changes` sent
+(docs/FORMATS.md, "The feed of changes"). All flights are shown, or those named. After a faulty entry, or where another
+journal begins, nothing is shown. Outside what is proved.
 """
 import functools
 import html
@@ -121,6 +122,7 @@ class Day:
     end: int = 0
     accepted: Counter[str] = field(default_factory=Counter)
     refused: list[Line] = field(default_factory=list)
+    journal: str = ""
     fault: str = ""
 
     def take(self, entry: Line) -> None:
@@ -150,7 +152,14 @@ def day_of(lines: Iterable[str]) -> Day:
             day.fault = f"Entry {fault[1]} breaks clause {fault[2]}; nothing after it is shown."
             break
         try:
-            day.take(parsed(line.encode()))
+            told = parsed(line.encode())
+            if "entry" in told:
+                day.take(told)
+            elif day.journal not in ("", told["journal"]):
+                day.fault = f"Line {number} begins another journal; nothing after it is shown."
+                break
+            else:
+                day.journal = told["journal"]
         except (NoFeed, KeyError, TypeError, ValueError, AttributeError):
             raise NoFeed(f"line {number} is no line of the feed of changes") from None
     for story in day.stories.values():

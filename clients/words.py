@@ -24,6 +24,8 @@ WORDS: dict[str, Any] = json.loads(FILE.read_text(encoding="utf-8"))
 ROLES: dict[str, str] = WORDS["roles"]
 MILESTONES: list[dict[str, Any]] = WORDS["milestones"]
 ALERTS: dict[str, str] = {alert["name"]: alert["words"] for alert in WORDS["alerts"]}
+# (the roles that can end an alert, by the milestones that they own)
+TURNS: dict[str, list[str]] = {alert["name"]: alert["turn"] for alert in WORDS["alerts"]}
 REFUSALS: dict[int, str] = {refusal["code"]: refusal["words"] for refusal in WORDS["refusals"]}
 MENDS: dict[int, str] = {fault["code"]: fault["mend"] for fault in WORDS["program_faults"]}
 

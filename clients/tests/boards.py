@@ -1,4 +1,5 @@
 """What the tests of the clients share: a board that serves, the clients as programs, and the shipped files."""
+import itertools
 import json
 import os
 import socket
@@ -99,5 +100,5 @@ class Serving:
             count = json.loads(stream.makefile("rb").readline())["next"]
         with socket.create_connection(("127.0.0.1", self.changes), timeout=LIMIT) as stream:
             stream.sendall(b"from 0\n")
-            lines = stream.makefile("rb")
-            return [json.loads(lines.readline()) for _ in range(count)]
+            found = (json.loads(line) for line in stream.makefile("rb"))
+            return list(itertools.islice((line for line in found if "entry" in line), count))

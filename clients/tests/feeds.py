@@ -4,6 +4,7 @@ import socket
 import threading
 from typing import Any
 
+NAME, OTHER = "0123456789abcdef" * 2, "fedcba9876543210" * 2
 TIMES = "sobt eobt ctot otot eldt aldt aibt acgt tobt tsat asbt ardt asrt asat aobt atot".split()
 TEXTS = "callsign scheduled_type plan_type scheduled_reg plan_reg scheduled_dest plan_dest".split()
 
@@ -30,8 +31,46 @@ def entry(number: int, clock: str, who: str, command: dict[str, Any], *changed: 
     return json.dumps({**line, "command": command, "outcome": outcome, "answers": [], "changed": changed})
 
 
-def board_line(*flights: dict[str, Any], next_entry: int = 1) -> bytes:
-    return json.dumps({"next": next_entry, "room": 100, "flights": flights}).encode() + b"\n"
+def board_line(*flights: dict[str, Any], next_entry: int = 1, journal: str = NAME) -> bytes:
+    return json.dumps({"journal": journal, "next": next_entry, "room": 100, "flights": flights}).encode() + b"\n"
+
+
+def journal_line(next_entry: int = 0, journal: str = NAME) -> bytes:
+    return json.dumps({"journal": journal, "next": next_entry, "room": 100}).encode() + b"\n"
+
+
+class Answering:
+    """A feed whose callers are sent, one after another, what is given for each; it keeps what each asked for."""
+
+    def __init__(self, *answers: bytes) -> None:
+        self.answers, self.asked = list(answers), list[str]()
+        self.closed: list[bytes] = []
+        self.listener = socket.create_server(("127.0.0.1", 0))
+        self.port = int(self.listener.getsockname()[1])
+        self.thread = threading.Thread(target=self.accept, daemon=True)
+        self.thread.start()
+
+    def __enter__(self) -> "Answering":
+        return self
+
+    def __exit__(self, *_: object) -> None:
+        self.listener.close()
+
+    def accept(self) -> None:
+        for answer in self.answers:
+            try:
+                stream = self.listener.accept()[0]
+            except OSError:
+                return
+            with stream:
+                stream.settimeout(60)
+                try:
+                    self.asked.append(stream.makefile().readline().rstrip("\n"))
+                    stream.sendall(answer)
+                    stream.shutdown(socket.SHUT_WR)
+                    self.closed.append(stream.recv(1))
+                except OSError:
+                    pass
 
 
 class Sending:

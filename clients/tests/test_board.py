@@ -5,9 +5,13 @@ import subprocess
 import sys
 import time
 import unittest
+from argparse import Namespace
 
 from boards import CLIENTS, LIMIT, Serving, free_port, needs_program, ran
-from feeds import Sending, board_line, record
+from feeds import NAME, OTHER, Sending, board_line, entry, journal_line, record
+
+# (boards.py has put the folder of the clients on the path)
+from board import Looking  # pylint: disable=wrong-import-order
 
 FLIGHTS = [
     record(
@@ -49,6 +53,22 @@ class Board(unittest.TestCase):
         words = "7 DLH7 12 10:00 10:20 - S1.......9....... TOBT over 15 min from EOBT"
         self.assertEqual(words.split(), second.split())
 
+    def test_a_board_whose_journal_gets_its_name(self) -> None:
+        """It shows the first entries; where the name changes without a break it asks for the board again."""
+        lines = board_line(next_entry=0, journal="") + journal_line()
+        lines += entry(0, "09:00", "1 APT", {"cmd": "schedule"}, record(7, callsign="DLH7")).encode() + b"\n"
+        with Sending(lines) as server:
+            looking = Looking(Namespace(address=("127.0.0.1", server.port), flight=[], names=None))
+            looking.begin(LIMIT)
+            while not looking.board.next:
+                looking.hear()
+        self.assertEqual((NAME, ["DLH7"]), (looking.board.journal, [it["callsign"] for it in looking.flights()]))
+        looking.lost("")
+        with Sending(lines + journal_line(1, OTHER)) as server:
+            done = ran("board.py", server.port, "--once")
+        self.assertEqual(2, done.returncode)
+        self.assertIn(f"board.py: 127.0.0.1:{server.port}: the board has another journal, {OTHER} for", done.stderr)
+
     def test_named_flights(self) -> None:
         with Sending(board_line(*FLIGHTS)) as server:
             done = ran("board.py", server.port, 7, "--once")
@@ -67,6 +87,7 @@ class Board(unittest.TestCase):
     def test_servers_that_are_no_board(self) -> None:
         deep = b"[" * 100_000 + b"\n"
         wrong = [b"HTTP/1.1 400 Bad Request\r\n\r\n", b"[]\n", b"{}\n", b'{"flights":7,"next":1}\n', b"\xff\n", deep]
+        wrong += [board_line(journal=""), board_line(journal=OTHER[1:]), b'{"next":1,"room":1,"flights":[]}\n']
         wrong += [board_line({"flight": 7}), b'{"entry":0}\n', board_line(record(7, tobt=5)), b"bad 101\n"]
         for data in wrong:
             with Sending(data) as server:

@@ -1,13 +1,12 @@
 """What feed.py gives to displays and bridges: addresses, entries over breaks, names of local alerts."""
-import socket
+import itertools
 import tempfile
-import threading
 import unittest
 from pathlib import Path
 
 from boards import LIMIT
-from feed import BadAddress, NoFeed, alert_names, entries, parse_address
-from feeds import Sending, entry
+from feed import BadAddress, Board, NoFeed, OtherJournal, Place, alert_names, entries, parse_address, parsed
+from feeds import NAME, OTHER, Answering, Sending, board_line, entry, journal_line
 from partner import minute_of
 
 TICK = {"cmd": "tick"}
@@ -58,37 +57,70 @@ class Instants(unittest.TestCase):
         self.assertIsNone(minute_of("ten"))
 
 
+def ticks(*numbers: int) -> bytes:
+    return "".join(entry(number, "09:00", "1 APT", TICK) + "\n" for number in numbers).encode()
+
+
+def numbers_of(server: Answering, place: Place, most: int) -> list[int]:
+    """The numbers of the entries from a place on, so many at most."""
+    lines = entries(("127.0.0.1", server.port), place)
+    return [line["entry"] for line in itertools.islice(lines, most)]
+
+
 class Entries(unittest.TestCase):
     def test_a_break(self) -> None:
         """After a break the feed is asked from the next entry on, and the connection before is closed."""
-        listener = socket.create_server(("127.0.0.1", 0))
-        requests: list[str] = []
-        closed: list[bytes] = []
+        place = Place(NAME, 3)
+        with Answering(journal_line(3) + ticks(3, 4), journal_line(5) + ticks(5)) as server:
+            found = numbers_of(server, place, 3)
+            server.thread.join(LIMIT)
+        self.assertEqual(([3, 4, 5], ["from 3", "from 5"], [b"", b""]), (found, server.asked, server.closed))
+        self.assertEqual(Place(NAME, 6), place)
 
-        def serve() -> None:
-            for numbers in ((3, 4), (5,)):
-                stream = listener.accept()[0]
-                stream.settimeout(LIMIT)
-                requests.append(stream.makefile().readline())
-                stream.sendall("".join(entry(number, "09:00", "1 APT", TICK) + "\n" for number in numbers).encode())
-                stream.shutdown(socket.SHUT_WR)
-                closed.append(stream.recv(1))
-                stream.close()
+    def test_a_journal_gets_its_name(self) -> None:
+        """A board without an entry has none; the one that is told then is kept."""
+        place = Place()
+        with Answering(b"", journal_line() + ticks(0), journal_line(1) + ticks(1)) as server:
+            self.assertEqual([0, 1], numbers_of(server, place, 2))
+        self.assertEqual((Place(NAME, 2), ["from 0", "from 0", "from 1"]), (place, server.asked))
 
-        thread = threading.Thread(target=serve, daemon=True)
-        thread.start()
-        found = []
-        for line in entries(("127.0.0.1", listener.getsockname()[1]), 3):
-            found.append(line["entry"])
-            if len(found) == 3:
-                break
-        thread.join(LIMIT)
-        listener.close()
-        self.assertEqual(([3, 4, 5], ["from 3\n", "from 5\n"], [b"", b""]), (found, requests, closed))
+    def test_another_journal_is_told(self) -> None:
+        """After a break: one that goes on behind the place, one that ends before it, one without an entry."""
+        for answer, told, text in (
+            (journal_line(5, OTHER) + ticks(5), OTHER, f"the board has another journal, {OTHER} for {NAME}"),
+            (board_line(next_entry=2, journal=OTHER) + ticks(2), OTHER, f"another journal, {OTHER} for {NAME}"),
+            (board_line(next_entry=0, journal=""), "", "another journal, without an entry yet"),
+            (board_line(next_entry=2), NAME, f"journal {NAME} ends before entry 5: it has 2"),
+        ):
+            place, found = Place(NAME, 3), []
+            with Answering(journal_line(3) + ticks(3, 4), answer) as server:
+                with self.assertRaisesRegex(OtherJournal, text) as caught:
+                    for line in entries(("127.0.0.1", server.port), place):
+                        found.append(line["entry"])
+            self.assertEqual(([3, 4], Place(NAME, 5)), (found, place), "nothing of the other one")
+            self.assertEqual((told, told == NAME), (caught.exception.journal, caught.exception.is_same))
 
-    def test_no_feed(self) -> None:
-        with Sending(b"bad 101\n") as server, self.assertRaises(NoFeed):
-            next(entries(("127.0.0.1", server.port)))
+    def test_what_no_feed_sends(self) -> None:
+        """An entry before a name, a place that was not asked for, and names that are none."""
+        wrong = [b"bad 101\n", ticks(0), journal_line(1), board_line(next_entry=0, journal=""), board_line()]
+        wrong += [
+            journal_line(0, name) for name in ("", "0" * 31, "0" * 33, "0" * 31 + "G", NAME.upper(), "\n" + NAME[1:])
+        ]
+        wrong += [board_line(journal=name) for name in ("", "x", NAME + "\n")] + [board_line(next_entry=0)]
+        wrong += [journal_line().replace(b"100", b"-1"), journal_line().replace(b'"next": 0', b'"next": false')]
+        wrong += [journal_line().replace(b'"room"', b'"entry": 0, "room"'), b'{"next":0,"room":1,"flights":[]}\n']
+        for answer in wrong:
+            with self.subTest(answer), Sending(answer) as server, self.assertRaises(NoFeed):
+                next(entries(("127.0.0.1", server.port)))
+
+    def test_a_board_takes_each_line(self) -> None:
+        board = Board()
+        for data in (board_line(next_entry=0, journal=""), journal_line(), ticks(0), ticks(1)):
+            board.take(parsed(data))
+        self.assertEqual((NAME, 2), (board.journal, board.next))
+        self.assertFalse(board.take(parsed(journal_line(2))), "the same again is nothing new")
+        with self.assertRaises(OtherJournal):
+            board.take(parsed(journal_line(2, OTHER)))
 
 
 class Names(unittest.TestCase):

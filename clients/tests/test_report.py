@@ -4,7 +4,7 @@ import unittest
 from pathlib import Path
 
 from boards import TOP, needs_program, ran
-from feeds import entry, record
+from feeds import OTHER, board_line, entry, journal_line, record
 
 SCHEDULE = {"cmd": "schedule", "flight": 7}
 REPORT = {"cmd": "report", "flight": 7}
@@ -48,6 +48,15 @@ class Report(unittest.TestCase):
     def test_a_faulty_entry(self) -> None:
         text = page(entry(0, "09:00", "1 APT", {"cmd": "tick"}), "entry 1 405", entry(2, "09:00", "1 APT", SCHEDULE))
         self.assertIn("Entry 1 breaks clause 405; nothing after it is shown. 0 flights, 0 commands refused.", text)
+
+    def test_what_serve_sends(self) -> None:
+        """The line of a journal before its entries; where another one begins, nothing is shown of it."""
+        first, second = (entry(number, "09:00", "1 APT", {"cmd": "tick"}) for number in (0, 1))
+        name, other = journal_line().decode().strip(), journal_line(2, OTHER).decode().strip()
+        empty = board_line(next_entry=0, journal="").decode().strip()
+        self.assertIn("A legal journal of 2 entries.", page(empty, name, first, second))
+        text = page(name, first, second, other, entry(2, "09:00", "1 APT", SCHEDULE, record(7)))
+        self.assertIn("Line 4 begins another journal; nothing after it is shown. 0 flights,", text)
 
     def test_what_is_no_feed(self) -> None:
         for line in ("{", '{"entry":0}', "[]", entry(0, "9:00", "1 APT", SCHEDULE), "GET / HTTP/1.1"):

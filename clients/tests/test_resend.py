@@ -6,16 +6,20 @@
 CUTS is how many cuts there are in all, 40 where it is not given. Between a cut and the next connection a second partner
 sets the target of the same flight: no command may be entered twice, and no target be undone.
 """
+import contextlib
 import json
 import os
 import shutil
 import socket
+import subprocess
+import sys
 import threading
 import unittest
+from time import sleep
 from collections.abc import Callable
 from typing import Any
 
-from boards import LIMIT, Caller, Serving, needs_program, ran
+from boards import CLIENTS, LIMIT, Caller, Serving, needs_program, ran
 
 CUTS = int(os.environ.get("CUTS", "40"))
 MOST_CUTS = 40
@@ -134,8 +138,9 @@ class Relay:
         """Hands on the first line, and then what the feed sends."""
         with client, socket.create_connection(("127.0.0.1", self.feed), timeout=LIMIT) as feed:
             feed.sendall(client.makefile("rb").readline())
-            while data := feed.recv(1 << 16):
-                client.sendall(data)
+            with contextlib.suppress(OSError):
+                while data := feed.recv(1 << 16):
+                    client.sendall(data)
 
     def close(self) -> None:
         self.listener.close()
@@ -302,7 +307,64 @@ class Resend(unittest.TestCase):
                 relay.close()
                 self.assertEqual((2, "ok 0\n"), (done.returncode, done.stdout))
                 self.assertIn("line 2 has no reply and may have been entered", done.stderr)
-                self.assertIn("is of another journal: its entry 0 is not the one replied", done.stderr)
+                self.assertIn("the board has another journal, ", done.stderr)
+
+    def test_a_line_is_not_sent_again_to_another_journal(self) -> None:
+        """Also where that has the same entries but the first, and the line that has no reply is not among them."""
+        for name in ["partner.py", "partner.mjs"] if shutil.which("node") else ["partner.py"]:
+            with self.subTest(client=name), Serving(("APT",)) as board, Serving(("APT",)) as other:
+                relay, front = self.turning(board, other, {1: "entered"})
+                lines = [json.dumps({**schedule(7 + number), "n": number}) for number in range(2)]
+                done = ran(name, f"127.0.0.1:{front.port}", "--feed", f"127.0.0.1:{relay.port}", given="\n".join(lines))
+                front.close()
+                relay.close()
+                self.assertEqual((2, "ok 1\n"), (done.returncode, done.stdout), done.stderr)
+                self.assertIn(
+                    "line 2 has no reply and may have been entered, the last reply told of entry 1", done.stderr
+                )
+                self.assertRegex(done.stderr, "the board has another journal, [0-9a-f]{32} for [0-9a-f]{32}\n$")
+                self.assertEqual(["alerts", "schedule"], [line["command"]["cmd"] for line in other.entries()])
+
+    def turning(self, board: Serving, other: Serving, plan: dict[int, str]) -> tuple[Relay, Front]:
+        """Feed and address of a board, which are those of another one after a cut, with the same entry 1."""
+        for each, command in ((board, {"cmd": "tick"}), (other, {"cmd": "alerts"})):
+            caller = Caller(each.ports[0])
+            caller.ask(command)
+            caller.close()
+        caller = Caller(other.ports[0])
+        self.assertEqual("ok 1", caller.ask(schedule(7)))
+        caller.close()
+        relay = Relay(board.changes, other.changes)
+
+        def turn(number: int) -> None:
+            relay.turn(number)
+            front.board = other.ports[0]
+
+        front = Front(board.ports[0], plan, turn)
+        return relay, front
+
+    def test_a_new_connection_may_go_to_another_journal(self) -> None:
+        """A line that comes after the break goes to the journal that there is, and its reply says so."""
+        for name in ["partner.py", "partner.mjs"] if shutil.which("node") else ["partner.py"]:
+            with self.subTest(client=name), Serving(("APT",)) as board, Serving(("APT",)) as other:
+                relay, front = self.turning(board, other, {0: "replied", 2: "half"})
+                command = ["node"] if name.endswith(".mjs") else [sys.executable]
+                command += [str(CLIENTS / name), f"127.0.0.1:{front.port}", "--feed", f"127.0.0.1:{relay.port}"]
+                with subprocess.Popen(command, stdin=subprocess.PIPE, stdout=subprocess.PIPE, text=True) as process:
+                    assert process.stdin and process.stdout
+                    replies = []
+                    for number in range(4):
+                        print(json.dumps({**schedule(7 + number), "n": number}), file=process.stdin, flush=True)
+                        replies.append(process.stdout.readline().rstrip("\n"))
+                        # (its end is told to the client before its next line)
+                        sleep(0.3)
+                        front.wait()
+                    process.stdin.close()
+                    self.assertEqual(0, process.wait(LIMIT))
+                front.close()
+                relay.close()
+                self.assertEqual(["ok 1", "ok 2 (in another journal)", "ok 3 (from the feed)", "ok 4"], replies)
+                self.assertEqual(5, len(other.entries()), "each once")
 
     def test_a_line_that_is_no_object(self) -> None:
         for name in ["partner.py", "partner.mjs"] if shutil.which("node") else ["partner.py"]:

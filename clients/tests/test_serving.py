@@ -5,6 +5,7 @@ import shutil
 import socket
 import subprocess
 import tempfile
+import time
 import unittest
 from pathlib import Path
 from typing import Any
@@ -240,9 +241,19 @@ class Carry(unittest.TestCase):
             )
             done = ran("carry.py", journal)
             self.assertEqual((0, ""), (done.returncode, done.stderr))
-            self.assertEqual([lines[1], lines[10]], done.stdout.splitlines())
+            # (a question of this moment comes first)
+            first_line, *rest = done.stdout.splitlines()
+            self.assertRegex(first_line, r'^1 \d{8,} APT \{"cmd":"alerts"\}$')
+            self.assertLess(abs(int(first_line.split()[1]) - time.time() / 60), 5)
+            self.assertEqual([lines[1], lines[10]], rest)
+            # (and of one that is carried over in the same minute another moment: two journals begin with no same entry)
+            again = Path(folder) / "again"
+            words = [str(PROGRAM), "run", "--save", str(again)]
+            subprocess.run(words, input=done.stdout, capture_output=True, text=True, check=True)
+            second_line = ran("carry.py", again).stdout.splitlines()[0]
+            self.assertGreater(int(second_line.split()[1]), int(first_line.split()[1]))
             done = ran("carry.py", journal, "--departed")
-            self.assertEqual([*lines[:9], lines[10]], done.stdout.splitlines())
+            self.assertEqual([*lines[:9], lines[10]], done.stdout.splitlines()[1:])
             journal.write_text("nothing\n", encoding="ascii")
             done = ran("carry.py", journal)
             self.assertEqual(

@@ -16,7 +16,7 @@ WEB = Path(__file__).resolve().parent
 TOP = WEB.parents[1]
 sys.path.insert(0, str(WEB.parent))
 
-from words import ALERTS, MILESTONES, REFUSALS  # noqa: E402 pylint: disable=wrong-import-position
+from words import ALERTS, MILESTONES, REFUSALS, ROLES, TURNS  # noqa: E402 pylint: disable=wrong-import-position
 
 SOURCE = TOP / "crates" / "acdm_web" / "src" / "page.rt"
 BEGIN = """//! The page for browsers, which clients/web/embed.py writes from clients/web and docs/schema/words.json.
@@ -28,7 +28,7 @@ pub static PAGE: &str = """
 def words() -> str:
     """What the script has of the words, as JSON that ends no script."""
     milestones = [{"short": place["short"], "owner": place["owners"][0]} for place in MILESTONES]
-    found = {"alerts": ALERTS, "milestones": milestones, "refusals": REFUSALS}
+    found = {"roles": ROLES, "alerts": ALERTS, "turns": TURNS, "milestones": milestones, "refusals": REFUSALS}
     return json.dumps(found, separators=(",", ":")).replace("<", "\\u003c")
 
 
