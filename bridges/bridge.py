@@ -1,4 +1,4 @@
-"""What the bridges share: the words of a command line, the feed, trying again, and the file of a number.
+"""What the bridges share: the words of a command line, the feed, trying again, and the file of a place in it.
 
 Outside what is proved.
 """
@@ -17,7 +17,18 @@ from typing import NoReturn
 
 sys.path.insert(0, str(Path(__file__).resolve().parents[1] / "clients"))
 # pylint: disable-next=wrong-import-position
-from feed import Address, Arguments, Closed, Line, Link, NoFeed, parse_address  # noqa: E402
+from feed import (  # noqa: E402
+    Address,
+    Arguments,
+    Closed,
+    Line,
+    Link,
+    NoFeed,
+    OtherJournal,
+    Place,
+    followed,
+    parse_address,
+)
 
 FIRST_PAUSE, LONGEST_PAUSE = 1, 30
 ANSWER = 5
@@ -29,6 +40,11 @@ def end(name: str, message: object) -> NoReturn:
     """Ends the program with one line on standard error and status 2."""
     print(f"{name}: {one_line(message)}", file=sys.stderr, flush=True)
     raise SystemExit(2)
+
+
+def say(message: object) -> None:
+    """Says one line on standard error."""
+    print(f"{os.path.basename(sys.argv[0])}: {one_line(message)}", file=sys.stderr, flush=True)
 
 
 def one_line(message: object) -> str:
@@ -131,62 +147,70 @@ def text_of(value: object) -> str:
     return json.dumps(value, separators=(",", ":"))
 
 
-def feed_lines(feed: Address, first: int, last: Line | None = None) -> Iterator[list[Line]]:
-    """The entries from number `first` on, in order, as many at a time as have come.
+Known = Callable[[str], tuple[int, Line | None]]
 
-    Where entries were handed over before, the one before `first` is asked for as well: a board that does not have it,
-    or has another than `last`, has another journal. Closed, with the reason, at each failure.
+
+def begun_never(_journal: str) -> tuple[int, Line | None]:
+    """What a bridge has of a journal that it may have had before: nothing."""
+    return 0, None
+
+
+def feed_lines(
+    feed: Address, place: Place, last: Line | None = None, known: Known = begun_never
+) -> Iterator[list[Line]]:
+    """The entries from a place on, in order, as many at a time as have come; the place moves once they are handed over.
+
+    Where the board has another journal, one line says so, and its entries come from entry 0 on, or from where `known`
+    says. Closed, with the reason, at each failure.
     """
-    where = f"feed {feed[0]}:{feed[1]}"
+    where, has_turned = f"feed {feed[0]}:{feed[1]}", False
+    while True:
+        try:
+            for lines in lines_from(feed, place, last):
+                has_turned = False
+                yield lines
+        except OtherJournal as other:
+            if other.is_same or has_turned:
+                raise Closed(f"{where}: {other}") from None
+            has_turned, place.journal = True, other.journal
+            place.next, last = known(other.journal) if other.journal else (0, None)
+            say(f"{where}: {other}: a new generation begins at its entry {place.next}")
+        except (Closed, NoFeed) as error:
+            raise Closed(f"{where}: {error}") from None
+
+
+def lines_from(feed: Address, place: Place, last: Line | None) -> Iterator[list[Line]]:
+    """The entries of a connection from a place on.
+
+    Where entries were handed over before, the one before the place is asked for as well. It has to come soon, and to be
+    `last` where that is known. A place without a name has been kept by an older bridge: the name that comes is its own.
+    """
+    asked, is_checked = Place(place.journal, max(place.next - 1, 0)), not place.next
+    link = Link(feed, f"from {asked.next}", None if is_checked else ANSWER)
     try:
-        link = Link(feed, f"from {max(first - 1, 0)}")
+        for lines in followed(link, asked):
+            if not is_checked:
+                check_last(lines.pop(0), last)
+                is_checked = True
+                link.stream.settimeout(None)
+            if place.next and not place.journal:
+                say(f"what was handed over has no name of a journal: it is taken to be of {asked.journal}")
+            place.journal = asked.journal
+            if lines:
+                yield lines
+                place.next = lines[-1]["entry"] + 1
     except Closed as error:
-        raise Closed(f"{where}: {error}") from None
-    try:
-        lines = lines_after(link, first - 1, last) if first else []
-        while True:
-            first += len(lines)
-            yield lines
-            lines = received(link)
-            check_numbers(lines, first)
-    except Closed as error:
-        raise Closed(f"{where}: {error}") from None
+        if is_checked:
+            raise
+        raise Closed(f"entry {asked.next} was handed over and does not come ({error})") from None
     finally:
         link.close()
 
 
-def received(link: Link) -> list[Line]:
-    """The lines that have come, which have to be those of entries."""
-    try:
-        lines = link.lines()
-    except NoFeed as error:
-        raise Closed(str(error)) from None
-    if any("flights" in line for line in lines):
-        raise Closed("it sends a whole board in place of an entry")
-    return lines
-
-
-def lines_after(link: Link, number: int, last: Line | None) -> list[Line]:
-    """The lines that came with entry `number`, which has to come soon, and to be `last` where that is known."""
-    link.stream.settimeout(ANSWER)
-    lines: list[Line] = []
-    try:
-        while not lines:
-            lines = received(link)
-    except Closed as error:
-        raise Closed(f"entry {number} was handed over and does not come ({error}): is it another journal?") from None
-    check_numbers(lines, number)
-    if last is not None and lines[0] != last:
-        raise Closed(f"entry {number} is not the one that was handed over: it is another journal")
-    link.stream.settimeout(None)
-    return lines[1:]
-
-
-def check_numbers(lines: list[Line], first: int) -> None:
-    """Closed where these are not the entries from `first` on."""
-    for number, line in enumerate(lines, first):
-        if line["entry"] != number:
-            raise Closed(f"entry {line['entry']} came in place of {number}")
+def check_last(line: Line, last: Line | None) -> None:
+    """Closed where an entry is not the one that was handed over."""
+    if last is not None and line != last:
+        raise Closed(f"entry {line['entry']} is not the one that was handed over: the journal was changed")
 
 
 Carried = Callable[[], None]
@@ -229,25 +253,36 @@ def run(main: Callable[[], None]) -> NoReturn:
 
 
 class StateFile:
-    """A file that keeps the number of the entry that comes next, 0 where there is no file."""
+    """A file that keeps the number of the entry that comes next, 0 where there is no file, and the journal's name."""
 
     def __init__(self, path: Path) -> None:
-        """Reads the number; ValueError or OSError, with the file's name, where that can't be done."""
-        self.path, self.number = path, 0
+        """Reads the place; ValueError or OSError, with the file's name, where that can't be done."""
+        self.path, self.place = path, Place()
         if not path.parent.is_dir():
             raise ValueError(f"{path}: there is no directory {path.parent}")
         if path.exists():
-            text = path.read_bytes()
-            if not re.fullmatch(rb"[0-9]{1,20}\n?", text):
-                raise ValueError(f"{path}: it does not hold the number of an entry")
-            self.number = int(text)
+            place = place_of(path.read_bytes().decode("ascii", "replace").removesuffix("\n"))
+            if place is None:
+                raise ValueError(f"{path}: it does not hold the number of an entry and the name of a journal")
+            self.place = place
 
-    def write(self, number: int) -> None:
-        """Keeps another number, over a crash of the machine too."""
+    def write(self, place: Place) -> None:
+        """Keeps another place, over a crash of the machine too."""
         part = self.path.with_name(self.path.name + ".part")
         with part.open("w", encoding="ascii") as file:
-            file.write(f"{number}\n")
+            file.write(f"{text_of_place(place)}\n")
             file.flush()
             os.fsync(file.fileno())
         os.replace(part, self.path)
-        self.number = number
+        self.place = place
+
+
+def text_of_place(place: Place) -> str:
+    """A place as it is kept: the number of the entry that comes next, and the name of its journal."""
+    return f"{place.next} {place.journal}".rstrip()
+
+
+def place_of(text: str) -> Place | None:
+    """The place that a text keeps, which has no name where it is of before version 0.10.0; nothing of another text."""
+    found = re.fullmatch("([0-9]{1,20})(?: ([0-9a-f]{32}))?", text)
+    return Place(found[2] or "", int(found[1])) if found else None

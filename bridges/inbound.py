@@ -8,7 +8,9 @@ amqp://HOST:PORT/QUEUE, mqtt://HOST:PORT/TOPIC or kafka://HOST:PORT,HOST:PORT/TO
 Each message is a line: an object of JSON (docs/RULES.md). Its reply goes to the queue or topic NAME, as
 {"id":"..","reply":"ok 12"}; of what is no line {"id":"..","error":".."}. STATE is a file of SQLite.
 
-A message is acknowledged once its entry was replied, and one that comes twice is entered once. It is known by its id:
+A message is acknowledged once its entry was replied, and one that comes twice is entered once. One that may have been
+entered in a journal that the board has no more is not sent again: its error says so, and one line on standard error. A
+message is known by its id:
 of AMQP the message's own, of Kafka its key, else the member "id" of its line, which the board passes over. Kafka's
 messages without one are known by their offsets. Of AMQP and MQTT one without an id is not entered, and told so. The
 reply comes at least once. A line whose reply was lost is looked for in the feed. Outside what is proved.
@@ -24,24 +26,37 @@ from pathlib import Path
 from typing import Any, NamedTuple
 from urllib.parse import urlsplit
 
-from bridge import Address, Carried, Security, Words, end, forever, one_line, parse_address, run
+from bridge import Address, Carried, Security, Words, end, forever, one_line, parse_address, run, say
 
 # (bridge.py has put the folder of the clients on the path)
-from partner import CHANGES, Partner, Stop, reply_of  # pylint: disable=wrong-import-order
+from partner import CHANGES, Elsewhere, Partner, Stop, reply_of  # pylint: disable=wrong-import-order
 
 PATIENCE, WAIT = 5.0, 30
 LONGEST_ID, LONGEST_MESSAGE = 200, 70_000
 PORTS = {"amqp": 5672, "amqps": 5671, "mqtt": 1883, "mqtts": 8883, "kafka": 9092, "kafkas": 9093}
 TABLES = """
 create table if not exists message (
-    id text primary key, line text not null, first integer not null, reply text, is_told integer not null default 0
+    id text primary key, line text not null, first integer not null, reply text, is_told integer not null default 0,
+    journal text not null default ''
 );
 create table if not exists place (partition integer primary key, following integer not null);
 """
 
 
+WITH_JOURNAL = "alter table message add column journal text not null default ''"
+
+
 class NoLine(Exception):
     """Why a message is no line that is sent."""
+
+
+class Kept(NamedTuple):
+    """A message that has come: its line, the first entry that may have it, in which journal, and its reply."""
+
+    line: str
+    first: int
+    journal: str
+    reply: str | None
 
 
 class Place(NamedTuple):
@@ -83,17 +98,21 @@ class Inbox:
         self.base.execute("pragma journal_mode=wal")
         self.base.execute("pragma synchronous=full")
         self.base.executescript(TABLES)
+        if "journal" not in (row[1] for row in self.base.execute("pragma table_info(message)")):
+            # (the file is of an older bridge)
+            self.base.execute(WITH_JOURNAL)
 
-    def known(self, identity: str) -> tuple[str, int, str | None] | None:
-        """The line of a message, the first entry that may have it, and its reply."""
-        row = self.base.execute("select line, first, reply from message where id = ?", (identity,)).fetchone()
-        return (str(row[0]), int(row[1]), row[2]) if row else None
+    def known(self, identity: str) -> Kept | None:
+        """What is kept of a message."""
+        row = self.base.execute("select line, first, journal, reply from message where id = ?", (identity,)).fetchone()
+        return Kept(*row) if row else None
 
-    def begin(self, identity: str, line: str, first: int) -> None:
-        self.base.execute("insert into message (id, line, first) values (?, ?, ?)", (identity, line, first))
+    def begin(self, identity: str, line: str, first: int, journal: str) -> None:
+        values = (identity, line, first, journal)
+        self.base.execute("insert into message (id, line, first, journal) values (?, ?, ?, ?)", values)
 
     def finish(self, identity: str, reply: str) -> None:
-        self.base.execute("update message set reply = ? where id = ?", (reply, identity))
+        self.base.execute("update message set reply = ?, is_told = 0 where id = ?", (reply, identity))
 
     def tell(self, identity: str) -> None:
         """Notes that the broker has the reply."""
@@ -132,28 +151,36 @@ class Entering:
         """The reply to a line: the one that it has had, or that of the feed, or else the board's."""
         known = self.inbox.known(identity)
         if known is None:
-            if self.partner.first is None:
-                self.partner.connection.until = None
-                self.partner.first = self.partner.count()
-            self.inbox.begin(identity, line, self.partner.first)
-        elif known[0] != line:
+            self.partner.connection.until = None
+            self.partner.connection.connect()
+            self.partner.meet()
+            self.inbox.begin(identity, line, self.partner.first or 0, self.partner.journal)
+        elif known.line != line:
             raise NoLine("this id was used with another line")
-        elif known[2] is not None:
-            return known[2]
-        elif (reply := self.found(command, known[1])) is not None:
+        elif known.reply is not None:
+            return known.reply
+        elif (reply := self.found(identity, command, known)) is not None:
             self.inbox.finish(identity, reply)
             return reply
         told = self.partner.ask(line).text
         self.inbox.finish(identity, told)
         return told
 
-    def found(self, command: dict[str, Any], first: int) -> str | None:
-        """The reply that the feed has to a line that was sent before a crash, if it was entered."""
+    def found(self, identity: str, command: dict[str, Any], kept: Kept) -> str | None:
+        """The reply that the feed has to a line that was sent before a crash, if it was entered.
+
+        NoLine where the board has another journal by now: in the one before it may have been entered.
+        """
         if command.get("cmd") not in CHANGES:
             return None
         self.partner.connection.until = None
-        self.partner.known, self.partner.first = None, first
-        entry = self.partner.find(command)
+        self.partner.known, self.partner.first, self.partner.journal = None, kept.first, kept.journal
+        try:
+            entry = self.partner.find(command)
+        except Elsewhere as why:
+            self.partner.first, self.partner.journal, self.partner.connection.is_new = None, "", True
+            say(f"message {identity} has no reply and may have been entered: {why}")
+            raise NoLine(f"it has no reply and may have been entered: {why}") from None
         if entry is None:
             return None
         self.partner.take(entry["entry"], command)
@@ -210,7 +237,7 @@ def data_of(body: Any) -> bytes:
 # pylint: disable-next=too-many-locals
 def take_amqp(given: argparse.Namespace, security: Security, entering: Entering, carried: Carried) -> None:
     """Takes messages of a queue of AMQP 1.0 until the broker or the board fails."""
-    # pylint: disable=import-outside-toplevel
+    # pylint: disable=import-outside-toplevel,import-error
     from proton import Delivery, Message, ProtonException, Timeout
     from to_amqp import Queue, connection_to
 
@@ -244,7 +271,7 @@ def take_mqtt(given: argparse.Namespace, security: Security, entering: Entering,
     A message is acknowledged when the function that takes it returns. Its reply is kept by then, and sent until the
     broker has it.
     """
-    # pylint: disable=import-outside-toplevel
+    # pylint: disable=import-outside-toplevel,import-error
     from paho.mqtt import client as mqtt
 
     place: Place = given.place
@@ -291,7 +318,7 @@ class Kafka:
     """
 
     def __init__(self, given: argparse.Namespace, security: Security, inbox: Inbox) -> None:
-        # pylint: disable=import-outside-toplevel
+        # pylint: disable=import-outside-toplevel,import-error
         import confluent_kafka
         from to_kafka import settings_of
 

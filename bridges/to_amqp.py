@@ -5,10 +5,12 @@
 
 FEED is the address of `acdm serve --changes`, as 127.0.0.1:4100. URL is that of a queue, as amqp://127.0.0.1:5672/acdm,
 or amqps://.. for TLS. Each entry is one durable message: its number is the message's id, `cmd` its subject, its line of
-the feed the body. STATE is a file that keeps the number of the entry that comes next.
+the feed the body, and the name of its journal the property `journal`. STATE is a file that keeps the number of the
+entry that comes next and that name.
 
 Each entry is handed over at least once: STATE is written after the broker has accepted an entry, so that an entry may
-come again after a break, with the same id. Outside what is proved.
+come again after a break, with the same id and journal. Of another journal all entries are handed over, from entry 0 on,
+which one line on standard error says. Outside what is proved.
 """
 
 import argparse
@@ -16,7 +18,7 @@ from pathlib import Path
 from typing import NamedTuple
 from urllib.parse import urlsplit
 
-from bridge import Carried, Line, Security, StateFile, Words, end, feed_lines, forever, run, text_of
+from bridge import Carried, Line, Place, Security, StateFile, Words, end, feed_lines, forever, run, text_of
 
 try:
     from proton import Delivery, Message, ProtonException, SSLDomain
@@ -69,10 +71,11 @@ def connection_to(queue: Queue, security: Security) -> BlockingConnection:
     return BlockingConnection(queue.broker, timeout=WAIT, ssl_domain=domain, **words)
 
 
-def hand_over(sender: BlockingSender, line: Line) -> None:
-    """Sends an entry, and waits until the broker has accepted it."""
+def hand_over(sender: BlockingSender, line: Line, journal: str) -> None:
+    """Sends an entry of a journal, and waits until the broker has accepted it."""
     message = Message(
         id=line["entry"],
+        properties={"journal": journal},
         subject=line["command"]["cmd"],
         durable=True,
         content_type="application/json",
@@ -88,10 +91,11 @@ def carry(given: argparse.Namespace, security: Security, state: StateFile, carri
     link = connection_to(given.queue, security)
     try:
         sender = link.create_sender(given.queue.name)
-        for lines in feed_lines(given.feed, state.number):
+        place = Place(state.place.journal, state.place.next)
+        for lines in feed_lines(given.feed, place):
             for line in lines:
-                hand_over(sender, line)
-                state.write(line["entry"] + 1)
+                hand_over(sender, line, place.journal)
+                state.write(Place(place.journal, line["entry"] + 1))
                 carried()
     finally:
         link.close()

@@ -4,12 +4,14 @@
     bridges/to_kafka.py FEED SERVERS [--topic acdm]
 
 FEED is the address of `acdm serve --changes`, as 127.0.0.1:4100, SERVERS the brokers, as 127.0.0.1:9092. Each entry is
-one message in partition 0 of the topic, which has to be there: its number is the key, its line of the feed the value.
+one message in partition 0 of the topic, which has to be there: its number is the key, its line of the feed the value,
+and the name of its journal the header `journal`.
 
 A reader with isolation.level=read_committed gets each entry exactly once and in order. Entries are handed over in
 transactions. At the start and after each failure the bridge registers its transactional id, which bars each older
-producer of that id and ends what it had begun. Only then it reads the last committed key of the topic, and goes on
-behind that one. No file is kept. Outside what is proved.
+producer of that id and ends what it had begun. Only then it reads the last committed message of the topic, and goes on
+behind that one. No file is kept. Of another journal all entries are handed over, from entry 0 on, which one line on
+standard error says. Outside what is proved.
 """
 
 import argparse
@@ -18,7 +20,20 @@ import re
 from collections import deque
 from typing import Any, NamedTuple
 
-from bridge import Carried, Line, Security, Words, end, entry_number, feed_lines, forever, parse_address, run, text_of
+from bridge import (
+    Carried,
+    Line,
+    Place,
+    Security,
+    Words,
+    end,
+    entry_number,
+    feed_lines,
+    forever,
+    parse_address,
+    run,
+    text_of,
+)
 
 try:
     from confluent_kafka import Consumer, KafkaError, KafkaException, Message, Producer, TopicPartition
@@ -35,11 +50,18 @@ MECHANISMS = ("PLAIN", "SCRAM-SHA-256", "SCRAM-SHA-512")
 Settings = dict[str, Any]
 
 
-class Place(NamedTuple):
+class Topic(NamedTuple):
     """A topic, and the settings of a client that reads or writes it."""
 
-    topic: str
+    name: str
     settings: Settings
+
+
+class Entry(NamedTuple):
+    """An entry that is committed, and the name of its journal, empty where an older bridge has handed it over."""
+
+    line: Line
+    journal: str
 
 
 def settings_of(given: argparse.Namespace, security: Security) -> Settings:
@@ -64,10 +86,10 @@ def settings_of(given: argparse.Namespace, security: Security) -> Settings:
     return settings | {name: str(file) for name, file in files.items() if file}
 
 
-def producer_at(place: Place, identity: str, failed: deque[KafkaError]) -> Producer:
+def producer_at(topic: Topic, identity: str, failed: deque[KafkaError]) -> Producer:
     """A producer that bars all older ones of this transactional id; what they had begun is committed or taken back."""
     own: Settings = {"transactional.id": identity, "compression.type": "gzip", "message.max.bytes": LONGEST_MESSAGE}
-    producer = Producer({**place.settings, **own, "error_cb": failed.append})
+    producer = Producer({**topic.settings, **own, "error_cb": failed.append})
     for seconds in range(STEP, WAIT + STEP, STEP):
         try:
             producer.init_transactions(STEP)
@@ -79,43 +101,53 @@ def producer_at(place: Place, identity: str, failed: deque[KafkaError]) -> Produ
     return producer
 
 
-def going_on(place: Place, first: int | None) -> tuple[int, Line | None]:
-    """The number of the entry that comes next, and the one before: that of the greatest committed key.
+def going_on(topic: Topic, first: int | None) -> tuple[Place, Line | None]:
+    """The place of the entry that comes next, and the entry before it.
 
-    All partitions are read. Where they have no key, `first` comes next, which has to be named where they had some.
+    It is behind the last committed message of partition 0, to which all entries go that have the name of their journal.
+    Where that one has no name, all partitions are read, of which the greatest key counts. Where they have no key,
+    `first` comes next, which has to be named where they had some.
     """
     settings: Settings = {
-        **place.settings,
-        "group.id": f"acdm-bridge-{place.topic}",
+        **topic.settings,
+        "group.id": f"acdm-bridge-{topic.name}",
         "enable.auto.commit": False,
         "enable.partition.eof": True,
     }
     everything = Consumer({**settings, "isolation.level": "read_uncommitted"})
     committed = Consumer({**settings, "isolation.level": "read_committed"})
     try:
-        known = committed.list_topics(place.topic, timeout=WAIT).topics[place.topic]
+        known = committed.list_topics(topic.name, timeout=WAIT).topics[topic.name]
         if known.error or not known.partitions:
-            raise OSError(f"the brokers have no topic {place.topic}: make it")
-        found: dict[int, Line] = {}
+            raise OSError(f"the brokers have no topic {topic.name}: make it")
+        found: list[Entry] = []
         was_cut = False
-        for number in known.partitions:
-            low, high = everything.get_watermark_offsets(TopicPartition(place.topic, number), timeout=WAIT)
-            found |= last_entries(committed, TopicPartition(place.topic, number), low, high)
+        for number in sorted(known.partitions):
+            low, high = everything.get_watermark_offsets(TopicPartition(topic.name, number), timeout=WAIT)
+            last = last_entries(committed, TopicPartition(topic.name, number), low, high)
+            if last and last[-1].journal and not number:
+                return behind(last[-1])
+            found += last
             was_cut |= low > 0
     finally:
         everything.close()
         committed.close()
     if found:
-        return max(found) + 1, found[max(found)]
+        return behind(max(found, key=lambda entry: entry.line["entry"]))
     if was_cut and first is None:
-        raise OSError(f"the topic {place.topic} has let its entries go: say by --first which one comes next")
-    return first or 0, None
+        raise OSError(f"the topic {topic.name} has let its entries go: say by --first which one comes next")
+    return Place("", first or 0), None
 
 
-def last_entries(consumer: Consumer, partition: TopicPartition, low: int, high: int) -> dict[int, Line]:
-    """The last committed entries of a partition, by number, looked for from its end backwards."""
+def behind(entry: Entry) -> tuple[Place, Line]:
+    """The place behind an entry, and the entry."""
+    return Place(entry.journal, entry.line["entry"] + 1), entry.line
+
+
+def last_entries(consumer: Consumer, partition: TopicPartition, low: int, high: int) -> list[Entry]:
+    """The last committed entries of a partition, in order, looked for from its end backwards."""
     window, start = WINDOW, high
-    found: dict[int, Line] = {}
+    found: list[Entry] = []
     while start > low and not found:
         start = max(low, high - window)
         window *= 4
@@ -123,17 +155,16 @@ def last_entries(consumer: Consumer, partition: TopicPartition, low: int, high: 
     return found
 
 
-def entries_from(consumer: Consumer, start: TopicPartition, high: int) -> dict[int, Line]:
-    """The committed entries from an offset to the end of its partition, by number."""
-    found: dict[int, Line] = {}
+def entries_from(consumer: Consumer, start: TopicPartition, high: int) -> list[Entry]:
+    """The committed entries from an offset to the end of its partition, in order."""
+    found: list[Entry] = []
     consumer.assign([start])
     while True:
         message = consumer.poll(WAIT)
         if message is None:
             raise TimeoutError(f"the end of {start.topic} does not come for {WAIT} s")
         if not message.error():
-            line = entry_of(message, start.topic)
-            found[line["entry"]] = line
+            found.append(entry_of(message, start.topic))
         elif message.error().code() != KafkaError._PARTITION_EOF:  # pylint: disable=protected-access
             raise KafkaException(message.error())
         elif message.offset() < high:
@@ -142,22 +173,24 @@ def entries_from(consumer: Consumer, start: TopicPartition, high: int) -> dict[i
             return found
 
 
-def entry_of(message: Message, topic: str) -> Line:
+def entry_of(message: Message, topic: str) -> Entry:
     """The entry that a message is."""
     try:
         line = json.loads(message.value())
-        if line["entry"] == int(message.key()):
-            return line
-    except (ValueError, TypeError, KeyError):
+        journal = dict(message.headers() or []).get("journal", b"").decode("ascii")
+        if line["entry"] == int(message.key()) and re.fullmatch("([0-9a-f]{32})?", journal):
+            return Entry(line, journal)
+    except (ValueError, TypeError, KeyError, AttributeError):
         pass
     raise OSError(f"the topic {topic} has a message that is no entry, at offset {message.offset()}")
 
 
-def hand_over(producer: Producer, topic: str, lines: list[Line]) -> None:
-    """Sends entries as one transaction, and waits until it is committed."""
+def hand_over(producer: Producer, topic: str, lines: list[Line], journal: str) -> None:
+    """Sends entries of a journal as one transaction, and waits until it is committed."""
     producer.begin_transaction()
     for line in lines:
-        producer.produce(topic, key=str(line["entry"]), value=text_of(line), partition=0)
+        headers = [("journal", journal.encode("ascii"))]
+        producer.produce(topic, key=str(line["entry"]), value=text_of(line), headers=headers, partition=0)
     if producer.flush(WAIT):
         raise TimeoutError(f"the brokers do not acknowledge for {WAIT} s")
     producer.commit_transaction(WAIT)
@@ -165,14 +198,14 @@ def hand_over(producer: Producer, topic: str, lines: list[Line]) -> None:
 
 def carry(given: argparse.Namespace, security: Security, carried: Carried) -> None:
     """Hands entries over until the feed or the brokers fail."""
-    place = Place(given.topic, settings_of(given, security))
+    topic = Topic(given.topic, settings_of(given, security))
     failed: deque[KafkaError] = deque(maxlen=1)
     try:
-        producer = producer_at(place, given.transactional_id or f"acdm-bridge-{given.topic}", failed)
-        first, last = going_on(place, given.first)
-        for lines in feed_lines(given.feed, first, last):
+        producer = producer_at(topic, given.transactional_id or f"acdm-bridge-{given.topic}", failed)
+        place, last = going_on(topic, given.first)
+        for lines in feed_lines(given.feed, place, last):
             for start in range(0, len(lines), BATCH):
-                hand_over(producer, place.topic, lines[start : start + BATCH])
+                hand_over(producer, topic.name, lines[start : start + BATCH], place.journal)
                 carried()
     except KafkaException as error:
         raise OSError(reason_of(error, failed)) from None

@@ -6,14 +6,17 @@
 FEED is the address of `acdm serve --changes`, as 127.0.0.1:4100, BROKER that of the broker, as 127.0.0.1:1883. --tls or
 --cafile asks for TLS. Topics:
 
-    TOPIC/entry           each entry, as its line of the feed
+    TOPIC/entry           each entry, as its line of the feed, with the member `journal` before: the journal's name
     TOPIC/flight/NUMBER   the record of a flight as it is now, retained
-    TOPIC/next            the number of the entry that comes next, retained: from there the bridge goes on after a break
+    TOPIC/next            the number of the entry that comes next and the name of its journal, with a space between,
+                          retained: from there the bridge goes on after a break
     TOPIC/bridge          what a bridge sends itself when it begins
 
 Messages have quality of service 1, and each entry waits until the one before is acknowledged with all its flights. Each
-entry is handed over at least once: an entry that was cut off before its TOPIC/next comes again, with the same number.
-No retained record goes back in time, as long as the broker keeps what is retained. Outside what is proved.
+entry is handed over at least once: an entry that was cut off before its TOPIC/next comes again, with the same number
+and journal. No retained record goes back in time, as long as the broker keeps what is retained. Of another journal all
+entries are handed over, from entry 0 on, which one line on standard error says; before them what is retained of flights
+is removed. Outside what is proved.
 """
 
 import argparse
@@ -29,6 +32,7 @@ from bridge import (
     Address,
     Carried,
     Line,
+    Place,
     Security,
     Words,
     end,
@@ -36,8 +40,10 @@ from bridge import (
     forever,
     one_line,
     parse_address,
+    place_of,
     run,
     text_of,
+    text_of_place,
 )
 
 try:
@@ -74,7 +80,10 @@ class Broker:
 
     def __init__(self, topic: str, security: Security | None) -> None:
         self.topic, self.lost = topic, ""
-        self.number: int | None = None
+        # What TOPIC/next says, the journals that this bridge has gone on from, and the flights that are retained.
+        self.place: Place | None = None
+        self.left: set[str] = set()
+        self.flights: set[str] = set()
         self.token = uuid.uuid4().hex
         self.events: queue.SimpleQueue[tuple[str, Any]] = queue.SimpleQueue()
         identity = f"acdm-bridge-{topic.replace('/', '-')}"
@@ -91,10 +100,12 @@ class Broker:
         self.events.put(("lost", self.lost))
 
     def receive(self, _client: Any, _data: Any, message: Any) -> None:
-        """Notes the number in TOPIC/next, and the token of this connection in TOPIC/bridge."""
-        text = message.payload.decode("utf-8", "replace")
-        if message.topic == f"{self.topic}/next" and text:
-            self.events.put(("number", text))
+        """Notes what TOPIC/next says, which flights are retained, and the token of this connection in TOPIC/bridge."""
+        text, name = message.payload.decode("utf-8", "replace"), message.topic.removeprefix(f"{self.topic}/")
+        if name == "next" and text:
+            self.events.put(("place", text))
+        elif name.startswith("flight/") and text and message.retain:
+            self.events.put(("flight", name))
         elif text == self.token:
             self.events.put(("token", text))
 
@@ -116,16 +127,26 @@ class Broker:
                 raise TimeoutError(f"the broker does not answer for {seconds} s") from None
             if event == "lost":
                 raise ConnectionError(value)
-            if event == "number":
-                self.take_number(value)
+            self.take(event, value)
             if event == kind:
                 return value
 
-    def take_number(self, text: str) -> None:
-        """Takes a number that stands in TOPIC/next: the greatest counts."""
-        if not re.fullmatch("[0-9]{1,20}", text):
-            raise OSError(f"{self.topic}/next does not hold the number of an entry: {text[:40]!r}")
-        self.number = max(int(text), self.number or 0)
+    def take(self, event: str, value: Any) -> None:
+        """Takes what came of TOPIC/next and TOPIC/flight."""
+        if event == "place":
+            self.take_place(value)
+        elif event == "flight":
+            self.flights.add(value)
+
+    def take_place(self, text: str) -> None:
+        """Takes what stands in TOPIC/next: of one journal the greatest number counts, of one that was left none."""
+        told = place_of(text)
+        if told is None:
+            raise OSError(f"{self.topic}/next does not hold the number of an entry and a journal: {text[:60]!r}")
+        if self.place and self.place.journal == told.journal:
+            self.place.next = max(self.place.next, told.next)
+        elif told.journal not in self.left:
+            self.place = told
 
     def subscribe(self, *names: str) -> None:
         """Subscribes to topics, and waits until the broker has granted that."""
@@ -133,8 +154,8 @@ class Broker:
         if REFUSED in self.wait_for("subscribed", WAIT):
             raise OSError(f"the broker does not let this user subscribe to {self.topic}/{' or /'.join(names)}")
 
-    def next_entry(self) -> int:
-        """The number that TOPIC/next retains, or 0 where there is none.
+    def begin(self) -> Place:
+        """The place that TOPIC/next retains, or entry 0 where there is none.
 
         That there is none is known only once the broker has answered: the token is retained after the broker has
         granted TOPIC/next, and is asked for behind TOPIC/next, so that a retained number comes before it.
@@ -151,17 +172,42 @@ class Broker:
                 if time.monotonic() > last:
                     raise
         self.publish("bridge", "", retain=True)
-        self.number = self.number or 0
-        return self.number
+        self.place = self.place or Place()
+        return Place(self.place.journal, self.place.next)
 
-    def check_number(self, first: int) -> None:
-        """OSError where the broker has a number beyond `first`, as one that another bridge has published."""
+    def check_place(self, journal: str, first: int) -> None:
+        """OSError where the broker has a place that another bridge has published."""
         while not self.events.empty():
-            event, value = self.events.get()
-            if event == "number":
-                self.take_number(value)
-        if self.number is not None and self.number > first:
-            raise OSError(f"{self.topic}/next says {self.number} where this bridge has come to {first}")
+            self.take(*self.events.get())
+        assert self.place is not None
+        if self.place.journal != journal or self.place.next > first:
+            own = text_of_place(Place(journal, first))
+            raise OSError(f"{self.topic}/next says {text_of_place(self.place)} where this bridge has come to {own}")
+
+    def turn_to(self, journal: str, first: int) -> None:
+        """Goes on in a journal that has another name than TOPIC/next says: of another one no flight is there yet."""
+        assert self.place is not None
+        if self.place.next > first == 0:
+            self.remove_flights()
+        self.left = (self.left | {self.place.journal}) - {journal}
+        self.place = Place(journal, first)
+
+    def remove_flights(self) -> None:
+        """Removes what is retained of flights; a broker may tell of some of them at a time."""
+        while True:
+            self.flights.clear()
+            self.publish("bridge", self.token, retain=True)
+            self.subscribe("flight/+", "bridge")
+            try:
+                self.wait_for("token", ASK_AGAIN)
+            except TimeoutError:
+                if not self.flights:
+                    raise
+            if not self.flights:
+                break
+            self.wait_until_acknowledged([self.send(name, "", True) for name in self.flights])
+        self.publish("bridge", "", retain=True)
+        self.client.unsubscribe(f"{self.topic}/flight/+")
 
     def publish(self, name: str, payload: str, retain: bool = False) -> None:
         """Publishes a message, and waits until it is acknowledged."""
@@ -182,13 +228,15 @@ class Broker:
                     raise TimeoutError(f"the broker does not acknowledge for {WAIT} s")
                 message.wait_for_publish(1)
 
-    def hand_over(self, line: Line) -> None:
-        """Publishes an entry, the flights that it changed, and then the number of the next."""
-        self.check_number(line["entry"])
-        self.publish("entry", text_of(line))
+    def hand_over(self, line: Line, journal: str) -> None:
+        """Publishes an entry of a journal, the flights that it changed, and then the place of the next."""
+        if self.place and self.place.journal != journal:
+            self.turn_to(journal, line["entry"])
+        self.check_place(journal, line["entry"])
+        self.publish("entry", text_of({"journal": journal, **line}))
         records = {f"flight/{record['flight']}": text_of(record) for record in line["changed"]}
         self.wait_until_acknowledged([self.send(name, text, True) for name, text in records.items()])
-        self.publish("next", str(line["entry"] + 1), retain=True)
+        self.publish("next", text_of_place(Place(journal, line["entry"] + 1)), retain=True)
 
     def close(self) -> None:
         """Ends the connection."""
@@ -204,9 +252,10 @@ def carry(given: argparse.Namespace, security: Security, carried: Carried) -> No
         broker.client.tls_set_context(security.context())
     try:
         broker.open(given.broker)
-        for lines in feed_lines(given.feed, broker.next_entry()):
+        place = broker.begin()
+        for lines in feed_lines(given.feed, place):
             for line in lines:
-                broker.hand_over(line)
+                broker.hand_over(line, place.journal)
                 carried()
     except (RuntimeError, ValueError) as error:
         raise OSError(f"the broker: {error}") from None

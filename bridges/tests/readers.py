@@ -1,11 +1,12 @@
 #!/usr/bin/env python3
 """Prints what a broker has, for tests.
 
-    bridges/tests/readers.py kafka SERVERS TOPIC                partition, key and value of each committed message
-    bridges/tests/readers.py mqtt HOST:PORT FILTER IDENTITY     retained (0 or 1), topic and payload of each message
-    bridges/tests/readers.py amqp URL QUEUE                     id and body of each message, which it takes
+    bridges/tests/readers.py kafka SERVERS TOPIC                partition, key, journal and value
+    bridges/tests/readers.py mqtt HOST:PORT FILTER IDENTITY     retained (0 or 1), topic and payload
+    bridges/tests/readers.py amqp URL QUEUE                     id, journal and body
 
-That of MQTT reads until it is ended, the others until nothing is left.
+Printed are these of each message, of Kafka of each that is committed. That of AMQP takes them. That of MQTT reads until
+it is ended, the others until nothing is left.
 """
 
 import importlib
@@ -26,7 +27,8 @@ def read_kafka(servers: str, topic: str) -> None:
         if message.error():
             partitions.remove(message.partition())
         else:
-            print(message.partition(), message.key().decode(), message.value().decode())
+            journal = dict(message.headers() or []).get("journal", b"-").decode()
+            print(message.partition(), message.key().decode(), journal, message.value().decode())
     consumer.close()
 
 
@@ -50,12 +52,13 @@ def read_mqtt(broker: str, wanted: str, identity: str) -> None:
 def read_amqp(url: str, queue: str) -> None:
     """Takes messages until none comes for two seconds."""
     proton = importlib.import_module("proton")
-    link = importlib.import_module("proton.utils").BlockingConnection(url, timeout=10)
+    mechanisms = {"allow_insecure_mechs": True, "allowed_mechs": "PLAIN"} if "@" in url else {}
+    link = importlib.import_module("proton.utils").BlockingConnection(url, timeout=10, **mechanisms)
     receiver = link.create_receiver(queue, credit=100)
     try:
         while True:
             message = receiver.receive(timeout=2)
-            print(message.id, message.body)
+            print(message.id, (message.properties or {}).get("journal", "-"), message.body)
             receiver.accept()
     except proton.Timeout:
         link.close()

@@ -1,5 +1,6 @@
 """What the tests of the bridges share: paths, a bridge that runs, its lines on standard error, a feed, certificates."""
 
+import hashlib
 import os
 import shutil
 import subprocess
@@ -98,8 +99,13 @@ def make_certificates(room: Path) -> None:
         subprocess.run(["openssl", *words], cwd=room, capture_output=True, check=True)
 
 
-def small_feed(count: int) -> list[str]:
-    """The lines of a feed of so many entries, which change no flight."""
+def small_feed(count: int, session: int = 1) -> list[str]:
+    """The lines of a feed of so many entries, which change no flight; of another session it is another journal."""
     minute, result = '"minute":"2025-02-20T09:00:00Z"', '"outcome":"ok","answers":[],"changed":[]'
-    rest = f'{minute},"session":1,"role":"APT","command":{{"cmd":"tick"}},{result}'
+    rest = f'{minute},"session":{session},"role":"APT","command":{{"cmd":"tick"}},{result}'
     return [f'{{"entry":{number},{rest}}}\n' for number in range(count)]
+
+
+def name_of(lines: list[str]) -> str:
+    """The name of the journal of a feed, for tests: any that its first line decides."""
+    return hashlib.sha256(lines[0].encode()).hexdigest()[:32] if lines else ""

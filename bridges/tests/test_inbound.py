@@ -1,6 +1,9 @@
 """Lines that come by a broker: each message is entered once and replied, over a stand-in for Kafka and by itself."""
 
+import contextlib
+import io
 import json
+import sqlite3
 import unittest
 from functools import partial
 from pathlib import Path
@@ -30,6 +33,9 @@ class Entered(unittest.TestCase):
         self.inbox = Inbox(self.file)
         self.entering = Entering(partner, feed, self.inbox)
         self.addCleanup(self.entering.partner.close)
+
+    def journal(self) -> str:
+        return str(self.entering.partner.board()["journal"])
 
     def reply(self, identity: str | None, line: Any) -> dict[str, Any]:
         body = (
@@ -71,7 +77,7 @@ class Entered(unittest.TestCase):
         self.reply("a", target(0))
         # (as after a crash behind the line: it is known, and entered, and has no reply)
         count = len(self.board.entries())
-        self.inbox.begin("b", json.dumps(json.loads(target(1)), separators=(",", ":")), count)
+        self.inbox.begin("b", json.dumps(json.loads(target(1)), separators=(",", ":")), count, self.journal())
         self.entering.partner.close()
         caller = Caller(self.board.ports[0])
         told = caller.ask(json.loads(target(1)))
@@ -85,10 +91,43 @@ class Entered(unittest.TestCase):
 
     def test_a_line_that_did_not_come_through_is_sent(self) -> None:
         self.reply("a", target(0))
-        self.inbox.begin("b", json.dumps(json.loads(target(1)), separators=(",", ":")), len(self.board.entries()))
+        line, count = json.dumps(json.loads(target(1)), separators=(",", ":")), len(self.board.entries())
+        self.inbox.begin("b", line, count, self.journal())
         self.again()
         self.assertEqual(self.reply("b", target(1))["reply"].split()[0], "ok")
         self.assertEqual(check_once(self.board, 2), "")
+
+    def test_a_line_that_went_to_another_journal_is_not_sent_again(self) -> None:
+        """Its error says so each time that it comes, and one line on standard error; other messages are entered."""
+        line, said = json.dumps(json.loads(target(1)), separators=(",", ":")), io.StringIO()
+        self.inbox.begin("b", line, 3, "0" * 32)
+        with contextlib.redirect_stderr(said):
+            for _ in range(2):
+                told = self.reply("b", target(1))
+                self.assertIn("has no reply and may have been entered: the feed at", told["error"])
+                self.assertIn(f"the board has another journal, {self.journal()} for {'0' * 32}", told["error"])
+        self.assertEqual((2, 2), (said.getvalue().count("\n"), said.getvalue().count(": message b has no reply")))
+        self.assertEqual([], self.board.commands())
+        self.assertEqual("ok", self.reply("c", target(2))["reply"].split()[0])
+
+    def test_the_file_of_an_older_bridge_is_taken_over(self) -> None:
+        """Its messages have no journal: that of the board is theirs."""
+        older = room_of(self) / "older"
+        with contextlib.closing(sqlite3.connect(older)) as base:
+            base.execute(
+                "create table message (id text primary key, line text not null, first integer not null, reply text, "
+                "is_told integer not null default 0)"
+            )
+            line = json.dumps(json.loads(target(1)), separators=(",", ":"))
+            base.execute("insert into message (id, line, first) values ('b', ?, 0)", (line,))
+            base.commit()
+        self.file = older
+        self.again()
+        self.assertEqual("ok", self.reply("b", target(1))["reply"].split()[0])
+        self.assertEqual("ok", self.reply("c", target(2))["reply"].split()[0])
+        self.again()
+        known = self.inbox.known("c")
+        self.assertTrue(known and known.journal == self.journal(), known)
 
 
 @unittest.skipUnless(PROGRAM.is_file() and has_library("kafka"), "there is no program, or no confluent_kafka")
@@ -118,7 +157,7 @@ def has_commands(board: Lines, count: int) -> bool:
 
 def produce(servers: str, lines: list[str]) -> None:
     """Puts lines into the topic, as one transaction of a producer."""
-    from confluent_kafka import Producer  # pylint: disable=import-outside-toplevel
+    from confluent_kafka import Producer  # pylint: disable=import-outside-toplevel,import-error
 
     producer = Producer({"bootstrap.servers": servers, "transactional.id": "test"})
     producer.init_transactions(20)
@@ -129,7 +168,7 @@ def produce(servers: str, lines: list[str]) -> None:
 
 
 def replies_of(servers: str) -> list[str]:
-    return [line.split(" ", 2)[2] for line in read_by("kafka", servers, "replies")]
+    return [line.split(" ", 3)[3] for line in read_by("kafka", servers, "replies")]
 
 
 class Words(unittest.TestCase):
@@ -143,6 +182,7 @@ class Words(unittest.TestCase):
             with self.assertRaises(Exception, msg=text):
                 place_at(text)
 
+    @unittest.skipUnless(has_library("amqp"), "python3-qpid-proton is not there")
     def test_bad_words_end_it_with_a_line(self) -> None:
         bridge = Inbound("127.0.0.1:1", "127.0.0.1:2", "amqp://a/q", "/nowhere/at/all/state", "--replies", "r")
         bridge.begin()

@@ -7,15 +7,17 @@ from functools import partial
 
 from feed_stub import FeedStub
 from kafka_stub import END_TRANSACTION, PRODUCE, KafkaStub, Partition
-from support import Bridge, has_library, read_by, small_feed, until
+from support import Bridge, has_library, name_of, read_by, small_feed, until
 
 LINES = small_feed(40)
 
 
-def committed(broker: KafkaStub, partition: int = 0) -> list[tuple[int, str]]:
-    """Number and line of each committed message of a partition, in order."""
-    parts = [line.split(" ", 2) for line in read_by("kafka", f"127.0.0.1:{broker.port}", "acdm")]
-    return [(int(key), value + "\n") for number, key, value in parts if int(number) == partition]
+def committed(broker: KafkaStub, partition: int = 0, journal: str = name_of(LINES)) -> list[tuple[int, str]]:
+    """Number and line of each committed message of a journal in a partition, in order."""
+    parts = [line.split(" ", 3) for line in read_by("kafka", f"127.0.0.1:{broker.port}", "acdm")]
+    return [
+        (int(key), value + "\n") for number, key, name, value in parts if (int(number), name) == (partition, journal)
+    ]
 
 
 @unittest.skipUnless(has_library("kafka"), "python3-confluent-kafka is not there")
@@ -103,6 +105,39 @@ class Kafka(unittest.TestCase):
         older.process.send_signal(signal.SIGCONT)
         self.assertTrue(until(lambda: older.has_said("fenced")), older.said)
         self.assertEqual(committed(self.broker), list(enumerate(LINES)))
+
+    def test_another_journal_is_a_new_generation(self) -> None:
+        """A shorter journal, then a longer one: all their entries come, each once, also where it is begun again."""
+        feed, shorter, longer = FeedStub(LINES), small_feed(9, session=2), small_feed(60, session=3)
+        bridge = self.bridge_of(feed)
+        self.wait_for(40)
+        feed.turn_to(shorter)
+        self.wait_for(49)
+        bridge.kill()
+        feed.turn_to(longer)
+        bridge.begin()
+        self.wait_for(109)
+        for lines in (LINES, shorter, longer):
+            self.assertEqual(committed(self.broker, 0, name_of(lines)), list(enumerate(lines)))
+        said = [line for line in bridge.said if "a new generation begins at its entry 0" in line]
+        self.assertEqual(2, len(said), bridge.said)
+        self.assertIn(f"another journal, {name_of(longer)} for {name_of(shorter)}: ", said[1])
+
+    def test_a_topic_of_an_older_bridge_is_taken_over(self) -> None:
+        """Its entries have no journal: the name that is told is theirs, which one line says."""
+        from confluent_kafka import Producer  # pylint: disable=import-outside-toplevel,import-error
+
+        producer = Producer({"bootstrap.servers": self.servers, "transactional.id": "older"})
+        producer.init_transactions(20)
+        producer.begin_transaction()
+        for number, line in enumerate(LINES[:25]):
+            producer.produce("acdm", key=str(number), value=line.rstrip("\n"), partition=0)
+        producer.commit_transaction(20)
+        bridge = self.bridge_of(FeedStub(LINES))
+        self.wait_for(40)
+        self.assertEqual(committed(self.broker), list(enumerate(LINES))[25:])
+        self.assertTrue(bridge.has_said(f"it is taken to be of {name_of(LINES)}"), bridge.said)
+        self.assertEqual(1, len(bridge.said), bridge.said)
 
     def test_the_greatest_key_of_all_partitions_counts(self) -> None:
         """A topic of three partitions, whose entries so far stand in the last."""

@@ -9,7 +9,7 @@ for AMQP 1.0) and python3-qpid-proton, python3-confluent-kafka, and openssl; wha
 Kafka has no broker in Debian: it is a stand-in (kafka_stub.py), and a real one too where KAFKA_SERVERS names one. The
 feed is that of examples/journal/day.journal, as `acdm tell` tells it, sent as `serve --changes` does. Bridge and broker
 are killed at random moments and begun again; then the entries are compared. Each server is also tried with TLS and
-passwords.
+passwords, and with boards that have another journal.
 
 --quick runs the tests that need no server, at the same time as many as there are files. The last line is
 `N passed, M failed`.
@@ -35,7 +35,7 @@ from feed_stub import FeedStub
 from kafka_stub import KafkaStub
 from proxies import KillingProxy, SlowProxy
 from servers import Mosquitto, Postgresql, RabbitMq, Server
-from support import BRIDGES, PASSWORD, PYTHON, TESTS, Bridge, has_library, read_by, until
+from support import BRIDGES, PASSWORD, PYTHON, TESTS, Bridge, has_library, name_of, read_by, small_feed, until
 
 from bridge import Arguments, readable_file
 
@@ -179,11 +179,48 @@ def check_flights(reader: MqttReader, lines: Lines, port: int) -> None:
     )
 
 
+def end_of(lines: Lines) -> str:
+    """The place behind a feed, as bridges keep it."""
+    return f"{len(lines)} {name_of(lines)}"
+
+
+def told_entries(reader: MqttReader, lines: Lines) -> Lines:
+    """The entries of the journal of a feed that a reader was told, as lines of the feed."""
+    own = f'{{"journal":"{name_of(lines)}",'
+    return [f"{{{text.removeprefix(own)}\n" for text in reader.payloads("acdm/entry") if text.startswith(own)]
+
+
 def check_topics(reader: MqttReader, lines: Lines, port: int, bridge: Bridge) -> str:
     """Waits for the end, and compares all topics with the feed."""
-    wait_for_end(bridge, lambda: reader.payloads("acdm/next")[-1:] == [str(len(lines))])
+    wait_for_end(bridge, lambda: reader.payloads("acdm/next")[-1:] == [end_of(lines)])
     check_flights(reader, lines, port)
-    return check_entries([f"{text}\n" for text in reader.payloads("acdm/entry")], lines, False)
+    return check_entries(told_entries(reader, lines), lines, False)
+
+
+def others(lines: Lines) -> tuple[Lines, Lines]:
+    """The feeds of two other journals: one that is shorter, with some of the flights, and one that is longer."""
+    shorter = [line.replace('"session":', '"session":1', 1) for line in lines[: len(lines) // 3]]
+    longer = [line.replace('"session":', '"session":2', 1) for line in lines]
+    return shorter, longer + small_feed(len(lines) + 60)[len(lines) :]
+
+
+def check_said(bridge: Bridge, journals: list[Lines]) -> None:
+    """A bridge has said of each journal but the first that it is another one, in a line."""
+    said = [line for line in bridge.said if "a new generation begins at its entry 0" in line]
+    told = [f"another journal, {name_of(own)} for {name_of(before)}: " for before, own in zip(journals, journals[1:])]
+    check(len(said) == len(told) and all(map(str.__contains__, said, told)), f"not each journal is said: {bridge.said}")
+
+
+def through_journals(bridge: Bridge, feed: FeedStub, journals: list[Lines], is_there: Callable[[Lines], bool]) -> None:
+    """Has a bridge go through journals, and begins it again at each second one."""
+    for number, lines in enumerate(journals):
+        if number % 2 == 0 and number:
+            bridge.kill()
+        feed.turn_to(lines)
+        if number % 2 == 0 and number:
+            bridge.begin()
+        wait_for_end(bridge, partial(is_there, lines))
+    check_said(bridge, journals)
 
 
 def mqtt_killed(lines: Lines, chance: random.Random, room: Path) -> str:
@@ -225,16 +262,16 @@ def mqtt_slow(lines: Lines, _chance: random.Random, room: Path) -> str:
     second = first
     try:
         check(
-            until(lambda: reader.payloads("acdm/next")[-1:] == [str(half)]),
+            until(lambda: reader.payloads("acdm/next")[-1:] == [f"{half} {name_of(lines)}"]),
             f"the first half does not come: {first.said}",
         )
         first.kill()
         second = Bridge("mqtt", FeedStub(lines).address, f"127.0.0.1:{proxy.port}")
         check(
-            until(lambda: reader.payloads("acdm/next")[-1:] == [str(len(lines))], 60),
+            until(lambda: reader.payloads("acdm/next")[-1:] == [end_of(lines)], 60),
             f"the second half does not come: {second.said}",
         )
-        return check_entries([f"{text}\n" for text in reader.payloads("acdm/entry")], lines, True)
+        return check_entries(told_entries(reader, lines), lines, True)
     finally:
         second.kill()
         reader.close()
@@ -264,21 +301,73 @@ def mqtt_guarded(lines: Lines, _chance: random.Random, room: Path) -> str:
         server.stop()
 
 
+def mqtt_another(lines: Lines, _chance: random.Random, room: Path) -> str:
+    """The board has another journal, shorter and then longer; what is retained is that of the one that there is."""
+    server, journals = Mosquitto(room), [lines, *others(lines)]
+    server.start()
+    reader, feed = MqttReader(server.port), FeedStub(lines)
+    bridge = Bridge("mqtt", feed.address, f"127.0.0.1:{server.port}")
+    retained: list[set[str]] = []
+
+    def is_there(own: Lines) -> bool:
+        if reader.payloads("acdm/next")[-1:] != [end_of(own)]:
+            return False
+        retained.append(flights_retained(server.port))
+        return True
+
+    try:
+        through_journals(bridge, feed, journals, is_there)
+        check(retained == [set(states_of(own)) for own in journals], "flights of another journal are retained")
+        return ", ".join(check_entries(told_entries(reader, own), own, True) for own in journals)
+    finally:
+        bridge.kill()
+        reader.close()
+        server.stop()
+
+
+def flights_retained(port: int) -> set[str]:
+    """The topics of the flights that a broker retains."""
+    late = MqttReader(port, "acdm/flight/#", "late")
+    time.sleep(1)
+    late.close()
+    return {message[1] for message in late.messages if message[0] == "1"}
+
+
+def mqtt_older(lines: Lines, _chance: random.Random, room: Path) -> str:
+    """A number that an older bridge has retained is taken over."""
+    server, half = Mosquitto(room), len(lines) // 2
+    server.start()
+    reader = MqttReader(server.port)
+    publish = "import paho.mqtt.publish as p; p.single('acdm/next', '{}', 1, True, port={})"
+    subprocess.run([PYTHON, "-c", publish.format(half, server.port)], check=True)
+    bridge = Bridge("mqtt", FeedStub(lines).address, f"127.0.0.1:{server.port}")
+    try:
+        wait_for_end(bridge, lambda: reader.payloads("acdm/next")[-1:] == [end_of(lines)])
+        check(bridge.has_said(f"it is taken to be of {name_of(lines)}"), f"it is not said: {bridge.said}")
+        check(told_entries(reader, lines) == lines[half:], "it does not go on at the number")
+        return f"{len(lines) - half} entries, each once"
+    finally:
+        bridge.kill()
+        reader.close()
+        server.stop()
+
+
 def check_tables(server: Postgresql, lines: Lines) -> str:
     """Compares all tables with the feed."""
-    entries = [json.loads(line) for line in lines]
+    entries, where = [json.loads(line) for line in lines], f"WHERE journal = '{name_of(lines)}'"
     check(
-        [json.loads(row) for row in server.rows("SELECT line FROM entry ORDER BY entry")] == entries,
+        [json.loads(row) for row in server.rows(f"SELECT line FROM entry {where} ORDER BY entry")] == entries,
         "the entries are not those of the feed",
     )
     flights = {str(record["flight"]): record for entry in entries for record in entry["changed"]}
-    kept = dict(row.split("|", 1) for row in server.rows("SELECT flight, array_to_json(alerts) FROM flight"))
+    kept = dict(row.split("|", 1) for row in server.rows(f"SELECT flight, array_to_json(alerts) FROM flight {where}"))
     check(
         {key: json.loads(text) for key, text in kept.items()}
         == {key: record["alerts"] for key, record in flights.items()},
         "the flights are not those of the feed",
     )
-    standing = {tuple(row.split("|")) for row in server.rows("SELECT flight, name FROM alert WHERE until IS NULL")}
+    rows = server.rows(f"SELECT flight, name FROM alert {where} AND until IS NULL")
+    standing = {tuple(row.split("|")) for row in rows}
     check(
         standing == {(key, name) for key, record in flights.items() for name in record["alerts"]},
         "the alerts are not those of the feed",
@@ -340,11 +429,93 @@ def postgresql_guarded(lines: Lines, chance: random.Random, room: Path) -> str:
     return postgresql_carried(lines, chance, Postgresql(room, True), False)
 
 
+def postgresql_another(lines: Lines, _chance: random.Random, room: Path) -> str:
+    """The board has another journal, shorter and then longer, and then again the first one, which has grown."""
+    server, journals = Postgresql(room), [lines[:-9], *others(lines)]
+    server.start()
+    feed = FeedStub(journals[0])
+    bridge = Bridge("postgresql", feed.address, server.dsn())
+    count = "SELECT count(*) FROM entry WHERE journal = '{}'"
+
+    def is_there(own: Lines) -> bool:
+        return server.rows(count.format(name_of(own))) == [str(len(own))]
+
+    try:
+        through_journals(bridge, feed, journals, is_there)
+        feed.turn_to(lines)
+        wait_for_end(bridge, partial(is_there, lines))
+        check(bridge.has_said(f"begins at its entry {len(lines) - 9}"), f"it is not said: {bridge.said}")
+        names = [name_of(own) for own in (*journals[1:], lines)]
+        check(server.rows("SELECT journal FROM journal ORDER BY generation") == names, "the order of the journals")
+        return ", ".join(check_tables(server, own) for own in (*journals[1:], lines))
+    finally:
+        bridge.kill()
+        server.stop()
+
+
+def postgresql_older(lines: Lines, _chance: random.Random, room: Path) -> str:
+    """Tables of an older bridge: it is said that they have no journals, and one statement gives them some."""
+    server, half = Postgresql(room), len(lines) // 2
+    server.start()
+    server.rows((TESTS / "postgresql-0.9.0.sql").read_text(encoding="ascii"))
+    for entry in map(json.loads, lines[:half]):
+        text = json.dumps(entry).replace("'", "''")
+        server.rows(f"INSERT INTO entry VALUES ({entry['entry']}, '{entry['minute']}', 1, 'APT', 'x', 1, 0, '{text}')")
+    flight = next(record["flight"] for line in lines[:half] for record in json.loads(line)["changed"])
+    server.rows(f"INSERT INTO flight (flight, reached, alerts, entry) VALUES ({flight}, '{{}}', '{{CDM01}}', 0)")
+    server.rows(f"INSERT INTO alert VALUES ({flight}, 'CDM01', now(), NULL)")
+    bridge = Bridge("postgresql", FeedStub(lines).address, server.dsn())
+    try:
+        check(until(partial(bridge.has_said, "run bridges/postgresql-journal.sql once")), f"not said: {bridge.said}")
+        command = ["/usr/bin/psql", "-v", "ON_ERROR_STOP=1", "-f", str(BRIDGES / "postgresql-journal.sql")]
+        command.append(server.dsn())
+        subprocess.run(command, capture_output=True, check=True)
+        count = f"SELECT count(*) FROM entry WHERE journal = '{name_of(lines)}'"
+        wait_for_end(bridge, lambda: server.rows(count) == [str(len(lines))])
+        check(bridge.has_said(f"it is taken to be of {name_of(lines)}"), f"it is not said: {bridge.said}")
+        columns = (
+            "SELECT table_name, column_name, data_type, is_nullable, column_default FROM information_schema.columns"
+        )
+        columns += " WHERE table_name IN ('journal', 'entry', 'flight', 'alert') ORDER BY 1, 2"
+        found = server.rows(columns)
+        server.rows("DROP TABLE alert, flight, entry, journal")
+        server.rows((BRIDGES / "postgresql.sql").read_text(encoding="utf-8").partition("-- Queries")[0])
+        check(found == server.rows(columns), "the tables are not those of today")
+        return f"{len(lines)} entries"
+    finally:
+        bridge.kill()
+        server.stop()
+
+
+def amqp_another(lines: Lines, _chance: random.Random, room: Path) -> str:
+    """The board has another journal, shorter and then longer; at first the state is that of an older bridge."""
+    server, state, journals = RabbitMq(room), room / "next", [lines, *others(lines)]
+    server.start()
+    feed, half = FeedStub(lines), len(lines) // 2
+    state.write_text(f"{half}\n", encoding="ascii")
+    bridge = Bridge("amqp", feed.address, f"{server.url()}/acdm", state)
+
+    def is_there(own: Lines) -> bool:
+        return state.read_text(encoding="ascii") == f"{end_of(own)}\n"
+
+    try:
+        through_journals(bridge, feed, journals, is_there)
+        check(bridge.has_said(f"it is taken to be of {name_of(lines)}"), f"it is not said: {bridge.said}")
+        found = [line.split(" ", 2)[1:] for line in read_by("amqp", server.open_url(), "acdm")]
+        told = {name_of(own): [text + "\n" for name, text in found if name == name_of(own)] for own in journals}
+        check(told[name_of(lines)] == lines[half:], "it does not go on at the number")
+        return ", ".join(check_entries(told[name_of(own)], own, True) for own in journals[1:])
+    finally:
+        bridge.kill()
+        server.stop()
+
+
 def check_queue(server: RabbitMq, state: Path, lines: Lines, bridge: Bridge) -> str:
     """Waits for the end, and compares the queue with the feed."""
-    wait_for_end(bridge, lambda: state.exists() and state.read_text(encoding="ascii") == f"{len(lines)}\n")
-    found = [line.split(" ", 1)[1] + "\n" for line in read_by("amqp", server.open_url(), "acdm")]
-    return check_entries(found, lines, False)
+    wait_for_end(bridge, lambda: state.exists() and state.read_text(encoding="ascii") == f"{end_of(lines)}\n")
+    found = [line.split(" ", 2)[1:] for line in read_by("amqp", server.open_url(), "acdm")]
+    check(all(name == name_of(lines) for name, _ in found), "a message is of another journal")
+    return check_entries([text + "\n" for _, text in found], lines, False)
 
 
 def amqp_killed(lines: Lines, chance: random.Random, room: Path) -> str:
@@ -400,7 +571,7 @@ def amqp_guarded(lines: Lines, _chance: random.Random, room: Path) -> str:
 
 def read_kafka(servers: str, topic: str) -> Lines:
     """The values of the committed messages."""
-    return [line.split(" ", 2)[2] + "\n" for line in read_by("kafka", servers, topic)]
+    return [line.split(" ", 3)[3] + "\n" for line in read_by("kafka", servers, topic)]
 
 
 def kafka_carried(
@@ -438,9 +609,12 @@ def kafka_real(lines: Lines, chance: random.Random, _room: Path) -> str:
 
 Case = Callable[[Lines, random.Random, Path], str]
 CASES: dict[str, tuple[Callable[[], bool], list[Case]]] = {
-    "mqtt": (Mosquitto.is_there, [mqtt_killed, mqtt_cut, mqtt_slow, mqtt_guarded]),
-    "postgresql": (Postgresql.is_there, [postgresql_killed, postgresql_cut, postgresql_guarded]),
-    "amqp": (RabbitMq.is_there, [amqp_killed, amqp_cut, amqp_guarded]),
+    "mqtt": (Mosquitto.is_there, [mqtt_killed, mqtt_cut, mqtt_slow, mqtt_guarded, mqtt_another, mqtt_older]),
+    "postgresql": (
+        Postgresql.is_there,
+        [postgresql_killed, postgresql_cut, postgresql_guarded, postgresql_another, postgresql_older],
+    ),
+    "amqp": (RabbitMq.is_there, [amqp_killed, amqp_cut, amqp_guarded, amqp_another]),
     "kafka": (lambda: True, [kafka_stand_in, *([kafka_real] if "KAFKA_SERVERS" in os.environ else [])]),
 }
 

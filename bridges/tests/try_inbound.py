@@ -67,7 +67,7 @@ def kill_at_random(bridge: Bridge, chance: random.Random, is_over: Callable[[], 
 
 def send_mqtt(port: int, count: int) -> None:
     """Publishes lines, each once the broker has the one before."""
-    from paho.mqtt import client as mqtt  # pylint: disable=import-outside-toplevel
+    from paho.mqtt import client as mqtt  # pylint: disable=import-outside-toplevel,import-error
 
     client = mqtt.Client(client_id="sender", clean_session=False)
     client.connect("127.0.0.1", port)
@@ -121,7 +121,7 @@ LINES, REPLIES = "/amq/queue/lines", "/amq/queue/replies"
 
 def amqp_link(url: str) -> Any:
     """A connection of the test itself, without TLS, with the user and password of the URL."""
-    from proton.utils import BlockingConnection  # pylint: disable=import-outside-toplevel
+    from proton.utils import BlockingConnection  # pylint: disable=import-outside-toplevel,import-error
 
     mechanisms = {"allow_insecure_mechs": True, "allowed_mechs": "PLAIN"} if "@" in url else {}
     return BlockingConnection(url, timeout=30, **mechanisms)
@@ -129,7 +129,7 @@ def amqp_link(url: str) -> Any:
 
 def make_queues(url: str) -> None:
     """Makes the queues, which last over a crash: RabbitMQ makes one for who asks for a durable target of that name."""
-    # pylint: disable=import-outside-toplevel
+    # pylint: disable=import-outside-toplevel,import-error
     from proton import Terminus
     from proton.reactor import SenderOption
 
@@ -145,7 +145,7 @@ def make_queues(url: str) -> None:
 
 def send_amqp(url: str, count: int) -> None:
     """Sends lines to the queue, each with its id, each once the broker has accepted the one before."""
-    from proton import Message  # pylint: disable=import-outside-toplevel
+    from proton import Message  # pylint: disable=import-outside-toplevel,import-error
 
     link = amqp_link(url)
     sender = link.create_sender(LINES)
@@ -157,7 +157,7 @@ def send_amqp(url: str, count: int) -> None:
 
 def read_amqp(url: str) -> list[str]:
     """Takes the replies that are there."""
-    from proton import Timeout  # pylint: disable=import-outside-toplevel
+    from proton import Timeout  # pylint: disable=import-outside-toplevel,import-error
 
     link, found = amqp_link(url), []
     receiver = link.create_receiver(REPLIES, credit=100)
