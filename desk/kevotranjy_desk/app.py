@@ -1,12 +1,12 @@
 """The desk as a whole: its listeners, its lines to the board, and the process in front of partners of lines."""
 import asyncio
+import contextlib
 import json
 import logging
 import os
 import signal
 import ssl
 import sys
-from contextlib import AsyncExitStack
 from typing import Any
 
 from aiohttp import web
@@ -15,6 +15,7 @@ from feed import Address
 
 from . import TOP, guard
 from .accounts import Accounts
+from .bound_lines import BoundLines
 from .certificates import own_context, partners_context
 from .exchange import Exchange, say
 from .health import Health
@@ -29,6 +30,8 @@ HEAD = {
     "max_headers": guard.LONGEST_HEAD,
 }
 FIRST_PAUSE, LONGEST_PAUSE = 0.5, 10.0
+FORGETS_EACH = 3600.0
+ANSWERS_WITHIN = 5.0
 END, AGAIN = "end", "again"
 # (what strangers send that is no request is answered, and fills no log of the operator's)
 logging.getLogger("aiohttp").setLevel(logging.CRITICAL)
@@ -44,12 +47,13 @@ class Desk:  # pylint: disable=too-many-instance-attributes
         self.exchange = Exchange(settings, self.ledger)
         self.people = People(settings, self.exchange, self.accounts)
         self.partners = PartnersHttp(settings, self.exchange, self.accounts)
+        self.bound = BoundLines(settings, self.exchange)
         self.watches: dict[str, guard.Watch] = {}
         self.health = Health(self.exchange, self.accounts, self.watches)
         self.listening: dict[str, int] = {}
         self.front_ready = asyncio.Event()
         self.front_sessions: dict[int, str] = {}
-        self._stack = AsyncExitStack()
+        self._stack = contextlib.AsyncExitStack()
         self._tasks: list[asyncio.Task[None]] = []
 
     async def start(self) -> None:
@@ -63,8 +67,17 @@ class Desk:  # pylint: disable=too-many-instance-attributes
             await self.listen("partners", ports.http, self.partners.app, own)
         if settings.health:
             await self.listen("health", settings.health, lambda _watch: self.health.app(settings.names), None)
+        if ports and ports.http:
+            self._tasks.append(asyncio.create_task(self.forget_keys()))
         if ports and ports.lines:
+            await self.bound.start()
             self._tasks.append(asyncio.create_task(self.keep_front()))
+
+    async def forget_keys(self) -> None:
+        """Forgets keys of requests that are too old, now and each hour."""
+        while True:
+            self.ledger.forget_requests(self.settings.limits.key_days)
+            await asyncio.sleep(FORGETS_EACH)
 
     async def listen(self, name: str, where: Address, make: Any, context: ssl.SSLContext | None) -> None:
         """Listens at an address, with a watch over its connections."""
@@ -77,6 +90,9 @@ class Desk:  # pylint: disable=too-many-instance-attributes
         server = await asyncio.get_running_loop().create_server(
             watch.wrap(runner.server), *where, ssl=context, backlog=256, **words
         )
+        # (last in, first out: nobody more is let in, who waits for an answer gets it, then all connections end)
+        self._stack.callback(watch.end)
+        self._stack.push_async_callback(runner.server.shutdown, ANSWERS_WITHIN)
         self._stack.callback(server.close)
         self._tasks.append(asyncio.create_task(watch.run()))
         self.listening[name] = server.sockets[0].getsockname()[1]
@@ -90,6 +106,7 @@ class Desk:  # pylint: disable=too-many-instance-attributes
                 str(TOP / "desk" / "desk"),
                 "front",
                 str(self.settings.path),
+                str(self.bound.path),
                 stdin=asyncio.subprocess.PIPE,
                 stdout=asyncio.subprocess.PIPE,
             )
@@ -101,7 +118,10 @@ class Desk:  # pylint: disable=too-many-instance-attributes
             finally:
                 self.health.front = self.partners_of_lines()
                 if process.returncode is None and process.stdin:
+                    # (it may not have come so far that it reads its standard input)
                     process.stdin.close()
+                    with contextlib.suppress(ProcessLookupError):
+                        process.terminate()
                     await process.wait()
             say(f"the process for partners of lines has ended; the next one begins in {pause:.1f} s")
             await asyncio.sleep(pause)
@@ -142,6 +162,7 @@ class Desk:  # pylint: disable=too-many-instance-attributes
         for task in self._tasks:
             task.cancel()
         await asyncio.gather(*self._tasks, return_exceptions=True)
+        await self.bound.stop()
         await self._stack.aclose()
         await self.exchange.stop()
         self.ledger.close()

@@ -3,13 +3,15 @@
 After a break it looks at the feed before a line is sent again, as `clients/partner.py` does, of which it is made.
 """
 import asyncio
+import contextlib
 import json
+import socket
 from collections.abc import Callable
 from concurrent.futures import ThreadPoolExecutor
 from dataclasses import dataclass
 from typing import Any, TypeVar
 
-from feed import Address
+from feed import Address, Line
 from partner import CHANGES, QUESTION, Partner, Reply, Stop, is_same, reply_of
 
 # (the board comes back within this after a break, or it is away)
@@ -29,10 +31,11 @@ class Unanswered(Exception):
 
 @dataclass(frozen=True)
 class Answer:
-    """The reply to a line, and how it came, where that was in another way than usual."""
+    """The reply to a line, how it came, where that was in another way than usual, and the journal of its entry."""
 
     text: str
     note: str = ""
+    journal: str | None = None
 
     @property
     def entry(self) -> int | None:
@@ -56,13 +59,21 @@ def line_text(command: Command) -> str:
     return json.dumps(command, separators=(",", ":"), ensure_ascii=True, allow_nan=False)
 
 
+class Staying(Partner):
+    """A partner that goes over to no other journal by itself: the log ties its lines to one."""
+
+    def go_over(self, told: Line) -> None:
+        raise Stop("the board has another journal")
+
+
 class BoardLine:
     """A session at an address of the board."""
 
     def __init__(self, name: str, where: Address, changes: Address) -> None:
         self.name, self.where = name, where
         self.session: int | None = None
-        self._partner = Partner(where, changes, PATIENCE)
+        self._changes = changes
+        self._partner = Staying(where, changes, PATIENCE)
         self._thread = ThreadPoolExecutor(1, thread_name_prefix=f"line-{name}")
         self._turn = asyncio.Lock()
         self._open: Command | None = None
@@ -85,26 +96,36 @@ class BoardLine:
         """Whether a line has no reply, and may have been entered."""
         return self._open is not None
 
+    @property
+    def journal(self) -> str:
+        """The name of the journal that lines go to, empty before it is known."""
+        return self._partner.journal
+
     def forget(self) -> None:
-        """Forgets the session: the board has another journal."""
-        self.session, self._partner.known, self._partner.first, self._open = None, None, None, None
+        """Forgets the session: the board has another journal. What is under way ends as one of the journal before."""
+        before, self._partner = self._partner, Staying(self.where, self._changes, PATIENCE)
+        self.session, self._open = None, None
+        end_connection(before)
 
     def close(self) -> None:
-        self._partner.close()
+        """Ends the session's connection; a thread that waits for a reply there goes on at once, and tries no more."""
+        end_connection(self._partner)
         self._thread.shutdown(wait=False, cancel_futures=True)
 
     async def _run(self, work: Callable[[], Found]) -> Found:
         try:
             # (those before it are answered within milliseconds, or the board does not answer)
-            await asyncio.wait_for(self._turn.acquire(), ANSWER)
-        except asyncio.TimeoutError:
+            async with asyncio.timeout(ANSWER):
+                await self._turn.acquire()
+        except TimeoutError:
             raise Away(f"{self.where[0]}:{self.where[1]} does not answer") from None
         busy = asyncio.get_running_loop().run_in_executor(self._thread, work)
         # (who is not answered in time leaves, and the next one's turn comes once his line has its reply)
         busy.add_done_callback(self._end_turn)
         try:
-            return await asyncio.wait_for(asyncio.shield(busy), ANSWER)
-        except asyncio.TimeoutError:
+            async with asyncio.timeout(ANSWER):
+                return await asyncio.shield(busy)
+        except TimeoutError:
             raise Unanswered(f"{self.where[0]}:{self.where[1]} does not answer for {ANSWER:.0f} s") from None
 
     def _end_turn(self, done: "asyncio.Future[Any]") -> None:
@@ -114,47 +135,65 @@ class BoardLine:
         self._turn.release()
 
     def _begin(self) -> Answer:
-        connection = self._partner.connection
+        partner, connection = self._partner, self._partner.connection
         connection.until = None
         try:
+            connection.connect()
+            partner.meet()
             reply = connection.insist(json.dumps(QUESTION))
-            answer = Answer(reply.text)
-            number = answer.entry
+            number = Answer(reply.text).entry
             if number is None:
                 raise Away(f"the board answers {reply.text}")
-            self._partner.take(number, QUESTION)
-            lines = self._partner.entries_from(number)
+            if connection.is_new:
+                raise Away("the connection broke")
+            partner.take(number, QUESTION)
+            lines = partner.entries_from(number)
         except Stop as why:
             raise Away(str(why)) from None
         if not lines or lines[0]["entry"] != number or not is_same(lines[0]["command"], QUESTION):
             raise Away(f"entry {number} of the feed is not the question that was asked")
         self.session = int(lines[0]["session"])
-        return answer
+        return Answer(reply.text, "", partner.journal)
 
     def _ask(self, command: Command, text: str) -> Answer:
         if self._open is not None:
             raise Away("a line before has no reply yet")
+        partner = self._partner
         try:
-            reply: Reply = self._partner.ask(text)
+            reply: Reply = partner.ask(text)
         except Stop as why:
-            if self._partner.is_uncertain:
-                self._open = command
+            if partner.is_uncertain:
+                if partner is self._partner:
+                    self._open = command
                 raise Unanswered(str(why)) from None
             raise Away(str(why)) from None
-        return Answer(reply.text, reply.note)
+        return Answer(reply.text, reply.note, partner.journal)
 
     def _settle(self) -> Answer | None:
-        command = self._open
+        partner, command = self._partner, self._open
         if command is None:
             return None
-        self._partner.connection.until = None
+        partner.connection.until = None
         try:
-            entry = self._partner.find(command) if command.get("cmd") in CHANGES else None
+            entry = partner.find(command) if command.get("cmd") in CHANGES else None
         except Stop as why:
             raise Away(str(why)) from None
         self._open = None
-        self._partner.is_uncertain = False
+        partner.is_uncertain = False
         if entry is None:
             return None
-        self._partner.take(entry["entry"], command)
-        return Answer(reply_of(entry), "from the feed")
+        partner.take(entry["entry"], command)
+        return Answer(reply_of(entry), "from the feed", partner.journal)
+
+
+def end_connection(partner: Partner) -> None:
+    """Ends a partner's connection; who waits for a reply there goes on at once, and tries no more."""
+    connection = partner.connection
+    connection.patience = 0.0
+    if connection.until is not None:
+        connection.until = 0.001
+    stream = connection.stream
+    if stream is not None:
+        with contextlib.suppress(OSError):
+            stream.shutdown(socket.SHUT_RDWR)
+    partner.close()

@@ -133,8 +133,8 @@ def words() -> Arguments:
 
 def main(arguments: list[str]) -> int:
     """Runs a command; its status is 2 with one line where something is wrong with words or settings."""
-    if len(arguments) == 2 and arguments[0] == "front":
-        return front.main(Path(arguments[1]))
+    if len(arguments) in (2, 3) and arguments[0] == "front":
+        return front.main(Path(arguments[1]), *arguments[2:])
     if arguments == ["openapi"]:
         print(openapi.text(), end="")
         return 0

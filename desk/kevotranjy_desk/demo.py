@@ -21,7 +21,8 @@ from .app import Desk
 from .ledger import Ledger
 from .settings import BadSettings, read_settings
 
-PLACES = ("crates/acdm/out/acdm", "target/unproved/acdm")
+# (the first is that of an archive; in a checkout there is a script of this name)
+PLACES = ("acdm", "crates/acdm/out/acdm", "target/unproved/acdm")
 PEOPLE = {
     "anna": ("GH", '"all"', '"all"'),
     "lena": ("AO", '[{ airlines = ["DLH", "EWG"] }]', '[{ airlines = ["DLH", "EWG"] }]'),
@@ -39,9 +40,9 @@ def find_program() -> Path:
     named = os.environ.get("ACDM")
     places = [Path(named)] if named else [TOP / place for place in PLACES]
     for place in places:
-        if place.is_file():
+        if place.is_file() and (named or place.read_bytes()[:4] == b"\x7fELF"):
             return place
-    raise BadSettings(f"there is no program of the board at {places[0]}: ./acdm prove builds it, or name it by ACDM")
+    raise BadSettings(f"there is no program of the board at {places[-1]}: ./acdm prove builds it, or name it by ACDM")
 
 
 def openssl(folder: Path, *words: str) -> None:

@@ -9,7 +9,7 @@ from partner import QUESTION
 
 from .board_line import Answer, Away, BoardLine, Command, Unanswered
 from .ledger import FOUND, NOT_ENTERED, NOT_SENT, REPLIED, Author, Ledger
-from .mirror import Entry, Mirror
+from .mirror import Entry, Mirror, older_name
 from .settings import Settings
 
 AWAY = "the board is away, nothing was sent"
@@ -44,6 +44,7 @@ class Exchange:
         self._journal = ""
         self.mirror.on_entry.append(self._notice)
         self.mirror.on_live.append(self._turn)
+        self.mirror.on_loss.append(self._lose)
 
     async def start(self) -> None:
         """Begins to follow the feed, and to greet the board whenever it is there."""
@@ -64,10 +65,11 @@ class Exchange:
         self, author: Author, address: str, command: Command, request: tuple[str, int] | None = None
     ) -> Answer:
         """The reply of the board to a line of somebody. Away where it was not sent, Unanswered where nobody knows."""
-        if self.is_away(address):
+        line, journal = self.lines[address], self.mirror.journal
+        # (an entry that its reply tells of is one of the journal that the line goes to)
+        if self.is_away(address) or line.journal != journal:
             raise Away(AWAY)
-        line = self.lines[address]
-        number = self.ledger.begin(self.mirror.journal, author, address, command, request)
+        number = self.ledger.begin(journal, author, address, command, request)
         begun = time.monotonic()
         try:
             answer = await line.ask(command)
@@ -78,24 +80,38 @@ class Exchange:
             self._open[address] = number
             raise Unanswered(f"{MAYBE} ({why})") from None
         self.on_reply(time.monotonic() - begun)
-        self.ledger.end(number, FOUND if answer.note == "from the feed" else REPLIED, answer.entry, answer.text)
+        state = FOUND if answer.note == "from the feed" else REPLIED
+        self.ledger.end(number, state, answer.entry, answer.text, answer.journal)
         return answer
 
     def _turn(self, is_live: bool) -> None:
         """The feed has come, or has gone: the board may be another one afterwards."""
         if is_live and self._journal and self._journal != self.mirror.journal:
-            for line in self.lines.values():
-                line.forget()
-            self._open.clear()
-            self.partner_sessions.clear()
+            self._forget()
+        if is_live and self.mirror.journal and not self._journal:
+            # (it may have been cut back while no desk looked on)
+            self.ledger.lose(self.mirror.journal, self.mirror.next)
         if not is_live:
             self._begun.clear()
         self._journal = self.mirror.journal or self._journal
 
+    def _forget(self) -> None:
+        """Forgets what was under way: the board has another journal, or has lost entries."""
+        for line in self.lines.values():
+            line.forget()
+        self._open.clear()
+        self.partner_sessions.clear()
+
+    def _lose(self, count: int) -> None:
+        """The journal has so many entries alone: those behind them are gone, and the next ones are others."""
+        self._forget()
+        self.ledger.lose(self.mirror.journal, count)
+
     def _notice(self, entry: Entry) -> None:
         """Keeps an entry of the desk's own sessions until it was held against the log."""
         if entry.number == 0:
-            self.ledger.rename_journal("", self.mirror.journal)
+            for before in ("", older_name(entry)):
+                self.ledger.rename_journal(before, self.mirror.journal)
             self._unchecked.clear()
             self._ours = self.ledger.sessions(self.mirror.journal)
         if entry.session in self._ours:
@@ -123,12 +139,12 @@ class Exchange:
         except Away:
             self.ledger.end(number, NOT_SENT)
             raise
-        entry, session = answer.entry, line.session
-        assert entry is not None and session is not None
-        self.ledger.end(number, REPLIED, entry, answer.text)
-        if not await self.mirror.reached(entry, LOOK):
+        entry, session, journal = answer.entry, line.session, answer.journal
+        assert entry is not None and session is not None and journal
+        self.ledger.end(number, REPLIED, entry, answer.text, journal)
+        if not await self.mirror.reached(entry, LOOK, journal):
             raise Away("the feed lags behind the board")
-        journal = self._journal = self.mirror.journal
+        self._journal = journal
         self.ledger.learn_session(journal, address, session, entry)
         self._ours = self.ledger.sessions(journal)
         # (behind this reply all lines before it are entered or dropped)
@@ -142,7 +158,7 @@ class Exchange:
         number = self._open.pop(address, None)
         if number is not None:
             if answer:
-                self.ledger.end(number, FOUND, answer.entry, answer.text)
+                self.ledger.end(number, FOUND, answer.entry, answer.text, answer.journal)
             else:
                 self.ledger.end(number, NOT_ENTERED)
 

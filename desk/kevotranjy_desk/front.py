@@ -1,6 +1,7 @@
 """The port for partners of lines: TLS with a certificate of each partner in front of the board's own addresses.
 
-It is a process of its own, so that a line waits for nobody at the desk. Bytes pass unchanged both ways. It reads its
+It is a process of its own, so that a line waits for nobody at the desk. Bytes pass unchanged both ways: to the board,
+or of a partner that is bound to some flights to the desk, which judges its lines (`bound_lines.py`). It reads its
 settings as the desk does, tells what happens as lines of JSON on standard output, and ends with its standard input.
 """
 import json
@@ -57,8 +58,9 @@ class Pair:
 class Front:
     """All pairs, and the loop that passes their bytes on."""
 
-    def __init__(self, settings: Settings, context: ssl.SSLContext, listener: socket.socket) -> None:
-        self.settings, self.context, self.listener = settings, context, listener
+    def __init__(self, settings: Settings, context: ssl.SSLContext, listener: socket.socket, bound: str) -> None:
+        # (bound is the desk's socket for partners that are bound to some flights)
+        self.settings, self.context, self.listener, self.bound = settings, context, listener, bound
         self.events = select.epoll()
         self.ends: dict[int, End] = {}
         self.pairs: set[Pair] = set()
@@ -173,15 +175,22 @@ class Front:
             self.close(self.places[oldest], "another client of this partner has come")
             pair.address = oldest
         self.places[pair.address] = pair
-        family = socket.AF_INET6 if ":" in pair.address[0] else socket.AF_INET
-        stream = socket.socket(family, socket.SOCK_STREAM)
-        stream.setblocking(False)
-        stream.setsockopt(socket.IPPROTO_TCP, socket.TCP_NODELAY, 1)
+        stream, where = self.way_for(partner, pair.address)
         pair.board = End(pair, stream, False)
         pair.stage, pair.until = "connect", time.monotonic() + CONNECT_SECONDS
         self.watch(pair.client, 0)
-        stream.connect_ex(pair.address)
+        stream.connect_ex(where)
         self.watch(pair.board, WRITE)
+
+    def way_for(self, partner: Partner, address: Address) -> tuple[socket.socket, Any]:
+        """A socket for a client of a partner, and where it connects: to the desk where the partner is bound."""
+        if partner.is_bound:
+            stream = socket.socket(socket.AF_UNIX, socket.SOCK_STREAM)
+        else:
+            stream = socket.socket(socket.AF_INET6 if ":" in address[0] else socket.AF_INET, socket.SOCK_STREAM)
+            stream.setsockopt(socket.IPPROTO_TCP, socket.TCP_NODELAY, 1)
+        stream.setblocking(False)
+        return stream, self.bound if partner.is_bound else address
 
     def connected(self, pair: Pair, board: End) -> None:
         error = board.stream.getsockopt(socket.SOL_SOCKET, socket.SO_ERROR)
@@ -191,6 +200,9 @@ class Front:
         # (from here on the time at which it came says which client of a partner is the oldest)
         pair.stage, pair.until = "pass", time.monotonic()
         assert pair.partner
+        if pair.partner.is_bound:
+            told = {"partner": pair.partner.name, "client": pair.peer, "address": pair.address}
+            board.stream.send(json.dumps(told).encode() + b"\n")
         tell("here", partner=pair.partner.name, client=pair.peer, address=pair.address)
         self.watch(board, READ)
         self.watch(pair.client, READ)
@@ -340,8 +352,8 @@ def tell(event: str, **facts: Any) -> None:
     print(json.dumps({"event": event, **facts}), flush=True)
 
 
-def main(path: Path) -> int:
-    """Serves the partners of lines that a file of settings names."""
+def main(path: Path, bound: str = "") -> int:
+    """Serves the partners of lines that a file of settings names; those that are bound by the desk's socket."""
     settings = read_settings(path)
     assert settings.ports and settings.ports.lines
     context = partners_context(settings.certificate, settings.key, settings.ports, is_required=True)
@@ -354,5 +366,5 @@ def main(path: Path) -> int:
         return 2
     with listener:
         tell("listens", port=listener.getsockname()[1])
-        Front(settings, context, listener).run()
+        Front(settings, context, listener, bound).run()
     return 0

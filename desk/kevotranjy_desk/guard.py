@@ -93,8 +93,9 @@ def set_headers(response: web.StreamResponse) -> None:
 async def body_of(request: web.Request) -> Any:
     """The value that a request has as JSON; Refused where it has none, or is too long or too slow."""
     try:
-        data = await asyncio.wait_for(request.read(), BODY_SECONDS)
-    except asyncio.TimeoutError:
+        async with asyncio.timeout(BODY_SECONDS):
+            data = await request.read()
+    except TimeoutError:
         raise Refused(408, "the request did not come to its end in time") from None
     try:
         return json.loads(data)
@@ -210,6 +211,7 @@ class Watch:
         self.connections: dict[int, Patient] = {}
         self.of_client: Counter[str] = Counter()
         self.let_go = 0
+        self.has_ended = False
 
     def wrap(self, make: Callable[[], asyncio.BaseProtocol]) -> Callable[[], asyncio.BaseProtocol]:
         return lambda: Patient(cast(asyncio.Protocol, make()), self)
@@ -218,8 +220,16 @@ class Watch:
         patient.unsent_since = time.monotonic()
         self.connections[id(patient.inner)] = patient
         self.of_client[patient.client] += 1
-        if self.is_full(patient.client):
+        if self.has_ended:
+            patient.abort()
+        elif self.is_full(patient.client):
             self.let_go += 1
+            patient.abort()
+
+    def end(self) -> None:
+        """Ends all connections, and those whose handshake comes to its end later."""
+        self.has_ended = True
+        for patient in list(self.connections.values()):
             patient.abort()
 
     def is_full(self, client: str) -> bool:

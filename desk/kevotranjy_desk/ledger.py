@@ -9,7 +9,7 @@ import sqlite3
 import sys
 from collections.abc import Iterable
 from dataclasses import dataclass
-from datetime import datetime, timezone
+from datetime import datetime, timedelta, timezone
 from pathlib import Path
 from typing import Any
 
@@ -41,6 +41,8 @@ create table if not exists request (
 );
 """
 SENT, REPLIED, FOUND, NOT_ENTERED, NOT_SENT = "sent", "replied", "from the feed", "not entered", "not sent"
+# (of a line whose entry was there, and is no more in its journal)
+LOST = "lost"
 
 
 @dataclass(frozen=True)
@@ -68,12 +70,13 @@ class Written:
     reply: str | None
 
 
-def now() -> str:
-    """The moment, in UTC, to the millisecond."""
-    return datetime.now(timezone.utc).isoformat(timespec="milliseconds").replace("+00:00", "Z")
+def now(days_ago: float = 0) -> str:
+    """The moment so many days ago, in UTC, to the millisecond."""
+    moment = datetime.now(timezone.utc) - timedelta(days=days_ago)
+    return moment.isoformat(timespec="milliseconds").replace("+00:00", "Z")
 
 
-class Ledger:
+class Ledger:  # pylint: disable=too-many-public-methods
     """The log of who did what."""
 
     def __init__(self, data: Path, log: Path | None) -> None:
@@ -143,12 +146,23 @@ class Ledger:
         )
         return int(made.lastrowid or 0)
 
-    def end(self, number: int, state: str, entry: int | None = None, reply: str | None = None) -> None:
-        """Writes down what became of a line. An entry that another line has already is told, and left to that one."""
+    def end(
+        self,
+        number: int,
+        state: str,
+        entry: int | None = None,
+        reply: str | None = None,
+        journal: str | None = None,
+    ) -> None:
+        """Writes down what became of a line, and in which journal, where that is told.
+
+        An entry that another line has already is told, and left to that one.
+        """
         try:
             self._base.execute(
-                "update line set state = ?, entry = ?, reply = ?, replied = ? where number = ?",
-                (state, entry, reply, now(), number),
+                "update line set state = ?, entry = ?, reply = ?, replied = ?, journal = coalesce(?, journal)"
+                " where number = ?",
+                (state, entry, reply, now(), journal, number),
             )
         except sqlite3.IntegrityError:
             self._base.execute(
@@ -161,8 +175,20 @@ class Ledger:
         self.tell("line", **facts, line=line.command, state=state, entry=entry, reply=reply)
 
     def rename_journal(self, before: str, after: str) -> None:
-        """Gives lines that were sent before the journal had an entry its name."""
-        self._base.execute("update or ignore line set journal = ? where journal = ?", (after, before))
+        """Gives lines that were sent before the journal had an entry, or by an older desk, its name."""
+        for table in ("line", "session", "unexplained"):
+            self._base.execute(f"update or ignore {table} set journal = ? where journal = ?", (after, before))
+
+    def lose(self, journal: str, count: int) -> None:
+        """Unties lines from the entries from a number on, which the journal has lost, and will have others of."""
+        lost = (journal, count)
+        made = self._base.execute(
+            "update line set state = ?, entry = null where journal = ? and entry >= ?", (LOST, *lost)
+        )
+        self._base.execute("delete from session where journal = ? and first >= ?", lost)
+        self._base.execute("delete from unexplained where journal = ? and entry >= ?", lost)
+        if made.rowcount:
+            self.tell("the journal has lost entries", journal=journal, entries=count, lines=made.rowcount)
 
     def learn_session(self, journal: str, address: str, session: int, first: int) -> None:
         """Notes that a session is that of an address, from an entry on."""
@@ -269,6 +295,22 @@ class Ledger:
 
     def note_request(self, who: str, key: str, digest: str) -> None:
         self._base.execute("insert into request values (?, ?, ?, ?)", (who, key, digest, now()))
+
+    def forget_requests(self, days: int) -> int:
+        """Forgets the keys of requests that came so many days ago or before, and returns how many. Their lines stay."""
+        with self._base:
+            self._base.execute("begin immediate")
+            old = self._base.execute("select who, key from request where moment < ?", (now(days),)).fetchall()
+            # (a line that nobody knows the end of yet keeps its key, and with it its request)
+            kept = {row for row in old if self._has_open(*row)}
+            gone = [row for row in old if row not in kept]
+            self._base.executemany("update line set request = null, place = null where who = ? and request = ?", gone)
+            self._base.executemany("delete from request where who = ? and key = ?", gone)
+        return len(gone)
+
+    def _has_open(self, who: str, key: str) -> bool:
+        query = "select 1 from line where who = ? and request = ? and state = ?"
+        return self._base.execute(query, (who, key, SENT)).fetchone() is not None
 
     def lines_of_request(self, who: str, key: str) -> dict[int, Written]:
         """The lines of a request by their places in it."""

@@ -9,7 +9,7 @@ from dataclasses import dataclass, field, replace
 from sys import intern
 from typing import Any
 
-from feed import LONGEST_LINE, Address, Board, Line, NoFeed, parsed
+from feed import LONGEST_LINE, Address, Board, Line, NoFeed, OtherJournal, Place, parsed
 
 FIRST_PAUSE, LONGEST_PAUSE = 0.2, 5.0
 ANSWER = 10.0
@@ -62,9 +62,9 @@ def shared(record: Line) -> Line:
     return {intern(name): value for name, value in record.items()}
 
 
-def journal_name(first: Line) -> str:
-    """What tells a journal from another: its first entry."""
-    parts = [first["minute"], first["session"], first["command"]]
+def older_name(first: Entry) -> str:
+    """What a desk before version 0.10.0 called the journal of a first entry."""
+    parts = [first.minute, first.session, first.command]
     return hashlib.sha256(json.dumps(parts, sort_keys=True).encode()).hexdigest()[:16]
 
 
@@ -90,6 +90,8 @@ class Mirror:  # pylint: disable=too-many-instance-attributes
         self.last_tick = ""
         self.on_entry: list[Callable[[Entry], None]] = []
         self.on_live: list[Callable[[bool], None]] = []
+        # (told that the journal has so many entries alone, fewer than were known)
+        self.on_loss: list[Callable[[int], None]] = []
         self._kept_changes = 0
         self._waiting: set[asyncio.Future[None]] = set()
         self._ready = asyncio.Event()
@@ -127,15 +129,16 @@ class Mirror:  # pylint: disable=too-many-instance-attributes
     async def ready(self, seconds: float) -> bool:
         """Whether all entries that there were have been read within so many seconds."""
         try:
-            await asyncio.wait_for(self._ready.wait(), seconds)
-        except asyncio.TimeoutError:
+            async with asyncio.timeout(seconds):
+                await self._ready.wait()
+        except TimeoutError:
             return False
         return True
 
-    async def reached(self, number: int, seconds: float) -> bool:
-        """Whether the entry with a number is known within so many seconds."""
+    async def reached(self, number: int, seconds: float, journal: str | None = None) -> bool:
+        """Whether the entry with a number, of a journal where one is named, is known within so many seconds."""
         end = time.monotonic() + seconds
-        while self.next <= number:
+        while self.next <= number or journal not in (None, self.journal):
             left = end - time.monotonic()
             if left <= 0:
                 return False
@@ -147,8 +150,9 @@ class Mirror:  # pylint: disable=too-many-instance-attributes
         waiting: asyncio.Future[None] = asyncio.get_running_loop().create_future()
         self._waiting.add(waiting)
         try:
-            await asyncio.wait_for(waiting, seconds)
-        except asyncio.TimeoutError:
+            async with asyncio.timeout(seconds):
+                await waiting
+        except TimeoutError:
             pass
         finally:
             self._waiting.discard(waiting)
@@ -160,7 +164,7 @@ class Mirror:  # pylint: disable=too-many-instance-attributes
             try:
                 await self._connect()
                 pause = FIRST_PAUSE
-            except (OSError, EOFError, NoFeed, asyncio.TimeoutError, ValueError) as error:
+            except (OSError, EOFError, NoFeed, ValueError) as error:
                 self.trouble = str(error) or type(error).__name__
             if self.is_live:
                 self._set_live(False)
@@ -186,34 +190,55 @@ class Mirror:  # pylint: disable=too-many-instance-attributes
             if not waiting.done():
                 waiting.set_result(None)
 
-    async def _first_line(self, words: str) -> Line:
-        """The first line that the feed sends for these words."""
-        reader, writer = await asyncio.wait_for(asyncio.open_connection(*self.where, limit=LONGEST_LINE), ANSWER)
+    async def _board(self) -> Line:
+        """The board as it is now."""
+        reader, writer = await connected(self.where)
         try:
-            writer.write(words.encode() + b"\n")
-            return parsed(whole(await asyncio.wait_for(reader.readline(), ANSWER)))
+            writer.write(b"board\n")
+            line = parsed(whole(await timely(reader)))
         finally:
             writer.close()
+        if "flights" not in line:
+            raise NoFeed("it sends no board where one is asked for")
+        return line
 
     async def _connect(self) -> None:
         """Reads the feed from the entry that comes next on, until it ends."""
-        told = await self._first_line("board")
-        count, self.room = int(told["next"]), int(told.get("room", 0))
-        name = journal_name(await self._first_line("from 0")) if count else ""
-        if self.journal and name != self.journal or count < self.next:
+        told = await self._board()
+        count, self.room = int(told["next"]), int(told["room"])
+        if self.journal and self.journal == told["journal"] and count < self.next:
+            for tell in self.on_loss:
+                tell(count)
+        if self.journal not in ("", told["journal"]) or count < self.next:
             self._forget()
-        reader, writer = await asyncio.wait_for(asyncio.open_connection(*self.where, limit=LONGEST_LINE), ANSWER)
+        reader, writer = await connected(self.where)
         try:
             writer.write(f"from {self.next}\n".encode())
+            if count:
+                self._meet(parsed(whole(await timely(reader))), told["journal"])
             while True:
                 if not self.is_live and self.next >= count:
                     self._set_live(True)
                 line = parsed(whole(await (reader.readline() if self.is_live else timely(reader))))
-                if line.get("entry") != self.next:
-                    raise NoFeed(f"entry {line.get('entry')} came in place of {self.next}")
-                self.take(line)
+                if not self.journal:
+                    # (what an empty board tells first)
+                    self._meet(line, "")
+                elif line.get("entry") != self.next:
+                    raise NoFeed(f"{line.get('entry', 'no entry')} came in place of entry {self.next}")
+                else:
+                    self.take(line)
         finally:
             writer.close()
+
+    def _meet(self, line: Line, expected: str) -> None:
+        """Takes the name of the journal, which comes before its entries, and is that which the board has told."""
+        place = Place(expected, self.next)
+        try:
+            place.meet(line)
+        except OtherJournal as other:
+            # (it has come since the board was asked for)
+            raise NoFeed(str(other)) from None
+        self.journal = place.journal
 
     def _forget(self) -> None:
         """Begins anew: the board has another journal."""
@@ -226,8 +251,6 @@ class Mirror:  # pylint: disable=too-many-instance-attributes
 
     def take(self, line: Line) -> None:
         """Takes an entry of the feed."""
-        if not line["entry"]:
-            self.journal = journal_name(line)
         # (a migrate adds members to the records that are there, in place)
         migrated = line["command"]["cmd"] == "migrate" and line["outcome"] == "ok"
         line["changed"] = [shared(record) for record in line["changed"]]
@@ -291,6 +314,12 @@ class Mirror:  # pylint: disable=too-many-instance-attributes
         self.first_kept = self.entries[0].number
 
 
+async def connected(where: Address) -> tuple[asyncio.StreamReader, asyncio.StreamWriter]:
+    """A connection to the feed, soon."""
+    async with asyncio.timeout(ANSWER):
+        return await asyncio.open_connection(*where, limit=LONGEST_LINE)
+
+
 def whole(line: bytes) -> bytes:
     """A line without its line feed; EOFError where it has none."""
     if not line.endswith(b"\n"):
@@ -300,4 +329,5 @@ def whole(line: bytes) -> bytes:
 
 async def timely(reader: asyncio.StreamReader) -> bytes:
     """A line that has to come soon, since the entry is there."""
-    return await asyncio.wait_for(reader.readline(), ANSWER)
+    async with asyncio.timeout(ANSWER):
+        return await reader.readline()

@@ -155,7 +155,7 @@ def post_lines() -> Json:
     lines = {"oneOf": [reference("Line"), {**listed(reference("Line")), "minItems": 1, "maxItems": 100}]}
     replies = [reference("Reply"), closed({"replies": listed(reference("Reply"))})]
     one = {"oneOf": [*replies, reference("Words")]}
-    about = "1 to 200 printable characters. A repeated request is answered by the first reply."
+    about = "1 to 200 printable characters. A repeated request is answered by the first reply, for 7 days by default."
     return {
         "summary": "Sends lines in order; the board answers each, and after one without an answer none is sent.",
         "parameters": [header("Idempotency-Key", about, pattern="^[!-~]{1,200}$")],

@@ -22,7 +22,7 @@ from .guard import Refused
 from .ledger import FOUND, REPLIED, SENT, Author, Written
 from .rates import Rate
 from .records import alerted, shown_record, unloaded
-from .rights import Rights, refusal
+from .rights import Rights, refusal, rights_of
 from .settings import Partner, Settings
 from .streams import Stream, Told, partner_event, text_of
 from .wording import event_of, refusal_name, refusal_words
@@ -106,14 +106,12 @@ class PartnersHttp:
             raise Refused(401, "a certificate or a bearer token of a partner is asked for")
         return partner
 
-    def rights_of(self, partner: Partner) -> Rights:
-        return Rights(partner.role, partner.see, partner.send)
-
     async def commands_of(self, request: web.Request) -> tuple[list[Any], bool, bytes]:
         """The objects that were sent, whether they are many, and the bytes of the request."""
         try:
-            data = await asyncio.wait_for(request.read(), guard.BODY_SECONDS)
-        except asyncio.TimeoutError:
+            async with asyncio.timeout(guard.BODY_SECONDS):
+                data = await request.read()
+        except TimeoutError:
             raise Refused(408, "the request did not come to its end in time") from None
         try:
             if request.content_type == NDJSON:
@@ -176,7 +174,7 @@ class PartnersHttp:
         author, address, rights = (
             Author(partner.name, "partner", request.remote or ""),
             partner_line(partner.name),
-            self.rights_of(partner),
+            rights_of(partner),
         )
         stopped: dict[str, Any] | None = None
         async with self.turns.setdefault(partner.name, asyncio.Lock()):
@@ -223,7 +221,7 @@ class PartnersHttp:
 
     async def flights(self, request: web.Request) -> web.Response:
         """All flights in sight, by the names of the feed."""
-        rights = self.rights_of(self.partner_of(request))
+        rights = rights_of(self.partner_of(request))
         found = [record for record in self.mirror.board.flights.values() if rights.sees(record)]
         return self.told_of(found, "flights")
 
@@ -232,7 +230,7 @@ class PartnersHttp:
         return web.json_response(value)
 
     async def flight(self, request: web.Request) -> web.Response:
-        rights, number = self.rights_of(self.partner_of(request)), flight_number(request.match_info["flight"])
+        rights, number = rights_of(self.partner_of(request)), flight_number(request.match_info["flight"])
         record = self.mirror.flight(number)
         if not rights.sees(record):
             raise Refused(404, "no such flight")
@@ -241,7 +239,7 @@ class PartnersHttp:
     async def history(self, request: web.Request) -> web.Response:
         """What became of a flight: each entry, by whom as far as this is his own desk."""
         partner, number = self.partner_of(request), flight_number(request.match_info["flight"])
-        if not self.rights_of(partner).sees(self.mirror.flight(number)):
+        if not rights_of(partner).sees(self.mirror.flight(number)):
             raise Refused(404, "no such flight")
         entries = self.mirror.events_of(number)
         who = self.ledger.who(self.mirror.journal, [entry.number for entry in entries])
@@ -250,7 +248,7 @@ class PartnersHttp:
         return self.told_of([event_of(entry, number, named.get(entry.number)) for entry in entries], "events")
 
     async def alerts(self, request: web.Request) -> web.Response:
-        rights = self.rights_of(self.partner_of(request))
+        rights = rights_of(self.partner_of(request))
         found = [
             {
                 "flight": record["flight"],
@@ -265,12 +263,13 @@ class PartnersHttp:
     async def events(self, request: web.Request) -> web.StreamResponse:
         """The board first, then each entry as it comes; or those from `Last-Event-ID` on."""
         partner = self.partner_of(request)
-        first, mirror = streams.last_event(request), self.mirror
+        mirror = self.mirror
+        first = streams.last_event(request, -1, mirror.journal)
 
         def whole_board() -> bytes:
             flights = [record for record in mirror.board.flights.values() if partner.see.has(record)]
-            value = {"next": mirror.next, "room": mirror.room, "flights": flights}
-            return f"id: {mirror.next}\ndata: {text_of(value)}\n\n".encode()
+            value = {"journal": mirror.journal, "next": mirror.next, "room": mirror.room, "flights": flights}
+            return f"id: {streams.place_text(mirror.next, mirror.journal)}\ndata: {text_of(value)}\n\n".encode()
 
         stream = Stream(mirror, self.told, partner.see)
-        return await stream.run(request, -1 if first is None else first, whole_board, lambda: True)
+        return await stream.run(request, first, whole_board, lambda: True)

@@ -195,7 +195,8 @@ class People:
         mirror, rights = self.mirror, self.rights_of(person)
         seen = [record for record in mirror.board.flights.values() if rights.sees(record)]
         others = [] if rights.send.is_unbounded else [str(it["flight"]) for it in seen if not rights.sends_for(it)]
-        head = text_of({"next": mirror.next, "is_live": mirror.is_live, "others": others})
+        place = streams.place_text(mirror.next, mirror.journal)
+        head = text_of({"next": mirror.next, "place": place, "is_live": mirror.is_live, "others": others})
         return f'{head[:-1]},"flights":[{",".join(map(self._record_text, seen))}]}}'.encode()
 
     def _record_text(self, record: Line) -> str:
@@ -213,7 +214,7 @@ class People:
     async def events(self, request: web.Request) -> web.StreamResponse:
         """The entries as they come, of the flights that this person sees."""
         person, session = self.signed_in(request)
-        first = streams.last_event(request)
+        first = streams.last_event(request, self.mirror.next, self.mirror.journal)
         key = request.cookies.get(guard.COOKIE, "")
 
         def may_go_on() -> bool:
@@ -223,7 +224,7 @@ class People:
             return b"event: anew\ndata: {}\n\n"
 
         stream = Stream(self.mirror, self.told, person.see)
-        return await stream.run(request, self.mirror.next if first is None else first, begin_anew, may_go_on)
+        return await stream.run(request, first, begin_anew, may_go_on)
 
     async def history(self, request: web.Request) -> web.Response:
         """What became of a flight: each entry with its person, and why it was refused."""

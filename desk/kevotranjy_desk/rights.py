@@ -6,6 +6,7 @@ from words import MILESTONES, ROLES
 
 from .mirror import Mirror
 from .scopes import NONE, Record, Scope
+from .settings import Partner
 
 # What changes a flight, and what changes the board for all.
 OF_A_FLIGHT = ("schedule", "report", "deice", "show")
@@ -29,6 +30,11 @@ class Rights:
 
     def sends_for(self, record: Record) -> bool:
         return self.see.has(record) and self.send.has(record)
+
+
+def rights_of(partner: Partner) -> Rights:
+    """What a partner is, by the settings."""
+    return Rights(partner.role, partner.see, partner.send)
 
 
 # pylint: disable-next=too-many-return-statements

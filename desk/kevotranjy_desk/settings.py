@@ -20,6 +20,7 @@ HEADER = re.compile(r"[A-Za-z0-9-]{1,60}", re.ASCII)
 FINGERPRINT = re.compile(r"sha256:[0-9A-Fa-f]{2}(:?[0-9A-Fa-f]{2}){31}", re.ASCII)
 NOBODY = "none"
 GREATEST_FLIGHT, GREATEST_STAND, LONGEST_FILE = 2**64 - 1, 65535, 1_000_000
+MOST_KEY_DAYS = 366
 
 
 class BadSettings(Exception):
@@ -58,18 +59,24 @@ class Partner:
     http: Address | None
     lines: tuple[Address, ...]
 
+    @property
+    def is_bound(self) -> bool:
+        """Whether it does not see all flights, or may not send for all."""
+        return not (self.see.is_unbounded and self.send.is_unbounded)
+
 
 @dataclass(frozen=True)
 class Limits:
     """How much in a minute: lines of a person, lines of a partner by HTTP, trials to sign in from one address.
 
-    And how many connections at a time from one address.
+    And how many connections at a time from one address, and how many days an `Idempotency-Key` is known.
     """
 
     lines: int = 60
     partner_lines: int = 600
     sign_ins: int = 10
     connections: int = 500
+    key_days: int = 7
 
 
 @dataclass(frozen=True)
@@ -353,6 +360,7 @@ def limits(file: File, path: KeyPath, value: Any) -> Limits:
         table.take_or("partner_lines", number, usual.partner_lines),
         table.take_or("sign_ins", number, usual.sign_ins),
         table.take_or("connections", number, usual.connections),
+        table.take_or("key_days", count(1, MOST_KEY_DAYS), usual.key_days),
     )
     table.end()
     return found
@@ -399,8 +407,6 @@ def partner(file: File, path: KeyPath, value: Any) -> Partner:
         tuple(table.take_or("lines", listed(address), [])),
     )
     table.end()
-    if found.lines and not (found.see.is_unbounded and found.send.is_unbounded):
-        file.refuse((*path, "lines"), 'pass unchanged, so that see and send have to be "all"')
     if found.lines and not found.certificate:
         file.refuse((*path, "certificate"), "is missing: a partner of lines shows one")
     if found.role == NOBODY and (found.send != NONE or found.http or found.lines):

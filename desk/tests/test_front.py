@@ -162,7 +162,7 @@ def sent_and_read(link: socket.socket, data: bytes, chance: random.Random) -> by
     a connection of TLS is not for two."""
     link.setblocking(False)
     found, wanted, place, piece = [], data.count(b"\n"), 0, 1
-    end = time.monotonic() + 100
+    end = time.monotonic() + 300
     while wanted > 0:
         assert time.monotonic() < end, f"{wanted} replies are missing"
         is_sending = place < len(data)

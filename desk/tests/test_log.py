@@ -1,17 +1,24 @@
 """Who did what: lines tied to entries, over crashes of the desk, of the board, and a board that does not answer."""
+import asyncio
+import contextlib
 import json
 import random
 import signal
+import socket
 import subprocess
 import sys
 import threading
+import time
 from collections.abc import Iterator
 from pathlib import Path
 
 import pytest
 from harness import PASSWORD, PROGRAM, TOP, Board, Certificates, Client, Running, instant, listens, until
 
+from carry import carried
+
 from kevotranjy_desk import board_line
+from kevotranjy_desk.app import Desk
 from kevotranjy_desk.exchange import AWAY
 from kevotranjy_desk.ledger import Ledger
 
@@ -40,9 +47,16 @@ def logged(running: Running, *words: str) -> list[dict[str, object]]:
     return [json.loads(line) for line in done.stdout.splitlines()]
 
 
-def check_all_explained(running: Running) -> None:
-    """Each entry of a session of the desk has one line of the log, with the same command and outcome."""
-    lines = {line["entry"]: line for line in logged(running) if line["entry"] is not None}
+def check_all_explained(running: Running, of_another: int = 0) -> None:
+    """Each entry of a session of the desk has one line of the log, with the same command and outcome.
+
+    So many lines of people are those of another journal, which come first.
+    """
+    told = [line for line in logged(running) if line["entry"] is not None]
+    if of_another:
+        places = [place for place, line in enumerate(told) if line["kind"] == "person"]
+        told = told[places[of_another - 1] + 1 :]
+    lines = {line["entry"]: line for line in told}
     journal, ledger = running.desk.exchange.mirror.journal, Ledger(running.settings.data, None)
     first = {session: start for session, (_, start) in ledger.sessions(journal).items()}
     assert ledger.unexplained(journal) == []
@@ -95,6 +109,26 @@ def test_another_journal_is_another_board(own: Running) -> None:
     assert until(own.is_ready)
     assert anna.enter(8, 9, "now").value["is_accepted"]
     check_all_explained_of_journal(own, 8)
+
+
+def test_a_journal_that_is_carried_over_is_another_board(own: Running, monkeypatch: pytest.MonkeyPatch) -> None:
+    """The next day begins with the same flights: what was entered before is not taken for what is entered now."""
+    monkeypatch.setenv("ACDM", str(PROGRAM))
+    anna = Client(own).sign_in("anna")
+    before = [anna.enter(7, 9, "now").value["entry"] for _ in range(3)]
+    journal = own.desk.exchange.mirror.journal
+    own.board.kill()
+    lines = "".join(line + "\n" for line in carried(own.folder / "day.journal", False))
+    command = [str(PROGRAM), "run", "--keep", str(own.folder / "next.journal")]
+    replies = subprocess.run(command, input=lines, capture_output=True, text=True, check=True).stdout
+    assert replies.count("\n") == lines.count("\n")
+    own.board.start("next.journal")
+    assert until(lambda: own.desk.exchange.mirror.journal not in ("", journal))
+    assert until(own.is_ready)
+    answer = anna.enter(7, 9, "now")
+    assert answer.value["is_accepted"], answer.body
+    check_all_explained(own, len(before))
+    check_all_explained_of_journal(own, 7)
 
 
 def check_all_explained_of_journal(running: Running, flight: int) -> None:
@@ -236,6 +270,76 @@ def test_a_board_that_is_killed_gets_each_line_once_at_most(own: Running) -> Non
     lines = [line for line in logged(own) if line["who"] == "anna" and line["entry"] is not None]
     # (those beyond the replies are of lines that were answered as unknown, and were found later)
     assert len(entered) <= len(lines) <= len(entered) + sum(status == 504 for status, _ in told)
+
+
+def test_it_ends_at_whatever_moment_it_is_told_to(own: Running) -> None:
+    """Also while it reads the feed and greets the board: each of its tasks has to take its cancellation."""
+    for number in range(10, 40):
+        own.board.flight(number)
+    own.stop()
+
+    async def begin_and_end(seconds: float) -> None:
+        desk = Desk(own.settings)
+        await desk.start()
+        await asyncio.sleep(seconds)
+        ending = asyncio.create_task(desk.stop())
+        done, _ = await asyncio.wait([ending], timeout=20)
+        assert done, f"it does not end {seconds} s after its start"
+
+    for number in range(12):
+        asyncio.run(begin_and_end(number * 0.005))
+
+
+def test_it_ends_while_the_board_does_not_answer(own: Running) -> None:
+    assert own.board.process
+    anna = Client(own).sign_in("anna")
+    own.in_step()
+    body = {"cmd": "report", "flight": "7", "milestone": 9, "time": "now", "seen": anna.last(7)}
+    own.board.process.send_signal(signal.SIGSTOP)
+
+    def enter() -> None:
+        # (whether it is answered is not said: its line is looked for at the next start)
+        with contextlib.suppress(ConnectionError):
+            anna.post("/enter", body)
+
+    waiting = threading.Thread(target=enter)
+    waiting.start()
+    ledger = Ledger(own.settings.data, None)
+    assert until(lambda: any(it.who == "anna" for it in ledger.open_lines(own.desk.exchange.mirror.journal)))
+    ledger.close()
+    begun = time.monotonic()
+    own.stop()
+    assert not own.thread.is_alive() and time.monotonic() - begun < 15
+    own.board.process.send_signal(signal.SIGCONT)
+    waiting.join()
+    own.start()
+    own.in_step()
+    check_all_explained(own)
+
+
+def test_a_connection_that_is_kept_ends_where_the_desk_begins_anew(own: Running) -> None:
+    """No request is answered by the desk that has ended."""
+    desk = Process(own)
+    own.stop()
+    desk.start()
+    context, link = own.certificates.context(), None
+    try:
+        raw = socket.create_connection(("127.0.0.1", own.listen), timeout=20)
+        link = context.wrap_socket(raw, server_hostname="localhost")
+        request = f"GET /sign-in HTTP/1.1\r\nHost: localhost:{own.listen}\r\n\r\n".encode()
+        link.sendall(request)
+        assert link.recv(1 << 16).startswith(b"HTTP/1.1 200 ")
+        assert desk.process
+        desk.process.send_signal(signal.SIGHUP)
+        rest = link.recv(1 << 16)
+        while rest:
+            rest = link.recv(1 << 16)
+    except ConnectionError:
+        pass
+    finally:
+        if link:
+            link.close()
+        desk.kill()
 
 
 def test_sighup_reads_the_settings_again(own: Running) -> None:

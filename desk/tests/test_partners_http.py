@@ -169,7 +169,7 @@ def test_what_is_no_request_is_told_and_not_sent(airport: Partner, body: bytes, 
     assert answer.status == status and answer.words and airport.running.board.count() == count
 
 
-def stream(client: Partner, wanted: int, last: int | None = None) -> list[tuple[str, Any]]:
+def stream(client: Partner, wanted: int, last: int | str | None = None) -> list[tuple[str, Any]]:
     """So many events with data, each with its id."""
     link = http.client.HTTPSConnection("127.0.0.1", client.port, context=client.context, timeout=15)
     headers = {"Host": client.host, "Authorization": client.bearer or ""}
@@ -195,18 +195,23 @@ def stream(client: Partner, wanted: int, last: int | None = None) -> list[tuple[
 def test_events_begin_with_the_board_and_go_on_where_they_were(swiss: Partner) -> None:
     running = swiss.running
     ((name, board),) = stream(swiss, 1)
-    assert int(name) == board["next"] == running.board.count() and board["room"] == 100000
+    assert name == f"{board['next']}.{board['journal']}" and board["journal"] == running.desk.exchange.mirror.journal
+    assert board["next"] == running.board.count() and board["room"] == 100000
     assert [flight["callsign"] for flight in board["flights"]] == ["SWR8"]
     running.board.ask("AO", **target(7))
     running.board.ask("AO", **target(8, 30))
     running.board.ask("APT", cmd="tick")
     running.board.ask("GH", **target(8, 31))
-    events = stream(swiss, 2, int(name))
-    assert [(int(mark), event["entry"]) for mark, event in events][0] == (board["next"] + 2, board["next"] + 1)
+    events = stream(swiss, 2, name)
+    marks = [(mark, event["entry"]) for mark, event in events]
+    assert marks[0] == (f"{board['next'] + 2}.{board['journal']}", board["next"] + 1)
+    assert stream(swiss, 2, board["next"]) == events, "a number alone is of the journal that there is"
     assert all(record["callsign"] == "SWR8" for _, event in events for record in event["changed"])
     assert "DLH7" not in json.dumps(events)
-    ((again, _),) = stream(swiss, 1, 10**12)
-    assert int(again) == running.board.count(), "an entry that is not there: the board again"
+    for last in (10**12, f"{board['next']}.{'0' * 32}", "x", f"1.{board['journal'][1:]}"):
+        ((again, _),) = stream(swiss, 1, last)
+        wanted = f"{running.board.count()}.{board['journal']}"
+        assert again == wanted, "an entry that is not there, or of another journal: the board again"
 
 
 # Who may what: of each partner the flights that it sees, for which it sends, and its role. Of flight 7 is DLH7, of 8 SWR8.

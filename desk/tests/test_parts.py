@@ -1,7 +1,8 @@
 """Parts that need no board: clock times, second factors, shares of a minute, records, names."""
 import asyncio
 import time
-from datetime import datetime, timezone
+from datetime import datetime, timedelta, timezone
+from pathlib import Path
 from typing import Any
 
 import pytest
@@ -9,6 +10,7 @@ from harness import TOP  # noqa: F401  pylint: disable=unused-import
 
 from kevotranjy_desk.accounts import code_at, step_of
 from kevotranjy_desk.guard import host_name
+from kevotranjy_desk.ledger import REPLIED, Author, Ledger
 from kevotranjy_desk.mirror import Mirror
 from kevotranjy_desk.moments import BadTime, instant
 from kevotranjy_desk.rates import Rate
@@ -110,6 +112,34 @@ def test_a_host_is_told_without_its_port(text: str, name: str) -> None:
     assert host_name(text) == name
 
 
+def requested(ledger: Ledger, key: str, moment: str, is_replied: bool = True) -> int:
+    """A line of a request with a key, which came at a moment."""
+    ledger.note_request("swiss", key, f"digest of {key}")
+    ledger.base.execute("update request set moment = ? where key = ?", (moment, key))
+    author, command = Author("swiss", "partner", "127.0.0.1"), {"cmd": "report", "flight": 8}
+    number = ledger.begin("journal", author, "partner swiss", command, (key, 0))
+    if is_replied:
+        ledger.end(number, REPLIED, number, f"ok {number}")
+    return number
+
+
+def test_keys_of_requests_are_forgotten_with_age_and_their_lines_stay(folder: Path) -> None:
+    ledger, today = Ledger(folder / "desk.sqlite", None), datetime.now(timezone.utc)
+    ages = {"new": 0.0, "young": 6.9, "old": 7.1, "older": 400.0}
+    for key, days in ages.items():
+        requested(ledger, key, (today - timedelta(days=days)).isoformat().replace("+00:00", "Z"))
+    requested(ledger, "no reply", "2020-01-01T00:00:00.000Z", is_replied=False)
+    assert ledger.forget_requests(7) == 2 and ledger.forget_requests(7) == 0
+    known = {key: ledger.request_of("swiss", key) is not None for key in [*ages, "no reply"]}
+    assert known == {"new": True, "young": True, "old": False, "older": False, "no reply": True}
+    assert [len(ledger.lines_of_request("swiss", key)) for key in ages] == [1, 1, 0, 0]
+    assert len(ledger.lines_of(8, "swiss", 100)) == 5, "who did what is not forgotten"
+    # (the key of a forgotten request is a new one)
+    number = requested(ledger, "old", today.isoformat())
+    assert list(ledger.lines_of_request("swiss", "old").values())[0].number == number
+    ledger.close()
+
+
 def feed_line(number: int) -> dict[str, Any]:
     """The line of an entry that changes a flight, by docs/FORMATS.md."""
     times = "sobt eobt ctot otot eldt aldt aibt acgt tobt tsat asbt ardt asrt asat aobt atot".split()
@@ -145,7 +175,7 @@ def test_an_entry_that_comes_while_another_is_written_is_told_at_once(monkeypatc
         stream = Stream(mirror, Told(page_event), ALL)
         monkeypatch.setattr(stream.response, "prepare", prepared)
         request: Any = None
-        await asyncio.wait_for(stream.run(request, 0, lambda: b"", lambda: True), 5)
+        await asyncio.wait_for(stream.run(request, (0, ""), lambda: b"", lambda: True), 5)
 
     monkeypatch.setattr(Stream, "write", write)
     mirror.take(feed_line(0))

@@ -219,8 +219,8 @@ def test_what_is_nothing_to_enter_is_told_and_not_sent(running: Running, anna: C
     assert running.board.count() == count
 
 
-def events_of(client: Client, path: str, wanted: int) -> list[str]:
-    """So many events of a stream."""
+def events_of(client: Client, path: str, wanted: int, has: str = "entry") -> list[str]:
+    """So many events of a stream that have a text."""
     import http.client  # pylint: disable=import-outside-toplevel
 
     link = http.client.HTTPSConnection("127.0.0.1", client.port, context=client.context, timeout=10)
@@ -231,7 +231,7 @@ def events_of(client: Client, path: str, wanted: int) -> list[str]:
     answer, found = link.getresponse(), []
     while len(found) < wanted:
         line = answer.readline().decode()
-        if line.startswith("data: ") and "entry" in line:
+        if line.startswith("data: ") and has in line:
             found.append(line[6:])
     link.close()
     return found
@@ -254,6 +254,10 @@ def test_events_tell_what_differs_of_flights_in_sight(running: Running, anna: Cl
     assert "callsign" not in fields
     both = [json.loads(line)["entry"] for line in events_of(anna, f"/events?from={first}", 2)]
     assert both == [first, first + 1]
+    place = anna.get("/board").value["place"]
+    assert place == f"{running.board.count()}.{running.desk.exchange.mirror.journal}"
+    other = f"{first}.{'0' * 32}"
+    assert events_of(anna, f"/events?from={other}", 1, "{}") == ["{}\n"], "of another journal it is begun anew"
 
 
 def test_many_who_enter_at_once_are_all_answered(running: Running) -> None:

@@ -22,7 +22,7 @@ const ORDERS = {
 const flights = new Map(), facts = new Map(), rows = new Map(), fresh = new Map(), stale = new Set();
 // What is known of each flight, in the order of the last drawing, which is nearly that of the next one.
 let ordered = [];
-let me = null, others = new Set(), next = 0, ahead = 0, most = STEP, opened = "", seen = 0, source = null;
+let me = null, others = new Set(), next = 0, mark = "0", ahead = 0, most = STEP, opened = "", seen = 0, source = null;
 let isDue = false, isWaiting = false, isBoardLive = false, isConnected = false;
 
 const element = (id) => document.getElementById(id);
@@ -224,6 +224,7 @@ async function load() {
   others = new Set(board.others);
   for (const flight of board.flights) put(flight);
   next = board.next;
+  mark = board.place;
   ahead = Date.parse(answer.headers.get("Date")) - Date.now();
   isBoardLive = board.is_live;
   if (element("one").open) fill();
@@ -233,7 +234,7 @@ async function load() {
 
 function follow() {
   if (source) source.close();
-  source = new EventSource("/events?from=" + next);
+  source = new EventSource("/events?from=" + mark);
   source.onopen = () => {
     isConnected = true;
     tell();
