@@ -78,7 +78,14 @@ def owner_of(line):
     head = (behind_brackets(head) if head.startswith("<") else head).split("{")[0].split(" where ")[0].strip()
     trait, _, of = head.rpartition(" for ")
     named = NAME.match(of)[1]
+    if not trait and not line.startswith("impl<") and "<" in of:
+        # (the methods of Numbered<TcpStream> alone stand at Numbered+TcpStream)
+        # (a lifetime is not part of a name: the methods of Entries<'_> stand at Entries)
+        named += "".join(f"+{it}" for it in re.findall(r"(?<!')\b\w+", of[of.index("<") :]))
     if trait:
+        if not line.startswith("impl<") and "<" in of:
+            # (a trait of Arc<Row> alone stands at ArcRow and its name)
+            named += "".join(re.findall(r"(?<!')\b\w+", of[of.index("<") :]))
         named += NAME.match(trait)[1]
         # (From<AllocFailed<T>> is FromAllocFailed, without the parameter)
         inside = re.search(r"<(.*)>", trait)

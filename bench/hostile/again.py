@@ -20,7 +20,7 @@ import tempfile
 import threading
 import time
 
-from cases import ALERTS, PLAN, SCHEDULE, TOP, Cases, ran, words
+from cases import ALERTS, PLAN, SCHEDULE, TOP, Cases, cause, ran, words
 
 SHOW = '{"cmd":"show","flight":7}'
 ROLES = ["NM", "ATC", "APT", "AO", "GH", "DIC"]
@@ -334,7 +334,8 @@ def once(cases, program):
     status, lines = board.ended()
     cases.expect("ends", (status, lines, board.said) == (0, ["session 1 2 end", "session 2 1 end", "closed 3"], []), lines)
     done = ran(program, ["serve", "--control", "nowhere", "APT=127.0.0.1:0"])
-    cases.expect("a bad control address", (done.returncode, done.stderr) == (2, b"acdm: control address\n"), done)
+    told = "acdm: control address\n" + cause("--control nowhere", "neither an IP address with a port nor a port")
+    cases.expect("a bad control address", (done.returncode, done.stderr) == (2, told.encode()), done)
 
 
 def by_script(cases, program, number):

@@ -1,6 +1,7 @@
 """What the scripts beside this one share: the program, lines and files that it is run on, and the count of cases."""
 
 import argparse
+import os
 import pathlib
 import subprocess
 
@@ -40,8 +41,24 @@ DAY_JOURNAL = [
 LISTING = "0: ldxh r1, [r1+60]\n1: and64 r1, 511\n2: call 2\n3: exit\naccepted 4\n"
 
 
+# What the program itself says of a file that it does not use.
+KEPT_ELSEWHERE = "another board keeps a journal in it"
+KEPT_THERE = "a board keeps its journal in it"
+NO_PLAIN_FILE = "no plain file"
+NO_ROOM = "it has more entries than --journal says"
+TAKEN = "it is a standard stream, or another file of this command"
+CHANGED = "another file is there, or it has another length than was written"
+
+
 def text(lines):
     return "".join(f"{line}\n" for line in lines)
+
+
+def cause(word, reason):
+    """The line that names the word that could not be used, and why: by the number of the system's error, or a text."""
+    if isinstance(reason, int):
+        reason = f"{os.strerror(reason)} (os error {reason})"
+    return f"acdm: {word}: {reason}\n"
 
 
 class Cases:

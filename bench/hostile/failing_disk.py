@@ -12,6 +12,7 @@ that moment) or the file system is unmounted and mounted. FILE has the entry of 
 is left out is told, and is no failure. The last line is `N cases, M failed`; status 1 where one failed.
 """
 
+import errno
 import os
 import pathlib
 import shutil
@@ -23,7 +24,7 @@ import tempfile
 import types
 from collections.abc import Sequence
 
-from cases import Cases, ran, words
+from cases import Cases, cause, ran, words
 from keep import legal, whole_of
 
 HERE = pathlib.Path(__file__).resolve().parent
@@ -35,10 +36,16 @@ LINES_BEFORE = [(0,), (5,), (150,), (300, 20)]
 MOST_LINES = 1_000
 LINES_AFTER = 200
 FIRST_MINUTE = 29_000_580
-KEEP_FAILED = (2, b"", b"acdm: keep failed\n")
+KEEP_FAILED, SAVE_FAILED = "acdm: keep failed\n", "acdm: save failed\n"
 # What comes before the first reply of a board that goes on from the file `day`, in this order.
 GOING_ON = ["fsync .", "write day.part", "fsync day.part", "rename day.part day", "fsync ."]
-FOLDER_AT_FIRST, NEW_FILE, FOLDER_AT_LAST = 1, 2, 3
+# The same where its tables do not stand beside it yet.
+GOING_ON_FIRST = [
+    *GOING_ON[:1],
+    *("write day.tables.part", "fsync day.tables.part", "rename day.tables.part day.tables", "fsync ."),
+    *GOING_ON[1:],
+]
+FOLDER_AT_FIRST, TABLES, FOLDER_OF_TABLES, NEW_FILE, FOLDER_AT_LAST = 1, 2, 3, 4, 5
 # How often an image is copied at most, until two copies are the same.
 MOST_COPIES = 20
 # A tool of the system ends within so many seconds, the script within so many.
@@ -58,6 +65,11 @@ def entry(number: int, sent: int) -> bytes:
 
 def keeping(file: pathlib.Path) -> list[str]:
     return ["run", "--keep", str(file), "--sync"]
+
+
+def failed(file: pathlib.Path, number: int = errno.EIO) -> tuple[int, bytes, bytes]:
+    """How a board ends that keeps its journal in a file where a call fails by the error of this number."""
+    return 2, b"", (KEEP_FAILED + cause(f"--keep {file}", number)).encode()
 
 
 def lines_of(file: pathlib.Path) -> list[bytes]:
@@ -211,7 +223,8 @@ class Disk:
         self.filler.unlink()
 
     def names(self) -> list[str]:
-        return sorted(path.name for path in self.top.iterdir())
+        """What stands there but the tables of its journal."""
+        return sorted(path.name for path in self.top.iterdir() if path.name != "day.tables")
 
     def after_unmount(self) -> pathlib.Path:
         """The file, once the file system was unmounted and mounted."""
@@ -235,6 +248,8 @@ class Disk:
 
 def fault(cases: Cases, name: str, program: pathlib.Path, disk: Disk, day: Day, lines: int) -> None:
     """A board answers so many lines, then it ends by a fault; one that begins while the disk has no room ends too."""
+    # (a loop device hands on what its store says, or, by some versions of the kernel, that it failed)
+    without = [failed(disk.file, number) for number in (errno.ENOSPC, errno.EIO)]
     with Board(program, keeping(disk.file)) as board:
         answered = [day.ask(board) for _ in range(lines)]
         cases.expect(f"{name}: lines are answered", all(answered), f"{answered.count(False)} are not")
@@ -243,11 +258,11 @@ def fault(cases: Cases, name: str, program: pathlib.Path, disk: Disk, day: Day, 
         while count < MOST_LINES and day.ask(board):
             count += 1
         ended = board.end()
-    cases.expect(f"{name}: a failed sync ends the board", ended == KEEP_FAILED, (count, ended))
+    cases.expect(f"{name}: a failed sync ends the board", ended in without, (count, ended))
     done = ran(program, keeping(disk.file), line(day.sent).encode() + b"\n")
     ended = (done.returncode, done.stdout, done.stderr)
-    cases.expect(f"{name}: no board goes on without room", ended == KEEP_FAILED, ended)
-    cases.expect(f"{name}: and it leaves nothing beside", disk.names() == ["day", "lost+found"], disk.names())
+    cases.expect(f"{name}: no board goes on without room", ended in without, ended)
+    cases.expect(f"{name}: and it leaves nothing beside but its tables", disk.names() == ["day", "lost+found"], disk.names())
     disk.make_room()
 
 
@@ -265,7 +280,7 @@ def round_of(cases: Cases, program: pathlib.Path, disk: Disk, turn: int, is_cut:
     cases.expect(f"{name}: the board goes on", all(answered), f"{answered.count(False)} lines are not answered")
     last = max(day.told, default=-1)
     cases.expect(f"{name}: behind what is kept", last == kept + LINES_AFTER - 1, (kept, last))
-    cases.expect(f"{name}: nothing is left beside", disk.names() == ["day", "lost+found"], disk.names())
+    cases.expect(f"{name}: nothing is left beside but its tables", disk.names() == ["day", "lost+found"], disk.names())
     cases.expect(f"{name}: and it ends", ended == (0, b"", b""), ended)
     if not is_cut:
         file = disk.after_unmount()
@@ -334,7 +349,7 @@ def failed_sync(cases: Cases, recorded: Recorded, number: int) -> None:
         answered = [day.ask(board) for _ in range(number)]
         ended = board.end()
     cases.expect(f"{name}: lines before it alone are answered", answered == [True] * (number - 1) + [False], answered)
-    cases.expect(f"{name}: the board ends", ended == KEEP_FAILED, ended)
+    cases.expect(f"{name}: the board ends", ended == failed(recorded.file), ended)
     cases.expect(
         f"{name}: it calls nothing after it", recorded.calls()[-1:] == ["fdatasync day failed"], recorded.calls()
     )
@@ -357,11 +372,12 @@ def failed_begin(cases: Cases, recorded: Recorded, number: int) -> None:
     with recorded.begin(FAIL_FSYNC=str(number)) as board:
         reply = board.ask(line(2))
         ended = board.end()
-    cases.expect(f"{name}: nothing is answered", (reply, ended) == ("", KEEP_FAILED), (reply, ended))
+    cases.expect(f"{name}: nothing is answered", (reply, ended) == ("", failed(recorded.file)), (reply, ended))
     cases.expect(f"{name}: the journal stays", recorded.file.read_bytes() == text, recorded.file.read_bytes())
-    names = [path.name for path in recorded.folder.iterdir()]
-    cases.expect(f"{name}: nothing is left beside", names == ["day"], names)
-    wanted = [*GOING_ON[: GOING_ON.index("fsync day.part")], "fsync day.part failed"]
+    names = sorted(path.name for path in recorded.folder.iterdir())
+    left = ["day"] if number < FOLDER_OF_TABLES else ["day", "day.tables"]
+    cases.expect(f"{name}: nothing is left beside but tables that are named", names == left, names)
+    wanted = [*GOING_ON_FIRST[: GOING_ON_FIRST.index("fsync day.part")], "fsync day.part failed"]
     if number == NEW_FILE:
         cases.expect(f"{name}: it does not take the place", recorded.calls() == wanted, recorded.calls())
 
@@ -375,7 +391,7 @@ def without_sync(cases: Cases, recorded: Recorded) -> None:
         ended = board.end()
     cases.expect("a board goes on without --sync", (reply, ended) == ("ok 1", (0, b"", b"")), (reply, ended))
     called = recorded.before_reply()
-    cases.expect("its first reply comes behind a new file", called == [*GOING_ON, "write day"], called)
+    cases.expect("its first reply comes behind a new file", called == [*GOING_ON_FIRST, "write day"], called)
 
 
 def replied(port: str, count: int) -> list[str]:
@@ -399,7 +415,7 @@ def served(cases: Cases, recorded: Recorded) -> None:
         replies = replied(board.read().rpartition(":")[2], 2)
         ended = board.end()
     cases.expect("serving, a failed sync is not replied to", replies == ["ok 0\n", ""], replies)
-    cases.expect("serving, it ends the board", ended[::2] == KEEP_FAILED[::2], ended)
+    cases.expect("serving, it ends the board", ended[::2] == failed(recorded.file)[::2], ended)
     with recorded.begin(*serving) as board:
         listening = board.read()
         replies = replied(listening.rpartition(":")[2], 1)
@@ -418,9 +434,11 @@ def saved(cases: Cases, recorded: Recorded) -> None:
         file.write_bytes(b"older\n")
         with recorded.begin("run", "--save", str(file), **({"FAIL_FSYNC": failing} if failing else {})) as board:
             reply = board.ask(line(0))
-            status = board.end()[0]
+            status, _, errors = board.end()
         if failing:
-            cases.expect("a save whose sync fails is told", (reply, status) == ("ok 0", 2), (reply, status))
+            told = (SAVE_FAILED + cause(f"--save {file}", errno.EIO)).encode()
+            seen = (reply, status, errors)
+            cases.expect("a save whose sync fails is told", seen == ("ok 0", 2, told), seen)
             cases.expect("and the older file stays", file.read_bytes() == b"older\n", file.read_bytes())
             continue
         called = recorded.calls()
@@ -440,7 +458,7 @@ def failing_calls(cases: Cases, program: pathlib.Path, room: pathlib.Path) -> No
     recorded = Recorded(program, room)
     for number in range(1, 7):
         failed_sync(cases, recorded, number)
-    for number in (FOLDER_AT_FIRST, NEW_FILE, FOLDER_AT_LAST):
+    for number in (FOLDER_AT_FIRST, TABLES, FOLDER_OF_TABLES, NEW_FILE, FOLDER_AT_LAST):
         failed_begin(cases, recorded, number)
     without_sync(cases, recorded)
     served(cases, recorded)

@@ -6,10 +6,11 @@
 `run --keep FILE` over a stream, killed at N moments by chance and begun again each time: every reply that was read has its entry in
 FILE, FILE is a legal journal with the rest of a line at most behind it, and the numbers go on. Then a file system that takes no
 more after so many bytes, at many places; journals with each kind of fault, cut lines, another that has the file, too little room;
-`--save`, which leaves what was there until all of it is on the disk; and files that are standard streams too, in which nothing is
-saved or kept. The last line is `N cases, M failed`; status 1 where one failed.
+`--save`, which leaves what was there until all of it is on the disk; files that are standard streams too, in which nothing is
+saved or kept; and the tables by which a journal was made, beside it, where a command has others. The last line is `N cases, M failed`; status 1 where one failed.
 """
 
+import errno
 import pathlib
 import random
 import resource
@@ -19,7 +20,8 @@ import sys
 import tempfile
 import threading
 
-from cases import ALERTS, DAY, DAY_JOURNAL, DAY_REPLIES, PLAN, SCHEDULE, TARGET, Cases, ran, text, words
+from cases import ALERTS, DAY, DAY_JOURNAL, DAY_REPLIES, PLAN, SCHEDULE, TARGET, TOP
+from cases import KEPT_ELSEWHERE, NO_ROOM, TAKEN, Cases, cause, ran, text, words
 
 # Journals that are not legal, and what is told of them.
 FAULTY = [
@@ -116,7 +118,8 @@ def full_output(cases, program, room):
     with open("/dev/full", "wb") as full:
         it = subprocess.run([str(program), "run", "--keep", str(file)], input=text(DAY).encode(), stdout=full,
                             stderr=subprocess.PIPE, timeout=60, check=False)
-    cases.expect("a full output", (it.returncode, it.stderr) == (2, b"acdm: write failed\n"), it)
+    told = "acdm: write failed\n" + cause("standard output", errno.ENOSPC)
+    cases.expect("a full output", (it.returncode, it.stderr.decode()) == (2, told), it)
     cases.expect("a full output", bool(whole_of(file)) and legal(program, file, room), file.read_bytes())
 
 
@@ -126,7 +129,8 @@ def full_disk(cases, program, room):
         file = room / f"full-{size}"
         done = came(ran(program, ["run", "--keep", file], text(DAY).encode(), preexec_fn=limited(size)))
         name = f"no more than {size} bytes"
-        cases.expect(name, done[0] == 2 and done[2] == "acdm: keep failed\n", done)
+        told = "acdm: keep failed\n" + cause(f"--keep {file}", errno.EFBIG)
+        cases.expect(name, done[0] == 2 and done[2] == told, done)
         cases.expect(name, len(numbers_of(done[1])) <= len(whole_of(file)), done)
         cases.expect(name, legal(program, file, room), file.read_bytes())
 
@@ -154,10 +158,13 @@ def faulty(cases, program, room):
         cases.expect(f"untouched, {told}", file.read_text() == text(lines) + "a rest")
     file.write_text(text(DAY_JOURNAL))
     done = came(ran(program, ["run", "--journal", "4", "--keep", file], text(DAY).encode()))
-    cases.expect("too little room", done == (2, "", "acdm: the kept journal needs a larger --journal\n"), done)
+    told = "acdm: the kept journal needs a larger --journal\n" + cause(f"--keep {file}", NO_ROOM)
+    cases.expect("too little room", done == (2, "", told), done)
     cases.expect("untouched, room", file.read_text() == text(DAY_JOURNAL))
-    done = came(ran(program, ["run", "--keep", room / "no-folder" / "file"], text(DAY).encode()))
-    cases.expect("no folder", done == (2, "", "acdm: keep failed\n"), done)
+    nowhere = room / "no-folder" / "file"
+    done = came(ran(program, ["run", "--keep", nowhere], text(DAY).encode()))
+    told = "acdm: keep failed\n" + cause(f"--keep {nowhere}", errno.ENOENT)
+    cases.expect("no folder", done == (2, "", told), done)
 
 
 def in_use(cases, program, room):
@@ -167,7 +174,8 @@ def in_use(cases, program, room):
     first.stdin.flush()
     cases.expect("the first one", first.stdout.readline() == b"ok 0\n")
     done = came(ran(program, ["run", "--keep", file], text(DAY).encode()))
-    cases.expect("a second one", done == (2, "", "acdm: the kept journal is in use\n"), done)
+    told = "acdm: the kept journal is in use\n" + cause(f"--keep {file}", KEPT_ELSEWHERE)
+    cases.expect("a second one", done == (2, "", told), done)
     first.stdin.close()
     cases.expect("the first one ends", first.wait() == 0)
     cases.expect("one entry", file.read_text() == text(DAY_JOURNAL[:1]), file.read_text())
@@ -201,21 +209,82 @@ def saved(cases, program, room):
     with open("/dev/full", "wb") as full:
         it = subprocess.run([str(program), "run", "--save", str(file)], input=text(DAY).encode(), stdout=full,
                             stderr=subprocess.PIPE, timeout=60)
-    cases.expect("a write fault", it.returncode == 2 and file.read_text() == old, it)
+    told = "acdm: write failed\n" + cause("standard output", errno.ENOSPC)
+    seen = it.returncode, it.stderr.decode(), file.read_text()
+    cases.expect("a write fault", seen == (2, told, old), seen)
     done = came(ran(program, ["serve", "--save", file, "XX=127.0.0.1:0"]))
     cases.expect("a wrong role", done[0] == 2 and file.read_text() == old, done)
     done = came(ran(program, ["run", "--save", "/dev/null"], text(DAY).encode()))
     cases.expect("a device", done == (0, text(DAY_REPLIES), ""), done)
     done = came(ran(program, ["run", "--save", file], text(DAY).encode(), preexec_fn=limited(20)))
-    cases.expect("a full disk", done[0] == 2 and done[2] == "acdm: save failed\n" and file.read_text() == old, done)
+    told = "acdm: save failed\n" + cause(f"--save {file}", errno.EFBIG)
+    cases.expect("a full disk", done[0] == 2 and done[2] == told and file.read_text() == old, done)
+
+
+def by_tables(cases, program, room):
+    """By which tables a journal was made is said beside it: by others nothing is gone on from, saved, audited or told."""
+    own = TOP / "examples" / "tables.toml"
+    same = room / "same.toml"
+    same.write_text(f"# The same tables by other words.\n{own.read_text()}")
+    built_in = "# the tables that are built in\n"
+    for option in ("--keep", "--save"):
+        for named, others, beside in (([], ["--tables", own], built_in), (["--tables", own], [], own.read_text())):
+            file = room / f"by-{option[2:]}-{len(named)}"
+            tables = room / f"{file.name}.tables"
+            name = f"{option} {' '.join(str(it) for it in named[:1])}"
+            done = came(ran(program, ["run", *named, option, file], text(DAY[:2]).encode()))
+            cases.expect(f"{name}, made", done == (0, text(DAY_REPLIES[:2]), ""), done)
+            cases.expect(f"{name}, said beside", tables.read_text() == beside, tables.read_text())
+            cases.expect(f"{name}, who may read it", tables.stat().st_mode & 0o777 == file.stat().st_mode & 0o777)
+            before, told = file.read_bytes(), f"acdm: {tables}: other tables than those of this command\n"
+            commands = [["audit", *others, file], ["tell", *others, file]]
+            for word in ("--keep", "--save"):
+                commands.append(["run", *others, word, file])
+                commands.append(["serve", *others, word, file, "APT=127.0.0.1:0"])
+            for command in commands:
+                done = came(ran(program, command, text(DAY).encode()))
+                cases.expect(f"{name}, {command[0]} with others", done == (2, "", told), done)
+            left = (file.read_bytes(), tables.read_text())
+            cases.expect(f"{name}, left as it was", left == (before, beside), left)
+            again = ["--tables", same] if named else []
+            for words in (again, ["--tables", tables]):
+                done = came(ran(program, ["audit", *words, file]))
+                cases.expect(f"{name}, audit with the same", done == (0, "legal 2\n", ""), done)
+                done = came(ran(program, ["run", *words, "--keep", file], b""))
+                cases.expect(f"{name}, gone on with the same", done == (0, "", ""), done)
+            cases.expect(f"{name}, left so", (file.read_bytes(), tables.read_text()) == (before, beside))
+    file, tables = room / "before", room / "before.tables"
+    file.write_text(text(DAY_JOURNAL[:2]))
+    for words in ([], ["--tables", own]):
+        done = came(ran(program, ["audit", *words, file]))
+        cases.expect("a journal that does not say it", done == (0, "legal 2\n", ""), done)
+    cases.expect("and audit makes no file", not tables.exists())
+    done = came(ran(program, ["run", "--tables", own, "--keep", file], b""))
+    cases.expect("it says it once it was gone on from", done == (0, "", "") and tables.read_text() == own.read_text(), done)
+    for given, told in (("turn_round = 1\n", "turn_round: not a table"), ("[turn_round\n", "line 1: not TOML")):
+        tables.write_text(given)
+        done = came(ran(program, ["run", "--keep", file], text(DAY).encode()))
+        cases.expect(told, done == (2, "", f"acdm: {tables}: {told}\n"), done)
+    tables.unlink()
+    tables.mkdir()
+    done = came(ran(program, ["audit", file]))
+    cases.expect("a folder beside", (done[0], done[1]) == (2, "") and str(tables) in done[2], done)
+    tables.rmdir()
+    link = room / "link-by"
+    link.symlink_to(file)
+    done = came(ran(program, ["run", "--keep", link], b""))
+    cases.expect("by a link, beside the link", done == (0, "", "") and (room / "link-by.tables").exists(), done)
+    done = came(ran(program, ["run", "--save", "/dev/null"], text(DAY).encode()))
+    cases.expect("a device has none", done[0] == 0 and not pathlib.Path("/dev/null.tables").exists(), done)
 
 
 def onto_streams(cases, program, room):
     """A journal is neither saved nor kept in a file that is also a standard stream, by whatever name; nothing is answered, and it stays."""
     file, hard, soft = room / "stream", room / "hard", room / "soft"
-    for option, told in (("--save", "acdm: save failed\n"), ("--keep", "acdm: keep failed\n")):
+    for option, failed in (("--save", "acdm: save failed\n"), ("--keep", "acdm: keep failed\n")):
         for stream in ("stdin", "stdout", "stderr"):
             for path in (file, hard, soft):
+                told = failed + cause(f"{option} {path}", TAKEN)
                 for it in (file, hard, soft):
                     it.unlink(missing_ok=True)
                 file.write_text(text(DAY))
@@ -245,7 +314,7 @@ def main():
     cases = Cases()
     with tempfile.TemporaryDirectory(prefix="acdm-keep-") as folder:
         room = pathlib.Path(folder)
-        for part in (gone_on, faulty, in_use, saved, onto_streams, full_output, full_disk):
+        for part in (gone_on, faulty, in_use, saved, by_tables, onto_streams, full_output, full_disk):
             part(cases, given.program, room)
         kills(cases, given.program, room, given.kills, given.seed)
     return cases.end()

@@ -10,6 +10,7 @@ itself, with status 2 and its line; journals with each kind of fault, another th
 it, which sends the same text. The last line is `N cases, M failed`; status 1 where one failed.
 """
 
+import errno
 import pathlib
 import random
 import socket
@@ -19,7 +20,8 @@ import tempfile
 import threading
 import time
 
-from cases import ALERTS, DAY, DAY_JOURNAL, PLAN, SCHEDULE, TARGET, Cases, ran, text, words
+from cases import ALERTS, DAY, DAY_JOURNAL, KEPT_ELSEWHERE, NO_ROOM, PLAN, SCHEDULE, TARGET
+from cases import Cases, cause, ran, text, words
 from keep import FAULTY, came, legal, limited, numbers_of, whole_of
 
 PARTNERS = 8
@@ -144,7 +146,8 @@ def full_disk(cases, program, room):
         name = f"no more than {size} bytes"
         told = sorted(it for got in replies for it in numbers_of(text(got)))
         kept = len(whole_of(file))
-        cases.expect(name, ended[0] == 2 and ended[2].endswith("acdm: keep failed\n"), ended)
+        owed = "acdm: keep failed\n" + cause(f"--keep {file}", errno.EFBIG)
+        cases.expect(name, ended[0] == 2 and ended[2].endswith(owed), ended)
         cases.expect(name, all(it < kept for it in told), (kept, told[-1:]))
         cases.expect(name, legal(program, file, room), kept)
 
@@ -159,11 +162,15 @@ def faulty(cases, program, room):
         cases.expect(f"untouched, {told}", file.read_text() == text(lines) + "a rest")
     file.write_text(text(DAY_JOURNAL))
     done = came(ran(program, ["serve", "--journal", "4", "--keep", file, "APT=127.0.0.1:0"]))
-    cases.expect("too little room", done == (2, "", "acdm: the kept journal needs a larger --journal\n"), done)
-    done = came(ran(program, ["serve", "--keep", room / "no-folder" / "file", "APT=127.0.0.1:0"]))
-    cases.expect("no folder", done == (2, "", "acdm: keep failed\n"), done)
+    told = "acdm: the kept journal needs a larger --journal\n" + cause(f"--keep {file}", NO_ROOM)
+    cases.expect("too little room", done == (2, "", told), done)
+    nowhere = room / "no-folder" / "file"
+    done = came(ran(program, ["serve", "--keep", nowhere, "APT=127.0.0.1:0"]))
+    told = "acdm: keep failed\n" + cause(f"--keep {nowhere}", errno.ENOENT)
+    cases.expect("no folder", done == (2, "", told), done)
     done = came(ran(program, ["serve", "--keep", file, "APT=nowhere"]))
-    cases.expect("no address", done == (2, "", "acdm: address 1\n"), done)
+    told = "acdm: address 1\n" + cause("APT=nowhere", "no IP address with a port")
+    cases.expect("no address", done == (2, "", told), done)
     cases.expect("untouched", file.read_text() == text(DAY_JOURNAL))
 
 
@@ -172,7 +179,8 @@ def in_use(cases, program, room):
     board = Board(program, file, roles=["APT"])
     for other in (["serve", "--keep", file, "APT=127.0.0.1:0"], ["run", "--keep", file]):
         done = came(ran(program, other))
-        cases.expect(f"in use, {other[0]}", done == (2, "", "acdm: the kept journal is in use\n"), done)
+        told = "acdm: the kept journal is in use\n" + cause(f"--keep {file}", KEPT_ELSEWHERE)
+        cases.expect(f"in use, {other[0]}", done == (2, "", told), done)
     (stream,) = board.connect()
     got = []
     talk(stream, [SCHEDULE], got)

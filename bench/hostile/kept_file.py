@@ -4,11 +4,11 @@
     python3 bench/hostile/kept_file.py [--program PATH]
 
 First part: the file is removed, renamed, replaced, cut or lengthened under `run --keep` and `serve --keep`; nothing is
-replied any more, the board ends within a second by itself, with `acdm: keep failed` and status 2, and what was replied
-stands in the file, where it was not taken away. Second part, by held_sync.c, preloaded: as long as a sync does not
-return, neither the partner nor a display of the journal, of the feed or of the events is sent the entry; they are once
-it does, and where the board is killed before, nobody has seen it. Third part: a journal that is standard error too has no
-line of the program's. The last line is `N cases, M failed`; status 1 where one failed.
+replied any more, the board ends within a second by itself, with `acdm: keep failed`, a line that says why, and status
+2, and what was replied stands in the file, where it was not taken away. Second part, by held_sync.c, preloaded: as long
+as a sync does not return, neither the partner nor a display of the journal, of the feed or of the events is sent the
+entry; they are once it does, and where the board is killed before, nobody has seen it. Third part: a journal that is
+standard error too has no line of the program's. The last line is `N cases, M failed`; status 1 where one failed.
 """
 
 import os
@@ -20,12 +20,12 @@ import sys
 import tempfile
 import time
 
-from cases import Cases, ran, words
+from cases import CHANGED, Cases, cause, ran, words
 from strangers import TICK, Board, asked, free_port, replied
 
 HERE = pathlib.Path(__file__).resolve().parent
 LINE = '{minute} APT {"cmd":"tick"}'
-KEEP_FAILED = b"acdm: keep failed\n"
+KEEP_FAILED = "acdm: keep failed\n"
 # How long a board takes at most to see what became of its file: a second, and the end of its threads.
 SECONDS = 3.0
 
@@ -75,7 +75,8 @@ def run_without_file(program, cases, room):
             board.stdin.flush()
             out, errors = board.communicate(timeout=30)
             ended = (board.returncode, out, errors)
-        cases.expect(f"run, {harm.__name__}: no reply", ended == (2, b"", KEEP_FAILED), ended)
+        told = KEEP_FAILED + cause(f"--keep {file}", CHANGED)
+        cases.expect(f"run, {harm.__name__}: no reply", ended == (2, b"", told.encode()), ended)
         if harm is renamed:
             cases.expect("what was replied stands there", (folder / "yesterday").read_bytes().startswith(kept))
 
@@ -99,7 +100,8 @@ def serve_without_file(program, cases, room):
                 status = board.end()
                 passed = time.monotonic() - begun
             said = [it for it in board.said if it.startswith("acdm:")]
-            cases.expect(f"{name}: the board ends", (status, said) == (2, ["acdm: keep failed"]), (status, board.said))
+            told = (KEEP_FAILED + cause(f"--keep {file}", CHANGED)).splitlines()
+            cases.expect(f"{name}: the board ends", (status, said) == (2, told), (status, board.said))
             cases.expect(f"{name}: soon", passed < SECONDS, passed)
 
 

@@ -5,12 +5,16 @@
 
 Closed standard streams, in all combinations, for each command; words that are no text; SIGSTOP and SIGCONT while it waits for
 lines, partners, files and displays; a full disk, and readers that went away, of a board with partners too; a file
-without an end; an airport's own tables, and files of them that are wrong. The last line is `N cases, M failed`; status 1 where one failed.
+without an end; an airport's own tables, and files of them that are wrong; files of settings; the line behind each
+failure, which names the file, the address or the stream, and why. The last line is `N cases, M failed`; status 1 where
+one failed.
 """
 
+import errno
 import itertools
 import os
 import pathlib
+import re
 import signal
 import socket
 import struct
@@ -20,10 +24,19 @@ import tempfile
 import threading
 import time
 
-from cases import ALERTS, DAY, DAY_JOURNAL, DAY_REPLIES, LISTING, TAXI, TOP, Cases, ran, text, words
+from cases import ALERTS, DAY, DAY_JOURNAL, DAY_REPLIES, LISTING, TAXI, TOP
+from cases import KEPT_ELSEWHERE, KEPT_THERE, NO_PLAIN_FILE, NO_ROOM, TAKEN, Cases, cause, ran, text, words
 
 PATIENCE = 30
-READ, WRITE, SAVE = (f"acdm: {word} failed\n" for word in ("read", "write", "save"))
+READ, WRITE, SAVE, KEEP = (f"acdm: {word} failed\n" for word in ("read", "write", "save", "keep"))
+IN_USE = "acdm: the kept journal is in use\n"
+ROOM = "acdm: the kept journal needs a larger --journal\n"
+WATCH, CONTROL = "acdm: watch address\n", "acdm: control address\n"
+# A closed stream fails as one that is opened for the other direction.
+CLOSED_INPUT = READ + cause("standard input", errno.EBADF)
+CLOSED_OUTPUT = WRITE + cause("standard output", errno.EBADF)
+FULL_OUTPUT = WRITE + cause("standard output", errno.ENOSPC)
+NO_READER = WRITE + cause("standard output", errno.EPIPE)
 
 
 def without(streams):
@@ -73,7 +86,7 @@ def closed_run(cases, program, room, streams):
     room.saved.unlink(missing_ok=True)
     done = came(ran(program, ["run", "--save", room.saved], text(DAY).encode(), preexec_fn=without(streams)))
     status, output, errors = done
-    fault = READ if 0 in streams else WRITE if 1 in streams else ""
+    fault = CLOSED_INPUT if 0 in streams else CLOSED_OUTPUT if 1 in streams else ""
     name = f"run --save, closed {streams}"
     cases.expect(name, status == (2 if fault else 0), done)
     cases.expect(name, output == ("" if fault else text(DAY_REPLIES)), done)
@@ -89,7 +102,7 @@ def closed_file(cases, program, command, streams):
     before = file.read_bytes()
     done = came(ran(program, [word, file], preexec_fn=without(streams)))
     status, output, errors = done
-    fault = WRITE if 1 in streams else ""
+    fault = CLOSED_OUTPUT if 1 in streams else ""
     name = f"{word}, closed {streams}"
     cases.expect(name, status == (2 if fault else 0), done)
     cases.expect(name, output == "" if fault else output == told or told is None and output != "", done)
@@ -139,7 +152,7 @@ def closed_serve(cases, program, room, streams):
     name = f"serve, closed {streams}"
     cases.expect(name, server.returncode == (2 if fault else 0), done)
     cases.expect(name, done[1] == ("" if fault else listening), done)
-    cases.expect(name, done[2] == (WRITE if fault and 2 not in streams else ""), done)
+    cases.expect(name, done[2] == (CLOSED_OUTPUT if fault and 2 not in streams else ""), done)
     cases.expect(name, reply == (b"" if fault else b"alerts 0 -\n"), done)
     cases.expect(f"{name}, the file", room.unsaved() if fault else room.saved.read_text().count("\n") == 1)
 
@@ -260,13 +273,13 @@ def full_disk(cases, program, room):
         ):  # fmt: skip
             how = {"stdout": full, "capture_output": False}
             done = ran(program, command, given, stderr=subprocess.PIPE, **how)
-            cases.expect(f"{command} on a full disk", (done.returncode, done.stderr) == (2, WRITE.encode()), done)
+            seen = done.returncode, done.stderr.decode()
+            cases.expect(f"{command} on a full disk", seen == (2, FULL_OUTPUT), seen)
             done = ran(program, command, given, stderr=full, **how)
             cases.expect(f"{command} on a full disk, errors too", done.returncode == 2, done)
     done = came(ran(program, ["run", "--save", "/dev/full"], day))
-    cases.expect("run --save on a full disk", done[0] == 2 and done[2] == SAVE, done)
-    done = came(ran(program, ["verify", "/no/such/file"]))
-    cases.expect("verify of no file", done == (2, "", READ), done)
+    told = SAVE + cause("--save /dev/full", errno.ENOSPC)
+    cases.expect("run --save on a full disk", done[0] == 2 and done[2] == told, done)
 
 
 def gone_reader(cases, program):
@@ -277,6 +290,9 @@ def gone_reader(cases, program):
         done = ran(program, command, given, stdout=writing, capture_output=False, stderr=subprocess.PIPE)
         os.close(writing)
         cases.expect(f"{command}, its reader gone", done.returncode == 2, done)
+        # (help is told on standard error)
+        if command == ["run"]:
+            cases.expect("and it says so", done.stderr.decode() == NO_READER, done)
 
 
 def gone_while_serving(cases, program, room):
@@ -305,8 +321,9 @@ def gone_while_serving(cases, program, room):
             status, errors = server.wait(timeout=PATIENCE), server.stderr.read().decode()
             server.stderr.close()
             name = f"serve {' '.join(options)}, its reader gone, {'saved' if has_file else 'not saved'}"
-            told = [it for it in errors.splitlines(keepends=True) if it.startswith("acdm")]
-            cases.expect(name, (status, told, len(replies[1])) == (2, [WRITE], len(replies[0])), (status, errors, replies))
+            told = "".join(it for it in errors.splitlines(keepends=True) if it.startswith("acdm"))
+            seen = status, told, len(replies[1])
+            cases.expect(name, seen == (2, NO_READER, len(replies[0])), (status, errors, replies))
             before = 2 if has_file or "--keep" not in options else 4
             if has_file:
                 done = came(ran(program, ["audit", saved]))
@@ -322,7 +339,7 @@ def gone_while_serving(cases, program, room):
     done = ran(program, command, stdout=writing, capture_output=False, stderr=subprocess.PIPE)
     os.close(writing)
     seen = done.returncode, done.stderr.decode(), saved.read_text()
-    cases.expect("serve, nobody served, its reader gone", seen == (2, WRITE, "another day\n"), seen)
+    cases.expect("serve, nobody served, its reader gone", seen == (2, NO_READER, "another day\n"), seen)
 
 
 # How many bytes of a line an audit keeps, and of how many one read is.
@@ -368,14 +385,16 @@ NO_ORDER = "the steps do not begin at stand 0 or do not rise"
 def own_tables(cases, program, room):
     """The airport's own tables: each command works by them, and a journal is judged by those of its board."""
     tables, day = room.folder / "tables.toml", text(DAY).encode()
+    # (a file of its own: beside the other one stand the tables that are built in)
+    saved = room.folder / "saved-by-own"
     tables.write_text(OWN)
-    done = came(ran(program, ["run", "--tables", tables, "--save", room.saved], day))
+    done = came(ran(program, ["run", "--tables", tables, "--save", saved], day))
     cases.expect("run --tables", done == (0, text(OWN_REPLIES), ""), done)
-    cases.expect("run --tables --save", room.saved.read_text() == text(OWN_JOURNAL), room.saved.read_text())
+    cases.expect("run --tables --save", saved.read_text() == text(OWN_JOURNAL), saved.read_text())
     shipped = ["--tables", TOP / "examples" / "tables.toml"]
     for command, told in (
-        (["audit", "--tables", tables, room.saved], (0, "legal 5\n", "")),
-        (["audit", room.saved], (1, "entry 3 404\n", "")),
+        (["audit", "--tables", tables, saved], (0, "legal 5\n", "")),
+        (["audit", saved], (2, "", f"acdm: {saved}.tables: other tables than those of this command\n")),
         (["audit", "--tables", tables, room.journal], (1, "entry 3 404\n", "")),
         (["audit", *shipped, room.journal], (0, "legal 5\n", "")),
         (["verify", "--tables", tables, room.code], (0, LISTING, "")),
@@ -383,7 +402,7 @@ def own_tables(cases, program, room):
     ):
         done = came(ran(program, command, day))
         cases.expect(f"{command}", done == told, done)
-    feed = came(ran(program, ["tell", "--tables", tables, room.saved]))
+    feed = came(ran(program, ["tell", "--tables", tables, saved]))
     cases.expect("tell --tables", feed[0] == 0 and feed[1].count("\n") == 5 and '"answers":[5]' in feed[1], feed)
     explained = came(ran(program, ["explain", "--tables", tables, room.code]))
     cases.expect("explain --tables", explained == came(ran(program, ["explain", room.code])), explained)
@@ -412,11 +431,178 @@ def wrong_tables(cases, program, room):
             done = came(ran(program, [command[0], "--tables", tables, *command[1:]], text(DAY).encode()))
             cases.expect(f"{command[0]}, {told}", done == (2, "", f"acdm: {tables}: {told}\n"), done)
             cases.expect(f"{command[0]}, {told}, its files", not room.saved.exists() and not kept.exists())
-    for path, told in (("/no/such/file", "No such file or directory (os error 2)"), (room.folder, "Is a directory (os error 21)")):
+    for path, number in (("/no/such/file", errno.ENOENT), (room.folder, errno.EISDIR)):
         done = came(ran(program, ["run", "--tables", path], text(DAY).encode()))
-        cases.expect(f"tables of {path}", done == (2, "", f"{READ}acdm: {path}: {told}\n"), done)
+        cases.expect(f"tables of {path}", done == (2, "", READ + cause(path, number)), done)
     done = came(ran(program, ["run", "--tables", "/dev/zero"]))
     cases.expect("tables without an end", done == (2, "", "acdm: /dev/zero: more than 1000000 bytes\n"), done)
+
+
+def settings(cases, program, room):
+    """A board is served by the words of a file, and by those beside it."""
+    file, kept, port = room.folder / "board.toml", room.folder / "kept-by-settings", free_port()
+    given = f'again = true\nsync = true\ncontrol = "127.0.0.1:{port}"\njournal = 3\nkeep = "{kept}"\npartners = ["APT=127.0.0.1:0"]\n'
+    file.write_text(given)
+    for before, behind in (([], ["GH=127.0.0.1:0"]), (["GH=127.0.0.1:0"], [])):
+        kept.unlink(missing_ok=True)
+        command = [str(program), "serve", *before, "--config", str(file), *behind]
+        server = subprocess.Popen(command, stdout=subprocess.PIPE, stderr=subprocess.PIPE, text=True)
+        lines = [server.stdout.readline().split() for _ in range(2)]
+        roles = ["GH", "APT"] if before else ["APT", "GH"]
+        cases.expect(f"partners of a file and of words, {roles}", [it[2] for it in lines] == roles, lines)
+        with connected(int(lines[roles.index("APT")][3].rpartition(":")[2])) as partner:
+            partner.sendall(b'{"cmd":"tick"}\n' * 4)
+            replies = partner.makefile("rb")
+            came_back = [replies.readline() for _ in range(4)]
+            cases.expect("its room is that of the file", came_back == [b"ok 0\n", b"ok 1\n", b"ok 2\n", b"bad 502\n"], came_back)
+        with connected(port) as control:
+            control.sendall(b"close\n")
+            cases.expect("its control address too", control.makefile("rb").readline() == b"closing\n")
+        server.communicate(timeout=PATIENCE)
+        cases.expect("it ends", server.returncode == 0, server.returncode)
+        cases.expect("its file is kept", kept.read_text().count("\n") == 3)
+    shipped = (TOP / "examples" / "board.toml").read_text()
+    file.write_text(re.sub(r":\d+\"", ':0"', shipped.replace("day.journal", str(room.folder / "kept-by-example"))))
+    server = subprocess.Popen([str(program), "serve", "--config", str(file)], stdout=subprocess.PIPE, text=True)
+    roles = [server.stdout.readline().split()[2:3] for _ in range(5)]
+    server.kill()
+    server.communicate()
+    cases.expect("the shipped file of settings", roles == [["APT"], ["NM"], ["ATC"], ["AO"], ["GH"]], roles)
+    file.write_text(given)
+    for words_, told in (
+        (["--config", file, "--config", file], "unexpected argument '--config'"),
+        (["--config", file, "--keep", kept], "'--keep <FILE>' cannot be used multiple times"),
+        (["--config", file, "--again"], "'--again' cannot be used multiple times"),
+        ([f"--config={file}"], "unexpected argument '--config'"),
+        (["APT=127.0.0.1:0", "--config"], "unexpected argument '--config'"),
+        (["--", "--config", file], ""),
+    ):
+        done = came(ran(program, ["serve", *words_]))
+        cases.expect(f"refused: {words_[1:]}", done[0] == 2 and done[1] == "" and told in done[2], done)
+    for wrong, told in (
+        ("again = true\njournal 5\n", "line 2: not TOML"),
+        ("again = true\nfoo = 1\n", "foo: no such key"),
+        ("config = 'a.toml'\n", "config: no such key"),
+        ("sync = 'yes'\n", "sync: not true or false"),
+        ("journal = 5.0\n", "journal: not a whole number"),
+        ("keep = true\n", "keep: not a text"),
+        ("partners = ['--again']\n", "partners: not a list of texts as APT=127.0.0.1:4001"),
+        ("#" * 65_537, "more than 65536 bytes"),
+    ):
+        file.write_text(wrong)
+        done = came(ran(program, ["serve", "--keep", room.folder / "none", "--config", file, "APT=127.0.0.1:0"]))
+        cases.expect(f"settings, {told}", done == (2, "", f"acdm: {file}: {told}\n"), done)
+        cases.expect(f"settings, {told}: nothing is begun", not (room.folder / "none").exists())
+    file.write_text("tick = 86401\npartners = ['APT=127.0.0.1:0']\n")
+    done = came(ran(program, ["serve", "--config", file]))
+    cases.expect("a value of a file is judged as that of a word", done[0] == 2 and "'--tick <SECONDS>'" in done[2], done)
+    done = came(ran(program, ["serve", "--config", "/no/such/file"]))
+    cases.expect("no file of settings", done == (2, "", READ + cause("/no/such/file", errno.ENOENT)), done)
+    file.write_text("")
+    done = came(ran(program, ["run", "--config", file]))
+    cases.expect("no other command has settings", done[0] == 2 and "unexpected argument" in done[2], done)
+
+
+def told_cause(cases, program, command, told, given=b""):
+    """A command ends with status 2 and these two lines, and nothing else is told."""
+    done = came(ran(program, command, given, timeout=PATIENCE))
+    cases.expect(f"the cause, {' '.join(map(str, command))[:100]}", done == (2, "", told), done)
+
+
+def causes_of_files(cases, program, room):
+    """Which file could not be read, kept or saved in, and why."""
+    day, nowhere, no_folder = text(DAY).encode(), room.folder / "nowhere", room.folder / "no-folder" / "file"
+    for word in ("audit", "tell", "verify", "explain"):
+        for path, number in ((nowhere, errno.ENOENT), (room.folder, errno.EISDIR)):
+            told_cause(cases, program, [word, path], READ + cause(path, number))
+    kept, pipes = room.folder / "kept-by-another", {"stdin": subprocess.PIPE, "stdout": subprocess.PIPE}
+    other = subprocess.Popen([str(program), "run", "--keep", str(kept)], **pipes)
+    other.stdin.write(f"{DAY[0]}\n".encode())
+    other.stdin.flush()
+    cases.expect("another board keeps its journal", other.stdout.readline() == b"ok 0\n")
+    own, many = room.folder / "own-tables.toml", room.folder / "many"
+    own.write_text(OWN)
+    for number in ("", *range(1, 100)):
+        many.with_name(f"many.part{number}").touch()
+    for command in (["run"], ["serve", "APT=127.0.0.1:0"]):
+        for words_, first, reason in (
+            (["--keep", no_folder], KEEP, errno.ENOENT),
+            (["--keep", room.folder], KEEP, NO_PLAIN_FILE),
+            (["--keep", "/dev/null"], KEEP, NO_PLAIN_FILE),
+            (["--keep", "/dev/full"], KEEP, NO_PLAIN_FILE),
+            (["--keep", kept], IN_USE, KEPT_ELSEWHERE),
+            (["--journal", "4", "--keep", room.journal], ROOM, NO_ROOM),
+            (["--tables", own, "--keep", own], KEEP, TAKEN),
+            (["--save", no_folder], SAVE, errno.ENOENT),
+            (["--save", room.folder], SAVE, errno.EISDIR),
+            (["--save", kept], SAVE, KEPT_THERE),
+            (["--save", many], SAVE, "no name is free beside it"),
+            (["--tables", own, "--save", own], SAVE, TAKEN),
+            (["--keep", nowhere, "--save", nowhere], SAVE, TAKEN),
+        ):  # fmt: skip
+            told = first + cause(f"{words_[-2]} {words_[-1]}", reason)
+            told_cause(cases, program, [command[0], *words_, *command[1:]], told, day)
+    other.stdin.close()
+    cases.expect("the other board ends", other.wait(timeout=PATIENCE) == 0)
+    with open(own, "rb") as given:
+        done = came(ran(program, ["run", "--keep", own], None, stdin=given))
+    cases.expect("the cause, --keep of standard input", done == (2, "", KEEP + cause(f"--keep {own}", TAKEN)), done)
+
+
+def causes_of_addresses(cases, program, room):
+    """Which address could not be listened at, and why: a bad one, one in use, and one of another machine."""
+    no_role, no_address = "no role before =: NM, ATC, APT, AO, GH or DIC", "no IP address with a port"
+    neither, settings_ = "neither an IP address with a port nor a port", room.folder / "partners.toml"
+    settings_.write_text("partners = ['APT=127.0.0.1:0', 'GH=nowhere']\n")
+    good, away = "APT=127.0.0.1:0", "192.0.2.1:4001"
+    many, too_many = [good] * 64, "more sessions than 64, of which ticks take one"
+    with socket.create_server(("127.0.0.1", 0)) as taken:
+        port = taken.getsockname()[1]
+        used = f"127.0.0.1:{port}"
+        for words_, first, word, reason in (
+            (["XX=127.0.0.1:0"], "acdm: role 1\n", "XX=127.0.0.1:0", no_role),
+            ([good, "apt=127.0.0.1:0"], "acdm: role 2\n", "apt=127.0.0.1:0", no_role),
+            ([good, "nowhere"], "acdm: role 2\n", "nowhere", no_role),
+            (["APT=nowhere"], "acdm: address 1\n", "APT=nowhere", no_address),
+            ([good, "GH=4001"], "acdm: address 2\n", "GH=4001", no_address),
+            (["--config", settings_], "acdm: address 2\n", "GH=nowhere", no_address),
+            ([good, f"GH={used}"], "acdm: address 2\n", f"GH={used}", errno.EADDRINUSE),
+            ([f"APT={away}"], "acdm: address 1\n", f"APT={away}", errno.EADDRNOTAVAIL),
+            ([*many, "GH=127.0.0.1:0"], "acdm: address 65\n", "GH=127.0.0.1:0", too_many),
+            (["--control", str(port), good], CONTROL, f"--control {port}", errno.EADDRINUSE),
+        ):
+            told_cause(cases, program, ["serve", *words_], first + cause(word, reason))
+        for option in ("--watch", "--changes", "--web", "--control"):
+            first, bad = (CONTROL, neither) if option == "--control" else (WATCH, no_address)
+            for address, reason in (("nowhere", bad), (used, errno.EADDRINUSE), (away, errno.EADDRNOTAVAIL)):
+                told = first + cause(f"{option} {address}", reason)
+                told_cause(cases, program, ["serve", option, address, good], told)
+                kept = ["--keep", room.folder / "kept-by-nobody"]
+                told_cause(cases, program, ["serve", *kept, option, address, good], told)
+
+
+def two_causes(cases, program):
+    """Standard output fails, and later a file: the line behind names the file, by which the command failed."""
+    command, streams = [str(program), "serve", "--save", "/dev/full", "APT=127.0.0.1:0"], {"stdin": subprocess.DEVNULL}
+    server = subprocess.Popen(command, stdout=subprocess.PIPE, stderr=subprocess.PIPE, **streams)
+    port = int(server.stdout.readline().rpartition(b":")[2])
+    server.stdout.close()
+    with connected(port) as partner:
+        partner.sendall(f"{ALERTS}\n".encode())
+        with partner.makefile("rb") as answered:
+            answered.readline()
+    seen = server.wait(timeout=PATIENCE), server.stderr.read().decode()
+    server.stderr.close()
+    cases.expect("a stream failed before the file", seen == (2, SAVE + cause("--save /dev/full", errno.ENOSPC)), seen)
+
+
+def causes_of_streams(cases, program, room):
+    """Standard input that can't be read. (Standard output is tried by `full_disk` and `gone_reader`.)"""
+    folder, told = os.open(room.folder, os.O_RDONLY), READ + cause("standard input", errno.EISDIR)
+    for words_ in (["run"], ["run", "--save", room.folder / "none"], ["run", "--keep", room.folder / "kept-of-none"]):
+        done = came(ran(program, words_, None, stdin=folder))
+        cases.expect(f"the cause, {words_} of a folder", done == (2, "", told), done)
+    os.close(folder)
 
 
 def main():
@@ -436,6 +622,11 @@ def main():
         without_end(cases, program, room)
         own_tables(cases, program, room)
         wrong_tables(cases, program, room)
+        settings(cases, program, room)
+        causes_of_files(cases, program, room)
+        causes_of_addresses(cases, program, room)
+        causes_of_streams(cases, program, room)
+        two_causes(cases, program)
     return cases.end()
 
 

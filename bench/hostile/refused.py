@@ -21,7 +21,7 @@ import sys
 import tempfile
 import time
 
-from cases import ALERTS, DAY_JOURNAL, LISTING, PLAN, SCHEDULE, TARGET, TAXI, TOP, Cases, text, words
+from cases import ALERTS, DAY_JOURNAL, LISTING, PLAN, SCHEDULE, TARGET, TAXI, TOP, Cases, cause, text, words
 
 sys.path.insert(0, str(TOP / "bench" / "model"))
 
@@ -32,6 +32,8 @@ HERE = pathlib.Path(__file__).resolve().parent
 NO_MEMORY = "acdm: no memory\n"
 # The second is what the words of the command line are answered.
 COMPLAINTS = (NO_MEMORY, "error: out of memory\n", "")
+# All was done, and for the name of the tables beside the saved journal there was no memory.
+SAVE_FAILED, NO_WATCH = "acdm: save failed\n", "acdm: watch address\n"
 PATIENCE = 60
 # How long a partner waits for a reply: a session that has no thread keeps its connection and says nothing.
 SILENCE = 3
@@ -152,6 +154,11 @@ class Refusing:
             return came, process.was_refused()
 
 
+def with_cause(failure, word):
+    """A failure with the line that names the word, and without it, where memory for that was refused too."""
+    return failure + cause(word, "out of memory"), failure
+
+
 def front(part, whole):
     """Whether a text is the first so many lines of another."""
     return whole.startswith(part) and (part == "" or part.endswith("\n"))
@@ -176,10 +183,15 @@ class Scenes:
     def journal(self):
         return self.saved.read_text() if self.saved.exists() else ""
 
-    def ends_for_memory(self, name, came, told, entries):
+    def unsaved(self):
+        """What is told where the journal could not be saved."""
+        return with_cause(SAVE_FAILED, f"--save {self.saved}")
+
+    def ends_for_memory(self, name, came, told, entries, is_whole=False):
         """The run ended for want of memory: what was answered is a first part, and nothing or a first part is saved."""
         status, output, errors = came
-        self.cases.expect(name, status == 2 and errors in COMPLAINTS, came)
+        is_unsaved = is_whole and errors in self.unsaved() and self.journal() == ""
+        self.cases.expect(name, status == 2 and (errors in COMPLAINTS or is_unsaved), came)
         self.cases.expect(name, front(output, text(told)), came)
         self.cases.expect(f"{name}, the journal", front(self.journal(), entries), self.journal())
 
@@ -194,7 +206,7 @@ class Scenes:
             self.cases.expect(name, (len(answers), rest, errors) == (len(self.lines), told, ""), came)
             self.cases.expect(f"{name}, the journal", self.journal() == entries, self.journal())
         else:
-            self.ends_for_memory(name, (status, text(rest), errors), told, entries)
+            self.ends_for_memory(name, (status, text(rest), errors), told, entries, len(answers) == len(self.lines))
 
     def run(self, number):
         self.saved.unlink(missing_ok=True)
@@ -225,7 +237,7 @@ class Scenes:
                 self.cases.expect(name, (answers, errors) == (told, ""), came)
                 self.cases.expect(f"{name}, the journal", self.journal() == entries, self.journal())
             else:
-                self.ends_for_memory(name, came, told, entries)
+                self.ends_for_memory(name, came, told, entries, answers == told)
             return process.was_refused()
 
     def counted(self, _number):
@@ -310,7 +322,9 @@ class Scenes:
                 self.cases.expect(name, made == wanted and f"closed {len(made)}\n" in came[1], came)
                 self.cases.expect(name, came[2] == "", came)
             else:
-                self.cases.expect(name, came[0] == 2 and came[2] in (*COMPLAINTS, "acdm: watch address\n"), came)
+                is_unsaved = "\nclosed " in came[1] and came[2] in self.unsaved() and entries == ""
+                known = *COMPLAINTS, *with_cause(NO_WATCH, f"--watch {at_port[0]}")
+                self.cases.expect(name, came[0] == 2 and (is_unsaved or came[2] in known), came)
             return process.was_refused()
 
     def served(self, process, ports):

@@ -5,10 +5,11 @@
 
 A partner that reads late and little, under each word that keeps partners; a second connection at an address that is taken; `close` with
 2,000 lines in hand; replies that an older connection has not taken; a pace after silence; levels of rooms that do not divide; moments
-beside the machine's clock; and a display that reads late. The last line is `N cases, M failed`; status 1 where one failed.
+beside the machine's clock; a display that reads late; and ticks of the board's own. The last line is `N cases, M failed`; status 1 where one failed.
 """
 
 import datetime
+import hashlib
 import pathlib
 import socket
 import sys
@@ -17,7 +18,7 @@ import threading
 import time
 
 from again import Board, free_port
-from cases import ALERTS, SCHEDULE, Cases, ran, words
+from cases import ALERTS, SCHEDULE, Cases, cause, ran, words
 
 SHOW = '{"cmd":"show","flight":7}'
 TICK = '{"cmd":"tick"}'
@@ -324,7 +325,7 @@ def late_display(cases, program):
         time.sleep(4)
         data = b""
         count = 0
-        while count < MANY + 1:
+        while count < MANY + 2:
             piece = received(display, 2000 if len(data) < 40_000 else 1 << 20)
             if not piece:
                 break
@@ -334,7 +335,49 @@ def late_display(cases, program):
         partner.close()
         cases.expect("the board ends", board.close()[1] == 0)
         told = ran(program, ["tell", str(saved)]).stdout
-        cases.expect("a late display has each line whole", data == told, (len(data), len(told)))
+        head, _, lines = data.partition(b"\n")
+        name = hashlib.sha256(saved.read_bytes().split(b"\n")[0]).hexdigest()[:32].encode("ascii")
+        cases.expect("a late display is told the journal", head.startswith(b'{"journal":"' + name + b'","next":0,'), head)
+        cases.expect("a late display has each line whole", lines == told, (len(data), len(told)))
+
+
+def own_ticks(cases, program):
+    """A board that ticks by itself: in a session of its own, in role APT, each so many seconds, until all others have ended."""
+    for options in (["--again", "--control", "PORT"], ["--control", "PORT"], ["--keep"]):
+        name = " ".join(options)
+        with tempfile.TemporaryDirectory(prefix="acdm-ticks-") as folder:
+            journal = pathlib.Path(folder) / "day"
+            given = [*options, journal] if "--keep" in options else ["--save", journal, *options]
+            began = time.monotonic()
+            board, _ = opened(program, ["--tick", "1", *map(str, given)], ["GH"])
+            partner = board.connect(1)
+            time.sleep(3.6)
+            number = int(partner.asks(SHOW).split(" ")[1])
+            passed = int(time.monotonic() - began)
+            cases.expect(f"{name}, a tick a second", 3 <= number <= passed, (number, passed))
+            if "PORT" in options:
+                status = board.ask("status")
+                cases.expect(f"{name}, status names it", "session 2 APT ticks each 1 s\n" in status, status)
+                partner.close()
+                answer, status, lines = board.close() if "--again" in options else ("closing\n", *board.ended())
+            else:
+                partner.close()
+                answer, (status, lines) = "closing\n", board.ended()
+            entries = [line.split(" ") for line in journal.read_text().splitlines()]
+            ticks = [it for it in entries if it[1] == "2"]
+            cases.expect(f"{name}, it ends with the others", (answer, status) == ("closing\n", 0), (answer, status, lines))
+            cases.expect(f"{name}, its end is told", f"session 2 {len(ticks)} end" in lines and "session 1 1 end" in lines, lines)
+            cases.expect(f"{name}, ticks in role APT", all(it[3:] == ["APT", "0", "0", "tick"] for it in ticks), ticks)
+            cases.expect(f"{name}, and nothing else", len(entries) == len(ticks) + 1, entries)
+            cases.expect(f"{name}, no tick too many", number <= len(ticks) <= int(time.monotonic() - began) + 1, len(ticks))
+    for seconds in ("0", "86401", "-1", "1.5", "x"):
+        done = ran(program, ["serve", "--tick", seconds, "APT=127.0.0.1:0"])
+        told = b"'--tick <SECONDS>': it is not a number from 1 to 86400" in done.stderr or seconds == "-1"
+        cases.expect(f"--tick {seconds}", (done.returncode, done.stdout, told) == (2, b"", True), done)
+    words_of_many = ["APT=127.0.0.1:0"] * 64
+    done = ran(program, ["serve", "--tick", "60", *words_of_many])
+    told = "acdm: address 64\n" + cause("APT=127.0.0.1:0", "more sessions than 64, of which ticks take one")
+    cases.expect("64 partners and ticks", (done.returncode, done.stdout, done.stderr) == (2, b"", told.encode()), done)
 
 
 def tried(make, cases, *given):
@@ -350,7 +393,7 @@ def main():
     program, cases = str(asked.program.resolve()), Cases()
     late = [["--again", "--control"], ["--control"], ["--pace"], ["--keep"], []]
     waiting = [threading.Thread(target=tried, args=(late_reader, cases, program, given)) for given in late]
-    waiting += [threading.Thread(target=tried, args=(it, cases, program)) for it in (pace_after_silence, late_display)]
+    waiting += [threading.Thread(target=tried, args=(it, cases, program)) for it in (pace_after_silence, late_display, own_ticks)]
     for it in waiting:
         it.start()
     for given in ([], ["--control", "PORT"], ["--pace", "6000"]):

@@ -22,7 +22,7 @@ import tempfile
 import threading
 import time
 
-from cases import PLAN, SCHEDULE, Cases, ran, text, words
+from cases import KEPT_ELSEWHERE, NO_PLAIN_FILE, PLAN, SCHEDULE, Cases, cause, ran, text, words
 
 TICK = '{"cmd":"tick"}'
 WORDS = ["--again", "--control", "--pace", "--keep"]
@@ -273,7 +273,7 @@ def files(program, cases, room):
     (room / "l.part").symlink_to(target)
     done = ran(program, ["run", "--save", room / "l"], line)
     cases.expect("no link is followed", done.returncode == 0 and target.read_bytes() == b"precious")
-    cases.expect("nothing is left beside", sorted(path.name for path in room.glob("l*")) == ["l", "l.part"])
+    cases.expect("nothing is left beside but its tables", sorted(path.name for path in room.glob("l*")) == ["l", "l.part", "l.tables"])
     before = kept.read_bytes()
     done = ran(program, ["run", "--keep", kept, "--save", kept], line)
     cases.expect("one file is not kept and saved", (done.returncode, kept.read_bytes()) == (2, before))
@@ -289,7 +289,8 @@ def files(program, cases, room):
         done = ran(program, ["run", "--save", room / "held"], line)
         cases.expect("what another board keeps is not saved over", (done.returncode, done.stdout) == (2, b""), done)
         done = ran(program, ["run", "--keep", room / "held"], line)
-        cases.expect("nor kept twice", (done.returncode, done.stderr) == (2, b"acdm: the kept journal is in use\n"))
+        told = "acdm: the kept journal is in use\n" + cause(f"--keep {room / 'held'}", KEPT_ELSEWHERE)
+        cases.expect("nor kept twice", (done.returncode, done.stderr) == (2, told.encode()), done)
         second = asked(partner, TICK)
     # (it ends by itself, since its one partner has left)
     cases.expect("the board goes on", (first, second) == ("ok 0\n", "ok 1\n") and board.end() == 0)
@@ -298,7 +299,9 @@ def files(program, cases, room):
     os.mkfifo(fifo)
     for path in [fifo, "/dev/null", "/dev/full", room]:
         done = ran(program, ["run", "--keep", path], line, timeout=10)
-        cases.expect(f"{path} is no file to keep in", (done.returncode, done.stdout, done.stderr) == (2, b"", b"acdm: keep failed\n"))
+        told = "acdm: keep failed\n" + cause(f"--keep {path}", NO_PLAIN_FILE)
+        seen = done.returncode, done.stdout, done.stderr
+        cases.expect(f"{path} is no file to keep in", seen == (2, b"", told.encode()), seen)
 
 
 def going_on(program, cases, room):
@@ -314,7 +317,8 @@ def going_on(program, cases, room):
     cases.expect("in a new file", file.stat().st_ino != inode and (room / "link").is_symlink())
     cases.expect("of the same rights", file.stat().st_mode & 0o777 == 0o640)
     cases.expect("which begins with the old text and has no cut line", file.read_bytes().startswith(before + b"1 2 2900058"))
-    cases.expect("and nothing is left beside", sorted(path.name for path in room.iterdir()) == ["day", "link"])
+    beside = sorted(path.name for path in room.iterdir())
+    cases.expect("and nothing is left beside but their tables", beside == ["day", "day.tables", "link", "link.tables"], beside)
     faulty = room / "faulty"
     faulty.write_bytes(b"what is this\n")
     inode = faulty.stat().st_ino

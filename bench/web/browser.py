@@ -110,6 +110,9 @@ class Page:
         said = re.search(r"(\d+) of \d+ flights", self.text("sums"))
         return int(said[1]) if said else 0
 
+    def scroll_down(self):
+        self.driver.execute_script("window.scrollTo(0, document.body.scrollHeight)")
+
     def wait(self, is_so, seconds=20):
         end = time.monotonic() + seconds
         while time.monotonic() < end:
@@ -162,9 +165,9 @@ def many(board, page, folder):
     for flight in range(1, MANY + 1):
         board.ask("APT", board.schedule(10_000 + flight, f"AB{flight}", flight % 600, flight % 90))
     yield "4,000 flights", page.wait(lambda: page.shown() > MANY, 60)
-    yield "a first part of them has rows", 100 < page.rows() < 1000
-    page.driver.execute_script("window.scrollTo(0, document.body.scrollHeight)")
-    yield "and more where it is scrolled to", page.wait(lambda: page.rows() >= 400)
+    yield "a first part of them has rows", page.wait(lambda: page.rows() > 100) and page.rows() < 1000
+    # (rows of the first part may still come below the end that was scrolled to: so it is scrolled to again)
+    yield "and more where it is scrolled to", page.wait(lambda: page.scroll_down() or page.rows() >= 400)
     page.driver.execute_script("window.scrollTo(0, 0)")
     page.picture(folder, "many")
     times = []

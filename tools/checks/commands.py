@@ -42,6 +42,12 @@ CHANGES = "changes the machine"
 # How a command begins, and why it is not run.
 NOT_RUN = {
     "./acdm prove": PROVES,
+    "./acdm demo": "ends with Ctrl-C; clients/tests/test_demo.py tries it",
+    "tar -xzf kevotranjy": CHANGES,
+    "cp /opt/": CHANGES,
+    "cd /opt/": CHANGES,
+    "systemctl enable": CHANGES,
+    "./acdm package": "needs the proved program; tools/checks/packaged.py tries it",
     "rt ": PROVES,
     "cd crates/": PROVES,
     ".ci/quick": "is what runs this",
@@ -74,6 +80,7 @@ NOT_RUN = {
     "echo 'a long pass-word'": "needs the settings of a desk, with which desk/tests tries it",
     "curl --cert swiss.pem": "needs a partner's certificate, with which desk/tests tries it",
     "clients/board.py ADDRESS": "says which words there are",
+    "clients/newday.py": "ends the board of its page, and begins another; bench/journal/newday.py tries it",
     "clients/check.py 'LINE'": "says which words there are",
 }
 # How a command begins that ends so, as its page says.
@@ -103,8 +110,8 @@ STANDS_FOR = {
 # The objects of a partner, which every role may send.
 OBJECTS = ("objects", b'{"cmd":"alerts"}\n')
 TOOLS = (
-    r"python3|nc|cc|clang|llvm-[\w-]+|bpf-[\w-]+|xxd|sed|echo|printf|cd|cp|mv|mkdir|rm|cat|curl|date|for|while|export"
-    r"|rt|apt-get|node|npm|pip3?|systemctl|journalctl|nft|iptables|openssl|docker|git|sudo|bash|sh|kill|diff"
+    r"python3|nc|tar|cc|clang|llvm-[\w-]+|bpf-[\w-]+|xxd|sed|echo|printf|cd|cp|mv|mkdir|rm|cat|curl|date|for|while"
+    r"|export|rt|apt-get|node|npm|pip3?|systemctl|journalctl|nft|iptables|openssl|docker|git|sudo|bash|sh|kill|diff"
     r"|mosquitto\w*|psql|createdb|/usr/bin/\w+|\w+=\S+ \./\S+"
 )
 BEGINS = re.compile(
@@ -427,11 +434,14 @@ def run_page(page: Path, shared: Shared, program: Path | None) -> Counts:
 
 
 def embedding_faults() -> list[str]:
-    """Returns whether the example of docs/EMBEDDING.md is no longer the test that it is."""
-    shown = re.search(r"```rust\n(.*?)```", (TOP / "docs/EMBEDDING.md").read_text(encoding="utf-8"), re.S)
-    source = (TOP / "crates/bpf_tests/src/machine/embedding.rt").read_text(encoding="utf-8")
-    is_shown = shown is not None and shown[1].strip() in source
-    return [] if is_shown else ["docs/EMBEDDING.md: its example is not the test of bpf_tests"]
+    """Returns the examples of docs/EMBEDDING.md that are no longer the tests that they are, in order."""
+    shown = re.findall(r"```rust\n(.*?)```", (TOP / "docs/EMBEDDING.md").read_text(encoding="utf-8"), re.S)
+    tests = ("bpf_tests/src/machine/embedding.rt", "journal_tests/src/embedding.rt")
+    faults = [] if len(shown) == len(tests) else ["docs/EMBEDDING.md: not one example for each test of it"]
+    for example, test in zip(shown, tests):
+        if example.strip() not in (TOP / "crates" / test).read_text(encoding="utf-8"):
+            faults.append(f"docs/EMBEDDING.md: an example is not the test of {test}")
+    return faults
 
 
 def asked_words() -> argparse.Namespace:

@@ -38,7 +38,7 @@ NUMBERS = (
         r"MOST_PASSES: usize = ([\d_]+)",
         (
             ("docs/ARCHITECTURE.md", r"`passes`, at most #,"),
-            ("docs/ARCHITECTURE.md", r"whose # is 64 sessions"),
+            ("docs/where.toml", r"its # is 64 sessions"),
             ("docs/DECISIONS.md", r"that the desk keeps, at most #\."),
         ),
     ),
@@ -80,6 +80,15 @@ NUMBERS = (
         1,
     ),
     Number(
+        "bytes of a file of settings",
+        "crates/acdm_settings/src/reading.rt",
+        r"MOST_TEXT: usize = ([\d_]+)",
+        (
+            ("docs/FORMATS.md", r"no longer than # bytes"),
+            ("docs/FORMATS.md", r"board\.toml: more than # bytes"),
+        ),
+    ),
+    Number(
         "bytes of a journal's line",
         "crates/acdm_journal/src/reading.rt",
         r"LONGEST_ENTRY: usize = ([\d_]+)",
@@ -101,7 +110,8 @@ NUMBERS = (
         "crates/acdm_judging/src/bytes.rt",
         r"MOST_BYTES: usize = ([\d_]+)",
         (
-            ("docs/FORMATS.md", r"more than # bytes"),
+            ("docs/FORMATS.md", r"\| more than # bytes"),
+            ("docs/FORMATS.md", r"until more than # bytes"),
             ("docs/DECISIONS.md", r"until more than # were read"),
             ("docs/DECISIONS.md", r"as no program has more than #\."),
         ),
@@ -120,7 +130,7 @@ NUMBERS = (
         (
             ("README.md", r"Up to # partners"),
             ("docs/DECISIONS.md", r"At most # sessions"),
-            ("docs/ARCHITECTURE.md", r"is # sessions times"),
+            ("docs/where.toml", r"is # sessions times"),
         ),
     ),
     Number(
@@ -140,14 +150,14 @@ NUMBERS = (
         (("docs/EMBEDDING.md", r"room for # helpers"), ("docs/EMBEDDING.md", r"332 there are #\b")),
     ),
     Number(
-        "bytes of an entry: 8 of its cell and 8 of malloc more than it has by itself",
+        "bytes of an entry: 8 of its cell and 16 of malloc more than it has by itself",
         "crates/step_tests/src/step.rt",
         r"assert!\(rt; entry == ([\d_]+),",
         (
             ("docs/OPERATING.md", r"An entry takes # bytes of memory"),
             ("CHANGELOG.md", r"An entry takes # bytes of memory"),
         ),
-        16,
+        24,
     ),
     Number(
         "callers of the control address",

@@ -1,6 +1,7 @@
 """Holds the checks of documents against pages and sources with a fault in them, which each has to name."""
 from __future__ import annotations
 
+import subprocess
 import sys
 import tempfile
 import unittest
@@ -16,6 +17,7 @@ import figures  # noqa: E402
 import names  # noqa: E402
 import sentences  # noqa: E402
 import trusted  # noqa: E402
+import where  # noqa: E402
 
 CRATES = "# NAME: below\nacdm_record: byteorder thiserror\nacdm_tables: acdm_record toml # tables\n"
 
@@ -195,6 +197,98 @@ class Commands(Folder):
             page.run("cat slot.o > slot.bin")
             page.run("cat slot.bin")
         self.assertEqual((page.counts.ran, page.counts.skipped, page.counts.faults), (0, 3, []))
+
+
+class Where(Folder):
+    """Where to change what, and the files that are there."""
+
+    PLACES = '[[role.places]]\npurpose = "its name"\nfiles = ["names.rt"]\n'
+    HEAD = '[role]\nwhat = "a role"\nexamples = ["TWR"]\n'
+    BESIDE = '[[role.beside]]\nwhy = "a day of it"\nfiles = ["days/*.txt"]\n'
+
+    def setUp(self) -> None:
+        super().setUp()
+        subprocess.run(["git", "init", "-q", self.top], check=True)
+        self.write("names.rt", "TWR\n")
+        self.write("days/day.txt", "1 TWR show\n")
+        self.write("other.rt", "TWRS and tower, but TWR_NAME\n")
+
+    def read(self, text: str) -> dict[str, where.Kind]:
+        """Returns the kinds of a table whose only kind is a role."""
+        self.write(where.TABLE, text)
+        with mock.patch.object(where, "KINDS", ("role",)):
+            return where.kinds_of(self.top)
+
+    def faults(self, text: str) -> list[str]:
+        """Returns what is wrong with the role of a table."""
+        return where.faults_of(self.read(text)["role"], where.texts_of(self.top))
+
+    def test_a_table_with_all_files_has_no_fault(self) -> None:
+        self.assertEqual(self.faults(self.HEAD + self.PLACES + self.BESIDE), [])
+
+    def test_a_file_and_a_pattern_that_are_gone_are_told(self) -> None:
+        places = self.PLACES.replace('["names.rt"]', '["names.rt", "gone.rt", "*.none"]')
+        wanted = [f"docs/where.toml: role.places[1].files: there is no {name}" for name in ("gone.rt", "*.none")]
+        self.assertEqual(self.faults(self.HEAD + places + self.BESIDE), wanted)
+
+    def test_a_file_that_is_missing_is_told_with_its_line(self) -> None:
+        self.write("src/owns.rt", "// who owns what\nTWR => true,\n")
+        wanted = ["docs/where.toml: role: src/owns.rt:2 has TWR, and is no place of it, nor beside"]
+        self.assertEqual(self.faults(self.HEAD + self.PLACES + self.BESIDE), wanted)
+
+    def test_an_example_that_no_file_has_is_told(self) -> None:
+        wanted = ["docs/where.toml: role.examples: no file has the word RAMP"]
+        head = self.HEAD.replace('["TWR"]', '["TWR", "RAMP"]')
+        self.assertEqual(self.faults(head + self.PLACES + self.BESIDE), wanted)
+
+    def test_what_stands_beside_without_need_is_told(self) -> None:
+        beside = self.BESIDE.replace('["days', '["other.rt", "names.rt", "days')
+        wanted = [
+            f"docs/where.toml: role.beside[1].files: {name} need not stand there: strike it"
+            for name in ("other.rt", "names.rt")
+        ]
+        self.assertEqual(self.faults(self.HEAD + self.PLACES + beside), wanted)
+
+    def test_a_faulty_table_is_told_with_its_key(self) -> None:
+        for text, wanted in (
+            (self.HEAD + self.PLACES.replace("purpose", "purposes"), "role.places[1].purposes: no such key; there are"),
+            (self.HEAD + self.PLACES.replace('["names.rt"]', '"names.rt"'), "role.places[1].files: no list of texts"),
+            (self.HEAD + self.PLACES.replace("its name", " "), "role.places[1].purpose: no text"),
+            (self.HEAD.replace('["TWR"]', "[]") + self.PLACES, "role.examples: no list of texts"),
+            (self.HEAD.replace('["TWR"]', '["TWR", "TWR"]') + self.PLACES, "role.examples: TWR stands there twice"),
+            (self.HEAD, "role.places: no place"),
+            ("role = 1\n", "role: no table"),
+            ("", "role: this kind is missing"),
+            ("role\n", "Expected '=' after a key"),
+        ):
+            with self.assertRaises(where.Faulty) as told:
+                self.read(text)
+            self.assertTrue(str(told.exception).startswith(f"docs/where.toml: {wanted}"), told.exception)
+
+    def test_a_pattern_stands_for_one_name_or_for_folders(self) -> None:
+        for glob, name, is_meant in (
+            ("a/*.rt", "a/b.rt", True),
+            ("a/*.rt", "a/b/c.rt", False),
+            ("a/**/c.rt", "a/c.rt", True),
+            ("a/**/c.rt", "a/b/b/c.rt", True),
+            ("a/**", "a/b/c.rt", True),
+            ("a.rt", "aXrt", False),
+        ):
+            self.assertEqual(bool(where.pattern_of(glob).fullmatch(name)), is_meant, (glob, name))
+
+    def test_an_option_is_found_as_a_whole_word(self) -> None:
+        self.assertEqual(where.line_of("--tock", "--tocks --tock-late\n[--tock N]\n"), 2)
+        self.assertEqual(where.line_of("--tock", "--tock-late a--tock\n"), 0)
+
+    def test_purposes_and_files_are_printed_in_columns(self) -> None:
+        places = self.PLACES.replace('["names.rt"]', '["names.rt", "days/*.txt"]\nnote = "by hand"')
+        lines = where.lines_of_kind(self.read(self.HEAD + places)["role"])
+        self.assertEqual(lines[-3:], ["its name  names.rt", "          days/*.txt", "          (by hand)"])
+
+    def test_an_unknown_kind_is_refused_in_one_line(self) -> None:
+        done = subprocess.run([where.TOP / "tools/where", "rol"], capture_output=True, text=True, check=False)
+        self.assertEqual((done.returncode, done.stdout), (2, ""))
+        self.assertEqual(done.stderr, f"where: no kind 'rol'; there are {', '.join(where.KINDS)}\n")
 
 
 if __name__ == "__main__":
