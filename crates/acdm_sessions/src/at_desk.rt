@@ -91,7 +91,7 @@ impl<'s, C: Clock + Drop, H: Helpers + Drop, J: Naming, G: Gate, Rt: Wait> Answe
 
     fn answer(&mut self, alloc: Global, line: &[u8]) -> Answer {
         self.called = false;
-        match self.caller.order(alloc, line) {
+        let answer = match self.caller.order(alloc, line) {
             Ok(order) => {
                 self.called = true;
                 self.turn = self.turn.saturating_add(1);
@@ -99,7 +99,9 @@ impl<'s, C: Clock + Drop, H: Helpers + Drop, J: Naming, G: Gate, Rt: Wait> Answe
                 self.caller.call(self.rt, self.shared, order)
             }
             Err(bad) => Answer::Rejected(bad),
-        }
+        };
+        self.gate.told(self.caller.number, line, &answer);
+        answer
     }
 
     fn replied(&self) {

@@ -8,7 +8,10 @@ use acdm_board::Desk;
 use acdm_milestones::Role;
 use acdm_record::Field;
 use acdm_row::{Pass, Row};
-use acdm_sessions::{Clock, Closed, End, EndedSession, Gate, Session, Sink, Source, run_sessions};
+use acdm_sessions::{
+    Answer, Clock, Closed, End, EndedSession, Gate, Session, Sink, Source, run_sessions,
+};
+use acdm_step::Outcome;
 use acdm_watch::{Meet, Watch, Watched};
 use bpf_helpers::{Bank, Helpers};
 use std::alloc::Global;
@@ -60,12 +63,15 @@ impl Gate for Open {
 }
 
 /// Holds nobody up. Counts the calls of one session and those that were answered, which are
-/// numbered from 1 on.
+/// numbered from 1 on; and the lines of which it is told, their bytes, and the codes of their answers together.
 #[derive(Drop)]
 struct Count {
     calls: AtomicU64,
     answers: AtomicU64,
     faults: AtomicU64,
+    lines: AtomicU64,
+    bytes: AtomicU64,
+    codes: AtomicU64,
 }
 
 impl Count {
@@ -74,7 +80,23 @@ impl Count {
             calls: AtomicU64::new(0),
             answers: AtomicU64::new(0),
             faults: AtomicU64::new(0),
+            lines: AtomicU64::new(0),
+            bytes: AtomicU64::new(0),
+            codes: AtomicU64::new(0),
         }
+    }
+
+    // Whether it was told of just these lines, whose answers have codes of this sum.
+    fn was_told(&self, text: &str, codes: u64) -> bool {
+        let mut lines = 0u64;
+        let mut bytes = 0u64;
+        for line in text.lines() {
+            lines = lines.saturating_add(1);
+            bytes = bytes.saturating_add(line.len() as u64);
+        }
+        self.lines.load(Ordering::SeqCst) == lines
+            && self.bytes.load(Ordering::SeqCst) == bytes
+            && self.codes.load(Ordering::SeqCst) == codes
     }
 
     // Whether there were so many calls, of which so many were answered.
@@ -90,7 +112,25 @@ fn counts_to(count: &AtomicU64, number: u64) -> bool {
     count.fetch_add(1, Ordering::SeqCst).wrapping_add(1) == number
 }
 
+// The code of an answer; 0 of an entry that was not refused.
+fn code_of(answer: &Answer) -> u16 {
+    match answer {
+        Answer::Entered(reply) => match &reply.outcome {
+            Outcome::Refused(refusal) => refusal.code(),
+            _ => 0,
+        },
+        Answer::Rejected(bad) => bad.code(),
+    }
+}
+
 impl Gate for Count {
+    fn told(&self, _session: u8, line: &[u8], answer: &Answer) {
+        self.lines.fetch_add(1, Ordering::SeqCst);
+        self.bytes.fetch_add(line.len() as u64, Ordering::SeqCst);
+        self.codes
+            .fetch_add(u64::from(code_of(answer)), Ordering::SeqCst);
+    }
+
     fn enter(&self, _session: u8, call: u64) {
         if !counts_to(&self.calls, call) {
             self.faults.fetch_add(1, Ordering::SeqCst);
@@ -523,7 +563,7 @@ fn serves_one<H: Helpers + Drop + Send, Rt: Threads + Wait + Abort + Sync>(
     (told, length)
 }
 
-/// What one session sends to a desk with room for so many entries, what it is told, and how many
+/// What one session sends to a desk with room for so many entries, what it is told, the sum of its codes, how many
 /// calls of the desk it made, and the journal's length then.
 struct Alone {
     shows: &'static str,
@@ -532,6 +572,7 @@ struct Alone {
     minute: Option<u32>,
     capacity: usize,
     told: &'static str,
+    codes: u64,
     calls: u64,
     length: u64,
 }
@@ -550,6 +591,7 @@ static ALONE: [Alone; 5] = [
         minute: None,
         capacity: 10,
         told: "1 0 End: bad 106\n",
+        codes: 106,
         calls: 0,
         length: 2,
     },
@@ -560,6 +602,7 @@ static ALONE: [Alone; 5] = [
         minute: None,
         capacity: 10,
         told: "1 0 End: bad 101\nbad 102\nbad 103\nbad 104\nbad 106\nbad 101\n",
+        codes: 617,
         calls: 0,
         length: 2,
     },
@@ -570,6 +613,7 @@ static ALONE: [Alone; 5] = [
         minute: Some(29_000_590),
         capacity: 10,
         told: "1 0 End: bad 101\nbad 102\nbad 103\nbad 104\nbad 301 0\nbad 101\n",
+        codes: 812,
         calls: 0,
         length: 2,
     },
@@ -580,6 +624,7 @@ static ALONE: [Alone; 5] = [
         minute: Some(29_000_590),
         capacity: 4,
         told: "1 2 End: no 2 201\nbad 102\nno 3 202\nbad 502\n",
+        codes: 1007,
         calls: 3,
         length: 4,
     },
@@ -590,6 +635,7 @@ static ALONE: [Alone; 5] = [
         minute: Some(29_000_590),
         capacity: 10,
         told: "1 2 End: no 2 325\nno 3 201\nbad 104\n",
+        codes: 630,
         calls: 2,
         length: 4,
     },
@@ -604,6 +650,7 @@ fn is_served<Rt: Threads + Wait + Abort + Sync>(rt: &Rt, alloc: Global, alone: &
     assert_eq!(rt; told.as_str(), alone.told, "{}", alone.shows);
     assert!(rt; length == alone.length, "{}", alone.shows);
     assert!(rt; gate.is(alone.calls, alone.calls), "{}", alone.shows);
+    assert!(rt; gate.was_told(alone.text, alone.codes), "{}", alone.shows);
 }
 
 #[test]
