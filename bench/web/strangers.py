@@ -428,9 +428,12 @@ def attacked(cases: Cases, site: Site, board: Board, page: str, url: str, *optio
 
 def unharmed(cases: Cases, board: Board, partner: socket.socket, page: str) -> None:
     """Holds the board and its partner against what they were before a page."""
-    wanted = f"session 1 APT here {HERE}:{partner.getsockname()[1]}\nsession 2 NM gone\nentries {board.entries} of"
+    served = f"session 1 APT here {HERE}:{partner.getsockname()[1]} since "
     status = board.ask("status")
-    cases.expect(f"no entry is made and no place taken by {page}", status.startswith(wanted), status)
+    lines = status.splitlines()
+    held = lines[0].startswith(served) and lines[1].startswith("session 2 NM gone ")
+    is_same = held and lines[2].startswith(f"entries {board.entries} of")
+    cases.expect(f"no entry is made and no place taken by {page}", is_same, status)
     cases.expect(f"the partner is served after {page}", board.is_next(partner, TICK))
     cases.expect(f"the board is not closed by {page}", board.process.poll() is None)
 

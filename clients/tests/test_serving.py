@@ -52,8 +52,12 @@ class Control(unittest.TestCase):
             caller.close()
         lines = done.stdout.splitlines()
         self.assertEqual((0, "", 4), (done.returncode, done.stderr, len(lines)))
-        self.assertEqual(["session 1 APT gone", "entries 1 of 5000"], [lines[0], lines[2]])
-        self.assertRegex(lines[1], r"^session 2 NM here 127\.0\.0\.1:\d+$")
+        none = "lines 0 entries 0 refused - bad -"
+        self.assertEqual([f"session 1 APT gone {none}", "entries 1 of 5000"], [lines[0], lines[2]])
+        one = r"lines 1 entries 1 refused 201:1 bad -"
+        self.assertRegex(
+            lines[1], rf"^session 2 NM here 127\.0\.0\.1:\d+ since \d{{4}}-\d\d-\d\dT\d\d:\d\d:\d\dZ {one}$"
+        )
         self.assertRegex(lines[3], r"^last \d{4}-\d\d-\d\dT\d\d:\d\d:00Z$")
 
     def test_a_start_right_after_the_close(self) -> None:

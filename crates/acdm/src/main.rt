@@ -7,7 +7,7 @@ mod streams;
 mod words;
 
 use acdm_commands::{
-    Failure, Noting, Paths, Why, WordsGiven, complete, is_error_file, words_given,
+    Appends, Cause, Failure, Noting, Paths, WordsGiven, complete, is_error_file, words_given,
 };
 use acdm_lines::{Sink, Source};
 use resumed::Resumed;
@@ -35,6 +35,7 @@ fn main(rt: HostRuntime) -> ExitCode {
 fn status<
     Rt: Files<File = File>
         + Paths
+        + Appends
         + Net<Listener = TcpListener, Stream = TcpStream>
         + Env
         + AllocGlobal
@@ -73,7 +74,7 @@ fn status<
         return Failure::Memory.complain(&mut errors);
     };
     // What a word names is told before a stream, whose failure alone need not end the command.
-    let (why, streams) = (Why::new(), Why::new());
+    let (why, streams) = (Cause::new(), Cause::new());
     let output = Noting::new(alloc, Resumed::new(output), "standard output", "", &streams);
     let output = Sink::new(output);
     let Ok(output) = BufWriter::with_capacity(alloc, BUFFER, output) else {

@@ -53,7 +53,7 @@ web_rule = record (new_rule (codes "web")) { long = Some (codes "web"); value_na
 abbrev pub web_name_rule : Rule
 web_name_rule = record (new_rule (codes "web-name")) { long = Some (codes "web-name"); value_names = 1 }
 
--- `--again`, `--control ADDR`, `--pace N`, `--tick SECONDS`
+-- `--again`, `--control ADDR`, `--pace N`, `--tick SECONDS`, `--log FILE`
 abbrev pub again_rule : Rule
 again_rule = record (new_rule (codes "again")) { long = Some (codes "again"); action = Some SetTrue }
 
@@ -65,6 +65,9 @@ pace_rule = record (new_rule (codes "pace")) { long = Some (codes "pace"); value
 
 abbrev pub tick_rule : Rule
 tick_rule = record (new_rule (codes "tick")) { long = Some (codes "tick"); value_names = 1 }
+
+abbrev pub log_rule : Rule
+log_rule = record (new_rule (codes "log")) { long = Some (codes "log"); value_names = 1 }
 
 -- `--tables FILE`
 abbrev pub tables_rule : Rule
@@ -83,8 +86,8 @@ abbrev pub run_app : App
 run_app = keeping_app (codes "run")
 
 -- `serve [--journal N] [--save FILE] [--keep FILE] [--sync] [--tables FILE] [--watch ADDR] [--changes ADDR]
--- [--web ADDR] [--web-name NAME] [--again] [--control ADDR] [--pace N] [--tick SECONDS] ROLE=ADDR...`, of at
--- least one partner
+-- [--web ADDR] [--web-name NAME] [--again] [--control ADDR] [--pace N] [--tick SECONDS] [--log FILE] ROLE=ADDR...`,
+-- of at least one partner
 abbrev pub partners_rule : Rule
 partners_rule = record (new_rule (codes "partners")) {
   value_names = 1;
@@ -101,8 +104,11 @@ abbrev pub lasting_app : App
 lasting_app =
     with_rule (with_rule (with_rule (with_rule serve_options_app again_rule) control_rule) pace_rule) tick_rule
 
+abbrev pub logging_app : App
+logging_app = with_rule lasting_app log_rule
+
 abbrev pub serve_app : App
-serve_app = with_rule lasting_app partners_rule
+serve_app = with_rule logging_app partners_rule
 
 -- a subcommand of this name on a file, as `audit [--tables FILE] FILE`
 abbrev pub file_rule : Rule
@@ -256,7 +262,7 @@ Asks found (Run journal save keep sync) =
     × (option_map (λ s. s.now) save ≡ value_in (codes "run") (codes "save") found)
     × (option_map (λ s. s.now) keep ≡ value_in (codes "run") (codes "keep") found)
     × (sync ≡ is_set_in (codes "run") (codes "sync") found)
-Asks found (Serve journal save keep sync watch changes web web_name again control pace tick partners) =
+Asks found (Serve journal save keep sync watch changes web web_name again control pace tick log partners) =
     (text : Text) × Serves found text × IsJournal text × (journal ≡ number_of text)
     × (option_map (λ s. s.now) save ≡ value_in (codes "serve") (codes "save") found)
     × (option_map (λ s. s.now) keep ≡ value_in (codes "serve") (codes "keep") found)
@@ -268,6 +274,7 @@ Asks found (Serve journal save keep sync watch changes web web_name again contro
     × (again ≡ is_set_in (codes "serve") (codes "again") found)
     × (option_map (λ s. s.now) control ≡ value_in (codes "serve") (codes "control") found)
     × HasPace found pace × HasTick found tick
+    × (option_map (λ s. s.now) log ≡ value_in (codes "serve") (codes "log") found)
     × (map (λ s. s.now) partners.items ≡ partners_in found)
 Asks found (Verify length file) = Verifies found length file.now
 Asks found (Audit file) = AuditsFile found file.now

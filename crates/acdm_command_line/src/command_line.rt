@@ -13,7 +13,7 @@ ghost use Rattle.acdm_command_line.specs.CommandLine.{serve_options_app, serving
 ghost use Rattle.acdm_command_line.specs.CommandLine.{changes_rule, journal_rule, keep_rule, save_rule, sync_rule};
 ghost use Rattle.acdm_command_line.specs.CommandLine.{is_set_in, watch_rule, web_name_rule, web_rule};
 ghost use Rattle.acdm_command_line.specs.CommandLine.{journal_app, tables_in, tables_rule};
-ghost use Rattle.acdm_command_line.specs.CommandLine.{again_rule, control_rule, lasting_app, pace_rule};
+ghost use Rattle.acdm_command_line.specs.CommandLine.{again_rule, control_rule, lasting_app, log_rule, logging_app, pace_rule};
 ghost use Rattle.acdm_command_line.specs.CommandLine.{AnswersCount, IsCount, tick_rule};
 ghost use Rattle.acdm_command_line.specs.CommandLine.{partners_in, value_in, values_in};
 ghost use Rattle.acdm_command_line.specs.CommandLine.{number_of, IsJournal, AsksFor, Refuses};
@@ -49,7 +49,8 @@ pub enum Subcommand<'a> {
     /// saved in this file, and kept as that of `run`, may be watched at this address, whose changes are told at that one, and for
     /// which browsers have a page at a third, by this name beside its addresses, for the partners of these words, as they stand: who may
     /// come again where `again` is true, of whom so many lines are taken in a minute; it is closed at the
-    /// control address, and ticks by itself each so many seconds, from 1 to 86,400.
+    /// control address, ticks by itself each so many seconds, from 1 to 86,400, and logs in a file what the operator
+    /// is told.
     Serve {
         journal: usize,
         save: Option<&'a str>,
@@ -63,6 +64,7 @@ pub enum Subcommand<'a> {
         control: Option<&'a str>,
         pace: Option<u32>,
         tick: Option<u32>,
+        log: Option<&'a str>,
         partners: Vec<&'a str>,
     },
     /// `audit`, of the journal in this file.
@@ -236,6 +238,16 @@ fn tick<'a>(alloc: Global) -> Arg<'a>
         .help("The board ticks by itself, in role APT, each so many seconds, 1 to 86400")
 }
 
+// `--log FILE`.
+fn log<'a>(alloc: Global) -> Arg<'a>
+    ensures rule { rule_of result ≡ log_rule }
+    ensures optional { (result.required ≡ false) × (result.global ≡ false) }
+{
+    Arg::new(alloc, "log").long("log").value_name("FILE").help(
+        "Where the operator's log is written, a line of JSON for each event",
+    )
+}
+
 // A subcommand that has a journal.
 fn with_journal<'a>(alloc: Global, name: &'a str, about: &'a str) -> Result<Command<'a>, AllocError>
     ensures shape { IfOk result (λ c. app_of c ≡ journal_app name.now) }
@@ -291,6 +303,14 @@ fn lasting<'a>(alloc: Global) -> Result<Command<'a>, AllocError>
         .arg(tick(alloc))
 }
 
+// The same with its log.
+fn logging<'a>(alloc: Global) -> Result<Command<'a>, AllocError>
+    ensures shape { IfOk result (λ c. app_of c ≡ logging_app) }
+    ensures local { IfOk result (λ c. (fields_of c).has_globals ≡ false) }
+{
+    lasting(alloc)?.arg(log(alloc))
+}
+
 fn serve_command<'a>(alloc: Global) -> Result<Command<'a>, AllocError>
     ensures shape { IfOk result (λ c. app_of c ≡ serve_app) }
     ensures local { IfOk result (λ c. (fields_of c).has_globals ≡ false) }
@@ -300,7 +320,7 @@ fn serve_command<'a>(alloc: Global) -> Result<Command<'a>, AllocError>
         .action(ArgAction::Append)
         .required(true)
         .help("A role, NM, ATC, APT, AO, GH or DIC, and the IP address and port where it connects");
-    lasting(alloc)?.arg(partners)
+    logging(alloc)?.arg(partners)
 }
 
 // `FILE`.
@@ -590,6 +610,7 @@ fn serve_of<'a>(
     let Some(tick) = count_for(matches, "tick", MOST_TICK) else {
         return Ok(None);
     };
+    let log = value(matches, "serve", "log");
     let partners = partners_of(alloc, matches)?;
     Ok(Some(Subcommand::Serve {
         journal,
@@ -604,6 +625,7 @@ fn serve_of<'a>(
         control,
         pace,
         tick,
+        log,
         partners,
     }))
 }

@@ -29,6 +29,7 @@ unopened words failures.Untold (front, word, more, split, all, fails) = absurd f
 unopened words failures.Save (front, word, more, split, all, fails) = absurd fails
 unopened words (failures.Accept n) (front, word, more, split, all, fails) = absurd fails
 unopened words failures.Control p = tt
+unopened words failures.Log p = tt
 unopened words failures.Word (front, word, more, split, all, fails) = absurd fails
 unopened words failures.Stream (front, word, more, split, all, fails) = absurd fails
 unopened words failures.Keep (front, word, more, split, all, fails) = absurd fails

@@ -57,6 +57,7 @@ module _ {F : Type 0} (sigs : List (ℕ × Promise)) (file later : SourceView F)
   audited_any old new (Err (failures.Accept n)) p = absurd p
   audited_any old new (Err failures.Watch) p = absurd p
   audited_any old new (Err failures.Control) p = absurd p
+  audited_any old new (Err failures.Log) p = absurd p
   audited_any old new (Err failures.Word) p = absurd p
   audited_any old new (Err failures.Stream) p = absurd p
   audited_any old new (Err failures.Keep) p = absurd p
@@ -97,6 +98,7 @@ module _ {F : Type 0} (sigs : List (ℕ × Promise)) (file later : SourceView F)
   told_any old new (Err (failures.Accept n)) p = absurd p
   told_any old new (Err failures.Watch) p = absurd p
   told_any old new (Err failures.Control) p = absurd p
+  told_any old new (Err failures.Log) p = absurd p
   told_any old new (Err failures.Word) p = absurd p
   told_any old new (Err failures.Stream) p = absurd p
   told_any old new (Err failures.Keep) p = absurd p
@@ -135,6 +137,7 @@ module _ {F : Type 0} (sigs : List (ℕ × Promise)) (file later : SourceView F)
   verified_any long old new (Err (failures.Accept n)) p = absurd p
   verified_any long old new (Err failures.Watch) p = absurd p
   verified_any long old new (Err failures.Control) p = absurd p
+  verified_any long old new (Err failures.Log) p = absurd p
   verified_any long old new (Err failures.Word) p = absurd p
   verified_any long old new (Err failures.Stream) p = absurd p
   verified_any long old new (Err failures.Keep) p = absurd p
@@ -190,6 +193,7 @@ fails_any (Some file) (Some later) (failures.Address n) p = absurd p
 fails_any (Some file) (Some later) (failures.Accept n) p = absurd p
 fails_any (Some file) (Some later) failures.Watch p = absurd p
 fails_any (Some file) (Some later) failures.Control p = absurd p
+fails_any (Some file) (Some later) failures.Log p = absurd p
 fails_any (Some file) (Some later) failures.Word p = absurd p
 fails_any (Some file) (Some later) failures.Stream p = absurd p
 fails_any (Some file) (Some later) failures.Keep p = absurd p

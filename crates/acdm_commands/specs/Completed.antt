@@ -179,7 +179,7 @@ abbrev pub Does : {R W E : Type 0} → List (ℕ × Promise) → Subcommand → 
 Does sigs (Run journal save keep sync) input input_after output output_after status errors errors_after =
     RunsWords sigs journal (option_map (λ s. s.now) save) (option_map (λ s. s.now) keep) input input_after
     output output_after status errors errors_after
-Does sigs (Serve journal save keep sync watch changes web web_name again control pace tick partners) input input_after output output_after status errors errors_after =
+Does sigs (Serve journal save keep sync watch changes web web_name again control pace tick log partners) input input_after output output_after status errors errors_after =
     (input_after ≡ input) × ServesLines sigs journal (option_map (λ s. s.now) save)
     (option_map (λ s. s.now) keep) (named_by (map (λ s. s.now) partners.items) tick) output output_after status errors
     errors_after

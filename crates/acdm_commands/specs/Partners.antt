@@ -100,12 +100,13 @@ pub record ServesWords {W : Type 0} (sigs : List (ℕ × Promise)) (capacity : �
   pub serves : ServesNamed (empty_desk sigs capacity cells) named written written_after told Kept
 
 -- why no partner was accepted: of the words, one names no role, or its address or that of displays or of
--- the control is none or can't be listened at; or memory was refused
+-- the control is none or can't be listened at; or the log can't be written; or memory was refused
 abbrev pub FailsToOpen : List (List ℕ) → Failure → Type 0
 FailsToOpen words (failures.Role n) = FailsToListen words (failures.Role n)
 FailsToOpen words (failures.Address n) = Unit {0}
 FailsToOpen words failures.Watch = Unit {0}
 FailsToOpen words failures.Control = Unit {0}
+FailsToOpen words failures.Log = Unit {0}
 FailsToOpen words failures.Memory = Unit {0}
 FailsToOpen words failure = ⊥
 

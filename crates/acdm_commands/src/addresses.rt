@@ -3,8 +3,8 @@ ghost use Rattle.std.specs.Prelude.{◌≡◌, ◌+◌, IfOk, IfErr, OnOk, Some,
 ghost use Rattle.acdm_commands.specs.Partners.{AddsNamed, FailsToListen, FailsToName, address_in};
 ghost use Rattle.acdm_commands.specs.Partners.{role_in};
 
+use crate::cause::Cause;
 use crate::minutes::SystemMinutes;
-use crate::why::Why;
 use acdm_judging::Failure;
 use acdm_milestones::Role;
 use std::alloc::Global;
@@ -46,7 +46,7 @@ pub(crate) fn listener_at<Rt: Net<Listener = TcpListener, Stream = TcpStream>>(
 fn listen_for<'r, Rt: Net<Listener = TcpListener, Stream = TcpStream> + SystemClock>(
     rt: &'r Rt,
     alloc: Global,
-    why: &Why,
+    why: &Cause,
     number: usize,
     word: &str,
 ) -> Result<Partner<'r, Rt>, Failure>
@@ -65,7 +65,7 @@ fn listen_for<'r, Rt: Net<Listener = TcpListener, Stream = TcpStream> + SystemCl
         }
     };
     match listener_at(rt, address) {
-        Ok(listener) => Ok((role, listener, SystemMinutes { system: rt })),
+        Ok(listener) => Ok((role, listener, SystemMinutes::new(rt))),
         Err(error) => {
             why.note(alloc, "", word, &error);
             Err(Failure::Address(number))
@@ -77,7 +77,7 @@ fn listen_for<'r, Rt: Net<Listener = TcpListener, Stream = TcpStream> + SystemCl
 fn add<'r, Rt: Net<Listener = TcpListener, Stream = TcpStream> + SystemClock>(
     rt: &'r Rt,
     alloc: Global,
-    why: &Why,
+    why: &Cause,
     partners: &mut Vec<Partner<'r, Rt>>,
     word: &str,
 ) -> Result<(), Failure>
@@ -96,7 +96,7 @@ fn add<'r, Rt: Net<Listener = TcpListener, Stream = TcpStream> + SystemClock>(
 pub(crate) fn listen<'r, Rt: Net<Listener = TcpListener, Stream = TcpStream> + SystemClock>(
     rt: &'r Rt,
     alloc: Global,
-    why: &Why,
+    why: &Cause,
     words: &[&str],
 ) -> Result<Vec<Partner<'r, Rt>>, Failure>
     ensures roles { IfOk result (λ partners.

@@ -24,6 +24,14 @@ fn beside(alloc: Global, path: &str) -> Result<String, AllocError>
     Ok(name)
 }
 
+/// Whether a path is that of the file beside the journal of another, if there is one.
+pub(crate) fn is_beside(path: &str, journal: Option<&str>) -> bool {
+    match (journal, path.strip_suffix(".tables")) {
+        (Some(journal), Some(front)) => front == journal,
+        _ => false,
+    }
+}
+
 // What is told where a journal was made by other tables. An error only where there was no memory.
 fn other_text(alloc: Global, path: &str) -> io::Result<Vec<u8>>
     ensures { IfOk result (λ text. text.items ≡ other_text path.now) }

@@ -8,17 +8,18 @@ ghost use Rattle.acdm_judging.specs.Failures.{EndsBy};
 ghost use Rattle.acdm_tables.specs.Helpers.{helpers_by};
 
 use crate::beside::are_made_by;
+use crate::cause::{Cause, Noting};
 use crate::keeping::{KeepIn, keep_line};
 use crate::saving::{Others, saving_in, settle};
 use crate::serve_command::{Audience, serve_words};
 use crate::serve_keeping::serve_kept;
-use crate::service::Service;
+use crate::service::{LogIn, Service};
 use crate::serving::run_by;
 use crate::tables::{TablesFile, tables_of};
-use crate::why::{Noting, Why};
 use acdm_command_line::{Line, Subcommand, asked};
 use acdm_judging::{Failure, audit_on, ended, explain_on, unread, verify_on};
 use acdm_keeping::Paths;
+use acdm_partners::Appends;
 use acdm_serving::Host;
 use acdm_sessions::{Sink, Source};
 use acdm_tables::Tables;
@@ -43,6 +44,7 @@ use std::time::Clock;
 pub fn complete<
     Rt: Files<File = File>
         + Paths
+        + Appends
         + Net<Listener = TcpListener, Stream = TcpStream>
         + Clock
         + Eprint
@@ -60,7 +62,7 @@ pub fn complete<
     alloc: Global,
     rt: &Rt,
     words: &[&str],
-    why: &Why,
+    why: &Cause,
     input: &mut Source<R>,
     output: &mut Sink<W>,
     errors: &mut Sink<E>,
@@ -100,7 +102,7 @@ fn complete_by<Rt: Host + Files<File = File>, R: Read, W: Write, E: Write>(
     tables: Tables,
     named: TablesFile<'_>,
     subcommand: Subcommand<'_>,
-    why: &Why,
+    why: &Cause,
     input: &mut Source<R>,
     output: &mut Sink<W>,
     errors: &mut Sink<E>,
@@ -132,6 +134,7 @@ fn complete_by<Rt: Host + Files<File = File>, R: Read, W: Write, E: Write>(
             control,
             pace,
             tick,
+            log,
             partners,
         } => serve_lines(
             rt,
@@ -154,6 +157,12 @@ fn complete_by<Rt: Host + Files<File = File>, R: Read, W: Write, E: Write>(
                 control,
                 pace,
                 tick,
+                log: log.map(|path| LogIn {
+                    path,
+                    saved: save,
+                    kept: keep,
+                    tables: named.path,
+                }),
             },
             partners.as_slice(),
             output,
@@ -180,7 +189,7 @@ fn run_words<Rt: Files<File = File> + Paths + Clone + Drop, R: Read, W: Write, E
     save: Option<&str>,
     keep: Option<&str>,
     sync: bool,
-    why: &Why,
+    why: &Cause,
     input: &mut Source<R>,
     output: &mut Sink<W>,
     errors: &mut Sink<E>,
@@ -217,7 +226,7 @@ fn run_line<'a, Rt: Files<File = File>, R: Read, W: Write, E: Write>(
     named: TablesFile<'a>,
     journal: usize,
     save: Option<&'a str>,
-    why: &'a Why,
+    why: &'a Cause,
     input: &mut Source<R>,
     output: &mut Sink<W>,
     errors: &mut Sink<E>,
@@ -357,7 +366,7 @@ fn reader_of<'a, Rt: Files>(
     rt: &Rt,
     alloc: Global,
     path: &'a str,
-    why: &'a Why,
+    why: &'a Cause,
 ) -> Option<Noting<'a, Rt::File>> {
     match fs::open(rt, path) {
         Ok(file) => Some(Noting::new(alloc, file, "", path, why)),
@@ -374,7 +383,7 @@ fn audit_line<Rt: Files, W: Write, E: Write>(
     alloc: Global,
     tables: &Tables,
     file: &str,
-    why: &Why,
+    why: &Cause,
     output: &mut Sink<W>,
     errors: &mut Sink<E>,
 ) -> u8
@@ -392,7 +401,7 @@ fn tell_line<Rt: Files, W: Write, E: Write>(
     alloc: Global,
     tables: &Tables,
     file: &str,
-    why: &Why,
+    why: &Cause,
     output: &mut Sink<W>,
     errors: &mut Sink<E>,
 ) -> u8
@@ -411,7 +420,7 @@ fn verify_line<Rt: Files, W: Write, E: Write>(
     tables: &Tables,
     length: Length,
     file: &str,
-    why: &Why,
+    why: &Cause,
     output: &mut Sink<W>,
     errors: &mut Sink<E>,
 ) -> u8

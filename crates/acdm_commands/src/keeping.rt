@@ -11,10 +11,10 @@ ghost use Rattle.acdm_judging.specs.declared.failure.Failure.TheVariants.{Room};
 ghost use Rattle.acdm_tables.specs.Helpers.{helpers_by};
 
 use crate::beside::note_tables;
+use crate::cause::{Cause, Noting};
 use crate::saving::{Others, buffer_for, is_one, save, saving_in, settle, taken};
 use crate::standard::is_standard;
 use crate::tables::TablesFile;
-use crate::why::{Noting, Why};
 use acdm_board::Desk;
 use acdm_judging::{Failure, Finding, ended};
 use acdm_keeping::{Keeper, Kept, Named, Paths, Synced, open, renew};
@@ -39,7 +39,7 @@ pub(crate) struct KeepIn<'a> {
     /// The file of the tables by which it is made.
     pub(crate) tables: TablesFile<'a>,
     /// Where it is noted why the file could not be used.
-    pub(crate) why: &'a Why,
+    pub(crate) why: &'a Cause,
 }
 
 impl<'a> KeepIn<'a> {

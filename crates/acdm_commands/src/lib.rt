@@ -4,6 +4,8 @@
 
 mod addresses;
 mod beside;
+mod cause;
+mod clock_reading;
 mod commands;
 mod keeping;
 mod minutes;
@@ -15,13 +17,13 @@ mod serving;
 mod settings;
 mod standard;
 mod tables;
-mod why;
 
 pub use acdm_judging::{Failure, ServeError, audit_on, explain_on, verify_on};
 pub use acdm_keeping::Paths;
+pub use acdm_partners::Appends;
 pub use acdm_serving::{serve_on, serve_partners};
+pub use cause::{Cause, Noting};
 pub use commands::complete;
 pub use serving::run_on;
 pub use settings::{WordsGiven, words_given};
 pub use standard::is_error_file;
-pub use why::{Noting, Why};

@@ -8,8 +8,8 @@ ghost use Rattle.acdm_commands.specs.Served.{FailsToSave, IsSaved};
 ghost use Rattle.acdm_journal.specs.Whole.{Saves};
 
 use crate::beside::note_tables;
+use crate::cause::{Cause, Noting};
 use crate::standard::is_standard;
-use crate::why::{Noting, Why};
 use acdm_board::Desk;
 use acdm_journal::{MOST_KEPT, write_entry_by};
 use acdm_judging::Failure;
@@ -40,7 +40,7 @@ pub(crate) struct Saving<F: Write + Drop> {
 pub(crate) struct Others<'a> {
     pub(crate) kept: Option<&'a str>,
     pub(crate) tables: Option<&'a str>,
-    pub(crate) why: &'a Why,
+    pub(crate) why: &'a Cause,
 }
 
 /// That a file is something else too, which is not written over.
@@ -190,7 +190,7 @@ pub(crate) fn settle<Rt: Files<File = File>>(
     alloc: Global,
     path: Option<&str>,
     tables: &[u8],
-    why: &Why,
+    why: &Cause,
     saving: Saving<Noting<'_, File>>,
     work: Result<u8, Failure>,
 ) -> Result<u8, Failure>

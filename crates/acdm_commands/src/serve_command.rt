@@ -8,22 +8,22 @@ ghost use Rattle.acdm_tables.specs.Helpers.{helpers_by};
 ghost use Rattle.acdm_sessions.specs.Sessions.{new_session};
 
 use crate::addresses::{listen, listener_at};
+use crate::cause::Cause;
 use crate::minutes::SystemMinutes;
 use crate::saving::{buffer_for, save_served};
-use crate::service::Service;
-use crate::why::Why;
+use crate::service::{Operator, Service};
 use acdm_board::Desk;
 use acdm_displays::{Displays, Form};
 use acdm_judging::Failure;
 use acdm_keeping::{Opening, Reach};
 use acdm_milestones::Role;
-use acdm_partners::Control;
 use acdm_row::Row;
 use acdm_serving::{FileKeeper, Host, Operation, Partners, Ticking, serve_again, serve_partners};
 use acdm_sessions::{Clock, Sink};
 use acdm_tables::{KnownHelpers, Tables};
 use bpf_helpers::Helpers;
 use std::alloc::Global;
+use std::fs::{File, Files};
 use std::io::{self, ErrorKind, Write};
 use std::marker::Brand;
 use std::net::{Net, TcpListener, TcpStream};
@@ -41,7 +41,7 @@ pub(crate) struct Audience<'a> {
     pub(crate) web: Option<&'a str>,
     pub(crate) web_name: Option<&'a str>,
     // Where it is noted what could not be listened at.
-    pub(crate) why: &'a Why,
+    pub(crate) why: &'a Cause,
 }
 
 /// Serves a partner for each word `ROLE=ADDR`, at most 64, all at once, with room for so many
@@ -50,7 +50,7 @@ pub(crate) struct Audience<'a> {
 /// it is to be saved by, if there is one, whether it could be told how they ended or not.
 ///
 /// The status is 0 where all was told and the journal was saved.
-pub(crate) fn serve_words<Rt: Host, W: Write, F: Write + Drop>(
+pub(crate) fn serve_words<Rt: Host + Files<File = File>, W: Write, F: Write + Drop>(
     rt: &Rt,
     alloc: Global,
     tables: Tables,
@@ -71,7 +71,7 @@ pub(crate) fn serve_words<Rt: Host, W: Write, F: Write + Drop>(
 }
 
 // Makes a desk that is empty at first.
-fn serve_with<Rt: Host, H: Helpers + Drop + Send, W: Write, F: Write + Drop>(
+fn serve_with<Rt: Host + Files<File = File>, H: Helpers + Drop + Send, W: Write, F: Write + Drop>(
     rt: &Rt,
     alloc: Global,
     helpers: H,
@@ -91,7 +91,7 @@ fn serve_with<Rt: Host, H: Helpers + Drop + Send, W: Write, F: Write + Drop>(
 }
 
 // Serves a desk at the addresses of the words, and of displays.
-fn serve_at<Rt: Host, H: Helpers + Drop + Send, W: Write, F: Write + Drop>(
+fn serve_at<Rt: Host + Files<File = File>, H: Helpers + Drop + Send, W: Write, F: Write + Drop>(
     rt: &Rt,
     alloc: Global,
     desk: Desk<H>,
@@ -104,15 +104,20 @@ fn serve_at<Rt: Host, H: Helpers + Drop + Send, W: Write, F: Write + Drop>(
     ensures { ServesNamedTo desk (named_by (map (λ w. w.now) words.now) service.entry.tick) writer.old writer.new saved.old
         saved.new result }
 {
-    let control = service.control(rt, alloc, audience.why)?;
+    let operator = match service.operator(rt, alloc, audience.why) {
+        Ok(operator) => operator,
+        Err(Failure::Memory) => return Err(Failure::Memory),
+        Err(Failure::Log) => return Err(Failure::Log),
+        Err(_) => return Err(Failure::Control),
+    };
     let (partners, displays) = opened(rt, alloc, desk.row(), None, audience, service.tick, words)?;
-    let ended = serve_all(rt, alloc, partners, desk, service, control, writer, saved);
+    let ended = serve_all(rt, alloc, partners, desk, service, operator, writer, saved);
     close_all(rt, displays);
     ended
 }
 
 // Notes that a word, by its place from 0, names one partner too many.
-fn note_word(alloc: Global, why: &Why, words: &[&str], place: usize) {
+fn note_word(alloc: Global, why: &Cause, words: &[&str], place: usize) {
     let error = io::Error::new(
         ErrorKind::InvalidInput,
         "more sessions than 64, of which ticks take one",
@@ -126,7 +131,7 @@ fn note_word(alloc: Global, why: &Why, words: &[&str], place: usize) {
 fn few_partners<'r, Rt: Net<Listener = TcpListener, Stream = TcpStream> + SystemClock>(
     rt: &'r Rt,
     alloc: Global,
-    why: &Why,
+    why: &Cause,
     tick: Option<u32>,
     words: &[&str],
 ) -> Result<Partners<SystemMinutes<'r, Rt>>, Failure>
@@ -144,7 +149,7 @@ fn few_partners<'r, Rt: Net<Listener = TcpListener, Stream = TcpStream> + System
                 note_word(alloc, why, words, 63);
                 return Err(Failure::Address(64));
             }
-            let clock = SystemMinutes { system: rt };
+            let clock = SystemMinutes::new(rt);
             Ok(Partners {
                 listeners,
                 ticks: Some(Ticking { seconds, clock }),
@@ -317,7 +322,7 @@ fn serve_all<Rt: Host, H: Helpers + Drop + Send, C: Clock + Drop + Send, W: Writ
     partners: Partners<C>,
     desk: Desk<H>,
     service: Service<'_>,
-    control: Option<Control>,
+    operator: Operator,
     writer: &mut Sink<W>,
     saved: &mut Option<Sink<F>>,
 ) -> Result<(), Failure>
@@ -332,11 +337,13 @@ fn serve_all<Rt: Host, H: Helpers + Drop + Send, C: Clock + Drop + Send, W: Writ
         let Partners { listeners, .. } = partners;
         return serve_once(rt, alloc, listeners, desk, writer, saved);
     }
+    let Operator { control, log } = operator;
     let operation = Operation {
         terms: service.terms(),
         control,
         closing: Arc::new(alloc, AtomicBool::new(false))?,
         kept: None,
+        log,
     };
     serve_unkept::<Brand, Rt, H, C, W, F>(rt, alloc, partners, desk, operation, writer, saved)
 }

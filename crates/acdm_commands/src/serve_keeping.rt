@@ -9,11 +9,11 @@ ghost use Rattle.acdm_tables.specs.Helpers.{helpers_by};
 use crate::keeping::{KeepIn, go_on, keeper_of, open_kept, synced_in};
 use crate::saving::{buffer_for, save_served};
 use crate::serve_command::{Audience, close_all, opened};
-use crate::service::Service;
+use crate::service::{Operator, Service};
 use acdm_board::Desk;
 use acdm_judging::{Failure, ServeError};
 use acdm_keeping::{Keeper, Named, Opening, SharedKeeper, Synced};
-use acdm_serving::{FileKeeper, Host, Operation, Partners, Served, serve_again};
+use acdm_serving::{FileKeeper, Host, Operation, Partners, ServedPartners, serve_again};
 use acdm_sessions::{Clock, RunError, Sink};
 use acdm_tables::{KnownHelpers, Tables};
 use bpf_helpers::Helpers;
@@ -48,7 +48,7 @@ fn desk_after<
         writer.old writer.new after.1 (λ J. J ≡ after.0.history)) }
     ensures fails { IfErr result (FailsToTell writer.old writer.new) }
 {
-    let Served {
+    let ServedPartners {
         desk,
         sessions,
         told,
@@ -138,7 +138,12 @@ fn serve_named<
 }
 
 // Serves a desk at the addresses of the words, and of displays. What its partners make is kept.
-fn serve_kept_at<Rt: Host, H: Helpers + Drop + Send, W: Write, F: Write + Drop>(
+fn serve_kept_at<
+    Rt: Host + Files<File = File>,
+    H: Helpers + Drop + Send,
+    W: Write,
+    F: Write + Drop,
+>(
     rt: &Rt,
     alloc: Global,
     desk: Desk<H>,
@@ -158,11 +163,18 @@ fn serve_kept_at<Rt: Host, H: Helpers + Drop + Send, W: Write, F: Write + Drop>(
     ensures { ServesKeptWords desk (named_by (map (λ w. w.now) words.now) service.entry.tick) writer.old writer.new saved.old
         saved.new result }
 {
+    let Operator { control, log } = match service.operator(rt, alloc, audience.why) {
+        Ok(operator) => operator,
+        Err(Failure::Memory) => return Err(Failure::Memory),
+        Err(Failure::Log) => return Err(Failure::Log),
+        Err(_) => return Err(Failure::Control),
+    };
     let operation = Operation {
         terms: service.terms(),
-        control: service.control(rt, alloc, audience.why)?,
+        control,
         closing,
         kept: Some(named),
+        log,
     };
     serve_named::<Brand, Rt, H, W, F>(
         rt,

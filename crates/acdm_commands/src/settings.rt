@@ -6,7 +6,7 @@ ghost use Rattle.acdm_commands.specs.BySettings.{GivesNone, GivesWords, ReadsWor
 
 use acdm_judging::{BytesError, Failure, bytes_of, unread};
 use acdm_lines::{Sink, Source};
-use acdm_settings::{MOST_TEXT, Place, SettingsError, place_in, with_settings, words_in};
+use acdm_settings::{ConfigPlace, MOST_TEXT, SettingsError, place_in, with_settings, words_in};
 use acdm_wire::write_out;
 use std::alloc::Global;
 use std::fs::{self, Files};
@@ -53,7 +53,7 @@ pub fn words_given<Rt: Files, E: Write>(
 fn words_on<R: Read, E: Write>(
     alloc: Global,
     words: &[&str],
-    place: Place<'_>,
+    place: ConfigPlace<'_>,
     reader: &mut Source<R>,
     errors: &mut Sink<E>,
 ) -> Option<Vec<String>>

@@ -10,7 +10,7 @@ use Rattle.acdm_lines.specs.declared.run_error.RunError.TheVariants as errors
 use Rattle.acdm_wire.specs.Writes.{Wrote, WroteInPart}
 use Rattle.acdm_judging.specs.declared.failure.Failure.{Failure}
 use Rattle.acdm_judging.specs.declared.failure.Failure.TheVariants.{Read, Write, Save, Memory, Accept}
-use Rattle.acdm_judging.specs.declared.failure.Failure.TheVariants.{Role, Address, Watch, Control, Word, Stream}
+use Rattle.acdm_judging.specs.declared.failure.Failure.TheVariants.{Role, Address, Watch, Control, Log, Word, Stream}
 use Rattle.acdm_judging.specs.declared.failure.Failure.TheVariants.{Keep, InUse, Room, Untold}
 use Rattle.acdm_judging.specs.declared.failure.ServeError.{ServeError}
 use Rattle.acdm_judging.specs.declared.failure.ServeError.TheVariants as serve_errors
@@ -41,6 +41,7 @@ failure_text (Address number) = codes "acdm: address " ++ decimal number ++ 10 �
 failure_text (Accept number) = codes "acdm: accept " ++ decimal number ++ 10 ∷ []
 failure_text Watch = codes "acdm: watch address" ++ 10 ∷ []
 failure_text Control = codes "acdm: control address" ++ 10 ∷ []
+failure_text Log = codes "acdm: log file" ++ 10 ∷ []
 failure_text Word = codes "acdm: a word is not UTF-8" ++ 10 ∷ []
 failure_text Stream = codes "acdm: no null device" ++ 10 ∷ []
 failure_text Keep = codes "acdm: keep failed" ++ 10 ∷ []

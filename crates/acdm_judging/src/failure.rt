@@ -43,6 +43,9 @@ pub enum Failure {
     /// The control address is none, or can't be listened at.
     #[error("control address")]
     Control,
+    /// The file for what the operator is told can't be written.
+    #[error("log file")]
+    Log,
     /// A word of the command line is no text.
     #[error("a word is not UTF-8")]
     Word,
@@ -112,6 +115,7 @@ impl Failure {
             Failure::Accept(number) => numbered(b"acdm: accept ", number),
             Failure::Watch => line(b"acdm: watch address"),
             Failure::Control => line(b"acdm: control address"),
+            Failure::Log => line(b"acdm: log file"),
             Failure::Word => line(b"acdm: a word is not UTF-8"),
             Failure::Stream => line(b"acdm: no null device"),
             Failure::Keep => line(b"acdm: keep failed"),

@@ -1,8 +1,8 @@
 //! The thread that accepts partners, and answers at the control address.
-use crate::console::Console;
-use crate::control::{Control, Standing};
+use crate::control::{BoardState, Control, Standing};
 use crate::doors::Door;
 use crate::levels::Levels;
+use crate::line_queue::LineQueue;
 use crate::reporter::Reporter;
 use crate::times::{LAST_PAUSES, PAUSE};
 use std::alloc::{AllocError, Global};
@@ -25,16 +25,19 @@ pub struct Acceptor<K: Drop, S: Drop> {
     standing: S,
     levels: Levels,
     looks: u64,
+    // Whether it was asked at the control address that the board closes.
+    is_asked: bool,
     closing: Arc<AtomicBool>,
     done: Arc<AtomicBool>,
 }
 
 impl<K: Wait + Clock + Drop, S: Standing + Drop> Acceptor<K, S> {
-    /// One for these addresses, which tells by this console. The word tells that the board closes.
+    /// One for these addresses, which tells on standard error by the first, and in the log by the second, if there is
+    /// one. The word tells that the board closes.
     pub fn new(
         rt: K,
         alloc: Global,
-        console: Console,
+        (errors, log): (LineQueue, Option<LineQueue>),
         doors: Vec<Door>,
         control: Option<Control>,
         standing: S,
@@ -42,12 +45,13 @@ impl<K: Wait + Clock + Drop, S: Standing + Drop> Acceptor<K, S> {
     ) -> Result<Acceptor<K, S>, AllocError> {
         let done = Arc::new(alloc, AtomicBool::new(false))?;
         Ok(Acceptor {
-            reporter: Reporter::new(rt, alloc, console),
+            reporter: Reporter::new(rt, alloc, errors, log),
             doors,
             control,
             standing,
             levels: Levels::new(),
             looks: 0,
+            is_asked: false,
             closing,
             done,
         })
@@ -90,11 +94,18 @@ impl<K: Wait + Clock + Drop, S: Standing + Drop> Acceptor<K, S> {
         // Where the clock tells no time nobody is too late.
         let now = self.reporter.passed().unwrap_or(0);
         if let Some(control) = &mut self.control {
-            let alloc = self.reporter.alloc;
-            if control.look(alloc, self.doors.as_slice(), &self.standing, now) {
+            let state = BoardState {
+                rt: &self.reporter.rt,
+                alloc: self.reporter.alloc,
+                doors: self.doors.as_slice(),
+                standing: &self.standing,
+            };
+            if control.look(&state, now) {
+                self.is_asked = true;
                 self.close_board();
             }
         }
+        self.reporter.look_after_log();
         self.look_after_file();
     }
 
@@ -136,7 +147,31 @@ impl<K: Wait + Clock + Drop, S: Standing + Drop> Acceptor<K, S> {
     // Tells what is left to be told.
     fn finish(&mut self) {
         self.levels.look(&self.reporter, &self.standing);
+        if self.reporter.has_log() {
+            self.log_end();
+        }
         self.reporter.end();
+    }
+
+    // Logs what is left to be logged, and what closed the board: a line at the control address, the file of the journal,
+    // or that all partners were gone.
+    fn log_end(&mut self) {
+        for door in self.doors.as_mut_slice() {
+            door.log_rest(&self.reporter);
+        }
+        let failure = self.standing.failure();
+        let is_kept = failure.is_none() && self.standing.stands();
+        if !is_kept {
+            self.reporter.log_keep(failure);
+        }
+        let by = if !is_kept {
+            "file"
+        } else if self.is_asked {
+            "control"
+        } else {
+            "partners"
+        };
+        self.reporter.log_close(by, self.standing.used());
     }
 
     fn cut_off(&self) {

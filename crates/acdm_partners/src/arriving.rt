@@ -2,7 +2,7 @@
 use crate::arrivals::Arrivals;
 use crate::connection::Connection;
 use crate::pace::{Pace, Stopwatch};
-use crate::places::Place;
+use crate::places::PartnerPlace;
 use crate::times::PAUSE;
 use std::sync::{Arc, Wait};
 use std::thread;
@@ -12,7 +12,7 @@ use std::time::{Clock, Duration};
 #[derive(Drop)]
 pub struct Arriving<'r, Rt> {
     rt: &'r Rt,
-    place: Arc<Place>,
+    place: Arc<PartnerPlace>,
     // How many lines are taken in a minute, if that is bounded, and what that is measured by.
     pace: Option<Pace>,
     stopwatch: Stopwatch,
@@ -20,7 +20,7 @@ pub struct Arriving<'r, Rt> {
 
 impl<'r, Rt: Wait + Clock> Arriving<'r, Rt> {
     /// Who connects at this place.
-    pub fn new(rt: &'r Rt, place: Arc<Place>) -> Arriving<'r, Rt> {
+    pub fn new(rt: &'r Rt, place: Arc<PartnerPlace>) -> Arriving<'r, Rt> {
         let stopwatch = Stopwatch::begin(rt);
         let pace = place.terms.pace.map(|most| Pace::new(most, 0));
         Arriving {

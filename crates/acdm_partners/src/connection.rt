@@ -1,7 +1,7 @@
 //! One connection of a place, as a reader.
 ghost use Rattle.std.specs.Prelude.{◌≤◌, length};
 
-use crate::places::{Arrived, Place};
+use crate::places::{Arrived, PartnerPlace};
 use std::io::{self, ErrorKind, Read};
 use std::net::TcpStream;
 use std::sync::Arc;
@@ -11,7 +11,7 @@ use std::sync::Arc;
 /// one.
 #[derive(Drop)]
 pub struct Connection {
-    place: Arc<Place>,
+    place: Arc<PartnerPlace>,
     stream: TcpStream,
     number: u64,
     // What was read of it before it took the place, and how much of that was given.
@@ -28,7 +28,7 @@ pub(crate) fn is_passing(error: &io::Error) -> bool {
 
 impl Connection {
     /// A connection that took a place.
-    pub(crate) fn new(place: Arc<Place>, arrived: Arrived) -> Connection {
+    pub(crate) fn new(place: Arc<PartnerPlace>, arrived: Arrived) -> Connection {
         let Arrived {
             stream,
             text,

@@ -8,6 +8,7 @@ use crate::stamp::moment_text;
 use std::alloc::{AllocError, Global};
 use std::io::{self, ErrorKind, Read, Write};
 use std::net::{Net, SocketAddr, TcpListener, TcpStream};
+use std::sync::Wait;
 
 /// How many may be connected there at once. For one more, the one that has asked for nothing for the longest
 /// time is let go.
@@ -36,13 +37,25 @@ pub trait Standing {
     /// Whether it still stands where it is kept, if it is.
     fn stands(&self) -> bool;
 
+    /// Why it could not be kept, where it could not: the system's first error.
+    fn failure(&self) -> Option<io::Error>;
+
     /// How many seconds lie between the board's own ticks, if it gives any.
     fn ticks(&self) -> Option<u32>;
 }
 
+/// The board, as it is told of at the control address.
+#[derive(Drop)]
+pub(crate) struct BoardState<'a, K, S> {
+    pub(crate) rt: &'a K,
+    pub(crate) alloc: Global,
+    pub(crate) doors: &'a [Door],
+    pub(crate) standing: &'a S,
+}
+
 // Who is connected, the line that was begun, and when the one before was answered, in milliseconds.
 #[derive(Drop)]
-struct Caller {
+struct ControlCaller {
     stream: TcpStream,
     line: Vec<u8>,
     since: u64,
@@ -52,7 +65,7 @@ struct Caller {
 #[derive(Drop)]
 pub struct Control {
     listener: TcpListener,
-    callers: Vec<Caller>,
+    callers: Vec<ControlCaller>,
 }
 
 // An address: an IP address and a port, or a port of the loopback interface.
@@ -64,13 +77,15 @@ fn address_of(text: &str) -> Option<SocketAddr> {
 }
 
 // What is told of the board: who is here, the entries, and the moment of the last one.
-fn status<S: Standing>(alloc: Global, doors: &[Door], standing: &S) -> Result<String, AllocError> {
+fn status<K: Wait, S: Standing>(state: &BoardState<'_, K, S>) -> Result<String, AllocError> {
+    let alloc = state.alloc;
+    let standing = state.standing;
     let mut text = String::new(alloc);
-    for door in doors {
-        door.add_status(&mut text)?;
+    for door in state.doors {
+        door.add_status(state.rt, alloc, &mut text)?;
     }
     if let Some(seconds) = standing.ticks() {
-        let number = doors.len().saturating_add(1);
+        let number = state.doors.len().saturating_add(1);
         writeln!(text, "session {number} APT ticks each {seconds} s")?;
     }
     let used = standing.used();
@@ -86,13 +101,13 @@ fn status<S: Standing>(alloc: Global, doors: &[Door], standing: &S) -> Result<St
     Ok(text)
 }
 
-impl Caller {
-    fn new(alloc: Global, stream: TcpStream, since: u64) -> Option<Caller> {
+impl ControlCaller {
+    fn new(alloc: Global, stream: TcpStream, since: u64) -> Option<ControlCaller> {
         if stream.set_nonblocking(true).is_err() {
             return None;
         }
         let line = Vec::with_capacity(alloc, LONGEST_LINE).ok()?;
-        Some(Caller {
+        Some(ControlCaller {
             stream,
             line,
             since,
@@ -118,11 +133,9 @@ impl Caller {
     }
 
     // Answers a line. Says whether the caller stays: not where the line asks for nothing that there is.
-    fn answer<S: Standing>(
+    fn answer<K: Wait, S: Standing>(
         &mut self,
-        alloc: Global,
-        doors: &[Door],
-        standing: &S,
+        state: &BoardState<'_, K, S>,
         closes: &mut bool,
     ) -> bool {
         match control_request(self.line.as_slice()) {
@@ -130,7 +143,7 @@ impl Caller {
                 *closes = true;
                 self.send(b"closing\n")
             }
-            ControlRequest::Status => match status(alloc, doors, standing) {
+            ControlRequest::Status => match status(state) {
                 Ok(text) => self.send(text.as_bytes()),
                 Err(_) => false,
             },
@@ -142,11 +155,9 @@ impl Caller {
     }
 
     // Answers the lines that have come by this moment. Says whether the caller stays.
-    fn look<S: Standing>(
+    fn look<K: Wait, S: Standing>(
         &mut self,
-        alloc: Global,
-        doors: &[Door],
-        standing: &S,
+        state: &BoardState<'_, K, S>,
         now: u64,
         closes: &mut bool,
     ) -> bool {
@@ -156,7 +167,7 @@ impl Caller {
         };
         for byte in buf.iter().take(count) {
             if *byte == b'\n' {
-                if !self.answer(alloc, doors, standing, closes) {
+                if !self.answer(state, closes) {
                     return false;
                 }
                 self.line.clear();
@@ -205,7 +216,7 @@ impl Control {
         let Ok((stream, _)) = self.listener.accept() else {
             return;
         };
-        let Some(caller) = Caller::new(alloc, stream, now) else {
+        let Some(caller) = ControlCaller::new(alloc, stream, now) else {
             return;
         };
         if self.callers.len() >= MOST_CALLERS {
@@ -232,21 +243,19 @@ impl Control {
 
     /// Accepts who waits, and answers the lines that have come by this moment, in milliseconds. Says whether
     /// the board is to close.
-    pub(crate) fn look<S: Standing>(
+    pub(crate) fn look<K: Wait, S: Standing>(
         &mut self,
-        alloc: Global,
-        doors: &[Door],
-        standing: &S,
+        state: &BoardState<'_, K, S>,
         now: u64,
     ) -> bool {
         let mut closes = false;
         let mut at = 0;
-        self.admit(alloc, now);
+        self.admit(state.alloc, now);
         for _ in 0..MOST_CALLERS {
             if at >= self.callers.len() {
                 break;
             }
-            if self.callers[at].look(alloc, doors, standing, now, &mut closes) {
+            if self.callers[at].look(state, now, &mut closes) {
                 at += 1;
             } else {
                 let _left = self.callers.remove(at);

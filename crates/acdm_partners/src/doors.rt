@@ -1,8 +1,9 @@
 //! The addresses where partners connect.
 use crate::newcomers::{Newcomer, Newcomers};
 use crate::pace::Pace;
-use crate::places::Place;
-use crate::reporter::Reporter;
+use crate::places::PartnerPlace;
+use crate::reporter::{Reporter, SessionName};
+use crate::stamp::{moment_text, seconds_now};
 use std::alloc::{AllocError, Global};
 use std::net::{SocketAddr, TcpListener, TcpStream};
 use std::sync::{Arc, Wait};
@@ -11,14 +12,16 @@ use std::time::Clock;
 // How many connections are accepted at one look, at most.
 const MOST_ACCEPTED: u32 = 16;
 
-// Of how many who come at an address in a minute it is told, at most.
+// Of how many who come at an address in a minute it is told, at most; and of how many bad lines there.
 const MOST_TOLD: u32 = 30;
 
-// Who is served: the number of the connection and its address, and whether it was told that it is here.
+// Who is served: the number of the connection and its address, since when, in seconds since 1970-01-01T00:00Z, and
+// whether it was told that it is here.
 #[derive(Clone, Copy)]
 struct Here {
     number: u64,
     address: SocketAddr,
+    since: Option<u64>,
     is_told: bool,
 }
 
@@ -27,7 +30,7 @@ struct Here {
 pub struct Door {
     number: usize,
     role: &'static str,
-    place: Arc<Place>,
+    place: Arc<PartnerPlace>,
     listener: Option<TcpListener>,
     // How many bytes of a first line are waited for at most.
     longest: usize,
@@ -36,6 +39,9 @@ pub struct Door {
     // How often it is told who comes, and of how many it was not.
     telling: Pace,
     untold: u64,
+    // How often a bad line is logged, and how many were bad when one was.
+    logging: Pace,
+    logged: u64,
 }
 
 impl Door {
@@ -47,7 +53,7 @@ impl Door {
         number: usize,
         role: &'static str,
         longest: usize,
-        place: Arc<Place>,
+        place: Arc<PartnerPlace>,
         listener: TcpListener,
     ) -> Result<Option<Door>, AllocError> {
         if listener.set_nonblocking(true).is_err() {
@@ -64,11 +70,22 @@ impl Door {
             here: None,
             telling: Pace::new(MOST_TOLD, 0),
             untold: 0,
+            logging: Pace::new(MOST_TOLD, 0),
+            logged: 0,
         }))
     }
 
-    pub(crate) fn place(&self) -> &Place {
+    pub(crate) fn place(&self) -> &PartnerPlace {
         &self.place
+    }
+
+    // The session, as it is told of.
+    fn named(&self) -> SessionName {
+        SessionName {
+            number: self.number,
+            role: self.role,
+            is_spoken: self.place.terms.again,
+        }
     }
 
     /// Accepts who waits, has those served whose first line is there, and tells of who has left.
@@ -117,6 +134,7 @@ impl Door {
         self.here = Some(Here {
             number,
             address,
+            since: seconds_now(&reporter.rt),
             is_told,
         });
         if !self.place.terms.again {
@@ -124,8 +142,11 @@ impl Door {
         }
     }
 
-    /// Tells of who has left.
+    /// Tells of who has left, and logs a bad line where one came since that was logged, and not too often.
     pub(crate) fn look_after<K: Wait + Clock + Drop>(&mut self, reporter: &Reporter<K>) {
+        if self.has_bad(reporter) && self.may_log(reporter) {
+            self.log_bad(reporter);
+        }
         if let Some(here) = self.here {
             if self.place.has_ended(here.number) {
                 self.tell_gone(reporter);
@@ -133,11 +154,39 @@ impl Door {
         }
     }
 
+    // Whether a line was bad since that was logged, where there is a log.
+    fn has_bad<K: Wait + Clock + Drop>(&self, reporter: &Reporter<K>) -> bool {
+        reporter.has_log() && self.place.bad_lines(&reporter.rt) > self.logged
+    }
+
+    // Whether a bad line may be logged now. Where the clock tells no time each may.
+    fn may_log<K: Wait + Clock + Drop>(&mut self, reporter: &Reporter<K>) -> bool {
+        match reporter.passed() {
+            Some(now) => self.logging.admits(now),
+            None => true,
+        }
+    }
+
+    // Logs how many lines were bad since that was logged, and the last of them.
+    fn log_bad<K: Wait + Clock + Drop>(&mut self, reporter: &Reporter<K>) {
+        let bad_lines = self.place.bad_lines(&reporter.rt);
+        let since = bad_lines.saturating_sub(self.logged);
+        reporter.log_bad(self.named(), since, &self.place);
+        self.logged = bad_lines;
+    }
+
+    /// Logs the bad lines that were not logged by now, if there are any.
+    pub(crate) fn log_rest<K: Wait + Clock + Drop>(&mut self, reporter: &Reporter<K>) {
+        if self.has_bad(reporter) {
+            self.log_bad(reporter);
+        }
+    }
+
     // Tells that who was served has left, where it was told that it is here.
     fn tell_gone<K: Wait + Clock + Drop>(&mut self, reporter: &Reporter<K>) {
         if let Some(here) = self.here.take() {
             if here.is_told {
-                reporter.tell_gone(self.number);
+                reporter.tell_gone(self.named());
             }
         }
     }
@@ -148,7 +197,7 @@ impl Door {
         reporter: &Reporter<K>,
         address: SocketAddr,
     ) -> bool {
-        if !self.place.terms.again {
+        if !self.place.terms.again && !reporter.has_log() {
             return false;
         }
         let is_told = match reporter.passed() {
@@ -160,10 +209,10 @@ impl Door {
             return false;
         }
         if self.untold > 0 {
-            reporter.tell_untold(self.number, self.untold);
+            reporter.tell_untold(self.named(), self.untold);
             self.untold = 0;
         }
-        reporter.tell_here(self.number, address);
+        reporter.tell_here(self.named(), address);
         true
     }
 
@@ -173,16 +222,28 @@ impl Door {
         self.newcomers.clear();
     }
 
-    /// Adds the line of its session to what is told of the board.
-    pub(crate) fn add_status(&self, text: &mut String) -> Result<(), AllocError> {
+    /// Adds the line of its session to what is told of the board: who is here since when, or that nobody is, and what
+    /// came of its lines.
+    pub(crate) fn add_status<Rt: Wait>(
+        &self,
+        rt: &Rt,
+        alloc: Global,
+        text: &mut String,
+    ) -> Result<(), AllocError> {
         let number = self.number;
         let role = self.role;
         match self.here {
             Some(here) => {
                 let address = here.address;
-                writeln!(text, "session {number} {role} here {address}")
+                let since = match here.since {
+                    Some(seconds) => moment_text(alloc, seconds)?,
+                    None => String::from_str(alloc, "-")?,
+                };
+                write!(text, "session {number} {role} here {address} since {since}")?;
             }
-            None => writeln!(text, "session {number} {role} gone"),
+            None => write!(text, "session {number} {role} gone")?,
         }
+        self.place.add_counts(rt, text)?;
+        text.push_str("\n")
     }
 }

@@ -1,6 +1,6 @@
-//! Lines that wait to be written on standard error, of which so many bytes are held at most.
+//! Lines that wait to be written, of which so many bytes are held at most.
 ghost use Rattle.std.specs.Prelude.{◌≡◌, ◌≤◌, [], IfOk, string_bytes, string_capacity};
-ghost use Rattle.acdm_partners.specs.Console.{HeldView, IsEmptyRoom, held_after, most_held};
+ghost use Rattle.acdm_partners.specs.HeldLines.{HeldView, IsEmptyRoom, held_after, most_held};
 
 use std::alloc::{AllocError, Global};
 use std::marker::Model;
@@ -20,7 +20,7 @@ pub(crate) struct HeldLines {
 
 impl Model for HeldLines {
     ghost use Rattle.std.specs.Prelude.{string_bytes};
-    ghost use Rattle.acdm_partners.specs.Console.{HeldView};
+    ghost use Rattle.acdm_partners.specs.HeldLines.{HeldView};
 
     ghost Value = { HeldView };
 

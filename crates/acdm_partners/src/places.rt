@@ -1,4 +1,5 @@
 //! The places where partners connect, and what the threads share of them.
+use crate::counts::{LineOutcome, SessionCounts};
 use crate::times::{LONGEST_READ, PATIENCE};
 use std::alloc::{AllocError, Global};
 use std::net::{Shutdown, TcpStream};
@@ -34,10 +35,12 @@ struct Held {
 
 /// Where the partner of one session connects.
 #[derive(Drop)]
-pub struct Place {
+pub struct PartnerPlace {
     closing: Arc<AtomicBool>,
     pub(crate) terms: Terms,
     held: Mutex<Held>,
+    // What came of the lines of its session, whoever was here.
+    counts: Mutex<SessionCounts>,
     // The numbers of the newest connection, of the one that is served, and of the last that has ended.
     newest: AtomicU64,
     served: AtomicU64,
@@ -45,14 +48,14 @@ pub struct Place {
     is_over: AtomicBool,
 }
 
-impl Place {
+impl PartnerPlace {
     /// A place where nobody has connected. The word tells once the board closes.
     pub fn new(
         alloc: Global,
         terms: Terms,
         closing: &Arc<AtomicBool>,
-    ) -> Result<Arc<Place>, AllocError> {
-        let place = Place {
+    ) -> Result<Arc<PartnerPlace>, AllocError> {
+        let place = PartnerPlace {
             closing: Arc::try_clone(closing)?,
             terms,
             held: Mutex::new(Held {
@@ -60,6 +63,7 @@ impl Place {
                 open: None,
                 replies: None,
             }),
+            counts: Mutex::new(SessionCounts::new(alloc)?),
             newest: AtomicU64::new(0),
             served: AtomicU64::new(0),
             ended: AtomicU64::new(0),
@@ -151,6 +155,30 @@ impl Place {
             let _ = open.shutdown(Shutdown::Both);
         }
         self.ended.store(self.served(), Ordering::SeqCst);
+    }
+
+    /// Counts a line of its session, of which this came.
+    pub fn count<Rt: Wait>(&self, rt: &Rt, outcome: LineOutcome, line: &[u8]) {
+        self.counts.lock(rt).count(outcome, line);
+    }
+
+    /// How many lines of its session were bad so far.
+    pub(crate) fn bad_lines<Rt: Wait>(&self, rt: &Rt) -> u64 {
+        self.counts.lock(rt).bad_lines()
+    }
+
+    /// Adds what is told of the lines of its session.
+    pub(crate) fn add_counts<Rt: Wait>(
+        &self,
+        rt: &Rt,
+        text: &mut String,
+    ) -> Result<(), AllocError> {
+        self.counts.lock(rt).add_text(text)
+    }
+
+    /// Adds the code and the first bytes of its last bad line, as two members of an object of JSON.
+    pub(crate) fn add_bad<Rt: Wait>(&self, rt: &Rt, text: &mut String) -> Result<(), AllocError> {
+        self.counts.lock(rt).add_bad(text)
     }
 
     /// Its session has ended: nobody is served here any more.

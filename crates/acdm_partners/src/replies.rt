@@ -5,7 +5,7 @@ ghost use Rattle.std.specs.Io.KnownBytes.{WriteAppends};
 ghost use Rattle.acdm_partners.specs.Sending as sending;
 
 use crate::outlet::Outlet;
-use crate::places::Place;
+use crate::places::PartnerPlace;
 use std::io::{self, ErrorKind, Write};
 use std::net::{Shutdown, TcpStream};
 use std::sync::{Arc, Wait};
@@ -14,18 +14,18 @@ use std::sync::{Arc, Wait};
 /// fails, or takes nothing for 30 seconds, is cut off; what is left for it is dropped. Where the session
 /// serves no further one, the writer fails then, unless the board closes.
 #[derive(Drop)]
-pub struct Replies<'r, Rt> {
+pub struct PartnerReplies<'r, Rt> {
     rt: &'r Rt,
-    place: Arc<Place>,
+    place: Arc<PartnerPlace>,
     outlet: Outlet<TcpStream>,
 }
 
-impl<'r, Rt: Wait> Replies<'r, Rt> {
+impl<'r, Rt: Wait> PartnerReplies<'r, Rt> {
     /// The replies of the session at a place.
-    pub fn new(rt: &'r Rt, place: Arc<Place>) -> Replies<'r, Rt>
+    pub fn new(rt: &'r Rt, place: Arc<PartnerPlace>) -> PartnerReplies<'r, Rt>
         ensures { result.outlet ≡ record { number = 0; log = None } }
     {
-        Replies {
+        PartnerReplies {
             rt,
             place,
             outlet: Outlet::new(),
@@ -47,7 +47,7 @@ impl<'r, Rt: Wait> Replies<'r, Rt> {
     }
 }
 
-impl<'r, Rt: Wait> Write for Replies<'r, Rt> {
+impl<'r, Rt: Wait> Write for PartnerReplies<'r, Rt> {
     fn write(&mut self, buf: &[u8]) -> io::Result<usize>
         ensures bound { WritesAtMost result buf.now }
         ensures bytes { WriteAppends None None result buf.now }

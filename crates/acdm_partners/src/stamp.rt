@@ -25,7 +25,8 @@ pub(crate) fn now_text<Rt: Clock>(rt: &Rt, alloc: Global) -> Result<String, Allo
     }
 }
 
-fn seconds_now<Rt: Clock>(rt: &Rt) -> Option<u64> {
+/// The seconds since 1970-01-01T00:00Z that the system's clock tells, if it tells any.
+pub(crate) fn seconds_now<Rt: Clock>(rt: &Rt) -> Option<u64> {
     let now = SystemTime::now(rt).ok()?;
     let since = now.duration_since(SystemTime::UNIX_EPOCH).ok()?;
     Some(since.as_secs())

@@ -21,7 +21,7 @@ use Rattle.acdm_partners.specs.contracts.arriving.Arriving as of_arriving
 use Rattle.acdm_partners.specs.contracts.connection.Connection as of_connection
 use Rattle.acdm_partners.specs.contracts.reader.WholeLines as reader
 use Rattle.acdm_partners.proofs.Crossing.{reader_send}
-use Rattle.acdm_partners.proofs.replies.Replies.TheSendSync as replies
+use Rattle.acdm_partners.proofs.replies.PartnerReplies.TheSendSync as replies
 use Rattle.acdm_keeping.proofs.Crossing.{replies_send}
 use Rattle.acdm_keeping.proofs.named.Named.TheSendSync as named
 use Rattle.acdm_keeping.proofs.synced.Synced.TheSendSync as synced

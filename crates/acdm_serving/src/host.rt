@@ -1,6 +1,7 @@
 //! What serving needs of the system.
 
 use acdm_keeping::Paths;
+use acdm_partners::Appends;
 use std::io::Eprint;
 use std::net::{Net, TcpListener, TcpStream};
 use std::sync::Wait;
@@ -11,6 +12,7 @@ use std::time::Clock;
 /// runtime that has them. (`complete` of `acdm_commands` names them one by one: who calls it with a runtime needs
 /// their types.)
 pub trait Host: Paths
+    + Appends
     + Net<Listener = TcpListener, Stream = TcpStream>
     + Clock
     + Eprint
@@ -25,6 +27,7 @@ pub trait Host: Paths
 impl<Rt> Host for Rt
 where
     Rt: Paths
+        + Appends
         + Net<Listener = TcpListener, Stream = TcpStream>
         + Clock
         + Eprint

@@ -6,20 +6,22 @@ ghost use Rattle.acdm_serving.specs.Partners.{Announces, FailsToTell, IsOfAccept
 ghost use Rattle.acdm_serving.specs.Partners.{session_text, starts_of, tick_starts};
 ghost use Rattle.acdm_sessions.specs.Sessions.{ServesSessions, new_session, session_start};
 ghost use Rattle.acdm_sessions.specs.Sessions.{session_told};
+ghost use Rattle.acdm_serving.specs.Outcomes.{outcome_of};
 
 use crate::host::Host;
-use crate::partners::{REPLIES_HELD, Served, announce, served_by, tell};
+use crate::partners::{REPLIES_HELD, ServedPartners, announce, served_by, tell};
 use crate::ticks::{Ticks, Timer};
 use acdm_board::Desk;
 use acdm_judging::ServeError;
-use acdm_keeping::{Named, Opening, Paths, Replies as Behind, SharedKeeper, Synced};
+use acdm_keeping::{Named, Opening, Paths, Replies, SharedKeeper, Synced};
 use acdm_milestones::Role;
 use acdm_partners::{
-    Acceptor, Arriving, Connection, Console, Control, Door, Place, Reception, Replies, Standing,
-    Terms, WholeLines,
+    Acceptor, Arriving, Connection, Control, Door, LineOutcome, LineQueue, PartnerPlace,
+    PartnerReplies, Reception, Standing, Terms, WholeLines,
 };
 use acdm_row::Row;
-use acdm_sessions::{Clock, Closed, Gate, Session, Sink, Source};
+use acdm_sessions::{Answer, Clock, Closed, Gate, Session, Sink, Source};
+use acdm_step::Outcome;
 use acdm_wire::LONGEST_REQUEST;
 use bpf_helpers::Helpers;
 use std::alloc::{AllocError, Global};
@@ -51,7 +53,7 @@ impl<'r, Rt: Wait + SystemClock> Read for Reading<'r, Rt> {
 /// Where the replies of a session go: to the connection whose lines they answer, or to nobody.
 #[derive(Drop)]
 pub enum Answering<'r, Rt> {
-    Partner(Replies<'r, Rt>),
+    Partner(PartnerReplies<'r, Rt>),
     Nobody,
 }
 
@@ -75,7 +77,7 @@ impl<'r, Rt: Wait + SystemClock> Write for Answering<'r, Rt> {
 pub type FileKeeper<J, Rt> = SharedKeeper<Synced<Rt>, J>;
 
 /// What its replies go to, once their entries are kept, where the journal is.
-pub type Writing<'r, J, Rt> = BufWriter<Behind<'r, Synced<Rt>, J, Answering<'r, Rt>, Rt>>;
+pub type KeptReplyWriter<'r, J, Rt> = BufWriter<Replies<'r, Synced<Rt>, J, Answering<'r, Rt>, Rt>>;
 
 /// Partners at listeners, in the order of their sessions, and behind these the session of the board's own ticks, if
 /// it gives any.
@@ -97,20 +99,22 @@ pub struct Ticking<C: Drop> {
 }
 
 /// How a board is run whose partners come and go: by which terms they are served, where it can be closed, the word
-/// that says that it closes, and the file in which its journal is kept, if it is.
+/// that says that it closes, the file in which its journal is kept, if it is, and the path of the file in which it
+/// logs what its operator is told, if it does.
 #[derive(Drop)]
 pub struct Operation {
     pub terms: Terms,
     pub control: Option<Control>,
     pub closing: Arc<AtomicBool>,
     pub kept: Option<Named>,
+    pub log: Option<String>,
 }
 
 // Where partners connect, in the order of their sessions.
 #[derive(Drop)]
 struct Addresses {
     doors: Vec<Door>,
-    places: Vec<Arc<Place>>,
+    places: Vec<Arc<PartnerPlace>>,
     // How many seconds lie between ticks, if there are any.
     ticks: Option<u32>,
 }
@@ -132,10 +136,10 @@ impl Addresses {
         role: Role,
         listener: TcpListener,
         operation: &Operation,
-    ) -> Result<Arc<Place>, ServeError>
+    ) -> Result<Arc<PartnerPlace>, ServeError>
         ensures fails { IfErr result IsOfAccepting }
     {
-        let Ok(place) = Place::new(alloc, operation.terms, &operation.closing) else {
+        let Ok(place) = PartnerPlace::new(alloc, operation.terms, &operation.closing) else {
             return Err(ServeError::Memory);
         };
         let (Ok(kept), Ok(given)) = (Arc::try_clone(&place), Arc::try_clone(&place)) else {
@@ -157,21 +161,47 @@ impl Addresses {
 // Has nobody served where a session has ended, and the board closed once those of all partners have. It holds
 // nobody up.
 #[derive(Drop)]
-struct Places<'r, Rt> {
+struct PartnerPlaces<'r, Rt> {
     rt: &'r Rt,
-    places: Vec<Arc<Place>>,
+    places: Vec<Arc<PartnerPlace>>,
     // How many have ended.
     ended: AtomicUsize,
     closing: Arc<AtomicBool>,
 }
 
-impl<Rt: Wait> Gate for Places<'_, Rt> {
+// What came of a line that was answered so.
+fn outcome_of(answer: &Answer) -> LineOutcome
+    ensures { result ≡ outcome_of answer.now }
+{
+    match answer {
+        Answer::Entered(reply) => match &reply.outcome {
+            Outcome::Refused(refusal) => LineOutcome::Refused(refusal.code()),
+            _ => LineOutcome::Entered,
+        },
+        Answer::Rejected(bad) => LineOutcome::Bad(bad.code()),
+    }
+}
+
+impl<Rt> PartnerPlaces<'_, Rt> {
+    // The place of a session, if a partner connects there.
+    fn place(&self, session: u8) -> Option<&Arc<PartnerPlace>> {
+        self.places.get(usize::from(session).saturating_sub(1))
+    }
+}
+
+impl<Rt: Wait> Gate for PartnerPlaces<'_, Rt> {
     fn enter(&self, _session: u8, _call: u64) {}
+
+    fn told(&self, session: u8, line: &[u8], answer: &Answer) {
+        if let Some(place) = self.place(session) {
+            place.count(self.rt, outcome_of(answer), line);
+        }
+    }
 
     fn answered(&self, _session: u8, _call: u64) {}
 
     fn ended(&self, session: u8) {
-        let Some(place) = self.places.get(usize::from(session).saturating_sub(1)) else {
+        let Some(place) = self.place(session) else {
             return;
         };
         place.finish(self.rt);
@@ -236,6 +266,10 @@ impl<K: Paths + Drop> Standing for Tally<K> {
         }
     }
 
+    fn failure(&self) -> Option<io::Error> {
+        self.kept.as_ref()?.failure()
+    }
+
     fn ticks(&self) -> Option<u32> {
         self.ticks
     }
@@ -249,14 +283,14 @@ fn session_of<'r, J: Opening, Rt: Host, C: Clock + Drop>(
     ends: (Reading<'r, Rt>, Answering<'r, Rt>),
     keeper: Option<&'r FileKeeper<J, Rt>>,
     clock: C,
-) -> Result<Session<Reading<'r, Rt>, Writing<'r, J, Rt>, C>, ServeError>
+) -> Result<Session<Reading<'r, Rt>, KeptReplyWriter<'r, J, Rt>, C>, ServeError>
     ensures role { IfOk result (λ session. session.role ≡ role) }
     ensures start { IfOk result (λ s. session_start s.role s.reader s.writer (C.gives s.clock)
         ≡ new_session role (C.gives clock)) }
     ensures fails { IfErr result IsOfAccepting }
 {
     let (reading, answering) = ends;
-    let replies = Behind::new(rt, keeper, answering);
+    let replies = Replies::new(rt, keeper, answering);
     let Ok(writer) = BufWriter::with_capacity(alloc, REPLIES_HELD, replies) else {
         return Err(ServeError::Memory);
     };
@@ -273,10 +307,10 @@ fn session_at<'r, J: Opening, Rt: Host, C: Clock + Drop>(
     rt: &'r Rt,
     alloc: Global,
     role: Role,
-    place: Arc<Place>,
+    place: Arc<PartnerPlace>,
     keeper: Option<&'r FileKeeper<J, Rt>>,
     clock: C,
-) -> Result<Session<Reading<'r, Rt>, Writing<'r, J, Rt>, C>, ServeError>
+) -> Result<Session<Reading<'r, Rt>, KeptReplyWriter<'r, J, Rt>, C>, ServeError>
     ensures role { IfOk result (λ session. session.role ≡ role) }
     ensures start { IfOk result (λ s. session_start s.role s.reader s.writer (C.gives s.clock)
         ≡ new_session role (C.gives clock)) }
@@ -290,7 +324,7 @@ fn session_at<'r, J: Opening, Rt: Host, C: Clock + Drop>(
     };
     let ends = (
         Reading::Partner(lines),
-        Answering::Partner(Replies::new(rt, place)),
+        Answering::Partner(PartnerReplies::new(rt, place)),
     );
     session_of(rt, alloc, role, ends, keeper, clock)
 }
@@ -302,7 +336,7 @@ fn session_ticking<'r, J: Opening, Rt: Host, C: Clock + Drop>(
     ticks: Ticking<C>,
     operation: &Operation,
     keeper: Option<&'r FileKeeper<J, Rt>>,
-) -> Result<Session<Reading<'r, Rt>, Writing<'r, J, Rt>, C>, ServeError>
+) -> Result<Session<Reading<'r, Rt>, KeptReplyWriter<'r, J, Rt>, C>, ServeError>
     ensures start { IfOk result (λ s. session_start s.role s.reader s.writer (C.gives s.clock)
         ≡ new_session Role.AirportOperator (C.gives ticks.clock)) }
     ensures fails { IfErr result IsOfAccepting }
@@ -325,7 +359,7 @@ fn add_ticks<'r, J: Opening, Rt: Host, C: Clock + Drop>(
     ticks: Option<Ticking<C>>,
     operation: &Operation,
     keeper: Option<&'r FileKeeper<J, Rt>>,
-    sessions: &mut Vec<Session<Reading<'r, Rt>, Writing<'r, J, Rt>, C>>,
+    sessions: &mut Vec<Session<Reading<'r, Rt>, KeptReplyWriter<'r, J, Rt>, C>>,
 ) -> Result<(), ServeError>
     ensures starts { OnOk result (map (λ s. session_start s.role s.reader s.writer
         (C.gives s.clock)) sessions.new.items
@@ -353,7 +387,7 @@ fn open<'r, J: Opening, Rt: Host, C: Clock + Drop>(
     operation: &Operation,
     keeper: Option<&'r FileKeeper<J, Rt>>,
     addresses: &mut Addresses,
-) -> Result<Session<Reading<'r, Rt>, Writing<'r, J, Rt>, C>, ServeError>
+) -> Result<Session<Reading<'r, Rt>, KeptReplyWriter<'r, J, Rt>, C>, ServeError>
     ensures role { IfOk result (λ session. session.role ≡ partner.0) }
     ensures start { IfOk result (λ s. session_start s.role s.reader s.writer (C.gives s.clock)
         ≡ new_session partner.0 (C.gives partner.2)) }
@@ -372,7 +406,7 @@ fn open_all<'r, J: Opening, Rt: Host, C: Clock + Drop>(
     operation: &Operation,
     keeper: Option<&'r FileKeeper<J, Rt>>,
     addresses: &mut Addresses,
-) -> Result<Vec<Session<Reading<'r, Rt>, Writing<'r, J, Rt>, C>>, ServeError>
+) -> Result<Vec<Session<Reading<'r, Rt>, KeptReplyWriter<'r, J, Rt>, C>>, ServeError>
     ensures len { IfOk result (λ sessions. vec_len sessions ≡ vec_len partners) }
     ensures roles { IfOk result (λ sessions. map (λ s. s.role) sessions.items
         ≡ map (λ p. p.0) partners.items) }
@@ -404,6 +438,7 @@ fn acceptor_of<Rt: Host>(
         control,
         closing,
         kept,
+        log,
         ..
     } = operation;
     let (doors, ticks) = addresses;
@@ -413,8 +448,13 @@ fn acceptor_of<Rt: Host>(
         kept,
         ticks,
     };
-    let console = Console::begin(rt, rt.clone()?, alloc)?;
-    Acceptor::new(rt.clone()?, alloc, console, doors, control, tally, closing)
+    let errors = LineQueue::on_errors(rt, rt.clone()?, alloc)?;
+    let log = match log {
+        Some(path) => Some(LineQueue::at_file(rt, rt.clone()?, alloc, path)?),
+        None => None,
+    };
+    let queues = (errors, log);
+    Acceptor::new(rt.clone()?, alloc, queues, doors, control, tally, closing)
 }
 
 // Starts the thread that accepts partners and answers at the control address.
@@ -445,7 +485,7 @@ fn opened<'r, J: Opening, Rt: Host, C: Clock + Drop, W: Write>(
     keeper: Option<&'r FileKeeper<J, Rt>>,
     addresses: &mut Addresses,
     writer: &mut Sink<W>,
-) -> Result<Vec<Session<Reading<'r, Rt>, Writing<'r, J, Rt>, C>>, ServeError>
+) -> Result<Vec<Session<Reading<'r, Rt>, KeptReplyWriter<'r, J, Rt>, C>>, ServeError>
     requires few { vec_len partners.listeners ≤ 64 }
     ensures starts { IfOk result (λ sessions. map (λ s. session_start s.role s.reader s.writer
         (C.gives s.clock)) sessions.items
@@ -477,10 +517,10 @@ fn served_while<
     rt: &'r Rt,
     alloc: Global,
     desk: Desk<H>,
-    sessions: Vec<Session<Reading<'r, Rt>, Writing<'r, J, Rt>, C>>,
+    sessions: Vec<Session<Reading<'r, Rt>, KeptReplyWriter<'r, J, Rt>, C>>,
     addresses: Addresses,
     operation: Operation,
-) -> Result<Closed<H, Reading<'r, Rt>, Writing<'r, J, Rt>, C>, ServeError>
+) -> Result<Closed<H, Reading<'r, Rt>, KeptReplyWriter<'r, J, Rt>, C>, ServeError>
     requires few { vec_len sessions ≤ 64 }
     ensures serves { IfOk result (λ c. ServesSessions desk c.desk
         (map (λ s. session_start s.role s.reader s.writer (C.gives s.clock)) sessions.entry.items)
@@ -496,7 +536,7 @@ fn served_while<
     let Ok(closing) = Arc::try_clone(&operation.closing) else {
         return Err(ServeError::Memory);
     };
-    let places = Places {
+    let places = PartnerPlaces {
         rt,
         places,
         ended: AtomicUsize::new(0),
@@ -533,7 +573,7 @@ pub fn serve_again<
     keeper: Option<&'r FileKeeper<J, Rt>>,
     desk: Desk<H>,
     writer: &mut Sink<W>,
-) -> Result<Served<H, Reading<'r, Rt>, Writing<'r, J, Rt>, C>, ServeError>
+) -> Result<ServedPartners<H, Reading<'r, Rt>, KeptReplyWriter<'r, J, Rt>, C>, ServeError>
     requires few { length (starts_of C.gives partners.listeners.items
         (option_map (λ t. t.clock) partners.ticks)) ≤ 64 }
     ensures serves { IfOk result (λ c. ServesSessions desk c.desk
@@ -551,7 +591,7 @@ pub fn serve_again<
     let closed = served_while(rt, alloc, desk, sessions, addresses, operation)?;
     let told = tell(&closed, writer);
     let Closed { desk, sessions } = closed;
-    Ok(Served {
+    Ok(ServedPartners {
         desk,
         sessions,
         told,

@@ -10,7 +10,7 @@ mod ticks;
 
 pub use host::Host;
 pub use lasting::{
-    Answering, FileKeeper, Operation, Partners, Reading, Ticking, Writing, serve_again,
+    Answering, FileKeeper, KeptReplyWriter, Operation, Partners, Reading, Ticking, serve_again,
 };
-pub use partners::{ReplyWriter, Served, serve_on, serve_partners};
+pub use partners::{ReplyWriter, ServedPartners, serve_on, serve_partners};
 pub use ticks::{Beat, Ticks, Timer};

@@ -72,7 +72,7 @@ impl Gate for Connections {
 
 /// What partners who were served leave.
 #[derive(Drop)]
-pub struct Served<H: Helpers + Drop, R: Read + Drop, S: Write + Drop, C: Drop> {
+pub struct ServedPartners<H: Helpers + Drop, R: Read + Drop, S: Write + Drop, C: Drop> {
     /// The desk, with the entries that their sessions made.
     pub desk: Desk<H>,
     /// Their sessions, in the order of their numbers.
@@ -132,7 +132,7 @@ pub fn serve_partners<
     partners: Vec<(Role, TcpListener, C)>,
     desk: Desk<H>,
     writer: &mut Sink<W>,
-) -> Result<Served<H, TcpStream, ReplyWriter, C>, ServeError>
+) -> Result<ServedPartners<H, TcpStream, ReplyWriter, C>, ServeError>
     requires few { vec_len partners ≤ 64 }
     ensures serves { IfOk result (λ c. ServesSessions desk c.desk
         (map (λ p. new_session p.0 (C.gives p.2)) partners.items)
@@ -150,7 +150,7 @@ pub fn serve_partners<
     let closed = served_by(rt, alloc, desk, sessions, &connections)?;
     let told = tell(&closed, writer);
     let Closed { desk, sessions } = closed;
-    Ok(Served {
+    Ok(ServedPartners {
         desk,
         sessions,
         told,

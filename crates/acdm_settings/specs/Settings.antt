@@ -9,15 +9,15 @@ use Rattle.toml.specs.Data.{Data, Items, no_items, item, Members, no_members, me
 use Rattle.toml.specs.Data.{as_array, as_bool, as_integer, as_str}
 use Rattle.toml.specs.Parse.{parse_document}
 use Rattle.acdm_tables.specs.Reading.{line_at}
-use Rattle.acdm_settings.specs.declared.fault.Why.{Why}
-use Rattle.acdm_settings.specs.declared.fault.Why.TheVariants.{Unknown, NoFlag, NoNumber, NoText, NoPartners}
+use Rattle.acdm_settings.specs.declared.fault.SettingFault.{SettingFault}
+use Rattle.acdm_settings.specs.declared.fault.SettingFault.TheVariants.{Unknown, NoFlag, NoNumber, NoText, NoPartners}
 use Rattle.acdm_settings.specs.declared.fault.SettingsError.{SettingsError}
 use Rattle.acdm_settings.specs.declared.fault.SettingsError.TheVariants as errors
 use Rattle.acdm_settings.specs.declared.reading.Kind.{Kind}
 use Rattle.acdm_settings.specs.declared.reading.Kind.TheVariants.{Flag, Number, Words, Partners}
 
 -- what is told of what is wrong
-abbrev pub why_text : Why → List ℕ
+abbrev pub why_text : SettingFault → List ℕ
 why_text Unknown = codes "no such key"
 why_text NoFlag = codes "not true or false"
 why_text NoNumber = codes "not a whole number"
@@ -35,12 +35,13 @@ kind_of key =
     else (if bytes_eq key (codes "changes") then Some Words
     else (if bytes_eq key (codes "control") then Some Words
     else (if bytes_eq key (codes "keep") then Some Words
+    else (if bytes_eq key (codes "log") then Some Words
     else (if bytes_eq key (codes "save") then Some Words
     else (if bytes_eq key (codes "tables") then Some Words
     else (if bytes_eq key (codes "watch") then Some Words
     else (if bytes_eq key (codes "web") then Some Words
     else (if bytes_eq key (codes "web-name") then Some Words
-    else (if bytes_eq key (codes "partners") then Some Partners else None)))))))))))))
+    else (if bytes_eq key (codes "partners") then Some Partners else None))))))))))))))
 
 -- the option of a key, and with a value behind it
 abbrev pub option_of : List ℕ → List ℕ
@@ -75,9 +76,9 @@ partners_from words (item value more) =
     option_and_then (λ after. partners_from after more) (add_partner words (partner_word value))
 
 abbrev pub Wrong : Type 0
-Wrong = List ℕ × Why
+Wrong = List ℕ × SettingFault
 
-abbrev pub or_wrong : {A : Type 0} → List ℕ → Why → Option A → Result A Wrong
+abbrev pub or_wrong : {A : Type 0} → List ℕ → SettingFault → Option A → Result A Wrong
 or_wrong key why None = Err (key, why)
 or_wrong key why (Some x) = Ok x
 
@@ -115,7 +116,7 @@ GivesView view (Err (errors.NoToml place)) reading = ⊥
 GivesView view (Err errors.TooLong) reading = ⊥
 
 -- This is what is wrong at a key, or there was no memory to say so.
-abbrev pub IsWrong : List ℕ → Why → SettingsError → Type 0
+abbrev pub IsWrong : List ℕ → SettingFault → SettingsError → Type 0
 IsWrong path reason errors.Memory = Unit {0}
 IsWrong path reason (errors.Wrong key why) = (key.items ≡ path) × (why ≡ reason)
 IsWrong path reason (errors.NoToml place) = ⊥

@@ -7,7 +7,7 @@ use std::alloc::AllocError;
 
 /// Why what stands at a key of a file of settings is refused.
 #[derive(Clone, Copy, Debug, PartialEq, Eq)]
-pub enum Why {
+pub enum SettingFault {
     /// There is no such key.
     Unknown,
     /// It is neither true nor false.
@@ -20,17 +20,17 @@ pub enum Why {
     NoPartners,
 }
 
-impl Why {
+impl SettingFault {
     /// What is told of it.
     pub fn text(self) -> &'static str
         ensures { result.now ≡ why_text self }
     {
         match self {
-            Why::Unknown => "no such key",
-            Why::NoFlag => "not true or false",
-            Why::NoNumber => "not a whole number",
-            Why::NoText => "not a text",
-            Why::NoPartners => "not a list of texts as APT=127.0.0.1:4001",
+            SettingFault::Unknown => "no such key",
+            SettingFault::NoFlag => "not true or false",
+            SettingFault::NoNumber => "not a whole number",
+            SettingFault::NoText => "not a text",
+            SettingFault::NoPartners => "not a list of texts as APT=127.0.0.1:4001",
         }
     }
 }
@@ -43,7 +43,7 @@ pub enum SettingsError {
     /// It is no TOML, as is found in this line, from 1.
     NoToml(usize),
     /// What stands at this key is wrong.
-    Wrong { key: Vec<u8>, why: Why },
+    Wrong { key: Vec<u8>, why: SettingFault },
     /// There was no memory.
     Memory,
 }

@@ -5,6 +5,6 @@ mod fault;
 mod place;
 mod reading;
 
-pub use fault::{SettingsError, Why};
-pub use place::{Place, place_in, with_settings};
+pub use fault::{SettingFault, SettingsError};
+pub use place::{ConfigPlace, place_in, with_settings};
 pub use reading::{MOST_TEXT, words_in};

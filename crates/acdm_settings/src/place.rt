@@ -7,14 +7,14 @@ use std::alloc::{AllocError, Global};
 
 /// Where a command line names a file of settings: behind so many words, by the next two, `--config FILE`.
 #[derive(Clone, Copy, Debug, PartialEq, Eq)]
-pub struct Place<'a> {
+pub struct ConfigPlace<'a> {
     pub before: usize,
     pub path: &'a str,
 }
 
 /// Where the words of a command line, of which the first is the program's name, name a file of settings: by
 /// `--config FILE`, as the words of `serve` and before a word `--`. `None` where they name none so.
-pub fn place_in<'a>(words: &[&'a str]) -> Option<Place<'a>>
+pub fn place_in<'a>(words: &[&'a str]) -> Option<ConfigPlace<'a>>
     ensures place { option_map (λ p. (p.before, p.path.now)) result ≡ place_in (map (λ w. w.now) words.now) }
     ensures inside { IfSome result (λ p. p.before + 2 ≤ length words.now) }
 {
@@ -31,7 +31,7 @@ pub fn place_in<'a>(words: &[&'a str]) -> Option<Place<'a>>
 }
 
 // The same behind so many words.
-fn place_from<'a>(count: usize, words: &[&'a str]) -> Option<Place<'a>>
+fn place_from<'a>(count: usize, words: &[&'a str]) -> Option<ConfigPlace<'a>>
     requires { count + length words.now ≤ 18446744073709551615 }
     ensures place { option_map (λ p. (p.before, p.path.now)) result
         ≡ place_from count false (map (λ w. w.now) words.now) }
@@ -41,7 +41,7 @@ fn place_from<'a>(count: usize, words: &[&'a str]) -> Option<Place<'a>>
     let mut is_named = false;
     for word in words {
         if is_named {
-            return Some(Place { before, path: word });
+            return Some(ConfigPlace { before, path: word });
         }
         if *word == "--" {
             return None;

@@ -8,7 +8,7 @@ ghost use Rattle.toml.specs.View.{array_view, table_view, view};
 ghost use Rattle.acdm_settings.specs.Settings.{GivesView, IsWrong, Reads, add_kind, add_setting, is_partner};
 ghost use Rattle.acdm_settings.specs.Settings.{flag_words, kind_of, natural, option_of, partner_word, partners_from, with_value, words_from};
 
-use crate::fault::{SettingsError, Why};
+use crate::fault::{SettingFault, SettingsError};
 use acdm_tables::line_at;
 use itoa::Buffer;
 use std::alloc::{AllocError, Global};
@@ -51,6 +51,8 @@ fn kind_of(key: &str) -> Option<Kind>
         Some(Kind::Words)
     } else if key == "keep" {
         Some(Kind::Words)
+    } else if key == "log" {
+        Some(Kind::Words)
     } else if key == "save" {
         Some(Kind::Words)
     } else if key == "tables" {
@@ -69,7 +71,7 @@ fn kind_of(key: &str) -> Option<Kind>
 }
 
 // What is wrong at a key.
-fn wrong(alloc: Global, key: &str, why: Why) -> SettingsError
+fn wrong(alloc: Global, key: &str, why: SettingFault) -> SettingsError
     ensures { IsWrong key.now why result }
 {
     match Vec::from_slice(alloc, key.as_bytes()) {
@@ -197,11 +199,11 @@ fn add_partners(
         (add_kind (map (λ s. string_bytes s) words.items) key.now (Some Partners) (view value.now)) }
 {
     let Some(list) = value.as_array() else {
-        return Err(wrong(alloc, key, Why::NoPartners));
+        return Err(wrong(alloc, key, SettingFault::NoPartners));
     };
     match with_partners(alloc, words, list)? {
         Some(words) => Ok(words),
-        None => Err(wrong(alloc, key, Why::NoPartners)),
+        None => Err(wrong(alloc, key, SettingFault::NoPartners)),
     }
 }
 
@@ -219,18 +221,18 @@ fn add_kind(
     match kind {
         Some(Kind::Flag) => match value.as_bool() {
             Some(is_set) => Ok(with_flag(alloc, words, key, is_set)?),
-            None => Err(wrong(alloc, key, Why::NoFlag)),
+            None => Err(wrong(alloc, key, SettingFault::NoFlag)),
         },
         Some(Kind::Number) => match natural(value) {
             Some(number) => Ok(with_number(alloc, words, key, number)?),
-            None => Err(wrong(alloc, key, Why::NoNumber)),
+            None => Err(wrong(alloc, key, SettingFault::NoNumber)),
         },
         Some(Kind::Words) => match value.as_str() {
             Some(text) => Ok(with_word(words, with_value(alloc, key, text)?)?),
-            None => Err(wrong(alloc, key, Why::NoText)),
+            None => Err(wrong(alloc, key, SettingFault::NoText)),
         },
         Some(Kind::Partners) => add_partners(alloc, words, key, value),
-        None => Err(wrong(alloc, key, Why::Unknown)),
+        None => Err(wrong(alloc, key, SettingFault::Unknown)),
     }
 }
 

@@ -381,6 +381,7 @@ module _ {R W : Type 0} (sigs : List (ℕ × Promise)) (text : List ℕ) (read r
   told_rest (failures.Accept n) g w = absurd w
   told_rest failures.Watch g w = absurd w
   told_rest failures.Control g w = absurd w
+  told_rest failures.Log g w = absurd w
   told_rest failures.Word g w = absurd w
   told_rest failures.Stream g w = absurd w
   told_rest failures.Keep g w = absurd w

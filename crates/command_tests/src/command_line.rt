@@ -201,6 +201,7 @@ fn asks_to_serve(alloc: Global, words: &[&str], wanted: usize, words_wanted: &[&
                     control: None,
                     pace: None,
                     tick: None,
+                    log: None,
                     partners,
                 },
                 ..

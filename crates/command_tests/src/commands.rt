@@ -10,7 +10,7 @@ mod tell;
 mod unreliable;
 
 use acdm_board::Desk;
-use acdm_commands::{Paths, Why, complete, run_on, verify_on};
+use acdm_commands::{Appends, Cause, Paths, complete, run_on, verify_on};
 use acdm_judging::Failure;
 use acdm_sessions::{Sink, Source, run};
 use acdm_tables::Tables;
@@ -97,7 +97,7 @@ fn a_run_ends_with_its_status(rt: HostRuntime) {
 }
 
 // Each failure, and the line that tells it.
-static FAILURES: [(Failure, &str); 12] = [
+static FAILURES: [(Failure, &str); 14] = [
     (Failure::Read, "acdm: read failed\n"),
     (Failure::Write, "acdm: write failed\n"),
     (Failure::Untold, "acdm: write failed\n"),
@@ -107,6 +107,8 @@ static FAILURES: [(Failure, &str); 12] = [
     (Failure::Address(64), "acdm: address 64\n"),
     (Failure::Accept(12), "acdm: accept 12\n"),
     (Failure::Watch, "acdm: watch address\n"),
+    (Failure::Control, "acdm: control address\n"),
+    (Failure::Log, "acdm: log file\n"),
     (Failure::Keep, "acdm: keep failed\n"),
     (Failure::InUse, "acdm: the kept journal is in use\n"),
     (
@@ -137,6 +139,7 @@ fn no_file() -> Option<Sink<Broken>> {
 fn status_of<
     Rt: Files<File = File>
         + Paths
+        + Appends
         + Net<Listener = TcpListener, Stream = TcpStream>
         + Clock
         + Eprint
@@ -158,7 +161,7 @@ fn status_of<
         alloc,
         rt,
         words,
-        &Why::new(),
+        &Cause::new(),
         &mut input,
         &mut output,
         &mut errors,
@@ -171,6 +174,7 @@ const TICK: &str = "1 29000580 APT {\"cmd\":\"tick\"}\n";
 pub(crate) fn completes<
     Rt: Files<File = File>
         + Paths
+        + Appends
         + Net<Listener = TcpListener, Stream = TcpStream>
         + Clock
         + Eprint

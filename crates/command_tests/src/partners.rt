@@ -144,7 +144,7 @@ fn asks_to_serve(
     }
 }
 
-static REFUSED: [&[&str]; 12] = [
+static REFUSED: [&[&str]; 14] = [
     &["acdm", "run", "--again"],
     &["acdm", "serve", "--again=yes", "NM=[::1]:1"],
     &["acdm", "serve", "--control"],
@@ -157,6 +157,8 @@ static REFUSED: [&[&str]; 12] = [
     &["acdm", "serve", "--tick", "-60", "NM=[::1]:1"],
     &["acdm", "serve", "--tick", "1.5", "NM=[::1]:1"],
     &["acdm", "serve", "--tick", "NM=[::1]:1"],
+    &["acdm", "run", "--log", "board.log"],
+    &["acdm", "serve", "NM=[::1]:1", "--log"],
 ];
 
 #[test]
@@ -204,4 +206,28 @@ fn a_board_ticks_where_it_is_said(rt: HostRuntime) {
     assert!(rt; asks_to_tick(alloc, &least, Some(1)));
     let most = ["acdm", "serve", "--tick=86400", "NM=[::1]:1"];
     assert!(rt; asks_to_tick(alloc, &most, Some(86_400)));
+}
+
+// Whether these words ask to serve with what an operator is told logged there.
+fn asks_to_log(alloc: Global, words: &[&str], wanted: Option<&str>) -> bool {
+    match parse(alloc, words) {
+        Ok(
+            Line {
+                subcommand: Subcommand::Serve { log, control, .. },
+                ..
+            },
+        ) => log == wanted && control.is_none(),
+        _ => false,
+    }
+}
+
+#[test]
+fn a_board_logs_where_it_is_said(rt: HostRuntime) {
+    let alloc = rt.alloc();
+    let none = ["acdm", "serve", "NM=[::1]:1"];
+    assert!(rt; asks_to_log(alloc, &none, None));
+    let one = ["acdm", "serve", "NM=[::1]:1", "--log", "board.log"];
+    assert!(rt; asks_to_log(alloc, &one, Some("board.log")));
+    let bound = ["acdm", "serve", "--log=a=b", "NM=[::1]:1"];
+    assert!(rt; asks_to_log(alloc, &bound, Some("a=b")));
 }

@@ -1,5 +1,5 @@
 //! Which words a file of settings stands for, and where a command line names one.
-use acdm_settings::{Place, SettingsError, Why, place_in, with_settings, words_in};
+use acdm_settings::{ConfigPlace, SettingFault, SettingsError, place_in, with_settings, words_in};
 use std::alloc::Global;
 use std::process::Abort;
 
@@ -28,10 +28,11 @@ static FILES: [(&str, &[&str]); 9] = [
         &["--keep=a b", "--tables=", "--web-name=--again"],
     ),
     (
-        "watch = '1'\nweb = '2'\nsave = '3'\ncontrol = '4'\nchanges = '5'\n",
+        "watch = '1'\nweb = '2'\nsave = '3'\ncontrol = '4'\nchanges = '5'\nlog = '6'\n",
         &[
             "--changes=5",
             "--control=4",
+            "--log=6",
             "--save=3",
             "--watch=1",
             "--web=2",
@@ -52,23 +53,27 @@ fn settings_stand_for_words(rt: HostRuntime) {
 }
 
 // What is wrong with a file: at which key, why.
-static WRONG: [(&str, &str, Why); 12] = [
-    ("journals = 7\n", "journals", Why::Unknown),
-    ("serve = true\n", "serve", Why::Unknown),
-    ("--again = true\n", "--again", Why::Unknown),
-    ("again = 1\n", "again", Why::NoFlag),
-    ("sync = 'true'\n", "sync", Why::NoFlag),
-    ("journal = -1\n", "journal", Why::NoNumber),
-    ("tick = '60'\n", "tick", Why::NoNumber),
-    ("keep = 7\n", "keep", Why::NoText),
-    ("[keep]\n", "keep", Why::NoText),
-    ("partners = 'APT=1'\n", "partners", Why::NoPartners),
-    ("partners = ['APT=1', '-x']\n", "partners", Why::NoPartners),
-    ("partners = ['']\n", "partners", Why::NoPartners),
+static WRONG: [(&str, &str, SettingFault); 12] = [
+    ("journals = 7\n", "journals", SettingFault::Unknown),
+    ("serve = true\n", "serve", SettingFault::Unknown),
+    ("--again = true\n", "--again", SettingFault::Unknown),
+    ("again = 1\n", "again", SettingFault::NoFlag),
+    ("sync = 'true'\n", "sync", SettingFault::NoFlag),
+    ("journal = -1\n", "journal", SettingFault::NoNumber),
+    ("tick = '60'\n", "tick", SettingFault::NoNumber),
+    ("keep = 7\n", "keep", SettingFault::NoText),
+    ("[keep]\n", "keep", SettingFault::NoText),
+    ("partners = 'APT=1'\n", "partners", SettingFault::NoPartners),
+    (
+        "partners = ['APT=1', '-x']\n",
+        "partners",
+        SettingFault::NoPartners,
+    ),
+    ("partners = ['']\n", "partners", SettingFault::NoPartners),
 ];
 
 // This is what is told of a text.
-fn is_wrong(rt: &impl Abort, alloc: Global, text: &str, wanted: &str, reason: Why) {
+fn is_wrong(rt: &impl Abort, alloc: Global, text: &str, wanted: &str, reason: SettingFault) {
     match words_in(alloc, text.as_bytes()) {
         Err(SettingsError::Wrong { key, why }) => {
             assert!(rt; key.as_slice() == wanted.as_bytes() && why == reason);
@@ -131,7 +136,7 @@ static LINES: [(&[&str], Option<(usize, &str)>); 11] = [
 fn a_file_is_named_by_two_words(rt: HostRuntime) {
     for (words, wanted) in &LINES {
         let found = match place_in(words) {
-            Some(Place { before, path }) => Some((before, path)),
+            Some(ConfigPlace { before, path }) => Some((before, path)),
             None => None,
         };
         assert!(rt; found == *wanted);

@@ -1,6 +1,6 @@
 //! Why what a word of the command line names could not be used, as it is told behind the failure.
 use crate::commands::Broken;
-use acdm_commands::{Noting, Paths, Why, complete};
+use acdm_commands::{Appends, Cause, Noting, Paths, complete};
 use acdm_sessions::{Sink, Source};
 use std::alloc::Global;
 use std::fs::{File, Files};
@@ -12,7 +12,7 @@ use std::thread::Threads;
 use std::time::Clock;
 
 // What is told of the cause that was noted.
-fn told(rt: &impl Abort, alloc: Global, why: &Why) -> Vec<u8> {
+fn told(rt: &impl Abort, alloc: Global, why: &Cause) -> Vec<u8> {
     let mut errors = Sink::new(Vec::new(alloc));
     let is_told = why.tell(&mut errors);
     let text = errors.into_inner();
@@ -24,7 +24,7 @@ fn told(rt: &impl Abort, alloc: Global, why: &Why) -> Vec<u8> {
 #[test]
 fn the_first_cause_is_told(rt: HostRuntime) {
     let alloc = rt.alloc();
-    let why = Why::new();
+    let why = Cause::new();
     assert!(rt; told(&rt, alloc, &why).is_empty());
     why.note(alloc, "--keep ", "day", &io::Error::from_raw_os_error(28));
     why.note(alloc, "--save ", "text", &io::Error::from_raw_os_error(2));
@@ -34,7 +34,7 @@ fn the_first_cause_is_told(rt: HostRuntime) {
 
 // A stream that fails is named, whatever was asked of it.
 fn names_a_stream(rt: &impl Abort, alloc: Global, is_read: bool) {
-    let why = Why::new();
+    let why = Cause::new();
     let mut stream = Noting::new(alloc, Broken, "standard output", "", &why);
     let has_failed = if is_read {
         stream.read(&mut [0; 4]).is_err()
@@ -52,7 +52,7 @@ fn a_stream_that_fails_is_named(rt: HostRuntime) {
     let alloc = rt.alloc();
     names_a_stream(&rt, alloc, true);
     names_a_stream(&rt, alloc, false);
-    let why = Why::new();
+    let why = Cause::new();
     let mut stream = Noting::new(alloc, Vec::new(alloc), "standard output", "", &why);
     assert!(rt; stream.write(b"a line").is_ok() && stream.flush().is_ok());
     drop(stream);
@@ -63,6 +63,7 @@ fn a_stream_that_fails_is_named(rt: HostRuntime) {
 fn fails_by<
     Rt: Files<File = File>
         + Paths
+        + Appends
         + Net<Listener = TcpListener, Stream = TcpStream>
         + Clock
         + Eprint
@@ -75,7 +76,7 @@ fn fails_by<
         + Sync
         + 'static,
 >(rt: &Rt, alloc: Global, words: &[&str], line: &str) {
-    let why = Why::new();
+    let why = Cause::new();
     let mut input = Source::new(b"".as_slice());
     let mut output = Sink::new(Vec::new(alloc));
     let mut errors = Sink::new(Vec::new(alloc));
@@ -121,6 +122,12 @@ fn a_word_that_can_not_be_used_is_named(rt: HostRuntime) {
     fails_by(&rt, alloc, &words, line);
     let words = ["acdm", "serve", "--control", "here", "APT=127.0.0.1:0"];
     let line = "acdm: --control here: neither an IP address with a port nor a port\n";
+    fails_by(&rt, alloc, &words, line);
+    let words = ["acdm", "serve", "--log", "here/log", "APT=127.0.0.1:0"];
+    let line = "acdm: --log here/log: No such file or directory (os error 2)\n";
+    fails_by(&rt, alloc, &words, line);
+    let words = ["acdm", "serve", "--log", "/dev/full", "APT=127.0.0.1:0"];
+    let line = "acdm: --log /dev/full: no plain file\n";
     fails_by(&rt, alloc, &words, line);
     let words = ["acdm", "serve", "APT=127.0.0.1:0", "GH=here"];
     fails_by(

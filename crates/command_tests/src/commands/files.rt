@@ -1,7 +1,7 @@
 //! Command lines whose files are there, with each stream and each file compared.
 use super::completes;
 use crate::commands::serve::talk;
-use acdm_commands::Paths;
+use acdm_commands::{Appends, Paths};
 use std::alloc::Global;
 use std::fs::{self, File, Files};
 use std::io::{Eprint, Read, Write};
@@ -174,6 +174,7 @@ fn told(rt: &impl Abort, alloc: Global, first: SocketAddr, second: SocketAddr) -
 fn is_saved<
     Rt: Files<File = File>
         + Paths
+        + Appends
         + Alloc
         + Net<Listener = TcpListener, Stream = TcpStream>
         + Clock

@@ -3,7 +3,7 @@ ghost use Rattle.std.specs.Prelude.{◌≡◌, vec_len};
 
 use super::status_of;
 use acdm_board::Desk;
-use acdm_commands::{Paths, serve_on, serve_partners};
+use acdm_commands::{Appends, Paths, serve_on, serve_partners};
 use acdm_milestones::Role;
 use acdm_sessions::{Clock, RunError, Sink};
 use bpf_helpers::{Bank, Helpers};
@@ -206,6 +206,7 @@ fn a_silent_partner_holds_nobody_up(rt: HostRuntime) {
 fn complains<
     Rt: Files<File = File>
         + Paths
+        + Appends
         + Net<Listener = TcpListener, Stream = TcpStream>
         + SystemClock
         + Eprint

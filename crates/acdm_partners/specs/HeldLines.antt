@@ -1,4 +1,4 @@
--- Lines that wait to be written on standard error.
+-- Lines that wait to be written.
 use Rattle.std.specs.Prelude.{ℕ, ◌≡◌, ◌≤◌, ◌+◌, nat_le, min, if◌then◌else◌, List, [], ◌++◌, length}
 use Rattle.std.specs.Prelude.{String, string_bytes, string_capacity}
 use Rattle.std.specs.declared.alloc.Global.{Global}

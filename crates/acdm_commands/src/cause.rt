@@ -1,5 +1,7 @@
 //! Why what a word of the command line names could not be used.
 ghost use Rattle.std.specs.Prelude.{◌≡◌, List, ℕ, IfOk, IsFalse, string_bytes};
+ghost use Rattle.std.specs.Io.{ReadsAtMost, WritesAtMost};
+ghost use Rattle.std.specs.Io.KnownBytes.{Keeps, ReadConsumes, WriteAppends};
 ghost use Rattle.std.specs.IoError.{error_kind};
 ghost use Rattle.acdm_commands.specs.Causes.{TellsCause, cause_text, failure_by};
 
@@ -28,14 +30,14 @@ fn cause_text(alloc: Global, option: &str, value: &str, error: &io::Error) -> io
 /// Why a command could not do its work, as far as it is known by the name of a file, an address or a stream: the
 /// first cause that was noted.
 #[derive(Drop)]
-pub struct Why {
+pub struct Cause {
     first: RefCell<Option<String>>,
 }
 
-impl Why {
+impl Cause {
     /// Nothing is known yet.
-    pub fn new() -> Why {
-        Why {
+    pub fn new() -> Cause {
+        Cause {
             first: RefCell::new(None),
         }
     }
@@ -95,7 +97,7 @@ pub struct Noting<'a, T> {
     stream: T,
     option: &'a str,
     value: &'a str,
-    why: &'a Why,
+    why: &'a Cause,
 }
 
 impl<'a, T> Noting<'a, T> {
@@ -105,8 +107,10 @@ impl<'a, T> Noting<'a, T> {
         stream: T,
         option: &'a str,
         value: &'a str,
-        why: &'a Why,
-    ) -> Noting<'a, T> {
+        why: &'a Cause,
+    ) -> Noting<'a, T>
+        ensures { result.stream ≡ stream }
+    {
         Noting {
             alloc,
             stream,
@@ -133,7 +137,12 @@ impl<'a, T> Noting<'a, T> {
 }
 
 impl<R: Read> Read for Noting<'_, R> {
-    fn read(&mut self, buf: &mut [u8]) -> io::Result<usize> {
+    ghost remaining = { λ n. R.remaining n.stream };
+
+    fn read(&mut self, buf: &mut [u8]) -> io::Result<usize>
+        ensures bound { ReadsAtMost result buf.new }
+        ensures bytes { ReadConsumes (R.remaining self.old.stream) (R.remaining self.new.stream) result buf.new }
+    {
         let given = self.stream.read(buf);
         self.note(&given);
         given
@@ -141,13 +150,20 @@ impl<R: Read> Read for Noting<'_, R> {
 }
 
 impl<W: Write> Write for Noting<'_, W> {
-    fn write(&mut self, buf: &[u8]) -> io::Result<usize> {
+    ghost contents = { λ n. W.contents n.stream };
+
+    fn write(&mut self, buf: &[u8]) -> io::Result<usize>
+        ensures bound { WritesAtMost result buf.now }
+        ensures bytes { WriteAppends (W.contents self.old.stream) (W.contents self.new.stream) result buf.now }
+    {
         let taken = self.stream.write(buf);
         self.note(&taken);
         taken
     }
 
-    fn flush(&mut self) -> io::Result<()> {
+    fn flush(&mut self) -> io::Result<()>
+        ensures bytes { Keeps (W.contents self.old.stream) (W.contents self.new.stream) }
+    {
         let flushed = self.stream.flush();
         self.note(&flushed);
         flushed

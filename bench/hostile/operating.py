@@ -1,0 +1,293 @@
+#!/usr/bin/env python3
+"""Holds what the operator of `acdm serve` is told, by `status` at the control address and in the file of `--log`, against what happened.
+
+    python3 bench/hostile/operating.py [--program PATH]
+
+Lines, entries, refusals and bad lines by their codes, with a bad line of each byte; 64 sessions whose bad lines are told as long as can
+be; each event in the log; the log moved away while partners come and go; a log whose disk is full, and has room again (where root may
+mount one); and files that can't be a log. The last line is `N cases, M failed`; status 1 where one failed.
+"""
+
+import json
+import os
+import pathlib
+import re
+import shlex
+import socket
+import subprocess
+import sys
+import tempfile
+import threading
+import time
+
+from again import Board
+from cases import ALERTS, NO_PLAIN_FILE, SCHEDULE, TAKEN, TARGET, Cases, cause, ran, words
+
+SHOW = '{"cmd":"show","flight":9}'
+TICK = '{"cmd":"tick"}'
+MOMENT = r"\d{4}-\d\d-\d\dT\d\d:\d\d:\d\dZ"
+EVERY_BYTE = bytes(it for it in range(256) if it != 10)
+
+
+def events(*paths):
+    """What logs tell, one after the other: each line an object, with its moment first."""
+    found = []
+    for path in paths:
+        for line in path.read_bytes().decode("ascii").splitlines(keepends=True):
+            event = json.loads(line)
+            if not line.endswith("\n") or list(event)[:2] != ["at", "event"] or not re.fullmatch(MOMENT, event["at"]):
+                raise ValueError(line)
+            found.append({name: it for name, it in event.items() if name != "at"})
+    return found
+
+
+def raw(partner, line):
+    """The reply to a line of bytes."""
+    partner.socket.sendall(line + b"\n")
+    return partner.replies.readline().rstrip("\n")
+
+
+def counted(cases, program):
+    """What `status` says of a session whose lines are known, here and gone, and of one where nobody came."""
+    board = Board([program], ["--again", "--control", "PORT"], ["APT", "NM"])
+    none = "lines 0 entries 0 refused - bad -"
+    cases.expect("a session without lines", board.ask("status").startswith(f"session 1 APT gone {none}\nsession 2 NM gone {none}\n"))
+    airport = board.connect(1)
+    said = [raw(airport, it.encode()) for it in (SCHEDULE, TARGET, SHOW, SHOW, ALERTS, "{}", '{"cmd":"tick","x":1')]
+    owed = ["ok 0", "no 1 201", "no 2 202", "no 3 202"]
+    cases.expect("replies", said[:4] == owed and said[4].startswith("alerts 4 ") and said[5:] == ["bad 102", "bad 101"], said)
+    line = board.ask("status").splitlines()[0]
+    form = rf"session 1 APT here 127\.0\.0\.1:\d+ since ({MOMENT}) lines 7 entries 5 refused 201:1,202:2 bad 101:1,102:1 last (\".*\")"
+    told = re.fullmatch(form, line)
+    cases.expect("status counts lines by what came of them", told, line)
+    cases.expect("and has the last bad one", told and json.loads(told[2]) == '{"cmd":"tick","x":1', line)
+    now = time.strftime("%Y-%m-%dT%H:%M:%SZ", time.gmtime())
+    cases.expect("since when a partner is here", told and told[1][:16] <= now[:16] and told[1][:13] >= now[:13], (told and told[1], now))
+    for text, kept in ((EVERY_BYTE, 200), (b"{" + b"\xff" * 300, 200), (b'{"' + b"\\" * 300, 200), (b"{" + b"a" * 199, 200), (b"{" * 80_000, 200)):
+        reply = raw(airport, text if text[:1] == b"{" else b"{" + text)
+        wanted = (text if text[:1] == b"{" else b"{" + text)[:kept]
+        line = board.ask("status").splitlines()[0]
+        cases.expect(f"a bad line is told by its bytes, {text[:8]}", reply.startswith("bad ") and json.loads(line.split(" last ", 1)[1]).encode("latin-1") == wanted, line)
+    airport.close()
+    board.waits_for(lambda: "session 1 APT gone" in board.ask("status"))
+    line = board.ask("status").splitlines()[0]
+    cases.expect("counts stay when a partner has left", line.startswith("session 1 APT gone lines 12 entries 5 refused 201:1,202:2 bad 101:5,102:1,105:1 last "), line)
+    airport = board.connect(1)
+    cases.expect("and go on with the next", airport.asks(TICK) == "ok 5" and " lines 13 entries 6 " in board.ask("status").splitlines()[0])
+    airport.close()
+    cases.expect("ends", board.close()[1] == 0)
+
+
+def many(cases, program):
+    """64 sessions, each with a bad line whose text is as long as it can be: `status` comes whole."""
+    board = Board([program], ["--again", "--control", "PORT"], ["APT"] * 64)
+    partners = [board.connect(it) for it in range(1, 65)]
+    said = {raw(it, b"{" + b"\xff" * 400) for it in partners}
+    cases.expect("each is bad", said == {"bad 101"}, said)
+    with socket.create_connection(("127.0.0.1", board.port), timeout=20) as it:
+        it.sendall(b"status\n")
+        text = b""
+        while not text.endswith(b"Z\n") and not text.endswith(b"none\n"):
+            piece = it.recv(1 << 20)
+            if not piece:
+                break
+            text += piece
+    lines = text.decode().splitlines()
+    wanted = "{" + "\xff" * 199
+    cases.expect("status of 64 sessions is whole", len(lines) == 66 and all(json.loads(it.split(" last ")[1]) == wanted for it in lines[:64]), len(text))
+    for it in partners:
+        it.close()
+    cases.expect("ends", board.close()[1] == 0)
+
+
+def each_event(cases, program, room):
+    """What happens at a board, in the order in which it happens."""
+    log = room / "log"
+    board = Board([program], ["--again", "--control", "PORT", "--journal", "20", "--log", str(log)], ["APT", "NM"])
+    cases.expect("the log is there", log.read_bytes() == b"")
+    airport = board.connect(1)
+    airport.asks(TICK)
+    cases.expect("bad lines", [airport.asks("{"), airport.asks("{}")] == ["bad 101", "bad 102"])
+    cases.expect("a bad line is logged at once", board.waits_for(lambda: "bad" in [it["event"] for it in events(log)]))
+    for _ in range(18):
+        airport.asks(TICK)
+    board.waits_for(lambda: [it["event"] for it in events(log)].count("room") == 2)
+    airport.close()
+    board.waits_for(lambda: "gone" in [it["event"] for it in events(log)])
+    cases.expect("ends", board.close()[1] == 0)
+    found = events(log)
+    here = found[0] if found else {}
+    cases.expect("here", {name: it for name, it in here.items() if name != "address"} == {"event": "here", "session": 1, "role": "APT"}, here)
+    cases.expect("by its address", re.fullmatch(r"127\.0\.0\.1:\d+", here.get("address", "")), here)
+    bad = [it for it in found if it["event"] == "bad"]
+    cases.expect("all bad lines are counted", sum(it["lines"] for it in bad) == 2, bad)
+    last = {name: it for name, it in bad[-1].items() if name != "lines"} if bad else {}
+    cases.expect("by session, code and bytes", last == {"event": "bad", "session": 1, "role": "APT", "code": 102, "line": "{}"}, bad)
+    rooms = [it for it in found if it["event"] == "room"]
+    cases.expect("each level of room once", [(it["percent"], it["room"]) for it in rooms] == [(80, 20), (95, 20)], rooms)
+    cases.expect("with its entries", all(20 * it["percent"] <= 100 * it["entries"] <= 2000 for it in rooms), rooms)
+    tail = [{"event": "gone", "session": 1, "role": "APT"}, {"event": "close", "by": "control", "entries": 19}]
+    cases.expect("gone and close come last", found[-2:] == tail, found[-3:])
+    kinds = [it["event"] for it in found if it["event"] != "bad"]
+    cases.expect("nothing else is told", kinds == ["here", "room", "room", "gone", "close"], kinds)
+    cases.expect("standard error is as without a log", [it.split(" ")[0] for it in board.said] == ["here", "room", "room", "gone"], board.said)
+
+
+def plain(cases, program, room):
+    """A log alone: partners are served as without it, and standard error says nothing of them."""
+    log = room / "plain"
+    board = Board([program], ["--log", str(log)], ["APT", "NM"])
+    first, second = board.connect(1), board.connect(2)
+    cases.expect("both are served", (first.asks(TICK), second.asks(SHOW)) == ("ok 0", "no 1 202"))
+    first.close()
+    second.close()
+    cases.expect("it ends with its partners", board.ended() == (0, ["session 1 1 end", "session 2 1 end", "closed 2"]))
+    cases.expect("nothing on standard error", board.said == [], board.said)
+    found = events(log)
+    kinds = sorted((it["event"], it.get("session", 0)) for it in found)
+    cases.expect("who came and left is logged", kinds == [("close", 0), ("gone", 1), ("gone", 2), ("here", 1), ("here", 2)], found)
+    cases.expect("and that they closed it", found[-1] == {"event": "close", "by": "partners", "entries": 2}, found[-1:])
+    before = log.read_bytes()
+    again = Board([program], ["--log", str(log)], ["APT"])
+    partner = again.connect(1)
+    partner.asks(TICK)
+    partner.close()
+    again.ended()
+    cases.expect("the next board goes on in it", log.read_bytes().startswith(before) and len(events(log)) == len(found) + 3, events(log))
+
+
+def kept(cases, program, room):
+    """A kept file that is removed: the log says so, and that the board closed for it."""
+    log, journal = room / "kept-log", room / "kept"
+    board = Board([program], ["--again", "--keep", str(journal), "--log", str(log)], ["APT"])
+    airport = board.connect(1)
+    cases.expect("kept", airport.asks(TICK) == "ok 0")
+    journal.unlink()
+    status, _ = board.ended()
+    found = [it for it in events(log) if it["event"] in ("keep", "close")]
+    cases.expect("a removed file ends the board", status == 2, status)
+    cases.expect("and is logged", [it["event"] for it in found] == ["keep", "close"] and found[0]["why"] and found[1]["by"] == "file", found)
+    airport.close()
+
+
+def moved(cases, program, room):
+    """The log is moved away 20 times while partners come and go: each event is in one file, once and whole."""
+    log = room / "moved"
+    board = Board([program], ["--again", "--control", "PORT", "--log", str(log)], ["APT"] * 8)
+    over = threading.Event()
+
+    def comes(session):
+        for turn in range(25):
+            partner = board.connect(session)
+            partner.asks("{}" if turn == 0 else TICK)
+            partner.close()
+            board.waits_for(lambda turn=turn: sum(it.startswith(f"gone {session} ") for it in board.said) > turn)
+
+    threads = [threading.Thread(target=comes, args=(it,)) for it in range(1, 9)]
+
+    def moves():
+        for turn in range(20):
+            if log.exists():
+                log.rename(room / f"moved.{turn}")
+            time.sleep(0.1)
+        over.set()
+
+    mover = threading.Thread(target=moves)
+    for it in (*threads, mover):
+        it.start()
+    for it in (*threads, mover):
+        it.join(120)
+    cases.expect("moved to the end", over.is_set())
+    cases.expect("ends", board.close()[1] == 0)
+    found = events(*sorted(room.glob("moved*")))
+    for session in range(1, 9):
+        own = [it["event"] for it in found if it.get("session") == session]
+        cases.expect(f"session {session} is logged once for each time", (own.count("here"), own.count("gone"), own.count("bad")) == (25, 25, 1), own)
+    cases.expect("and the close once", [it["event"] for it in found].count("close") == 1)
+    cases.expect("in several files", len(list(room.glob("moved*"))) > 3, list(room.glob("moved*")))
+
+
+def full_disk(cases, program, room):
+    """A disk that is full: partners are served on, it is said once, and what was lost is counted once there is room again."""
+    disk = room / "disk"
+    disk.mkdir()
+    if subprocess.run(["mount", "-t", "tmpfs", "-o", "size=16k", "tmpfs", str(disk)], capture_output=True, check=False).returncode:
+        print("left out: no disk of its own may be mounted here for the log")
+        return
+    try:
+        log, filler = disk / "log", disk / "filler"
+        board = Board([program], ["--again", "--control", "PORT", "--log", str(log)], ["APT"])
+        with open(filler, "wb", buffering=0) as it:
+            try:
+                while True:
+                    it.write(b"x" * 512)
+            except OSError:
+                pass
+        for turn in range(3):
+            partner = board.connect(1)
+            cases.expect(f"a partner is served beside a full disk, {turn}", partner.asks(TICK) == f"ok {turn}")
+            partner.close()
+            board.waits_for(lambda turn=turn: board.told(1, "gone") > turn)
+        told = board.waits_for(lambda: any(re.fullmatch(rf"log failed {MOMENT}", it) for it in board.said))
+        cases.expect("that the log failed is said", told, board.said)
+        cases.expect("once", sum(it.startswith("log failed") for it in board.said) == 1, board.said)
+        cases.expect("and no line is cut", events(log) == [], log.read_bytes())
+        time.sleep(0.5)
+        filler.unlink()
+        told = board.waits_for(lambda: any(it["event"] == "lost" for it in events(log)))
+        found = events(log)
+        lost = sum(it.get("lines", 1) for it in found)
+        cases.expect("what was lost is counted, with what was not", told and lost == 6, found)
+        cases.expect("ends", board.close()[1] == 0)
+        cases.expect("and what comes then is logged", events(log) == [*found, {"event": "close", "by": "control", "entries": 3}], events(log))
+    finally:
+        subprocess.run(["umount", str(disk)], capture_output=True, check=False)
+
+
+def refused(cases, program, room):
+    """Files that can't be a log: the line, the word and why, status 2, and nothing served."""
+    tables, journal = room / "tables.toml", room / "day"
+    tables.write_text("")
+    (room / "link").symlink_to(journal)
+    pipe = room / "pipe"
+    os.mkfifo(pipe)
+    for name, log, options, why in (
+        ("no such folder", room / "none" / "log", [], 2),
+        ("a folder", room, [], NO_PLAIN_FILE),
+        ("a pipe", pipe, [], NO_PLAIN_FILE),
+        ("a device", "/dev/full", [], NO_PLAIN_FILE),
+        ("no name", "", [], 2),
+        ("the kept journal", journal, ["--keep", str(journal)], TAKEN),
+        ("the kept journal by a link", room / "link", ["--keep", str(journal)], TAKEN),
+        ("the tables beside it", f"{journal}.tables", ["--keep", str(journal)], TAKEN),
+        ("the saved journal", room / "saved", ["--save", str(room / "saved")], TAKEN),
+        ("the saved journal by another path", f"{room}/./saved", ["--save", str(room / "saved")], TAKEN),
+        ("the tables beside that", room / "saved.tables", ["--save", str(room / "saved")], TAKEN),
+        ("the tables", tables, ["--tables", str(tables)], TAKEN),
+    ):
+        for before in ([], ["--again"]):
+            done = ran(program, ["serve", *before, *options, f"--log={log}", "APT=127.0.0.1:0"], text=True, input="")
+            owed = (2, "", "acdm: log file\n" + cause(f"--log {log}", why))
+            cases.expect(f"{name} is refused, {before}", (done.returncode, done.stdout, done.stderr) == owed, (done, owed))
+    told = room / "told"
+    shell = f"{shlex.quote(str(program))} serve --log {shlex.quote(str(told))} APT=127.0.0.1:0 > {shlex.quote(str(told))}"
+    done = ran("sh", ["-c", shell], text=True, input="")
+    cases.expect("standard output is refused", (done.returncode, done.stderr) == (2, "acdm: log file\n" + cause(f"--log {told}", TAKEN)), done)
+    cases.expect("and nothing was written there", told.read_bytes() == b"")
+
+
+def main():
+    asked = words("Holds what an operator is told against what happened.").parse_args()
+    cases = Cases()
+    counted(cases, asked.program)
+    many(cases, asked.program)
+    with tempfile.TemporaryDirectory() as room:
+        for try_it in (each_event, plain, kept, moved, full_disk, refused):
+            own = pathlib.Path(room) / try_it.__name__
+            own.mkdir()
+            try_it(cases, asked.program, own)
+    return cases.end()
+
+
+if __name__ == "__main__":
+    sys.exit(main())
