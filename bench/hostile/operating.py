@@ -4,15 +4,18 @@
     python3 bench/hostile/operating.py [--program PATH]
 
 Lines, entries, refusals and bad lines by their codes, with a bad line of each byte; 64 sessions whose bad lines are told as long as can
-be; each event in the log; the log moved away while partners come and go; a log whose disk is full, and has room again (where root may
+be; each event in the log; the log moved away while partners come and go, also by logrotate, where that is installed; a log whose disk is full, and has room again (where root may
 mount one); and files that can't be a log. The last line is `N cases, M failed`; status 1 where one failed.
 """
 
+import grp
 import json
 import os
 import pathlib
+import pwd
 import re
 import shlex
+import shutil
 import socket
 import subprocess
 import sys
@@ -21,7 +24,7 @@ import threading
 import time
 
 from again import Board
-from cases import ALERTS, NO_PLAIN_FILE, SCHEDULE, TAKEN, TARGET, Cases, cause, ran, words
+from cases import ALERTS, NO_PLAIN_FILE, SCHEDULE, TAKEN, TARGET, TOP, Cases, cause, ran, words
 
 SHOW = '{"cmd":"show","flight":9}'
 TICK = '{"cmd":"tick"}'
@@ -207,6 +210,30 @@ def moved(cases, program, room):
     cases.expect("in several files", len(list(room.glob("moved*"))) > 3, list(room.glob("moved*")))
 
 
+def rotated(cases, program, room):
+    """The shipped file for logrotate, with this log in it: what was logged is in the file that it moved away, and the rest in the new one."""
+    if not shutil.which("logrotate"):
+        print("left out: logrotate is not here")
+        return
+    log, own = room / "board.log", room / "conf"
+    shipped = (TOP / "examples" / "logrotate" / "acdm").read_text()
+    user = pwd.getpwuid(os.getuid()).pw_name
+    group = grp.getgrgid(os.getgid()).gr_name
+    own.write_text(shipped.replace("/var/lib/acdm/board.log", str(log)).replace("su acdm acdm", f"su {user} {group}"))
+    own.chmod(0o644)
+    board = Board([program], ["--again", "--control", "PORT", "--log", str(log)], ["APT"])
+    partner = board.connect(1)
+    partner.asks(TICK)
+    board.waits_for(lambda: "here" in [it["event"] for it in events(log)])
+    done = subprocess.run(["logrotate", "--force", "--state", str(room / "state"), str(own)], capture_output=True, text=True, check=False)
+    cases.expect("logrotate moves the log", done.returncode == 0 and not log.exists(), done)
+    partner.close()
+    cases.expect("the board makes it again", board.waits_for(log.exists))
+    cases.expect("ends", board.close()[1] == 0)
+    kinds = [[it["event"] for it in events(path)] for path in (room / "board.log.1", log)]
+    cases.expect("each event is in one of both", kinds == [["here"], ["gone", "close"]], kinds)
+
+
 def full_disk(cases, program, room):
     """A disk that is full: partners are served on, it is said once, and what was lost is counted once there is room again."""
     disk = room / "disk"
@@ -282,7 +309,7 @@ def main():
     counted(cases, asked.program)
     many(cases, asked.program)
     with tempfile.TemporaryDirectory() as room:
-        for try_it in (each_event, plain, kept, moved, full_disk, refused):
+        for try_it in (each_event, plain, kept, moved, rotated, full_disk, refused):
             own = pathlib.Path(room) / try_it.__name__
             own.mkdir()
             try_it(cases, asked.program, own)
