@@ -1,5 +1,5 @@
 -- What came of the lines of a session.
-use Rattle.std.specs.Prelude.{ℕ, ◌≡◌, ◌+◌, min, List, take, slice_get, slice_set, Some, None}
+use Rattle.std.specs.Prelude.{ℕ, ◌≡◌, ◌+◌, min, List, [], replicate, take, slice_get, slice_set, Some, None}
 use Rattle.acdm_partners.specs.declared.counts.LineOutcome.{LineOutcome}
 use Rattle.acdm_partners.specs.declared.counts.LineOutcome.TheVariants.{Entered, Refused, Bad}
 
@@ -12,6 +12,17 @@ pub record CountsView : Type 0 where
   pub bad_lines : ℕ
   pub last_code : ℕ
   pub last_line : List ℕ
+
+-- none came
+abbrev pub no_lines : CountsView
+no_lines = record {
+  entries = 0;
+  refused = replicate 600 0;
+  bad = replicate 600 0;
+  bad_lines = 0;
+  last_code = 0;
+  last_line = [];
+}
 
 -- one more, as far as a word counts
 abbrev pub one_more : ℕ → ℕ

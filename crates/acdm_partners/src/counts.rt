@@ -1,6 +1,6 @@
 //! What came of the lines of a session, counted.
-ghost use Rattle.std.specs.Prelude.{◌≡◌, ◌≤◌, length, take, vec_capacity};
-ghost use Rattle.acdm_partners.specs.Came.{Counts, CountsOne};
+ghost use Rattle.std.specs.Prelude.{◌≡◌, ◌≤◌, IfOk, length, take, vec_capacity};
+ghost use Rattle.acdm_partners.specs.Came.{Counts, CountsOne, no_lines};
 
 use std::alloc::{AllocError, Global};
 use std::marker::Model;
@@ -96,7 +96,9 @@ pub(crate) fn add_json(text: &mut String, bytes: &[u8]) -> Result<(), AllocError
 
 impl SessionCounts {
     /// No line came. `Err` only where memory was refused.
-    pub(crate) fn new(alloc: Global) -> Result<SessionCounts, AllocError> {
+    pub(crate) fn new(alloc: Global) -> Result<SessionCounts, AllocError>
+        ensures { IfOk result (λ counts. counts ≡ no_lines) }
+    {
         Ok(SessionCounts {
             entries: 0,
             refused: [0; CODES],
