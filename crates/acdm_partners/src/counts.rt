@@ -1,6 +1,7 @@
 //! What came of the lines of a session, counted.
-ghost use Rattle.std.specs.Prelude.{◌≡◌, ◌≤◌, IfOk, length, take, vec_capacity};
-ghost use Rattle.acdm_partners.specs.Came.{Counts, CountsOne, no_lines};
+ghost use Rattle.std.specs.Prelude.{◌≡◌, ◌≤◌, ◌<◌, ◌++◌, IfOk, OnOk, length, take, string_bytes, vec_capacity};
+ghost use Rattle.acdm_partners.specs.Came.{Counts, CountsOne, bad_members, by_code, count_text, counts_text, hex_digit};
+ghost use Rattle.acdm_partners.specs.Came.{is_still_first, json_byte, json_text, last_text, no_lines};
 
 use std::alloc::{AllocError, Global};
 use std::marker::Model;
@@ -65,33 +66,77 @@ fn count_one(counts: &mut [u64; CODES], code: u16)
     }
 }
 
-// Adds the counts by their codes: `CODE:COUNT`, a comma between two, or `-` where there is none.
-fn add_by_code(text: &mut String, counts: &[u64; CODES]) -> Result<(), AllocError> {
-    let mut before = "";
-    for (code, count) in counts.iter().enumerate() {
-        if *count > 0 {
-            write!(text, "{before}{code}:{count}")?;
-            before = ",";
-        }
+// Adds how many there are by a code, where there is one, and says whether none was told by now.
+fn add_count(text: &mut String, is_first: bool, code: u64, count: u64) -> Result<bool, AllocError>
+    ensures text { OnOk result (string_bytes text.new ≡ string_bytes text.old ++ count_text is_first code count) }
+    ensures first { IfOk result (λ still. still ≡ is_still_first is_first count) }
+{
+    if count == 0 {
+        return Ok(is_first);
     }
-    if before.is_empty() {
+    if !is_first {
+        text.push_str(",")?;
+    }
+    write!(text, "{code}:{count}")?;
+    Ok(false)
+}
+
+// Adds the counts by their codes: `CODE:COUNT`, a comma between two, or `-` where there is none.
+fn add_by_code(text: &mut String, counts: &[u64]) -> Result<(), AllocError>
+    ensures { OnOk result (string_bytes text.new ≡ string_bytes text.old ++ by_code counts.now) }
+{
+    let mut code = 0u64;
+    let mut is_first = true;
+    for count in counts {
+        is_first = add_count(text, is_first, code, *count)?;
+        code = code.saturating_add(1);
+    }
+    if is_first {
         text.push_str("-")?;
     }
     Ok(())
 }
 
-/// Adds bytes as a text of JSON in ASCII, in which each byte is the character of its number.
-pub(crate) fn add_json(text: &mut String, bytes: &[u8]) -> Result<(), AllocError> {
-    text.push('"')?;
-    for byte in bytes {
-        match *byte {
-            b'"' => text.push_str("\\\"")?,
-            b'\\' => text.push_str("\\\\")?,
-            0x20..=0x7e => text.push(char::from(*byte))?,
-            other => write!(text, "\\u{other:04x}")?,
-        }
+// A hexadecimal digit.
+fn hex_digit(number: u8) -> u8
+    requires { number < 16 }
+    ensures digit { result ≡ hex_digit number }
+    ensures ascii { result < 128 }
+{
+    if number < 10 {
+        b'0' + number
+    } else {
+        b'a' + (number - 10)
     }
-    text.push('"')
+}
+
+// Adds a byte of a text of JSON, as the character of its number.
+fn add_json_byte(text: &mut String, byte: u8) -> Result<(), AllocError>
+    ensures { OnOk result (string_bytes text.new ≡ string_bytes text.old ++ json_byte byte) }
+{
+    if byte == b'"' {
+        return text.push_str("\\\"");
+    }
+    if byte == b'\\' {
+        return text.push_str("\\\\");
+    }
+    if 32 <= byte && byte <= 126 {
+        return text.push(char::from(byte));
+    }
+    text.push_str("\\u00")?;
+    text.push(char::from(hex_digit(byte / 16)))?;
+    text.push(char::from(hex_digit(byte % 16)))
+}
+
+/// Adds bytes as a text of JSON in ASCII, in which each byte is the character of its number.
+pub(crate) fn add_json(text: &mut String, bytes: &[u8]) -> Result<(), AllocError>
+    ensures { OnOk result (string_bytes text.new ≡ string_bytes text.old ++ json_text bytes.now) }
+{
+    text.push_str("\"")?;
+    for byte in bytes {
+        add_json_byte(text, *byte)?;
+    }
+    text.push_str("\"")
 }
 
 impl SessionCounts {
@@ -148,25 +193,36 @@ impl SessionCounts {
 
     /// Adds the code of the last bad line and its first bytes, as two members of an object of JSON; 0 and nothing
     /// where none was bad.
-    pub(crate) fn add_bad(&self, text: &mut String) -> Result<(), AllocError> {
+    pub(crate) fn add_bad(&self, text: &mut String) -> Result<(), AllocError>
+        ensures { OnOk result (string_bytes text.new ≡ string_bytes text.old ++ bad_members self.now) }
+    {
         let code = self.last_code;
         write!(text, "\"code\":{code},\"line\":")?;
         add_json(text, self.last_line.as_slice())
     }
 
+    // Adds the first bytes of the last bad line, where one was bad.
+    fn add_last(&self, text: &mut String) -> Result<(), AllocError>
+        ensures { OnOk result (string_bytes text.new ≡ string_bytes text.old ++ last_text self.now) }
+    {
+        if self.bad_lines == 0 {
+            return Ok(());
+        }
+        text.push_str(" last ")?;
+        add_json(text, self.last_line.as_slice())
+    }
+
     /// Adds what is told of it, each word behind a blank: how many lines came, how many made an entry, how many were
     /// refused and how many bad, by their codes, and the first bytes of the last bad one, as a text of JSON.
-    pub(crate) fn add_text(&self, text: &mut String) -> Result<(), AllocError> {
+    pub(crate) fn add_text(&self, text: &mut String) -> Result<(), AllocError>
+        ensures { OnOk result (string_bytes text.new ≡ string_bytes text.old ++ counts_text self.now) }
+    {
         let entries = self.entries;
         let lines = entries.saturating_add(self.bad_lines);
         write!(text, " lines {lines} entries {entries} refused ")?;
         add_by_code(text, &self.refused)?;
         text.push_str(" bad ")?;
         add_by_code(text, &self.bad)?;
-        if self.bad_lines > 0 {
-            text.push_str(" last ")?;
-            add_json(text, self.last_line.as_slice())?;
-        }
-        Ok(())
+        self.add_last(text)
     }
 }
