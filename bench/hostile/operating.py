@@ -136,6 +136,36 @@ def each_event(cases, program, room):
     cases.expect("standard error is as without a log", [it.split(" ")[0] for it in board.said] == ["here", "room", "room", "gone"], board.said)
 
 
+def bounded(cases, program, room):
+    """More partners and bad lines in a minute than are logged one by one: the others are counted, and none is left out."""
+    log = room / "log"
+    board = Board([program], ["--again", "--control", "PORT", "--log", str(log)], ["APT", "NM"])
+    for turn in range(45):
+        partner = board.connect(1)
+        cases.expect(f"partner {turn} is served", partner.asks(TICK) == f"ok {turn}")
+        partner.close()
+    manager = board.connect(2)
+    for turn in range(60):
+        manager.asks(json.dumps({"cmd": "none", "turn": turn}))
+        time.sleep(0.03)
+    # (a line more in each two seconds is told)
+    time.sleep(2.5)
+    board.connect(1).asks(TICK)
+    board.waits_for(lambda: "untold" in [it["event"] for it in events(log)])
+    manager.close()
+    cases.expect("ends", board.close()[1] == 0)
+    found = events(log)
+    here = [it for it in found if it["event"] == "here" and it["session"] == 1]
+    untold = [it for it in found if it["event"] == "untold"]
+    cases.expect("of who comes 30 in a minute are logged", 30 <= len(here) <= 34, len(here))
+    cases.expect("and the others counted", len(here) + sum(it["connections"] for it in untold) == 46, (len(here), untold))
+    cases.expect("by their session", all((it["session"], it["role"]) == (1, "APT") for it in untold), untold)
+    bad = [it for it in found if it["event"] == "bad"]
+    cases.expect("of bad lines 30 in a minute are logged", 1 < len(bad) <= 34, len(bad))
+    cases.expect("and all counted", sum(it["lines"] for it in bad) == 60, bad)
+    cases.expect("the last of them is logged", bad and json.loads(bad[-1]["line"]) == {"cmd": "none", "turn": 59}, bad[-1:])
+
+
 def plain(cases, program, room):
     """A log alone: partners are served as without it, and standard error says nothing of them."""
     log = room / "plain"
@@ -309,7 +339,7 @@ def main():
     counted(cases, asked.program)
     many(cases, asked.program)
     with tempfile.TemporaryDirectory() as room:
-        for try_it in (each_event, plain, kept, moved, rotated, full_disk, refused):
+        for try_it in (each_event, bounded, plain, kept, moved, rotated, full_disk, refused):
             own = pathlib.Path(room) / try_it.__name__
             own.mkdir()
             try_it(cases, asked.program, own)
