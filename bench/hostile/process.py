@@ -463,7 +463,8 @@ def settings(cases, program, room):
         cases.expect("its file is kept", kept.read_text().count("\n") == 3)
     shipped = (TOP / "examples" / "board.toml").read_text()
     file.write_text(re.sub(r":\d+\"", ':0"', shipped.replace("day.journal", str(room.folder / "kept-by-example"))))
-    server = subprocess.Popen([str(program), "serve", "--config", str(file)], stdout=subprocess.PIPE, text=True)
+    # Its log, which the file names by a name alone, lies where it is begun.
+    server = subprocess.Popen([str(program), "serve", "--config", str(file)], cwd=room.folder, stdout=subprocess.PIPE, text=True)
     roles = [server.stdout.readline().split()[2:3] for _ in range(5)]
     server.kill()
     server.communicate()

@@ -250,9 +250,10 @@ class Scenes:
         return False
 
     def more_to_save(self, lines):
-        """How many requests more a run over lines makes where the journal is saved."""
+        """How many requests more a run over lines makes where the journal is saved, and no tables stand beside its file."""
         words, given = ["run", "--journal", 1000], text(lines)
         self.saved.unlink(missing_ok=True)
+        self.saved.with_name(f"{self.saved.name}.tables").unlink(missing_ok=True)
         return self.refusing.counted([*words, "--save", self.saved], given) - self.refusing.counted(words, given)
 
     def sent(self, name, process):

@@ -29,17 +29,17 @@ abbrev pub exceeds : Option ℕ → ℕ → ℕ → Bool
 exceeds None more limit = false
 exceeds (Some n) more limit = nat_lt limit (n + more)
 
--- the turn-round ends after a time that is set
+-- CDM07 for EOBT, CDM07a for TOBT: the turn-round ends after a time that is set
 abbrev pub turns_after : Fields → Field → Bool
 turns_after r f = is_set r f && exceeds (eibt r) (number_of r Mttt) (number_of r f)
 
--- two times that are set differ by more than so many minutes
+-- CDM02, CDM08, CDM12: two times that are set differ by more than so many minutes
 abbrev pub differ_by : ℕ → Fields → Field → Field → Bool
 differ_by n r f g = is_set r f
     && (is_set r g && (nat_lt (number_of r f + n) (number_of r g)
     || nat_lt (number_of r g + n) (number_of r f)))
 
--- scheduled and planned, and two texts differ
+-- CDM03, CDM04, CDM05: scheduled and planned, and two texts differ
 abbrev pub texts_differ : Fields → TextField → TextField → Bool
 texts_differ r t u = has_reached r 0
     && (has_reached r 1 && not (bytes_eq (text_of r t) (text_of r u)))
@@ -76,19 +76,19 @@ bit_if b n = if b then 2 ^ n else 0
 -- rising order, and whether it holds
 abbrev pub computed_alerts : Fields → ℕ → List (ℕ × Bool)
 computed_alerts r moment =
-    (1, no_airport_slot r)
-    ∷ (2, differ_by 0 r Sobt Eobt)
-    ∷ (3, texts_differ r ScheduledType PlanType)
-    ∷ (4, texts_differ r ScheduledRegistration PlanRegistration)
-    ∷ (5, texts_differ r ScheduledDestination PlanDestination)
-    ∷ (7, turns_after r Eobt)
-    ∷ (8, differ_by 15 r Tobt Eobt)
-    ∷ (9, boarding_not_started r moment)
-    ∷ (10, tobt_deleted r)
-    ∷ (11, tsat_passed r moment)
-    ∷ (12, differ_by 5 r Asat Tsat)
-    ∷ (13, no_flight_plan r moment)
-    ∷ (15, turns_after r Tobt)
+    (1, no_airport_slot r)  -- CDM01
+    ∷ (2, differ_by 0 r Sobt Eobt)  -- CDM02
+    ∷ (3, texts_differ r ScheduledType PlanType)  -- CDM03
+    ∷ (4, texts_differ r ScheduledRegistration PlanRegistration)  -- CDM04
+    ∷ (5, texts_differ r ScheduledDestination PlanDestination)  -- CDM05
+    ∷ (7, turns_after r Eobt)  -- CDM07
+    ∷ (8, differ_by 15 r Tobt Eobt)  -- CDM08
+    ∷ (9, boarding_not_started r moment)  -- CDM09
+    ∷ (10, tobt_deleted r)  -- CDM10
+    ∷ (11, tsat_passed r moment)  -- CDM11
+    ∷ (12, differ_by 5 r Asat Tsat)  -- CDM12
+    ∷ (13, no_flight_plan r moment)  -- CDM13
+    ∷ (15, turns_after r Tobt)  -- CDM07a
     ∷ []
 
 -- a word, and the bits of those alerts of a table that hold

@@ -2,8 +2,7 @@
 ghost use Rattle.std.specs.Prelude.{◌≡◌, ◌==◌, ◌<◌, ◌^◌, IsTrue};
 ghost use Rattle.acdm_record.specs.declared.field.Field.TheVariants.{Alerts};
 ghost use Rattle.acdm_record.specs.Fields.{number_of, is_alert_word, set_number};
-ghost use Rattle.acdm_alerts.specs.Decided.{with_rejection as word_with_rejection};
-ghost use Rattle.acdm_alerts.specs.Decided.{with_locals as word_with_locals};
+ghost use Rattle.acdm_alerts.specs.Decided.{with_rejection, with_locals};
 
 use acdm_record::{Field, Record};
 use std::marker::Model;
@@ -62,7 +61,7 @@ impl AlertSet {
     /// The same alerts with CDM14, no automatic TOBT, set or clear. Only a TOBT program decides it
     /// (this project's profile).
     pub fn with_rejection(self, rejected: bool) -> AlertSet
-        ensures { result ≡ word_with_rejection rejected self }
+        ensures { result ≡ with_rejection rejected self }
     {
         let bit = if rejected { 16384 } else { 0 };
         AlertSet::from_word(self.word / 32768 * 32768 + bit + self.word % 16384)
@@ -70,7 +69,7 @@ impl AlertSet {
 
     /// The same built-in alerts with other local alerts, of which LOC00 is the lowest bit.
     pub fn with_locals(self, locals: u16) -> AlertSet
-        ensures { result ≡ word_with_locals locals self }
+        ensures { result ≡ with_locals locals self }
     {
         AlertSet::from_word(u32::from(locals) * 65536 + self.word % 65536)
     }

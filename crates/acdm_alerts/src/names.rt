@@ -1,7 +1,7 @@
 //! The names of alerts, as they are written.
 ghost use Rattle.std.specs.Prelude.{◌≡◌, ◌+◌, ◌≤◌, ◌++◌, ◌∷◌, [], length, if◌then◌else◌, OnOk};
 ghost use Rattle.std.specs.Io.KnownBytes.{Appends};
-ghost use Rattle.acdm_alerts.specs.Names.{name_of as name_in_table, names_text};
+ghost use Rattle.acdm_alerts.specs.Names.{name_of, names_text};
 
 use crate::alert_set::AlertSet;
 use arrayvec::ArrayVec;
@@ -10,7 +10,7 @@ use std::io::{self, Write};
 /// The name of an alert by its bit, such as `CDM07a`; empty where no set has the bit (0, 6, and from 32
 /// on).
 pub fn name_of(bit: u32) -> &'static str
-    ensures name { result.now ≡ name_in_table bit }
+    ensures name { result.now ≡ name_of bit }
     ensures short { length result.now ≤ 6 }
 {
     match bit {
@@ -52,7 +52,7 @@ pub fn name_of(bit: u32) -> &'static str
 fn push_name<const N: usize>(names: &mut ArrayVec<u8, N>, is_first: bool, bit: u32)
     requires { length names.old.items + 7 ≤ N }
     ensures text { names.new.items ≡ names.old.items
-        ++ ((if is_first then [] else 44 ∷ []) ++ name_in_table bit) }
+        ++ ((if is_first then [] else 44 ∷ []) ++ name_of bit) }
     ensures short { length names.new.items ≤ length names.old.items + 7 }
 {
     if !is_first {

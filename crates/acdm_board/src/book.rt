@@ -10,9 +10,9 @@ ghost use Rattle.acdm_step.specs.Prepared.{Fits, after_change};
 ghost use Rattle.std.specs.Arc.{arc_value};
 ghost use Rattle.acdm_row.specs.Views.{IsSameCaller};
 ghost use Rattle.acdm_board.specs.Desk.{DeskView, Enters, Extends, row_of, with_entry};
-ghost use Rattle.acdm_board.specs.Desk.{is_foreign as has_other_sigs};
+ghost use Rattle.acdm_board.specs.Desk.{is_foreign};
 
-use acdm_row::{Pass, Place, Publisher, Row};
+use acdm_row::{EntryPlace, Pass, Publisher, Row};
 use acdm_step::{Answers, Command, Core, Entry, Outcome, Plan};
 use bpf_helpers::{Helpers, Live, Sigs};
 use std::alloc::{AllocError, Global};
@@ -45,13 +45,13 @@ impl Model for Book {
 /// Memory for the next entry, and for a list of answers where some may come.
 #[derive(Drop)]
 pub(crate) struct Places {
-    pub(crate) entry: Place,
+    pub(crate) entry: EntryPlace,
     pub(crate) answers: Answers,
 }
 
 /// Whether a command loads a program that was checked against other signatures.
 fn is_foreign(command: &Command, sigs: &Sigs) -> bool
-    ensures value { result ≡ has_other_sigs sigs.now command.now }
+    ensures value { result ≡ is_foreign sigs.now command.now }
     ensures checked { result ≡ false → IsChecked sigs.now command.now }
 {
     match command {
@@ -173,7 +173,7 @@ impl Book {
     /// Whether a command loads a program that was checked against other signatures than those of
     /// the core.
     pub(crate) fn refuses(&self, command: &Command) -> bool
-        ensures value { result ≡ has_other_sigs self.now.sigs command.now }
+        ensures value { result ≡ is_foreign self.now.sigs command.now }
         ensures checked { result ≡ false → IsChecked self.now.sigs command.now }
     {
         is_foreign(command, self.sigs())
@@ -188,7 +188,7 @@ impl Book {
 
     /// Takes all memory that the next entry of a pass needs but for its answers. `Err` where memory was
     /// refused, or where the pass has seen more than the journal has.
-    pub(crate) fn place_for(&mut self, pass: &mut Pass) -> Result<Place, AllocError>
+    pub(crate) fn place_for(&mut self, pass: &mut Pass) -> Result<EntryPlace, AllocError>
         requires { pass.old.row ≡ row_of self.old }
         ensures { (self.new ≡ self.old) × (pass.new ≡ pass.old) }
     {

@@ -5,7 +5,7 @@ ghost use Rattle.std.specs.Option.{SomeIff};
 ghost use Rattle.clap.specs.Values.{kind_of};
 ghost use Rattle.clap.specs.Words.{app_of, rule_of, subcommand_rows_of, with_subcommand};
 ghost use Rattle.clap.specs.declared.builder.Command.TheViews.{out-Command as fields_of};
-ghost use Rattle.acdm_command_line.specs.CommandLine.{program as the_program, file_app, keeping_app};
+ghost use Rattle.acdm_command_line.specs.CommandLine.{program, file_app, keeping_app};
 ghost use Rattle.acdm_command_line.specs.CommandLine.{file_rule, length_rule, program_app};
 ghost use Rattle.acdm_command_line.specs.CommandLine.{AnswersJudged, length_named};
 ghost use Rattle.acdm_command_line.specs.CommandLine.{bare_app, run_app, running_app, serve_app};
@@ -436,7 +436,7 @@ fn with_program<'a>(
 }
 
 fn program<'a>(alloc: Global) -> Result<Command<'a>, AllocError>
-    ensures shape { IfOk result (λ c. app_of c ≡ the_program) }
+    ensures shape { IfOk result (λ c. app_of c ≡ program) }
     ensures local { IfOk result (λ c. (fields_of c).has_globals ≡ false) }
 {
     let verifies = "Lists a BPF program that may run, or tells its first fault";
@@ -679,7 +679,7 @@ fn parse_by<'a>(
     command: &mut Command<'a>,
     words: &'a [&'a str],
 ) -> Result<Line<'a>, Error>
-    requires shape { app_of command.old ≡ the_program }
+    requires shape { app_of command.old ≡ program }
     requires local { (fields_of command.old).has_globals ≡ false }
     ensures asks { IfOk result (AsksFor (map (λ w. w.now) words.entry.now)) }
     ensures refuses { IfErr result (λ error.

@@ -17,7 +17,7 @@ use acdm_judging::Failure;
 use acdm_lines::Sink;
 use acdm_row::Row;
 use acdm_watch::Watch;
-use acdm_web::{Request, Wanted, push_answer, push_event};
+use acdm_web::{BrowserRequest, Wanted, push_answer, push_event};
 use httpdate::HttpDate;
 use std::alloc::Global;
 use std::io::{Read, Write};
@@ -28,7 +28,7 @@ use std::io::{Read, Write};
 /// `Save` where the writer failed, `Memory` where it was refused.
 pub fn answer<W: Write>(
     alloc: Global,
-    request: Request,
+    request: BrowserRequest,
     page: &str,
     date: Option<HttpDate>,
     writer: &mut Sink<W>,
@@ -143,7 +143,7 @@ pub fn follow_events<R: Read, W: Write + Drop>(
     ensures sent { IfOk result (WasToldEvents last (arc_value entries.now.row.now) entries.now.reach writer.log) }
     ensures failed { IfErr result CutsShort }
 {
-    let request = Request {
+    let request = BrowserRequest {
         wanted: Wanted::Events(last),
         is_head: false,
     };

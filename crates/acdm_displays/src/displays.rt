@@ -13,7 +13,7 @@ use acdm_judging::Failure;
 use acdm_keeping::Reach;
 use acdm_lines::{Sink, Source};
 use acdm_row::Row;
-use acdm_web::{PAGE, Request, Wanted, first_wanted};
+use acdm_web::{BrowserRequest, PAGE, Wanted, first_wanted};
 use httpdate::HttpDate;
 use std::alloc::{AllocError, Global};
 use std::io::{self, ErrorKind};
@@ -162,7 +162,7 @@ fn show_events(
 // Answers a browser that asks for something else, at this date where it is known.
 fn show_page(
     alloc: Global,
-    request: Request,
+    request: BrowserRequest,
     date: Option<HttpDate>,
     mut reader: TcpStream,
     stream: TcpStream,
@@ -181,7 +181,7 @@ fn refuse_browser(
     stream: TcpStream,
 ) -> Result<Sink<TcpStream>, Failure> {
     let mut reader = reader_of(&stream)?;
-    let busy = Request {
+    let busy = BrowserRequest {
         wanted: Wanted::Busy,
         is_head: false,
     };

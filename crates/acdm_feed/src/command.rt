@@ -1,6 +1,6 @@
 //! Commands and outcomes as objects.
 ghost use Rattle.std.specs.Prelude.{◌≡◌, ◌++◌, OnOk};
-ghost use Rattle.acdm_feed.specs.Names.{object_of, outcome_tokens, refusal_name as name_in};
+ghost use Rattle.acdm_feed.specs.Names.{object_of, outcome_tokens, refusal_name};
 ghost use Rattle.acdm_feed.specs.Commands.{command_members, deice_members, load_members};
 ghost use Rattle.acdm_feed.specs.Commands.{plan_members, planned_members, report_members};
 ghost use Rattle.acdm_feed.specs.Commands.{schedule_members, unload_members};
@@ -132,7 +132,7 @@ pub(crate) fn push_command(line: &mut Writer, command: &Command) -> Result<(), A
 }
 
 fn refusal_name(refusal: Refusal) -> &'static str
-    ensures { result.now ≡ name_in refusal }
+    ensures { result.now ≡ refusal_name refusal }
 {
     match refusal {
         Refusal::NotOwner => "not_owner",

@@ -3,10 +3,8 @@ ghost use Rattle.std.specs.Prelude.{◌≡◌, ◌+◌, ◌≤◌, ◌<◌, ◌+
 ghost use Rattle.std.specs.Fmt.{decimal};
 ghost use Rattle.arrayvec.specs.ArrayString.{array_string_len};
 ghost use Rattle.acdm_feed.specs.Minutes.{clock_text, date_in_era, date_text, day_number};
-ghost use Rattle.acdm_feed.specs.Minutes.{day_of_year as day_in_year, day_text};
-ghost use Rattle.acdm_feed.specs.Minutes.{march_month as month_from_march, minute_text as text_of};
-ghost use Rattle.acdm_feed.specs.Minutes.{month_number as number_of_month, two_digits};
-ghost use Rattle.acdm_feed.specs.Minutes.{year_number, year_of_era as year_in_era};
+ghost use Rattle.acdm_feed.specs.Minutes.{day_of_year, day_text, minute_text, two_digits};
+ghost use Rattle.acdm_feed.specs.Minutes.{year_of_era};
 
 use arrayvec::ArrayString;
 use itoa::Buffer;
@@ -14,7 +12,7 @@ use itoa::Buffer;
 /// The text of a minute since 1970-01-01T00:00Z, as `2025-02-20T07:00:00Z`.
 #[tactic(auto, unfolding(crate::specs::Minutes::minute_text))]
 pub(crate) fn minute_text(minute: u32) -> ArrayString<48>
-    ensures { result.bytes ≡ text_of minute }
+    ensures { result.bytes ≡ minute_text minute }
 {
     let mut text = ArrayString::new();
     push_day(&mut text, u64::from(minute / 1_440));
@@ -76,7 +74,7 @@ fn push_in_era(text: &mut ArrayString<48>, era: u64, day: u64)
 // The year of an era on its day.
 fn year_of_era(day: u64) -> u64
     requires { day < 146_097 }
-    ensures value { result ≡ year_in_era day }
+    ensures value { result ≡ year_of_era day }
     ensures bound { result < 400 }
 {
     (day - day / 1_460 + day / 36_524 - day / 146_096) / 365
@@ -85,8 +83,8 @@ fn year_of_era(day: u64) -> u64
 // The day of a year of an era.
 fn day_of_year(day: u64, year: u64) -> u64
     requires day_bound { day < 146_097 }
-    requires year_is { year ≡ year_in_era day }
-    ensures value { result ≡ day_in_year day year }
+    requires year_is { year ≡ year_of_era day }
+    ensures value { result ≡ day_of_year day year }
     ensures bound { result < 366 }
 {
     day - (365 * year + year / 4 - year / 100)

@@ -3,7 +3,6 @@ ghost use Rattle.std.specs.Prelude.{◌≡◌, ◌++◌, ◌<◌, ◌≤◌, IsT
 ghost use Rattle.std.specs.List.{flat_map, list_all};
 ghost use Rattle.acdm_record.specs.Fields.{number_of, text_of};
 ghost use Rattle.acdm_record.specs.Place.{width_of};
-ghost use Rattle.acdm_milestones.specs.Tables.{has_reached as is_reached};
 ghost use Rattle.acdm_feed.specs.Records.{alert_token, alerts_member, all_times, arrival_times};
 ghost use Rattle.acdm_feed.specs.Records.{bound_members, deicing_members, deicing_times, destinations};
 ghost use Rattle.acdm_feed.specs.Records.{registrations};

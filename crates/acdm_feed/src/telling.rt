@@ -2,7 +2,7 @@
 ghost use Rattle.std.specs.Prelude.{◌≡◌, ◌++◌, ◌∷◌, ℕ, List, [], true, false, OnOk, IfOk, if◌then◌else◌};
 ghost use Rattle.std.specs.Prelude.{nat_lt};
 ghost use Rattle.bpf_helpers.specs.Promise.{Promise};
-ghost use Rattle.acdm_step.specs.declared.entry.Entry.{Entry as AnEntry};
+ghost use Rattle.acdm_step.specs.declared.entry.Entry.{Entry};
 ghost use Rattle.acdm_step.specs.Commands.{History};
 ghost use Rattle.acdm_step.specs.History.{replay};
 ghost use Rattle.acdm_feed.specs.Knowing.{Knows};
@@ -52,7 +52,7 @@ pub fn tell_next(
     ensures tells { OnOk result (Tells from watch.old watch.new known.old known.new text.old.items
         text.new.items) }
     ensures took { IfOk result (λ took. took ≡ true
-        → (e : AnEntry) × (watch.new.seen ≡ watch.old.seen ++ e ∷ [])) }
+        → (e : Entry) × (watch.new.seen ≡ watch.old.seen ++ e ∷ [])) }
     ensures left { IfOk result (λ took. took ≡ false → watch.new ≡ watch.old) }
 {
     let number = watch.len() as u64;
@@ -71,7 +71,7 @@ pub fn pass_next(watch: &mut Watch, known: &mut Known, row: &Row) -> Result<bool
     ensures row { watch.new.row ≡ watch.old.row }
     ensures passes { OnOk result (Passes watch.old watch.new known.old known.new) }
     ensures took { IfOk result (λ took. took ≡ true
-        → (e : AnEntry) × (watch.new.seen ≡ watch.old.seen ++ e ∷ [])) }
+        → (e : Entry) × (watch.new.seen ≡ watch.old.seen ++ e ∷ [])) }
     ensures left { IfOk result (λ took. took ≡ false → watch.new ≡ watch.old) }
 {
     let Some(entry) = watch.take_next(row)? else {

@@ -4,7 +4,7 @@ ghost use Rattle.std.specs.List.{flat_map};
 ghost use Rattle.std.specs.Option.{option_copied};
 ghost use Rattle.json.specs.Token.{key};
 ghost use Rattle.bpf_helpers.specs.Promise.{Promise};
-ghost use Rattle.acdm_step.specs.Commands.{History, is_tick as is_tick_in};
+ghost use Rattle.acdm_step.specs.Commands.{History, is_tick};
 ghost use Rattle.acdm_step.specs.Summaries.{flights};
 ghost use Rattle.acdm_step.specs.History.{replay};
 ghost use Rattle.acdm_feed.specs.Found.{found_tokens, other_from};
@@ -99,7 +99,7 @@ fn push_ticked(line: &mut Writer, known: &Known, board: &Core) -> Result<(), All
 }
 
 fn is_tick(command: &Command) -> bool
-    ensures { result ≡ is_tick_in command.now }
+    ensures { result ≡ is_tick command.now }
 {
     matches!(command, Command::Tick)
 }

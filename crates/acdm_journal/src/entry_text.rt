@@ -4,7 +4,7 @@ ghost use Rattle.std.specs.Fmt.{decimal};
 ghost use Rattle.std.specs.List.{AllByRecursion};
 ghost use Rattle.hex.specs.Hex.{encode_lower};
 ghost use Rattle.bpf_decode.specs.Encoding.{IsProgram, encoding};
-ghost use Rattle.acdm_milestones.specs.Tables.{number as number_in};
+ghost use Rattle.acdm_milestones.specs.Tables.{number};
 ghost use Rattle.acdm_journal.specs.Text.{outcome_code, plan_words};
 ghost use Rattle.acdm_journal.specs.Text.{plan_words_of, schedule_words, report_words, load_words};
 ghost use Rattle.acdm_journal.specs.Text.{deice_words, length_words};
@@ -67,7 +67,7 @@ fn push_number(text: &mut Appended, number: u64) -> Result<(), AllocError>
 
 fn push_milestone(text: &mut Appended, milestone: Milestone) -> Result<(), AllocError>
     ensures before { text.new.before ≡ text.old.before }
-    ensures adds { OnOk result (text.new.added ≡ text.old.added ++ 32 ∷ decimal (number_in milestone)) }
+    ensures adds { OnOk result (text.new.added ≡ text.old.added ++ 32 ∷ decimal (number milestone)) }
 {
     push_number(text, u64::from(milestone.number()))
 }

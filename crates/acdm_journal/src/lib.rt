@@ -12,9 +12,10 @@ mod stated;
 mod words;
 mod writing;
 
+pub use acdm_slots::ProgramBytes;
 pub use auditing::{Fault, MOST_KEPT, audit};
 pub use entry_text::{WriteError, push_entry, write_entry, write_entry_by};
 pub use judge::{AuditError, Clause, PlannedEntry, judge_line, plan_line, plan_with};
 pub use reading::read_line;
-pub use stated::{LoadLine, ProgramBytes, ReadError, Stated, StatedCommand};
+pub use stated::{LoadLine, ReadError, Stated, StatedCommand};
 pub use writing::write_whole;

@@ -17,11 +17,11 @@ ghost use Rattle.acdm_journal.specs.declared.stated.Stated.{Stated};
 ghost use Rattle.acdm_journal.specs.Text.{line_of};
 ghost use Rattle.acdm_journal.specs.Ranges.{IsStated};
 
-use crate::stated::{LoadLine, ProgramBytes, ReadError, Stated, StatedCommand};
+use crate::stated::{LoadLine, ReadError, Stated, StatedCommand};
 use crate::words::Words;
 use acdm_milestones::{DeicingTime, Milestone, Role};
 use acdm_record::Text;
-use acdm_slots::Kind;
+use acdm_slots::{Kind, ProgramBytes};
 use acdm_step::{
     Answers, Command, Deice, FlightNumber, FlightPlan, MINUTES_OF_DAY, Report, Schedule, Unload,
 };

@@ -1,43 +1,9 @@
 //! What a line of a journal states.
-ghost use Rattle.std.specs.Prelude.{◌≡◌};
-
 use acdm_milestones::{Milestone, Role};
-use acdm_slots::Kind;
+use acdm_slots::{Kind, ProgramBytes};
 use acdm_step::{Answers, Command};
 use bpf_regstate::Length;
-use std::marker::Model;
 use thiserror::Error;
-
-/// The bytes of a program that is loaded, whether they encode one or not.
-#[derive(Drop)]
-pub struct ProgramBytes {
-    items: Vec<u8>,
-}
-
-impl Model for ProgramBytes {
-    ghost use Rattle.std.specs.Prelude.{ℕ, List};
-
-    ghost Value = { List ℕ };
-
-    ghost view = { λ p. p.items.items };
-}
-
-impl ProgramBytes {
-    /// The bytes.
-    pub fn as_slice(&self) -> &[u8]
-        ensures { result.now ≡ self.now }
-    {
-        self.items.as_slice()
-    }
-}
-
-impl From<Vec<u8>> for ProgramBytes {
-    ghost from_gives = { λ items bytes. bytes ≡ items.items };
-
-    fn from(items: Vec<u8>) -> ProgramBytes {
-        ProgramBytes { items }
-    }
-}
 
 /// To load the program of these bytes into a slot, in place of what stands there.
 #[derive(Drop)]

@@ -8,7 +8,7 @@ use crate::failure::{Failure, ended};
 use acdm_journal::{Clause, Fault, audit};
 use acdm_lines::{Sink, Source};
 use acdm_tables::{Tables, known_sigs};
-use acdm_wire::{Text, write_out};
+use acdm_wire::{TextBuffer, write_out};
 use std::alloc::Global;
 use std::io::{Read, Write};
 
@@ -33,7 +33,7 @@ impl Finding {
     }
 
     /// How it is told, as one line.
-    fn text(self) -> Text
+    fn text(self) -> TextBuffer
         ensures { result ≡ finding_text self }
     {
         match self {
@@ -55,20 +55,20 @@ impl Finding {
     }
 }
 
-fn legal(entries: u64) -> Text
+fn legal(entries: u64) -> TextBuffer
     ensures { result ≡ finding_text (Finding.Legal entries) }
 {
-    let mut text = Text::new();
+    let mut text = TextBuffer::new();
     text.push(b"legal ");
     text.push_number(entries);
     text.push(b"\n");
     text
 }
 
-fn faulty(entry: u64, clause: Clause) -> Text
+fn faulty(entry: u64, clause: Clause) -> TextBuffer
     ensures { result ≡ finding_text (Finding.Faulty entry clause) }
 {
-    let mut text = Text::new();
+    let mut text = TextBuffer::new();
     text.push(b"entry ");
     text.push_number(entry);
     text.push(b" ");

@@ -5,7 +5,7 @@ ghost use Rattle.acdm_judging.specs.Failures.{Complains, Ends, failure_text};
 
 use acdm_journal::WriteError;
 use acdm_lines::{RunError, Sink};
-use acdm_wire::{Text, write_out};
+use acdm_wire::{TextBuffer, write_out};
 use std::alloc::{AllocError, AllocFailed};
 use std::io::Write;
 use thiserror::Error;
@@ -78,22 +78,22 @@ pub enum ServeError {
 }
 
 // A line of these words.
-fn line(words: &[u8]) -> Text
+fn line(words: &[u8]) -> TextBuffer
     requires { length words.now ≤ 60 }
     ensures { result ≡ words.now ++ 10 ∷ [] }
 {
-    let mut text = Text::new();
+    let mut text = TextBuffer::new();
     text.push(words);
     text.push(b"\n");
     text
 }
 
 // A line of these words and a number.
-fn numbered(words: &[u8], number: usize) -> Text
+fn numbered(words: &[u8], number: usize) -> TextBuffer
     requires { length words.now ≤ 60 }
     ensures { result ≡ words.now ++ decimal number ++ 10 ∷ [] }
 {
-    let mut text = Text::new();
+    let mut text = TextBuffer::new();
     text.push(words);
     text.push_number(number as u64);
     text.push(b"\n");
@@ -102,7 +102,7 @@ fn numbered(words: &[u8], number: usize) -> Text
 
 impl Failure {
     /// What is told of it, as one line.
-    pub fn text(self) -> Text
+    pub fn text(self) -> TextBuffer
         ensures { result ≡ failure_text self }
     {
         match self {

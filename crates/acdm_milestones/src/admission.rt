@@ -5,8 +5,7 @@ ghost use Rattle.acdm_record.specs.Place.{width_of};
 ghost use Rattle.acdm_record.specs.Fields.{is_allowed};
 ghost use Rattle.acdm_record.specs.Assign.{with_all};
 ghost use Rattle.acdm_milestones.specs.Tables.{time_field, times_of, needs, needs_set, bar};
-ghost use Rattle.acdm_milestones.specs.Tables.{has_reached as is_reached, is_set as is_given};
-ghost use Rattle.acdm_milestones.specs.Tables.{follows as is_after, is_in_order as are_ordered};
+ghost use Rattle.acdm_milestones.specs.Tables.{has_reached, is_set, follows, is_in_order};
 ghost use Rattle.acdm_milestones.specs.Tables.{admission};
 
 use crate::milestone::Milestone;
@@ -72,13 +71,13 @@ fn barred_by(milestone: Milestone) -> u32
 }
 
 fn is_set(record: &Record, field: Field) -> bool
-    ensures { result ≡ is_given «record».now field }
+    ensures { result ≡ is_set «record».now field }
 {
     record.get(field) != 0
 }
 
 fn has_needed(record: &Record, milestone: Milestone) -> bool
-    ensures { result ≡ list_all (is_reached «record».now) (needs milestone) }
+    ensures { result ≡ list_all (has_reached «record».now) (needs milestone) }
 {
     match milestone {
         Milestone::FlightPlanActivated => true,
@@ -95,7 +94,7 @@ fn has_needed(record: &Record, milestone: Milestone) -> bool
 }
 
 fn has_set(record: &Record, milestone: Milestone) -> bool
-    ensures { result ≡ list_all (is_given «record».now) (needs_set milestone) }
+    ensures { result ≡ list_all (is_set «record».now) (needs_set milestone) }
 {
     match milestone {
         Milestone::TsatIssue | Milestone::BoardingStarts | Milestone::AircraftReady => {
@@ -108,7 +107,7 @@ fn has_set(record: &Record, milestone: Milestone) -> bool
 
 /// Whether the later of two times is not before the earlier, where both are set.
 pub(crate) fn follows(record: &Record, later: Field, earlier: Field) -> bool
-    ensures { result ≡ is_after «record».now later earlier }
+    ensures { result ≡ follows «record».now later earlier }
 {
     let first = record.get(earlier);
     let second = record.get(later);
@@ -116,7 +115,7 @@ pub(crate) fn follows(record: &Record, later: Field, earlier: Field) -> bool
 }
 
 fn is_in_order(record: &Record) -> bool
-    ensures { result ≡ are_ordered «record».now }
+    ensures { result ≡ is_in_order «record».now }
 {
     follows(record, Field::Aibt, Field::Aldt)
         && follows(record, Field::Acgt, Field::Aibt)

@@ -1,6 +1,6 @@
 //! The sixteen milestones.
 ghost use Rattle.std.specs.Prelude.{◌≡◌, ◌≤◌};
-ghost use Rattle.acdm_milestones.specs.Tables.{number as number_of, milestone_numbered};
+ghost use Rattle.acdm_milestones.specs.Tables.{number, milestone_numbered};
 
 /// A milestone of a turn-round, in the order of the A-CDM manual.
 #[derive(Clone, Copy, Debug, PartialEq, Eq)]
@@ -42,7 +42,7 @@ pub enum Milestone {
 impl Milestone {
     /// The number of the milestone, from 1 to 16, which is also its bit in the reached word.
     pub fn number(self) -> u32
-        ensures value { result ≡ number_of self }
+        ensures value { result ≡ number self }
         ensures some { 1 ≤ result }
         ensures most { result ≤ 16 }
     {

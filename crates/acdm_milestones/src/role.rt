@@ -1,6 +1,6 @@
 //! The partners, and what each may do.
 ghost use Rattle.std.specs.Prelude.{◌≡◌};
-ghost use Rattle.acdm_milestones.specs.Tables.{owns as is_owner, reports};
+ghost use Rattle.acdm_milestones.specs.Tables.{owns, reports};
 ghost use Rattle.acdm_milestones.specs.Names.{role_name, role_named};
 
 use crate::milestone::Milestone;
@@ -115,7 +115,7 @@ fn reports_milestone(role: Role, milestone: Milestone) -> bool
 /// schedule, load, unload, tick and migrate to the airport operator, times of de-icing to the
 /// de-icing company, and questions to everyone.
 pub fn owns(role: Role, action: Action) -> bool
-    ensures { result ≡ is_owner role action }
+    ensures { result ≡ owns role action }
 {
     match action {
         Action::Report(milestone) => reports_milestone(role, milestone),

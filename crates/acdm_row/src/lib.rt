@@ -9,6 +9,6 @@ mod row;
 
 pub use front::Front;
 pub use pass::Pass;
-pub use published::{Past, Place, Published};
+pub use published::{EntryPlace, Past, Published};
 pub use publisher::Publisher;
 pub use row::Row;

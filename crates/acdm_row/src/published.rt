@@ -20,13 +20,13 @@ pub struct Published {
 /// Memory for what is published next, taken before it is known. Until then a tick stands there that
 /// nobody made.
 #[derive(Drop)]
-pub struct Place {
+pub struct EntryPlace {
     value: Box<Published>,
 }
 
-impl Place {
+impl EntryPlace {
     /// Memory for one entry. `Err` only where it was refused.
-    pub(crate) fn new(alloc: Global, past: &Past) -> Result<Place, AllocError> {
+    pub(crate) fn new(alloc: Global, past: &Past) -> Result<EntryPlace, AllocError> {
         let entry = Entry {
             number: 0,
             session: 1,
@@ -38,7 +38,7 @@ impl Place {
         };
         let before = Snapshot::of(past);
         let value = Box::new(alloc, Published { entry, before })?;
-        Ok(Place { value })
+        Ok(EntryPlace { value })
     }
 
     /// An entry, and those before it, in this memory.
@@ -46,7 +46,7 @@ impl Place {
         ensures entry { result.value.entry ≡ entry }
         ensures before { result.value.before ≡ before }
     {
-        let Place { value: place } = self;
+        let EntryPlace { value: place } = self;
         let mut place = place;
         *place = Published { entry, before };
         place

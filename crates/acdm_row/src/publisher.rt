@@ -9,7 +9,7 @@ ghost use Rattle.acdm_row.specs.Views.{IsSameCaller};
 
 use crate::front::Front;
 use crate::pass::Pass;
-use crate::published::{Past, Place};
+use crate::published::{EntryPlace, Past};
 use crate::row::Row;
 use acdm_step::Entry;
 use bpf_helpers::Sigs;
@@ -98,18 +98,18 @@ impl Publisher {
 
     /// Takes memory for the next entry, and for what is known of it. `Err` only where memory was
     /// refused.
-    pub fn place(&mut self) -> Result<Place, AllocError>
+    pub fn place(&mut self) -> Result<EntryPlace, AllocError>
         ensures { self.new ≡ self.old }
     {
         self.front.reserve(1)?;
         self.past.reserve(1)?;
-        Place::new(self.alloc, &self.past)
+        EntryPlace::new(self.alloc, &self.past)
     }
 
     /// Takes all memory that the next entry needs which a call of a pass makes: for the entry, and for
     /// what journal and pass know then. `Err` where memory was refused, and where the journal is
     /// shorter than what the pass has seen.
-    pub fn place_for(&mut self, pass: &mut Pass) -> Result<Place, AllocError>
+    pub fn place_for(&mut self, pass: &mut Pass) -> Result<EntryPlace, AllocError>
         requires { pass.old.row ≡ self.old.row }
         ensures { (self.new ≡ self.old) × (pass.new ≡ pass.old) }
     {
@@ -124,7 +124,7 @@ impl Publisher {
     /// Publishes the next entry, in memory that was taken for it. `Err` where memory was refused which
     /// `place` did not take, where there is no cell for it, or where its cell was set. Nothing has
     /// changed then.
-    pub fn publish(&mut self, entry: Entry, place: Place) -> Result<(), AllocError>
+    pub fn publish(&mut self, entry: Entry, place: EntryPlace) -> Result<(), AllocError>
         requires legal { IsLegal self.old.row.sigs (reverse (self.old.entries ++ entry ∷ [])) }
         ensures row { self.new.row ≡ self.old.row }
         ensures entry { OnOk result (self.new.entries ≡ self.old.entries ++ entry ∷ []) }
@@ -148,7 +148,12 @@ impl Publisher {
     /// Publishes the next entry, which a call of a pass made, in memory that `place_for` took. The
     /// pass has then seen the journal up to it. `Err` where `publish` answers it, and where the
     /// journal is shorter than what the pass has seen. Nothing has changed then.
-    pub fn enter(&mut self, pass: &mut Pass, entry: Entry, place: Place) -> Result<(), AllocError>
+    pub fn enter(
+        &mut self,
+        pass: &mut Pass,
+        entry: Entry,
+        place: EntryPlace,
+    ) -> Result<(), AllocError>
         requires same_row { pass.old.row ≡ self.old.row }
         requires session { entry.session ≡ pass.old.session }
         requires role { entry.role ≡ pass.old.role }

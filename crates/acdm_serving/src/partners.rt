@@ -17,7 +17,7 @@ use acdm_judging::ServeError;
 use acdm_milestones::Role;
 use acdm_partners::{PATIENCE, Patient};
 use acdm_sessions::{Clock, Closed, End, EndedSession, Gate, RunError, Session, Sink, Source};
-use acdm_wire::{Text, write_out, write_whole};
+use acdm_wire::{TextBuffer, write_out, write_whole};
 use bpf_helpers::Helpers;
 use std::alloc::Global;
 use std::io::{BufWriter, Read, Write};
@@ -341,10 +341,10 @@ fn end_name(end: End, torn: bool) -> &'static str
 }
 
 // The line of a session that has ended.
-fn session_line(number: u8, calls: u64, end: End, torn: bool) -> Text
+fn session_line(number: u8, calls: u64, end: End, torn: bool) -> TextBuffer
     ensures { result ≡ session_text number calls end torn }
 {
-    let mut line = Text::new();
+    let mut line = TextBuffer::new();
     line.push(b"session ");
     line.push_number(u64::from(number));
     line.push(b" ");
@@ -356,10 +356,10 @@ fn session_line(number: u8, calls: u64, end: End, torn: bool) -> Text
 }
 
 // The last line.
-fn closed_line(entries: u64) -> Text
+fn closed_line(entries: u64) -> TextBuffer
     ensures { result ≡ closed_text entries }
 {
-    let mut line = Text::new();
+    let mut line = TextBuffer::new();
     line.push(b"closed ");
     line.push_number(entries);
     line.push(b"\n");

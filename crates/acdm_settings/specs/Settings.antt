@@ -13,8 +13,8 @@ use Rattle.acdm_settings.specs.declared.fault.SettingFault.{SettingFault}
 use Rattle.acdm_settings.specs.declared.fault.SettingFault.TheVariants.{Unknown, NoFlag, NoNumber, NoText, NoPartners}
 use Rattle.acdm_settings.specs.declared.fault.SettingsError.{SettingsError}
 use Rattle.acdm_settings.specs.declared.fault.SettingsError.TheVariants as errors
-use Rattle.acdm_settings.specs.declared.reading.Kind.{Kind}
-use Rattle.acdm_settings.specs.declared.reading.Kind.TheVariants.{Flag, Number, Words, Partners}
+use Rattle.acdm_settings.specs.declared.reading.ValueKind.{ValueKind}
+use Rattle.acdm_settings.specs.declared.reading.ValueKind.TheVariants.{Flag, Number, Words, Partners}
 
 -- what is told of what is wrong
 abbrev pub why_text : SettingFault → List ℕ
@@ -25,7 +25,7 @@ why_text NoText = codes "not a text"
 why_text NoPartners = codes "not a list of texts as APT=127.0.0.1:4001"
 
 -- which value a key has, if there is such a key: each but `partners` is the name of an option of `serve`
-abbrev pub kind_of : List ℕ → Option Kind
+abbrev pub kind_of : List ℕ → Option ValueKind
 kind_of key =
     if bytes_eq key (codes "again") then Some Flag
     else (if bytes_eq key (codes "sync") then Some Flag
@@ -83,7 +83,7 @@ or_wrong key why None = Err (key, why)
 or_wrong key why (Some x) = Ok x
 
 -- the words so far, and those that a value stands for at a key of this kind
-abbrev pub add_kind : List (List ℕ) → List ℕ → Option Kind → Data → Result (List (List ℕ)) Wrong
+abbrev pub add_kind : List (List ℕ) → List ℕ → Option ValueKind → Data → Result (List (List ℕ)) Wrong
 add_kind words key (Some Flag) value = or_wrong key NoFlag (option_map (flag_words words key) (as_bool value))
 add_kind words key (Some Number) value =
     or_wrong key NoNumber (option_map (λ n. words ++ with_value key (decimal n) ∷ []) (option_and_then natural (as_integer value)))

@@ -3,7 +3,7 @@
 ghost use Rattle.std.specs.Prelude.{◌≡◌, ◌++◌, [], ◌∷◌, IfOk, OnOk, codes, map, option_and_then, option_map, string_bytes, Some};
 ghost use Rattle.std.specs.Fmt.{decimal};
 ghost use Rattle.toml.specs.Data.{as_integer};
-ghost use Rattle.acdm_settings.specs.declared.reading.Kind.TheVariants.{Partners};
+ghost use Rattle.acdm_settings.specs.declared.reading.ValueKind.TheVariants.{Partners};
 ghost use Rattle.toml.specs.View.{array_view, table_view, view};
 ghost use Rattle.acdm_settings.specs.Settings.{GivesView, IsWrong, Reads, add_kind, add_setting, is_partner};
 ghost use Rattle.acdm_settings.specs.Settings.{flag_words, kind_of, natural, option_of, partner_word, partners_from, with_value, words_from};
@@ -20,7 +20,7 @@ pub const MOST_TEXT: usize = 65_536;
 
 // Which value a key has.
 #[derive(Clone, Copy, Debug, PartialEq, Eq)]
-pub(crate) enum Kind {
+pub(crate) enum ValueKind {
     // True or false.
     Flag,
     // A whole number from 0.
@@ -32,39 +32,39 @@ pub(crate) enum Kind {
 }
 
 // Which value a key has, if there is such a key.
-fn kind_of(key: &str) -> Option<Kind>
+fn kind_of(key: &str) -> Option<ValueKind>
     ensures { result ≡ kind_of key.now }
 {
     if key == "again" {
-        Some(Kind::Flag)
+        Some(ValueKind::Flag)
     } else if key == "sync" {
-        Some(Kind::Flag)
+        Some(ValueKind::Flag)
     } else if key == "journal" {
-        Some(Kind::Number)
+        Some(ValueKind::Number)
     } else if key == "pace" {
-        Some(Kind::Number)
+        Some(ValueKind::Number)
     } else if key == "tick" {
-        Some(Kind::Number)
+        Some(ValueKind::Number)
     } else if key == "changes" {
-        Some(Kind::Words)
+        Some(ValueKind::Words)
     } else if key == "control" {
-        Some(Kind::Words)
+        Some(ValueKind::Words)
     } else if key == "keep" {
-        Some(Kind::Words)
+        Some(ValueKind::Words)
     } else if key == "log" {
-        Some(Kind::Words)
+        Some(ValueKind::Words)
     } else if key == "save" {
-        Some(Kind::Words)
+        Some(ValueKind::Words)
     } else if key == "tables" {
-        Some(Kind::Words)
+        Some(ValueKind::Words)
     } else if key == "watch" {
-        Some(Kind::Words)
+        Some(ValueKind::Words)
     } else if key == "web" {
-        Some(Kind::Words)
+        Some(ValueKind::Words)
     } else if key == "web-name" {
-        Some(Kind::Words)
+        Some(ValueKind::Words)
     } else if key == "partners" {
-        Some(Kind::Partners)
+        Some(ValueKind::Partners)
     } else {
         None
     }
@@ -212,26 +212,26 @@ fn add_kind(
     alloc: Global,
     words: Vec<String>,
     key: &str,
-    kind: Option<Kind>,
+    kind: Option<ValueKind>,
     value: &Value,
 ) -> Result<Vec<String>, SettingsError>
     ensures { GivesView (λ v. map (λ s. string_bytes s) v.items) result
         (add_kind (map (λ s. string_bytes s) words.items) key.now kind (view value.now)) }
 {
     match kind {
-        Some(Kind::Flag) => match value.as_bool() {
+        Some(ValueKind::Flag) => match value.as_bool() {
             Some(is_set) => Ok(with_flag(alloc, words, key, is_set)?),
             None => Err(wrong(alloc, key, SettingFault::NoFlag)),
         },
-        Some(Kind::Number) => match natural(value) {
+        Some(ValueKind::Number) => match natural(value) {
             Some(number) => Ok(with_number(alloc, words, key, number)?),
             None => Err(wrong(alloc, key, SettingFault::NoNumber)),
         },
-        Some(Kind::Words) => match value.as_str() {
+        Some(ValueKind::Words) => match value.as_str() {
             Some(text) => Ok(with_word(words, with_value(alloc, key, text)?)?),
             None => Err(wrong(alloc, key, SettingFault::NoText)),
         },
-        Some(Kind::Partners) => add_partners(alloc, words, key, value),
+        Some(ValueKind::Partners) => add_partners(alloc, words, key, value),
         None => Err(wrong(alloc, key, SettingFault::Unknown)),
     }
 }

@@ -4,7 +4,7 @@ ghost use Rattle.std.specs.Prelude.{◌≡◌, ◌++◌, ◌∷◌, [], Some, If
 ghost use Rattle.acdm_slots.specs.Loaded.{program_in, values};
 ghost use Rattle.acdm_slots.specs.Migration.{kept_program, lengthened, migrated_slots};
 ghost use Rattle.acdm_slots.specs.Migration.{TellsFault};
-ghost use Rattle.acdm_slots.specs.Migration.{unloaded as all_unloaded, unloaded_at, unloaded_of};
+ghost use Rattle.acdm_slots.specs.Migration.{unloaded, unloaded_at, unloaded_of};
 
 use crate::kind::Kind;
 use crate::slots::{PLACES, Slots};
@@ -107,7 +107,7 @@ impl Slots {
     /// no memory.
     pub fn migrated(&self, record_length: Length) -> Result<Migrated, AllocError>
         ensures slots { IfOk result (λ m. m.slots ≡ migrated_slots record_length self.now) }
-        ensures unloaded { IfOk result (λ m. m.unloaded.items ≡ all_unloaded record_length (program_in self.now)) }
+        ensures unloaded { IfOk result (λ m. m.unloaded.items ≡ unloaded record_length (program_in self.now)) }
     {
         let alloc = self.allocator();
         let sigs = self.sigs().copy()?;

@@ -2,7 +2,7 @@
 ghost use Rattle.std.specs.Prelude.{◌≡◌, ◌||◌, ℕ, List, [], ◌∷◌, IfOk, IsOk, IsTrue, OnErr};
 ghost use Rattle.bpf_helpers.specs.Promise.{Promise};
 ghost use Rattle.acdm_step.specs.Commands.{History, is_alerts, is_migrate};
-ghost use Rattle.acdm_step.specs.Commands.{is_accepted as was_accepted};
+ghost use Rattle.acdm_step.specs.Commands.{is_accepted};
 ghost use Rattle.acdm_step.specs.History.{IsLegal, replay};
 ghost use Rattle.acdm_step.specs.Verdicts.{outcome_of};
 
@@ -25,7 +25,7 @@ pub enum Verdict {
 impl Verdict {
     /// Whether the command was accepted.
     pub fn is_accepted(&self) -> bool
-        ensures { result ≡ was_accepted self.now }
+        ensures { result ≡ is_accepted self.now }
     {
         matches!(self, Verdict::Accepted)
     }

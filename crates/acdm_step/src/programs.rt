@@ -6,10 +6,10 @@ ghost use Rattle.acdm_milestones.specs.Tables.{number};
 ghost use Rattle.acdm_slots.specs.Loaded.{program_in};
 ghost use Rattle.bpf_helpers.specs.Oracles.{MayBeAsked, SameRule};
 ghost use Rattle.acdm_step.specs.Board.{programs_at};
-ghost use Rattle.acdm_step.specs.Programs.{is_usable as may_be_set, rejecting};
+ghost use Rattle.acdm_step.specs.Programs.{is_usable, rejecting};
 ghost use Rattle.acdm_step.specs.Programs.{suggestion, with_suggestion, local_alerts};
 ghost use Rattle.acdm_step.specs.Programs.{with_local_alerts};
-ghost use Rattle.acdm_step.specs.InSlots.{may_ask as asks_helpers, size_of};
+ghost use Rattle.acdm_step.specs.InSlots.{may_ask, size_of};
 ghost use Rattle.acdm_step.specs.Running.{EndsAt, AsksAt, EndsIn, AsksIn};
 ghost use Rattle.acdm_record.specs.Fields.{length_of};
 ghost use Rattle.bpf_regstate.specs.Lengths.{bytes_in};
@@ -57,7 +57,7 @@ fn set_rejected(record: &mut Record, rejected: bool)
 
 // Whether a time is a TOBT that a program may set.
 fn is_usable(record: &Record, moment: u32, time: u64) -> bool
-    ensures { result ≡ may_be_set «record».now moment time }
+    ensures { result ≡ is_usable «record».now moment time }
 {
     let moment = u64::from(moment);
     moment <= time
@@ -124,7 +124,7 @@ pub(crate) fn run_programs<O: Oracle>(
 
 // Whether there is a program in a slot that calls a helper.
 fn may_ask(slots: &Slots, milestone: Milestone, kind: Kind) -> bool
-    ensures { result ≡ asks_helpers (program_in slots.now milestone kind) }
+    ensures { result ≡ may_ask (program_in slots.now milestone kind) }
 {
     match slots.get(milestone, kind) {
         Some(checked) => checked.asks(),
@@ -134,8 +134,8 @@ fn may_ask(slots: &Slots, milestone: Milestone, kind: Kind) -> bool
 
 /// Whether a program of a reported milestone calls a helper.
 pub(crate) fn either_asks(slots: &Slots, milestone: Milestone) -> bool
-    ensures { result ≡ (asks_helpers (program_in slots.now milestone Kind.Tobt)
-        || asks_helpers (program_in slots.now milestone Kind.Alert)) }
+    ensures { result ≡ (may_ask (program_in slots.now milestone Kind.Tobt)
+        || may_ask (program_in slots.now milestone Kind.Alert)) }
 {
     may_ask(slots, milestone, Kind::Tobt) || may_ask(slots, milestone, Kind::Alert)
 }

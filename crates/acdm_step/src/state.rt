@@ -6,8 +6,8 @@ ghost use Rattle.acdm_milestones.specs.Tables.{has_reached};
 ghost use Rattle.bpf_helpers.specs.Promise.{Promise};
 ghost use Rattle.bpf_helpers.specs.Oracles.{Gained, MayBeAsked, SameRule, Unasked};
 ghost use Rattle.acdm_step.specs.Commands.{History, is_accepted, is_alerts, is_migrate};
-ghost use Rattle.acdm_step.specs.InSlots.{answers_room as room_for_answers, asks_in, room_of};
-ghost use Rattle.acdm_step.specs.Summaries.{exists, record_of as record_in, has_come_to};
+ghost use Rattle.acdm_step.specs.InSlots.{answers_room, asks_in, room_of};
+ghost use Rattle.acdm_step.specs.Summaries.{exists, record_of, has_come_to};
 ghost use Rattle.acdm_step.specs.Verdicts.{verdict_in};
 ghost use Rattle.acdm_step.specs.History.{IsLegal, replay, after, needs_memory};
 ghost use Rattle.acdm_step.specs.Board.{board_answer, board_loads};
@@ -71,7 +71,7 @@ impl Core {
     /// The record of a flight, `None` where it is not on the board.
     pub fn record_of(&self, flight: u64) -> Option<&Record>
         ensures record { (sigs : List (ℕ × Promise)) (J : History) → self.now ≡ replay sigs J →
-            option_copied result ≡ (if exists J flight then Some (record_in J flight) else None) }
+            option_copied result ≡ (if exists J flight then Some (record_of J flight) else None) }
         // A bit of the reached word is set exactly where an accepted entry reached it.
         ensures reached { (sigs : List (ℕ × Promise)) (J : History) → self.now ≡ replay sigs J →
             IfSome result (λ r. (bit : ℕ) → has_reached r.now bit ≡ has_come_to J flight bit) }
@@ -114,7 +114,7 @@ impl Core {
     /// program of the command calls a helper, else for none.
     pub fn answers_room(&self, command: &Command) -> u64
         ensures { (sigs : List (ℕ × Promise)) (J : History) → self.now ≡ replay sigs J
-            → result ≡ room_for_answers J command.now }
+            → result ≡ answers_room J command.now }
     {
         if self.asks(command) {
             self.room(command)

@@ -1,6 +1,6 @@
 //! How much two that look at one row have both seen.
 ghost use Rattle.std.specs.Prelude.{◌≡◌, List, length, take, min};
-ghost use Rattle.acdm_step.specs.declared.entry.Entry.{Entry as AnEntry};
+ghost use Rattle.acdm_step.specs.declared.entry.Entry.{Entry};
 ghost use Rattle.acdm_row.specs.Views.{RowView};
 
 use crate::watch::Watch;
@@ -12,13 +12,13 @@ pub trait Meet<Other> {
     ghost row: { Self → RowView };
 
     /// What it has seen.
-    ghost seen: { Self → List AnEntry };
+    ghost seen: { Self → List Entry };
 
     /// The row of the other.
     ghost other_row: { Other → RowView };
 
     /// What the other has seen.
-    ghost other_seen: { Other → List AnEntry };
+    ghost other_seen: { Other → List Entry };
 
     /// The length of the shorter of what two of one row have seen, which are the same as far as
     /// that.

@@ -2,7 +2,7 @@
 ghost use Rattle.std.specs.Prelude.{◌≡◌, ◌<◌, ◌+◌, ◌++◌, ◌∷◌, [], true, false, length, take};
 ghost use Rattle.std.specs.Prelude.{reverse, min, IfOk, IfSome, OnErr, Ok, None};
 ghost use Rattle.std.specs.Arc.{arc_value};
-ghost use Rattle.acdm_step.specs.declared.entry.Entry.{Entry as AnEntry};
+ghost use Rattle.acdm_step.specs.declared.entry.Entry.{Entry};
 ghost use Rattle.acdm_step.specs.History.{IsLegal, replay};
 ghost use Rattle.acdm_watch.specs.Watching.{IsUnchanged};
 
@@ -91,7 +91,7 @@ impl Watch {
         ensures must { IfSome pass.entry (λ p. length self.old.seen < length p.now.seen
             → IfOk result (λ took. took ≡ true)) }
         ensures took { IfOk result (λ took. took ≡ true
-            → (e : AnEntry) × (self.new.seen ≡ self.old.seen ++ e ∷ [])) }
+            → (e : Entry) × (self.new.seen ≡ self.old.seen ++ e ∷ [])) }
         ensures left { IfOk result (λ took. took ≡ false → self.new ≡ self.old) }
         ensures err { OnErr result (self.new ≡ self.old) }
     {
@@ -108,7 +108,7 @@ impl Watch {
         requires { row.now ≡ self.old.row }
         ensures row { self.new.row ≡ self.old.row }
         ensures took { IfOk result (λ took. took ≡ true
-            → (e : AnEntry) × (self.new.seen ≡ self.old.seen ++ e ∷ [])) }
+            → (e : Entry) × (self.new.seen ≡ self.old.seen ++ e ∷ [])) }
         ensures left { IfOk result (λ took. took ≡ false → self.new ≡ self.old) }
         ensures err { OnErr result (self.new ≡ self.old) }
     {
@@ -149,7 +149,7 @@ impl Watch {
         ensures seen { IfOk result (λ took.
             self.new.seen ≡ take (length self.old.seen + 1) pass.old.seen) }
         ensures grew { IfOk result (λ took.
-            (e : AnEntry) × (self.new.seen ≡ self.old.seen ++ e ∷ [])) }
+            (e : Entry) × (self.new.seen ≡ self.old.seen ++ e ∷ [])) }
         ensures err { OnErr result (self.new ≡ self.old) }
     {
         self.sight.reserve()?;

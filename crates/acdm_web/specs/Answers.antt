@@ -3,7 +3,7 @@ use Rattle.std.specs.Prelude.{ℕ, Bool, if◌then◌else◌, List, [], ◌∷�
 use Rattle.std.specs.Fmt.{decimal}
 use Rattle.httpdate.specs.declared.date.HttpDate.{HttpDate}
 use Rattle.httpdate.specs.Date.{date_text}
-use Rattle.acdm_web.specs.declared.request.Request.{Request}
+use Rattle.acdm_web.specs.declared.request.BrowserRequest.{BrowserRequest}
 use Rattle.acdm_web.specs.declared.request.Wanted.{Wanted}
 use Rattle.acdm_web.specs.declared.request.Wanted.TheVariants.{Page, Events, Nothing, OtherMethod, Misdirected, NoRequest, Busy}
 
@@ -71,7 +71,7 @@ head_of wanted body date = head_line (status_of wanted)
     ++ (date_line date ++ head_end))))
 
 -- the head, and what stands behind it, which is left out where the head alone is asked for (RFC 9110, section 9.3.2)
-abbrev pub ended_text : Request → List ℕ → Option HttpDate → List ℕ
+abbrev pub ended_text : BrowserRequest → List ℕ → Option HttpDate → List ℕ
 ended_text request page date = head_of request.wanted (body_of request.wanted page) date
     ++ (if request.is_head then [] else body_of request.wanted page)
 
@@ -80,5 +80,5 @@ text_of (Events _) ended = events_head
 text_of _ ended = ended
 
 -- what a browser is answered, the events without what comes behind their head
-abbrev pub answer_text : Request → List ℕ → Option HttpDate → List ℕ
+abbrev pub answer_text : BrowserRequest → List ℕ → Option HttpDate → List ℕ
 answer_text request page date = text_of request.wanted (ended_text request page date)

@@ -6,7 +6,7 @@ use Rattle.std.specs.Str.{str_eq_ignore_ascii_case}
 use Rattle.std.specs.Str.Parse.{IsNumeral, digits_value, without_leading_plus}
 use Rattle.httparse.specs.Grammar.{ReadsRequest, RequestHead}
 use Rattle.httparse.specs.Spans.{RequestOverflows, name_and_value}
-use Rattle.acdm_web.specs.declared.request.Request.{Request}
+use Rattle.acdm_web.specs.declared.request.BrowserRequest.{BrowserRequest}
 use Rattle.acdm_web.specs.declared.request.Wanted.{Wanted}
 use Rattle.acdm_web.specs.declared.request.Wanted.TheVariants.{Page, Events, Nothing, OtherMethod, Misdirected, NoRequest, Busy}
 
@@ -124,24 +124,24 @@ IsAt path number (Events last) = (path ≡ codes "/events") × IsLast number las
 IsAt path number Nothing = (path ≢ codes "/") × (path ≢ codes "/events")
 IsAt path number _ = ⊥
 
-abbrev pub IsRead : Option (List ℕ) → RequestHead → Request → Type 0
+abbrev pub IsRead : Option (List ℕ) → RequestHead → BrowserRequest → Type 0
 IsRead name h request = IsFor name h × (h.method ≡ method_of request.is_head)
     × IsAt (path_of h.target) (last_of (map name_and_value h.fields)) request.wanted
 
-abbrev pub AsksFor : Option (List ℕ) → RequestHead → Request → Wanted → Type 0
+abbrev pub AsksFor : Option (List ℕ) → RequestHead → BrowserRequest → Wanted → Type 0
 AsksFor name h request OtherMethod = IsFor name h × (h.method ≢ codes "GET") × (h.method ≢ codes "HEAD")
 AsksFor name h request Misdirected = is_meant name (map name_and_value h.fields) ≡ false
 AsksFor name h request NoRequest = ⊥
 AsksFor name h request Busy = ⊥
 AsksFor name h request _ = IsRead name h request
 
-abbrev pub Asks : Option (List ℕ) → RequestHead → Request → Type 0
+abbrev pub Asks : Option (List ℕ) → RequestHead → BrowserRequest → Type 0
 Asks name h request = IsOf request.is_head h × AsksFor name h request request.wanted
 
-abbrev pub WantsBy : Option (List ℕ) → List ℕ → Request → Wanted → Type 0
+abbrev pub WantsBy : Option (List ℕ) → List ℕ → BrowserRequest → Wanted → Type 0
 WantsBy name bytes request NoRequest = RequestOverflows 64 bytes × (request.is_head ≡ false)
 WantsBy name bytes request _ = (h : RequestHead) × (rest : List ℕ) × ReadsRequest bytes h rest × Asks name h request
 
 -- What bytes ask for: the head at their front does, or none with at most 64 fields can come of them.
-abbrev pub Wants : Option (List ℕ) → List ℕ → Request → Type 0
+abbrev pub Wants : Option (List ℕ) → List ℕ → BrowserRequest → Type 0
 Wants name bytes request = WantsBy name bytes request request.wanted

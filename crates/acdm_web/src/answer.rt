@@ -4,7 +4,7 @@ ghost use Rattle.std.specs.Fmt.{decimal};
 ghost use Rattle.acdm_web.specs.Answers.{answer_text, body_of, date_line, events_head, further_line};
 ghost use Rattle.acdm_web.specs.Answers.{head_end, head_line, head_of, kind_of, status_of};
 
-use crate::request::{Request, Wanted};
+use crate::request::{BrowserRequest, Wanted};
 use httpdate::HttpDate;
 use itoa::Buffer;
 use std::alloc::AllocError;
@@ -168,7 +168,7 @@ fn push_events_head(text: &mut Vec<u8>) -> Result<(), AllocError>
 /// where it is known; the head of the events has none. `Err` only where memory was refused.
 pub fn push_answer(
     text: &mut Vec<u8>,
-    request: Request,
+    request: BrowserRequest,
     page: &str,
     date: Option<HttpDate>,
 ) -> Result<(), AllocError>

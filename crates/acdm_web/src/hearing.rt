@@ -2,7 +2,7 @@
 ghost use Rattle.std.specs.Prelude.{◌≡◌, [], IfSome, option_map};
 ghost use Rattle.acdm_web.specs.Wanted.{Wants};
 
-use crate::request::{Request, wanted_in};
+use crate::request::{BrowserRequest, wanted_in};
 use acdm_lines::Source;
 use std::alloc::Global;
 use std::io::{ErrorKind, Read};
@@ -31,7 +31,7 @@ pub fn first_wanted<R: Read, L: TimeLimit>(
     reader: &mut Source<R>,
     name: Option<&str>,
     limit: &L,
-) -> Option<Request>
+) -> Option<BrowserRequest>
     requires { reader.old.log ≡ [] }
     ensures { IfSome result (Wants (option_map (λ n. n.now) name.entry) reader.new.log) }
 {

@@ -35,7 +35,7 @@ pub enum Wanted {
 
 /// What a browser asks for, and whether for the head of the answer alone.
 #[derive(Clone, Copy, Debug, PartialEq, Eq)]
-pub struct Request {
+pub struct BrowserRequest {
     pub wanted: Wanted,
     /// Whether the method is `HEAD`.
     pub is_head: bool,
@@ -235,7 +235,12 @@ fn found_at(path: &[u8], bytes: &[u8], fields: &[HeaderSpan]) -> Wanted
 }
 
 // What a whole head asks for, of a board with this name.
-fn asked_in(name: Option<&str>, bytes: &[u8], head: RequestSpans, fields: &[HeaderSpan]) -> Request
+fn asked_in(
+    name: Option<&str>,
+    bytes: &[u8],
+    head: RequestSpans,
+    fields: &[HeaderSpan],
+) -> BrowserRequest
     requires within { IsRequestWithin bytes.now fields.now head }
     ensures { (h : RequestHead) → IsRequestAt bytes.now fields.now head h
         → Asks (option_map (λ n. n.now) name.entry) h result }
@@ -243,24 +248,24 @@ fn asked_in(name: Option<&str>, bytes: &[u8], head: RequestSpans, fields: &[Head
     let method = head.method.of(bytes);
     let is_head = method == b"HEAD".as_slice();
     if !is_meant(name, bytes, &fields[..head.headers]) {
-        return Request {
+        return BrowserRequest {
             wanted: Wanted::Misdirected,
             is_head,
         };
     }
     if !is_head && method != b"GET".as_slice() {
-        return Request {
+        return BrowserRequest {
             wanted: Wanted::OtherMethod,
             is_head,
         };
     }
     let wanted = found_at(path_of(head.path.of(bytes)), bytes, &fields[..head.headers]);
-    Request { wanted, is_head }
+    BrowserRequest { wanted, is_head }
 }
 
 /// What the bytes that a browser has sent ask for, of a board with this name, if it has one: those of the
 /// head of a request, and maybe more. `None` where they are not all of a head yet.
-pub fn wanted_in(bytes: &[u8], name: Option<&str>) -> Option<Request>
+pub fn wanted_in(bytes: &[u8], name: Option<&str>) -> Option<BrowserRequest>
     ensures wanted { IfSome result (Wants (option_map (λ n. n.now) name.entry) bytes.now) }
     ensures more { IsNone result → HasNoRequest bytes.now }
 {
@@ -268,7 +273,7 @@ pub fn wanted_in(bytes: &[u8], name: Option<&str>) -> Option<Request>
     match parse_request(bytes, &mut fields) {
         Ok(Status::Complete(head)) => Some(asked_in(name, bytes, head, &fields)),
         Ok(Status::Partial) => None,
-        Err(_) => Some(Request {
+        Err(_) => Some(BrowserRequest {
             wanted: Wanted::NoRequest,
             is_head: false,
         }),

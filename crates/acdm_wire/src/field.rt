@@ -16,11 +16,10 @@ ghost use Rattle.acdm_wire.specs.Memory.{load_needs_memory, command_needs_memory
 
 use crate::fault::RequestFault;
 use crate::line_json::LineJson;
-use crate::program::ProgramBytes;
 use crate::request::{Asked, LineError, LoadRequest};
 use acdm_milestones::{DeicingTime, Milestone};
 use acdm_record::Text;
-use acdm_slots::Kind;
+use acdm_slots::{Kind, ProgramBytes};
 use acdm_step::{
     Command, Deice, FlightNumber, FlightPlan, MINUTES_OF_DAY, Report, Schedule, Unload,
 };

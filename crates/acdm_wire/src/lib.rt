@@ -8,16 +8,15 @@ mod head;
 mod line_json;
 mod list_item;
 mod plain;
-mod program;
 mod reply;
 mod reply_text;
 mod request;
 mod text;
 
+pub use acdm_slots::ProgramBytes;
 pub use asked::asked_of;
 pub use fault::{Bad, RequestFault};
 pub use head::request_of;
-pub use program::ProgramBytes;
 pub use reply::{write_entered, write_out, write_rejected, write_whole};
 pub use request::{Asked, LONGEST_REQUEST, LineError, LoadRequest, Request};
-pub use text::Text;
+pub use text::TextBuffer;

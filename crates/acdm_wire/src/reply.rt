@@ -2,13 +2,13 @@
 ghost use Rattle.std.specs.Prelude.{◌≡◌, ◌≤◌, ◌++◌, ◌∷◌, [], false, length, OnOk};
 ghost use Rattle.std.specs.List.{flat_map};
 ghost use Rattle.acdm_wire.specs.Writes.{Writes};
-ghost use Rattle.acdm_step.specs.declared.outcome.Outcome.TheVariants as outcomes;
+ghost use Rattle.acdm_step.specs.declared.outcome.Outcome.TheVariants.{Done, Refused, Shown};
 ghost use Rattle.acdm_wire.specs.Replies.{next_text, list_head, list_text, entry_text, bad_text};
 
 use crate::fault::Bad;
 use crate::list_item::ListItem;
 use crate::reply_text::{done, head, refused, rejected, shown};
-use crate::text::Text;
+use crate::text::TextBuffer;
 use acdm_lines::{RunError, Sink};
 use acdm_milestones::Refusal;
 use acdm_record::Record;
@@ -47,7 +47,7 @@ pub fn write_out<W: Write>(writer: &mut Sink<W>, bytes: &[u8]) -> Result<(), Run
 fn write_more<W: Write, T: ListItem>(writer: &mut Sink<W>, items: &[T]) -> Result<(), RunError>
     ensures { Writes writer.old writer.new (flat_map (next_text T.item_text) items.now) result }
 {
-    let mut text = Text::new();
+    let mut text = TextBuffer::new();
     let mut rest = items;
     while let Some((item, more)) = rest.split_first() {
         text.put_next(item);
@@ -64,7 +64,7 @@ fn write_items<W: Write, T: ListItem>(writer: &mut Sink<W>, items: &[T]) -> Resu
     let Some((first, more)) = items.split_first() else {
         return write_whole(writer, b"-");
     };
-    let mut text = Text::new();
+    let mut text = TextBuffer::new();
     text.put_first(first);
     write_whole(writer, text.as_slice())?;
     write_more(writer, more)
@@ -75,7 +75,7 @@ fn write_items<W: Write, T: ListItem>(writer: &mut Sink<W>, items: &[T]) -> Resu
 
 #[inline(never)]
 fn write_done<W: Write>(writer: &mut Sink<W>, number: u64) -> Result<(), RunError>
-    ensures { Writes writer.old writer.new (entry_text number outcomes.Done) result }
+    ensures { Writes writer.old writer.new (entry_text number Done) result }
 {
     write_whole(writer, done(number).as_slice())
 }
@@ -83,7 +83,7 @@ fn write_done<W: Write>(writer: &mut Sink<W>, number: u64) -> Result<(), RunErro
 #[inline(never)]
 fn write_shown<W: Write>(writer: &mut Sink<W>, number: u64, record: &Record) -> Result<(), RunError>
     ensures { Writes writer.old writer.new
-        (entry_text number (outcomes.Shown «record».now)) result }
+        (entry_text number (Shown «record».now)) result }
 {
     write_whole(writer, shown(number, record).as_slice())
 }
@@ -95,7 +95,7 @@ fn write_refused<W: Write>(
     refusal: Refusal,
 ) -> Result<(), RunError>
     ensures { Writes writer.old writer.new
-        (entry_text number (outcomes.Refused refusal)) result }
+        (entry_text number (Refused refusal)) result }
 {
     write_whole(writer, refused(number, refusal).as_slice())
 }

@@ -1,8 +1,7 @@
 //! What a line gives.
 use crate::fault::RequestFault;
-use crate::program::ProgramBytes;
 use acdm_milestones::{Milestone, Role};
-use acdm_slots::Kind;
+use acdm_slots::{Kind, ProgramBytes};
 use acdm_step::Command;
 use bpf_regstate::Length;
 use thiserror::Error;

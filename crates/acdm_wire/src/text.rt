@@ -14,11 +14,11 @@ pub const LONGEST_TEXT: usize = 346;
 /// A text on its way to a writer, so that it is one write: a reply, or a part of one. It takes no
 /// memory, and at most `LONGEST_TEXT` bytes.
 #[derive(Drop)]
-pub struct Text {
+pub struct TextBuffer {
     pub(crate) bytes: ArrayVec<u8, LONGEST_TEXT>,
 }
 
-impl Model for Text {
+impl Model for TextBuffer {
     ghost use Rattle.std.specs.Prelude.{ℕ, List};
 
     ghost Value = { List ℕ };
@@ -26,12 +26,12 @@ impl Model for Text {
     ghost view = { λ t. t.bytes.items };
 }
 
-impl Text {
+impl TextBuffer {
     /// No byte yet.
-    pub fn new() -> Text
+    pub fn new() -> TextBuffer
         ensures { result ≡ [] }
     {
-        Text {
+        TextBuffer {
             bytes: ArrayVec::new(),
         }
     }

@@ -18,7 +18,7 @@ use Rattle.bpf_decode.specs.declared.op.Part.{Part}
 use Rattle.bpf_decode.specs.declared.op.Part.TheVariants.{Low8, Low16, Low32}
 use Rattle.bpf_decode.specs.declared.op.Bytes.{Bytes}
 use Rattle.bpf_decode.specs.declared.op.Bytes.TheVariants.{Two, Four, Eight}
-use Rattle.bpf_decode.specs.declared.form.Source.TheVariants as source
+use Rattle.bpf_decode.specs.declared.form.OperandSource.TheVariants as source
 use Rattle.bpf_decode.specs.declared.form.Form.{Form}
 use Rattle.bpf_decode.specs.declared.form.Form.TheVariants.{Arith, Negate, End, Ja, Ja32, Jump}
 use Rattle.bpf_decode.specs.declared.form.Form.TheVariants.{Call, Exit, Load, LoadSigned, Store}

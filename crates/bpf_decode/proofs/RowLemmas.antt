@@ -23,8 +23,8 @@ use Rattle.bpf_decode.specs.declared.op.Part.TheVariants.{Low8, Low16, Low32}
 use Rattle.bpf_decode.specs.declared.op.Bytes.{Bytes}
 use Rattle.bpf_decode.specs.declared.op.Bytes.TheVariants.{Two}
 use Rattle.bpf_decode.specs.declared.op.ByteOrder.TheVariants.{Little, Big, Swap}
-use Rattle.bpf_decode.specs.declared.form.Source.{Source}
-use Rattle.bpf_decode.specs.declared.form.Source.TheVariants as source
+use Rattle.bpf_decode.specs.declared.form.OperandSource.{OperandSource}
+use Rattle.bpf_decode.specs.declared.form.OperandSource.TheVariants as source
 use Rattle.bpf_decode.specs.declared.form.Form.{Form}
 use Rattle.bpf_decode.specs.declared.form.Form.TheVariants.{Arith, Negate, End, Ja, Ja32, Jump}
 use Rattle.bpf_decode.specs.declared.form.Form.TheVariants.{Call, Exit, Load, LoadSigned, Store}
@@ -119,7 +119,7 @@ condition_of_number n =
     ∷ conditions.Below
     ∷ conditions.AtMost ∷ conditions.SignedBelow ∷ conditions.SignedAtMost ∷ []) n conditions.Equal
 
-abbrev source_of_number : ℕ → Source
+abbrev source_of_number : ℕ → OperandSource
 source_of_number n = cond (eqb n 0) source.Immediate source.Register
 
 -- the opcodes that stand alone
@@ -141,7 +141,7 @@ found [] n other = other
 found (e ∷ es) n other = cond (eqb n e.0) e.1 (found es n other)
 
 -- the form of a class
-abbrev in_class : ℕ → ℕ → Source → Form
+abbrev in_class : ℕ → ℕ → OperandSource → Form
 in_class n class s =
     cond (eqb class 4) (Arith W32 (code_of_number n) s)
     (cond (eqb class 7) (Arith W64 (code_of_number n) s)

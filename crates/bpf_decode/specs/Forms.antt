@@ -5,8 +5,8 @@ use Rattle.bpf_decode.specs.declared.op.Op.TheVariants as op
 use Rattle.bpf_decode.specs.declared.op.Operand.TheVariants.{From, Immediate}
 use Rattle.bpf_decode.specs.declared.op.Code.TheVariants as codes
 use Rattle.bpf_decode.specs.declared.op.Code.{Code}
-use Rattle.bpf_decode.specs.declared.form.Source.{Source}
-use Rattle.bpf_decode.specs.declared.form.Source.TheVariants as source
+use Rattle.bpf_decode.specs.declared.form.OperandSource.{OperandSource}
+use Rattle.bpf_decode.specs.declared.form.OperandSource.TheVariants as source
 use Rattle.bpf_decode.specs.declared.form.Form.{Form}
 use Rattle.bpf_decode.specs.declared.form.Form.TheVariants.{Arith, Negate, End, Ja, Ja32, Jump}
 use Rattle.bpf_decode.specs.declared.form.Form.TheVariants.{Call, Exit, Load, LoadSigned, Store}
@@ -14,7 +14,7 @@ use Rattle.bpf_decode.specs.declared.form.Form.TheVariants.{Wide}
 use Rattle.bpf_decode.specs.Encoding.{class_of, jump_class_of, number_of, sign_of, jump_number_of}
 use Rattle.bpf_decode.specs.Encoding.{size_number_of, part_number_of, order_opcode_of}
 
-abbrev pub source_number_of : Source → ℕ
+abbrev pub source_number_of : OperandSource → ℕ
 source_number_of source.Immediate = 0
 source_number_of source.Register = 1
 

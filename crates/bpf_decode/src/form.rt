@@ -12,7 +12,7 @@ use crate::op::{ByteOrder, Code, Condition, Part, Size, Width};
 
 /// Where the second operand comes from: bit 3 of the opcode.
 #[derive(Clone, Copy)]
-pub(crate) enum Source {
+pub(crate) enum OperandSource {
     Immediate,
     Register,
 }
@@ -20,17 +20,17 @@ pub(crate) enum Source {
 /// A row of the table of forms, as far as the opcode tells it.
 #[derive(Clone, Copy)]
 pub(crate) enum Form {
-    Arith(Width, Code, Source),
+    Arith(Width, Code, OperandSource),
     Negate(Width),
     End(ByteOrder),
     Ja,
     Ja32,
-    Jump(Width, Condition, Source),
+    Jump(Width, Condition, OperandSource),
     Call,
     Exit,
     Load(Size),
     LoadSigned(Part),
-    Store(Size, Source),
+    Store(Size, OperandSource),
     Wide,
 }
 
@@ -78,13 +78,13 @@ fn condition_at(number: u8) -> Option<Condition>
 }
 
 /// Bit 3 of an opcode.
-fn source_of(opcode: u8) -> Source
+fn source_of(opcode: u8) -> OperandSource
     ensures { opcode / 8 % 2 ≡ source_number_of result }
 {
     if opcode / 8 % 2 == 0 {
-        Source::Immediate
+        OperandSource::Immediate
     } else {
-        Source::Register
+        OperandSource::Register
     }
 }
 
@@ -136,14 +136,14 @@ fn memory_form(opcode: u8) -> Option<Form>
         0x81 => Some(Form::LoadSigned(Part::Low32)),
         0x89 => Some(Form::LoadSigned(Part::Low16)),
         0x91 => Some(Form::LoadSigned(Part::Low8)),
-        0x62 => Some(Form::Store(Size::Word, Source::Immediate)),
-        0x6a => Some(Form::Store(Size::Half, Source::Immediate)),
-        0x72 => Some(Form::Store(Size::Byte, Source::Immediate)),
-        0x7a => Some(Form::Store(Size::Double, Source::Immediate)),
-        0x63 => Some(Form::Store(Size::Word, Source::Register)),
-        0x6b => Some(Form::Store(Size::Half, Source::Register)),
-        0x73 => Some(Form::Store(Size::Byte, Source::Register)),
-        0x7b => Some(Form::Store(Size::Double, Source::Register)),
+        0x62 => Some(Form::Store(Size::Word, OperandSource::Immediate)),
+        0x6a => Some(Form::Store(Size::Half, OperandSource::Immediate)),
+        0x72 => Some(Form::Store(Size::Byte, OperandSource::Immediate)),
+        0x7a => Some(Form::Store(Size::Double, OperandSource::Immediate)),
+        0x63 => Some(Form::Store(Size::Word, OperandSource::Register)),
+        0x6b => Some(Form::Store(Size::Half, OperandSource::Register)),
+        0x73 => Some(Form::Store(Size::Byte, OperandSource::Register)),
+        0x7b => Some(Form::Store(Size::Double, OperandSource::Register)),
         _ => None,
     }
 }

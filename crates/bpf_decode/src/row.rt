@@ -7,7 +7,7 @@ ghost use Rattle.bpf_decode.specs.Rows.{SlotGives, SignGives, RegisterGives, Reg
 ghost use Rattle.bpf_decode.specs.Rows.{PartGives, BytesGive};
 
 use crate::fault::EncodingFault;
-use crate::form::{Form, Source, form_at};
+use crate::form::{Form, OperandSource, form_at};
 use crate::insn::Insn;
 use crate::op::{ByteOrder, Bytes, Code, Condition, Op, Operand, Part, Register, Size, Width};
 
@@ -19,20 +19,24 @@ pub(crate) fn op_of(insn: Insn) -> Result<Op, EncodingFault>
         return Err(EncodingFault::Opcode);
     };
     match form {
-        Form::Arith(width, code, Source::Immediate) => arith_immediate(width, code, insn),
-        Form::Arith(width, code, Source::Register) => arith_register(width, code, insn),
+        Form::Arith(width, code, OperandSource::Immediate) => arith_immediate(width, code, insn),
+        Form::Arith(width, code, OperandSource::Register) => arith_register(width, code, insn),
         Form::Negate(width) => negate(width, insn),
         Form::End(order) => end(order, insn),
         Form::Ja => ja(insn),
         Form::Ja32 => ja32(insn),
-        Form::Jump(width, condition, Source::Immediate) => jump_immediate(width, condition, insn),
-        Form::Jump(width, condition, Source::Register) => jump_register(width, condition, insn),
+        Form::Jump(width, condition, OperandSource::Immediate) => jump_immediate(
+            width, condition, insn,
+        ),
+        Form::Jump(width, condition, OperandSource::Register) => jump_register(
+            width, condition, insn,
+        ),
         Form::Call => call(insn),
         Form::Exit => exit(insn),
         Form::Load(size) => load(size, insn),
         Form::LoadSigned(part) => load_signed(part, insn),
-        Form::Store(size, Source::Immediate) => store_immediate(size, insn),
-        Form::Store(size, Source::Register) => store_register(size, insn),
+        Form::Store(size, OperandSource::Immediate) => store_immediate(size, insn),
+        Form::Store(size, OperandSource::Register) => store_register(size, insn),
         Form::Wide => wide(insn),
     }
 }
@@ -94,7 +98,7 @@ fn bytes_at(bits: i32) -> Option<Bytes>
 }
 
 fn arith_immediate(width: Width, code: Code, insn: Insn) -> Result<Op, EncodingFault>
-    requires { HasOpcode (Some (Form.Arith width code Source.Immediate)) insn.opc }
+    requires { HasOpcode (Some (Form.Arith width code OperandSource.Immediate)) insn.opc }
     ensures { SlotGives result insn }
 {
     let Some(code) = with_sign(code, insn.off) else {
@@ -113,7 +117,7 @@ fn arith_immediate(width: Width, code: Code, insn: Insn) -> Result<Op, EncodingF
 }
 
 fn arith_register(width: Width, code: Code, insn: Insn) -> Result<Op, EncodingFault>
-    requires { HasOpcode (Some (Form.Arith width code Source.Register)) insn.opc }
+    requires { HasOpcode (Some (Form.Arith width code OperandSource.Register)) insn.opc }
     ensures { SlotGives result insn }
 {
     if insn.imm != 0 {
@@ -135,7 +139,7 @@ fn arith_register(width: Width, code: Code, insn: Insn) -> Result<Op, EncodingFa
 }
 
 fn extend(width: Width, insn: Insn) -> Result<Op, EncodingFault>
-    requires opcode { HasOpcode (Some (Form.Arith width Code.Mov Source.Register)) insn.opc }
+    requires opcode { HasOpcode (Some (Form.Arith width Code.Mov OperandSource.Register)) insn.opc }
     requires offset { insn.off ≢ pos 0 }
     requires immediate { insn.imm ≡ pos 0 }
     ensures { SlotGives result insn }
@@ -198,7 +202,7 @@ fn ja32(insn: Insn) -> Result<Op, EncodingFault>
 }
 
 fn jump_immediate(width: Width, condition: Condition, insn: Insn) -> Result<Op, EncodingFault>
-    requires { HasOpcode (Some (Form.Jump width condition Source.Immediate)) insn.opc }
+    requires { HasOpcode (Some (Form.Jump width condition OperandSource.Immediate)) insn.opc }
     ensures { SlotGives result insn }
 {
     if insn.src != 0 {
@@ -215,7 +219,7 @@ fn jump_immediate(width: Width, condition: Condition, insn: Insn) -> Result<Op, 
 }
 
 fn jump_register(width: Width, condition: Condition, insn: Insn) -> Result<Op, EncodingFault>
-    requires { HasOpcode (Some (Form.Jump width condition Source.Register)) insn.opc }
+    requires { HasOpcode (Some (Form.Jump width condition OperandSource.Register)) insn.opc }
     ensures { SlotGives result insn }
 {
     if insn.imm != 0 {
@@ -286,7 +290,7 @@ fn load_signed(part: Part, insn: Insn) -> Result<Op, EncodingFault>
 }
 
 fn store_immediate(size: Size, insn: Insn) -> Result<Op, EncodingFault>
-    requires { HasOpcode (Some (Form.Store size Source.Immediate)) insn.opc }
+    requires { HasOpcode (Some (Form.Store size OperandSource.Immediate)) insn.opc }
     ensures { SlotGives result insn }
 {
     if insn.src != 0 {
@@ -302,7 +306,7 @@ fn store_immediate(size: Size, insn: Insn) -> Result<Op, EncodingFault>
 }
 
 fn store_register(size: Size, insn: Insn) -> Result<Op, EncodingFault>
-    requires { HasOpcode (Some (Form.Store size Source.Register)) insn.opc }
+    requires { HasOpcode (Some (Form.Store size OperandSource.Register)) insn.opc }
     ensures { SlotGives result insn }
 {
     if insn.imm != 0 {

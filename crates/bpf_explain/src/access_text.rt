@@ -2,12 +2,14 @@
 
 ghost use Rattle.std.specs.Prelude.{◌≤◌, IfSome};
 
-use crate::range_text::{Bound, Reached, Signed, Span, Words};
+use crate::range_text::{Bound, RangeWords, Reached, Signed, Span};
 use crate::state_text::{run_of, write_stored};
 use bpf_decode::{Op, Register};
 use bpf_helpers::Range;
 use bpf_regstate::{Length, Reg, State, place_of_access};
-use bpf_semantics::{Place, RECORD_BASE, STACK_BASE, STACK_LENGTH, byte_count, part_byte_count};
+use bpf_semantics::{
+    MemoryPlace, RECORD_BASE, STACK_BASE, STACK_LENGTH, byte_count, part_byte_count,
+};
 use bpf_verifier::SlotFault;
 use std::fmt;
 use std::io::{self, Write};
@@ -60,12 +62,12 @@ fn access_of(op: &Op) -> Option<Access>
 
 /// Where an address is wanted.
 #[derive(Clone, Copy)]
-struct Wanted {
+struct WantedSpans {
     record: Option<Span>,
     stack: Span,
 }
 
-impl fmt::Display for Wanted {
+impl fmt::Display for WantedSpans {
     fn fmt<W: fmt::Write>(&self, f: &mut fmt::Formatter<W>) -> fmt::Result {
         let stack = self.stack;
         match self.record {
@@ -77,7 +79,7 @@ impl fmt::Display for Wanted {
 
 /// Where a word is wanted that reaches so many bytes with this offset, beside a record of this
 /// length.
-fn wanted_at(length: Length, in_record: bool, offset: i16, count: usize) -> Wanted
+fn wanted_at(length: Length, in_record: bool, offset: i16, count: usize) -> WantedSpans
     requires { count ≤ 8 }
 {
     let offset = offset as i64;
@@ -90,7 +92,7 @@ fn wanted_at(length: Length, in_record: bool, offset: i16, count: usize) -> Want
         first: Bound::Stack(-(STACK_LENGTH as i64) - offset),
         last: Bound::Stack(-count - offset),
     };
-    Wanted {
+    WantedSpans {
         record: if in_record { Some(record) } else { None },
         stack,
     }
@@ -149,7 +151,7 @@ pub(crate) fn write_address<W: Write>(
     if offset == 0 {
         return Ok(());
     }
-    let known = Words(range);
+    let known = RangeWords(range);
     let there = wanted_at(length, in_record, offset, count);
     writeln!(writer, "    {base}: known {known}, wanted {there}")
 }
@@ -175,7 +177,7 @@ pub(crate) fn write_bytes<W: Write>(
         return Ok(());
     };
     let place = place_of_access(length.bytes(), range, offset as i32, count);
-    let Place::Stack(first) = place else {
+    let MemoryPlace::Stack(first) = place else {
         return Ok(());
     };
     let end = first + (range.hi - range.lo) as usize + count;

@@ -6,7 +6,7 @@ use std::io::{self, Write};
 
 /// A file of another kind than the bytes of a program.
 #[derive(Clone, Copy)]
-enum Kind {
+enum FileKind {
     /// As a compiler writes it. Its first bytes (System V ABI, ELF header) are no instruction.
     Object,
     /// Words of digits, each with or without 0x before it.
@@ -25,19 +25,19 @@ fn is_hexadecimal(word: &str) -> bool {
 
 /// The kind of a file of which the bytes encode no program. No text of ASCII has the byte of an
 /// exit.
-fn kind_of(bytes: &[u8]) -> Option<Kind> {
+fn kind_of(bytes: &[u8]) -> Option<FileKind> {
     if let [0x7f, b'E', b'L', b'F', ..] = bytes {
-        return Some(Kind::Object);
+        return Some(FileKind::Object);
     }
     if !bytes.is_ascii() {
         return None;
     }
     let text = str::from_utf8(bytes).ok()?;
     if text.contains("\"program\"") {
-        return Some(Kind::Line);
+        return Some(FileKind::Line);
     }
     if !text.trim().is_empty() && text.split_whitespace().all(is_hexadecimal) {
-        return Some(Kind::Hexadecimal);
+        return Some(FileKind::Hexadecimal);
     }
     None
 }
@@ -52,15 +52,15 @@ pub(crate) fn write_unreadable<W: Write>(
     let code = fault.code();
     writeln!(writer, "fault {code} at slot {slot}: {fault}")?;
     match kind_of(bytes) {
-        Some(Kind::Object) => writeln!(
+        Some(FileKind::Object) => writeln!(
             writer,
             "    file: known an object file (ELF), wanted one section (llvm-objcopy -O binary)"
         )?,
-        Some(Kind::Hexadecimal) => writeln!(
+        Some(FileKind::Hexadecimal) => writeln!(
             writer,
             "    file: known hexadecimal text, wanted the bytes that it tells (xxd -r -p)"
         )?,
-        Some(Kind::Line) => writeln!(
+        Some(FileKind::Line) => writeln!(
             writer,
             "    file: known a line that loads a program, wanted the bytes that its program tells (xxd -r -p)"
         )?,

@@ -1,7 +1,7 @@
 //! The first fault of a program, as text: what is known there, and what is wanted.
 
 use crate::access_text::{write_address, write_bytes};
-use crate::range_text::Words;
+use crate::range_text::RangeWords;
 use crate::ways::{Ways, is_unset, target_of};
 use bpf_decode::{Code, Op, Operand, Program, Register};
 use bpf_helpers::{Range, Sigs};
@@ -138,7 +138,7 @@ fn write_argument<'a, W: Write>(
                 writer,
                 "    argument {number} of helper {helper}, {register}: "
             )?;
-            let wanted = Words(*wanted);
+            let wanted = RangeWords(*wanted);
             return match known {
                 Reg::Known(range) => write_ranges(range, wanted, writer),
                 Reg::Uninit => {
@@ -152,8 +152,8 @@ fn write_argument<'a, W: Write>(
 }
 
 /// Writes what is known of an argument, and what is wanted.
-fn write_ranges<W: Write>(known: Range, wanted: Words, writer: &mut W) -> io::Result<()> {
-    let known = Words(known);
+fn write_ranges<W: Write>(known: Range, wanted: RangeWords, writer: &mut W) -> io::Result<()> {
+    let known = RangeWords(known);
     writeln!(writer, "known {known}, wanted {wanted}")
 }
 

@@ -190,9 +190,9 @@ impl fmt::Display for Minute {
 /// The words of a range. Where all of them are minutes of the years 2000 to 2099, they are also
 /// told as times.
 #[derive(Clone, Copy)]
-pub(crate) struct Words(pub Range);
+pub(crate) struct RangeWords(pub Range);
 
-impl fmt::Display for Words {
+impl fmt::Display for RangeWords {
     fn fmt<W: fmt::Write>(&self, f: &mut fmt::Formatter<W>) -> fmt::Result {
         let range = self.0;
         if is_full(range) {

@@ -45,7 +45,7 @@ impl Among {
 /// What an opcode that programs may have asks of the other fields. A register that it does not have
 /// is 0.
 #[derive(Clone, Copy)]
-struct Form {
+struct OpcodeFields {
     name: &'static str,
     has_destination: bool,
     has_source: bool,
@@ -53,7 +53,7 @@ struct Form {
     immediates: Among,
 }
 
-fn form_of(opcode: u8) -> Form {
+fn fields_of(opcode: u8) -> OpcodeFields {
     let second = opcode / 8 % 2 == 1;
     let rest = if second { Among::Zero } else { Among::Any };
     let (name, has_destination, has_source, offsets, immediates) = match opcode {
@@ -83,7 +83,7 @@ fn form_of(opcode: u8) -> Form {
             _ => ("arithmetic", true, second, Among::Zero, rest),
         },
     };
-    Form {
+    OpcodeFields {
         name,
         has_destination,
         has_source,
@@ -94,18 +94,18 @@ fn form_of(opcode: u8) -> Form {
 
 /// What a slot has in a field.
 #[derive(Clone, Copy)]
-enum Known {
+enum FieldValue {
     Number(i32),
     Opcode(u8),
     Nothing,
 }
 
-impl fmt::Display for Known {
+impl fmt::Display for FieldValue {
     fn fmt<W: fmt::Write>(&self, f: &mut fmt::Formatter<W>) -> fmt::Result {
         match *self {
-            Known::Number(number) => write!(f, "{number}"),
-            Known::Opcode(opcode) => write!(f, "{opcode:02x}"),
-            Known::Nothing => write!(f, "none"),
+            FieldValue::Number(number) => write!(f, "{number}"),
+            FieldValue::Opcode(opcode) => write!(f, "{opcode:02x}"),
+            FieldValue::Nothing => write!(f, "none"),
         }
     }
 }
@@ -114,7 +114,7 @@ impl fmt::Display for Known {
 #[derive(Clone, Copy)]
 struct Misfit {
     field: &'static str,
-    known: Known,
+    known: FieldValue,
     wanted: &'static str,
 }
 
@@ -122,23 +122,23 @@ struct Misfit {
 fn misfit_in(field: &'static str, number: i32, among: Among) -> Misfit {
     Misfit {
         field,
-        known: Known::Number(number),
+        known: FieldValue::Number(number),
         wanted: among.text(),
     }
 }
 
 /// The first field that its opcode does not allow, where one is.
 fn field_at_fault(insn: Insn) -> Misfit {
-    let form = form_of(insn.opc);
+    let fields = fields_of(insn.opc);
     let offset = insn.off as i32;
-    if !form.has_source && insn.src != 0 {
+    if !fields.has_source && insn.src != 0 {
         misfit_in("source", insn.src as i32, Among::Zero)
-    } else if !form.has_destination && insn.dst != 0 {
+    } else if !fields.has_destination && insn.dst != 0 {
         misfit_in("destination", insn.dst as i32, Among::Zero)
-    } else if !form.offsets.has(offset) {
-        misfit_in("offset", offset, form.offsets)
+    } else if !fields.offsets.has(offset) {
+        misfit_in("offset", offset, fields.offsets)
     } else {
-        misfit_in("immediate", insn.imm, form.immediates)
+        misfit_in("immediate", insn.imm, fields.immediates)
     }
 }
 
@@ -147,7 +147,7 @@ fn tail_at_fault(insn: Insn) -> Misfit {
     if insn.opc != 0 {
         Misfit {
             field: "opcode",
-            known: Known::Opcode(insn.opc),
+            known: FieldValue::Opcode(insn.opc),
             wanted: "00",
         }
     } else if insn.dst != 0 {
@@ -186,7 +186,7 @@ fn name_of(insn: Insn) -> &'static str {
         (0x85, 2, _) => "a call of a function of the kernel",
         (0x18, 1..=6, _) => "the address of a map, a variable or a function",
         (0xbf, _, 1) => "a move between address spaces",
-        _ => form_of(insn.opc).name,
+        _ => fields_of(insn.opc).name,
     }
 }
 
@@ -205,7 +205,7 @@ fn at_fault(fault: EncodingFault, insn: Insn, is_tail: bool) -> Option<(&'static
         EncodingFault::Opcode => {
             let misfit = Misfit {
                 field: "opcode",
-                known: Known::Opcode(insn.opc),
+                known: FieldValue::Opcode(insn.opc),
                 wanted: "one that programs may have",
             };
             (foreign(insn.opc), misfit)
@@ -216,7 +216,7 @@ fn at_fault(fault: EncodingFault, insn: Insn, is_tail: bool) -> Option<(&'static
         EncodingFault::CutWide => {
             let misfit = Misfit {
                 field: "second slot",
-                known: Known::Nothing,
+                known: FieldValue::Nothing,
                 wanted: "one behind it",
             };
             (name_of(insn), misfit)

@@ -1,6 +1,6 @@
 //! What is known before a slot, as text.
 
-use crate::range_text::{Bound, Span, Words, in_stack};
+use crate::range_text::{Bound, RangeWords, Span, in_stack};
 use bpf_decode::{Op, Register};
 use bpf_regstate::{Reg, State};
 use bpf_semantics::STACK_LENGTH;
@@ -33,7 +33,7 @@ fn write_registers<W: Write>(state: &State, writer: &mut W) -> io::Result<()> {
     for number in 0..11u8 {
         let register = Register::new(number);
         if let Reg::Known(range) = state.register(register) {
-            let words = Words(range);
+            let words = RangeWords(range);
             write!(writer, "{before}{register} = {words}")?;
             before = ", ";
         }
@@ -87,7 +87,7 @@ fn write_kept<W: Write>(state: &State, writer: &mut W) -> io::Result<()> {
     for word in 0..64usize {
         if let Reg::Known(range) = state.word(word) {
             let place = Bound::Stack(-8 * (word as i64 + 1));
-            let words = Words(range);
+            let words = RangeWords(range);
             write!(writer, "{before}{place} = {words}")?;
             before = ", ";
             any = true;

@@ -6,7 +6,7 @@ use crate::signature::Signature;
 
 /// The code of a helper. It gets r1 to r5 of the caller, those beyond the signature as 0, and gives
 /// what r0 becomes (RFC 9669, section 4.3.1).
-pub type Code = Box<dyn Fn(u64, u64, u64, u64, u64) -> u64 + Send>;
+pub type HelperCode = Box<dyn Fn(u64, u64, u64, u64, u64) -> u64 + Send>;
 
 /// A number, by which programs call the helper, a signature, and code that keeps it: the code may
 /// be called on all arguments of the signature, and answers as the signature promises. Contracts
@@ -15,9 +15,9 @@ pub type Code = Box<dyn Fn(u64, u64, u64, u64, u64) -> u64 + Send>;
 pub struct Helper {
     number: u32,
     signature: Signature,
-    code: Code,
-    ghost callable: { IsCallable signature (Code.pre code) },
-    ghost promised: { KeepsPromise signature (Code.post code) },
+    code: HelperCode,
+    ghost callable: { IsCallable signature (HelperCode.pre code) },
+    ghost promised: { KeepsPromise signature (HelperCode.post code) },
 }
 
 impl Helper {
@@ -27,9 +27,9 @@ impl Helper {
     ghost use Rattle.bpf_helpers.specs.Promise.{is_call, is_promised};
 
     /// The helper of this number, with code that keeps the signature.
-    pub fn new(number: u32, signature: Signature, code: Code) -> Helper
-        requires callable { IsCallable signature (Code.pre code) }
-        requires promised { KeepsPromise signature (Code.post code) }
+    pub fn new(number: u32, signature: Signature, code: HelperCode) -> Helper
+        requires callable { IsCallable signature (HelperCode.pre code) }
+        requires promised { KeepsPromise signature (HelperCode.post code) }
         ensures { entry_of result ≡ (number, signature) }
     {
         Helper {
@@ -59,7 +59,7 @@ impl Helper {
         ensures promised { IsTrue (is_promised (entry_of self.now).1 arguments result) }
         // It is one that the helper's own code gives.
         ensures own { (a b c d e : ℕ) → arguments ≡ a ∷ b ∷ c ∷ d ∷ e ∷ []
-            → Code.post (code_of self.now) a b c d e result }
+            → HelperCode.post (code_of self.now) a b c d e result }
     {
         let [a, b, c, d, e] = arguments;
         self.answer_to(a, b, c, d, e)
@@ -69,7 +69,7 @@ impl Helper {
         requires { IsTrue (is_call (entry_of self.now).1 (a ∷ b ∷ c ∷ d ∷ e ∷ [])) }
         ensures promised { IsTrue (is_promised (entry_of self.now).1 (a ∷ b ∷ c ∷ d ∷ e ∷ [])
             result) }
-        ensures own { Code.post (code_of self.now) a b c d e result }
+        ensures own { HelperCode.post (code_of self.now) a b c d e result }
     {
         (self.code)(a, b, c, d, e)
     }

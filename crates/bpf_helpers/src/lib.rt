@@ -12,7 +12,7 @@ mod signature;
 mod sigs;
 
 pub use bank::{Bank, BankFault, MAX_HELPERS, NotAdded};
-pub use helper::{Code, Helper};
+pub use helper::{Helper, HelperCode};
 pub use helpers::Helpers;
 pub use live::Live;
 pub use logged::Logged;
@@ -20,7 +20,6 @@ pub use oracle::Oracle;
 pub use range::Range;
 pub use signature::{MAX_ARGUMENTS, Signature};
 pub use sigs::Sigs;
-use std::alloc::AllocError;
 
 /// There is no memory for what a call would keep.
-pub type NoMemory = AllocError;
+pub use std::alloc::AllocError as NoMemory;

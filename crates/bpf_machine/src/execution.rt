@@ -1,7 +1,7 @@
 //! An accepted program with the answers of helpers.
 
 ghost use Rattle.std.specs.Prelude.{◌≡◌, IfOk, length};
-ghost use Rattle.acdm_milestones.specs.Tables.{number as number_of};
+ghost use Rattle.acdm_milestones.specs.Tables.{number};
 ghost use Rattle.bpf_regstate.specs.Lengths.{bytes_in};
 ghost use Rattle.bpf_machine.specs.Outcome.{EndsWithin};
 
@@ -24,7 +24,7 @@ pub(crate) fn execute<H: Helpers>(
     requires sigs { H.entries helpers.now ≡ checked.now.sigs }
     requires long { length record_bytes.now ≡ bytes_in checked.now.record_length }
     ensures { IfOk result (EndsWithin checked.now.ops checked.now.sigs record_bytes.now moment
-        (number_of milestone)) }
+        (number milestone)) }
 {
     let room = checked.program().slot_count() as u64;
     let mut live = Live::new(alloc, helpers, room)?;

@@ -5,7 +5,7 @@ ghost use Rattle.bpf_decode.specs.declared.program.TheConstants.{MOST_SLOTS};
 ghost use Rattle.bpf_run.specs.Ends.{EndsOver};
 ghost use Rattle.bpf_machine.specs.Outcome.{TrapsOver, is_refused};
 ghost use Rattle.bpf_helpers.specs.Oracles.{Counts, MayBeAsked, SameRule};
-ghost use Rattle.acdm_milestones.specs.Tables.{number as number_of};
+ghost use Rattle.acdm_milestones.specs.Tables.{number};
 
 use crate::outcome::Trap;
 use crate::state::{MachineState, Step};
@@ -67,9 +67,9 @@ pub fn run_tested<O: Oracle>(
 
     // The answers meant are those that the oracle gave in the call, by which its log has grown.
     ensures ended { IfOk result (EndsOver program.now sigs.now record_bytes.now moment
-        (number_of milestone) (O.view oracle.old) (O.view oracle.new)) }
+        (number milestone) (O.view oracle.old) (O.view oracle.new)) }
     ensures trapped { IfErr result
-        (TrapsOver program.now sigs.now record_bytes.now moment (number_of milestone)
+        (TrapsOver program.now sigs.now record_bytes.now moment (number milestone)
         (O.view oracle.old) (O.view oracle.new)) }
 
     // The oracle gave no answer once where the run was left without one, and never where it was

@@ -39,7 +39,7 @@ impl EbpfVmRaw {
     ghost use Rattle.bpf_decode.specs.declared.op.Op.{Op};
     ghost use Rattle.bpf_helpers.specs.Helpers.{entry_of};
     ghost use Rattle.bpf_machine.specs.Registry.{HasRoom, IsFree, IsFull, IsTaken};
-    ghost use Rattle.acdm_milestones.specs.Tables.{number as number_of};
+    ghost use Rattle.acdm_milestones.specs.Tables.{number};
     ghost use Rattle.bpf_machine.specs.Refusals.{IsGood, RefusesBytes, RefusesRun, RunsBeside};
     ghost use Rattle.bpf_machine.specs.Refusals.{set_code};
     ghost use Rattle.bpf_machine.specs.Outcome.{EndsSet};
@@ -159,7 +159,7 @@ impl EbpfVmRaw {
         milestone: Milestone,
     ) -> Result<Ended, ExecuteError>
         ensures ended { IfOk result (EndsSet (program_of self.old) (helpers_of self.old)
-            record_bytes.now moment (number_of milestone)) }
+            record_bytes.now moment (number milestone)) }
         ensures long { OnOk result
             (RunsBeside (record_length_of self.old) (length record_bytes.now)) }
         ensures refused { IfErr result

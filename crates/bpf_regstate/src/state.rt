@@ -19,7 +19,7 @@ use crate::single::{extend_words, negate_words, order_words, single};
 use crate::words::{forget, is_word, join_kept, keep, word_at};
 use bpf_decode::{Condition, Op, Operand, Register, Size, Width};
 use bpf_helpers::{Range, Sigs};
-use bpf_semantics::{Place, RECORD_BASE, STACK_BASE, STACK_LENGTH, byte_count};
+use bpf_semantics::{MemoryPlace, RECORD_BASE, STACK_BASE, STACK_LENGTH, byte_count};
 use std::alloc::{AllocError, Global};
 use std::marker::Model;
 
@@ -264,7 +264,7 @@ impl State {
           words = store_words record_length self.old.words address offset count value;
         }) }
     {
-        if let Place::Stack(at) = place_of_access(record_length, address, offset, count) {
+        if let MemoryPlace::Stack(at) = place_of_access(record_length, address, offset, count) {
             self.put_word(address, at, count, value)?;
             self.mark(address, at, count);
         }
@@ -280,7 +280,7 @@ impl State {
         ensures range { IsRange result }
     {
         let count = byte_count(size);
-        if let Place::Stack(at) = place_of_access(record_length, address, offset, count) {
+        if let MemoryPlace::Stack(at) = place_of_access(record_length, address, offset, count) {
             if is_word(address, at, count) {
                 return range_of(self.word(word_at(at)));
             }

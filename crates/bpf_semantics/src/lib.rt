@@ -8,6 +8,6 @@ mod place;
 mod size;
 mod words;
 
-pub use place::{Place, RECORD_BASE, STACK_BASE, STACK_LENGTH, place_at};
+pub use place::{MemoryPlace, RECORD_BASE, STACK_BASE, STACK_LENGTH, place_at};
 pub use size::{byte_count, part_byte_count};
 pub use words::{compare, extend, negate, operate, order_bytes};

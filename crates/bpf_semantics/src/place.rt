@@ -15,7 +15,7 @@ pub const STACK_LENGTH: usize = 512;
 
 /// Where some bytes lie.
 #[derive(Clone, Copy, PartialEq, Eq, Debug)]
-pub enum Place {
+pub enum MemoryPlace {
     /// In the record, from this byte on.
     Record(usize),
     /// In the stack, from this byte on.
@@ -26,7 +26,7 @@ pub enum Place {
 
 /// Where so many bytes lie from a word plus an offset on, which are added as whole numbers, beside
 /// a record of `record_length` bytes.
-pub fn place_at(record_length: usize, base: u64, offset: i32, count: usize) -> Place
+pub fn place_at(record_length: usize, base: u64, offset: i32, count: usize) -> MemoryPlace
     requires short { record_length < 2 ^ 16 }
     requires few { count < 2 ^ 32 }
     ensures { PlaceIs result record_length count
@@ -34,12 +34,12 @@ pub fn place_at(record_length: usize, base: u64, offset: i32, count: usize) -> P
 {
     match base.checked_add_signed(offset as i64) {
         Some(address) => region(record_length, address, count),
-        None => Place::Nowhere,
+        None => MemoryPlace::Nowhere,
     }
 }
 
 /// Where so many bytes from an address on lie.
-fn region(record_length: usize, address: u64, count: usize) -> Place
+fn region(record_length: usize, address: u64, count: usize) -> MemoryPlace
     requires short { record_length < 2 ^ 16 }
     requires few { count < 2 ^ 32 }
     ensures { PlaceIs result record_length count (place_of record_length (pos address) count) }
@@ -48,13 +48,13 @@ fn region(record_length: usize, address: u64, count: usize) -> Place
     let record = RECORD_BASE as usize;
     let stack = STACK_BASE as usize;
     if address < record || address > stack + STACK_LENGTH {
-        return Place::Nowhere;
+        return MemoryPlace::Nowhere;
     }
     if address + count <= record + record_length {
-        return Place::Record(address - record);
+        return MemoryPlace::Record(address - record);
     }
     if stack <= address && address + count <= stack + STACK_LENGTH {
-        return Place::Stack(address - stack);
+        return MemoryPlace::Stack(address - stack);
     }
-    Place::Nowhere
+    MemoryPlace::Nowhere
 }

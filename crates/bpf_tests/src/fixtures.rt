@@ -3,7 +3,7 @@
 ghost use Rattle.std.specs.Prelude.{◌≡◌, ◌+◌, ◌<◌, ◌^◌};
 ghost use Rattle.bpf_helpers.specs.Known.{sum, taxi, taxi_from, turn_round, turn_round_of};
 
-use bpf_helpers::{Bank, Code, Helper, Range, Signature, Sigs};
+use bpf_helpers::{Bank, Helper, HelperCode, Range, Signature, Sigs};
 use std::alloc::Global;
 use std::process::Abort;
 
@@ -85,7 +85,7 @@ pub(crate) fn minutes_later(moment: u64, minutes: u64, _c: u64, _d: u64, _e: u64
 
 /// Helper 2.
 pub(crate) fn taxi_helper(rt: &impl Abort, alloc: Global) -> Helper {
-    let code: Code = Box::new(alloc, taxi_minutes).expect(rt, "code");
+    let code: HelperCode = Box::new(alloc, taxi_minutes).expect(rt, "code");
     Helper::new(2, taxi_signature(rt, alloc), code)
 }
 

@@ -7,7 +7,9 @@ ghost use Rattle.bpf_helpers.specs.Known.{taxi_from, turn_round_of};
 use crate::fixtures::{
     A320, A388, B738, no_sigs, range, sum_signature, taxi_signature, turn_round_signature,
 };
-use bpf_helpers::{Bank, Code, Helper, Helpers, Live, Logged, Oracle, Range, Signature, Sigs};
+use bpf_helpers::{
+    Bank, Helper, HelperCode, Helpers, Live, Logged, Oracle, Range, Signature, Sigs,
+};
 use std::alloc::Global;
 use std::process::Abort;
 
@@ -38,7 +40,7 @@ fn answered<H: Helpers>(
 #[test]
 fn turn_round_is_called(rt: HostRuntime) {
     let alloc = rt.alloc();
-    let code: Code = Box::new(
+    let code: HelperCode = Box::new(
         alloc,
         |kind: u64, _b: u64, _c: u64, _d: u64, _e: u64| -> u64
             ensures { result ≡ turn_round_of kind }
@@ -62,7 +64,7 @@ fn turn_round_is_called(rt: HostRuntime) {
 #[test]
 fn taxi_is_called(rt: HostRuntime) {
     let alloc = rt.alloc();
-    let code: Code = Box::new(
+    let code: HelperCode = Box::new(
         alloc,
         |stand: u64, _b: u64, _c: u64, _d: u64, _e: u64| -> u64
             ensures { result ≡ taxi_from stand }
@@ -88,7 +90,7 @@ fn taxi_is_called(rt: HostRuntime) {
 #[test]
 fn sum_is_called_while_there_is_room(rt: HostRuntime) {
     let alloc = rt.alloc();
-    let code: Code = Box::new(
+    let code: HelperCode = Box::new(
         alloc,
         |a: u64, b: u64, _c: u64, _d: u64, _e: u64| -> u64
             requires { a + b < 2 ^ 64 }
@@ -186,7 +188,7 @@ fn faulty_signatures_are_refused(rt: HostRuntime) {
 /// A helper of this number that answers 0.
 fn nought(rt: &impl Abort, alloc: Global, number: u32) -> Helper {
     let none = Signature::new(Vec::new(alloc), range(0, 0), Vec::new(alloc));
-    let code: Code = Box::new(
+    let code: HelperCode = Box::new(
         alloc,
         |_a: u64, _b: u64, _c: u64, _d: u64, _e: u64| -> u64
             ensures { result ≡ 0 }

@@ -4,42 +4,42 @@
 use crate::programs::same_count;
 use bpf_decode::{Part, Size};
 use bpf_semantics::{
-    Place, RECORD_BASE, STACK_BASE, STACK_LENGTH, byte_count, part_byte_count, place_at,
+    MemoryPlace, RECORD_BASE, STACK_BASE, STACK_LENGTH, byte_count, part_byte_count, place_at,
 };
 use std::process::Abort;
 
 /// So many bytes at an address and an offset lie at this place, where the record has this length.
-fn lies(rt: &impl Abort, length: u16, base: u64, offset: i32, count: u32, place: Place) {
+fn lies(rt: &impl Abort, length: u16, base: u64, offset: i32, count: u32, place: MemoryPlace) {
     let came = place_at(length as usize, base, offset, count as usize);
     assert!(rt; came == place, "{base} {offset} {count}");
 }
 
 /// Addresses, offsets and counts of bytes, and their places beside a record of 128 bytes.
-static PLACES: [(u64, i32, u32, Place); 23] = [
-    (0x1_0000_0000, 0, 1, Place::Record(0)),
-    (0x1_0000_0000, -1, 1, Place::Nowhere),
-    (0x1_0000_0000, 127, 1, Place::Record(127)),
-    (0x1_0000_0000, 127, 2, Place::Nowhere),
-    (0x1_0000_0000, 126, 2, Place::Record(126)),
-    (0x1_0000_0000, 125, 4, Place::Nowhere),
-    (0x1_0000_0000, 124, 4, Place::Record(124)),
-    (0x1_0000_0000, 121, 8, Place::Nowhere),
-    (0x1_0000_0000, 120, 8, Place::Record(120)),
-    (0x1_0000_0000, 0, 128, Place::Record(0)),
-    (0x1_0000_0000, 0, 129, Place::Nowhere),
-    (0x2_0000_0200, -512, 1, Place::Stack(0)),
-    (0x2_0000_0200, -513, 8, Place::Nowhere),
-    (0x2_0000_0200, -512, 8, Place::Stack(0)),
-    (0x2_0000_0200, -8, 8, Place::Stack(504)),
-    (0x2_0000_0200, -7, 8, Place::Nowhere),
-    (0x2_0000_0200, -1, 1, Place::Stack(511)),
-    (0x2_0000_0200, 0, 1, Place::Nowhere),
-    (0x2_0000_0000, 0, 512, Place::Stack(0)),
-    (0x2_0000_0000, 0, 513, Place::Nowhere),
+static PLACES: [(u64, i32, u32, MemoryPlace); 23] = [
+    (0x1_0000_0000, 0, 1, MemoryPlace::Record(0)),
+    (0x1_0000_0000, -1, 1, MemoryPlace::Nowhere),
+    (0x1_0000_0000, 127, 1, MemoryPlace::Record(127)),
+    (0x1_0000_0000, 127, 2, MemoryPlace::Nowhere),
+    (0x1_0000_0000, 126, 2, MemoryPlace::Record(126)),
+    (0x1_0000_0000, 125, 4, MemoryPlace::Nowhere),
+    (0x1_0000_0000, 124, 4, MemoryPlace::Record(124)),
+    (0x1_0000_0000, 121, 8, MemoryPlace::Nowhere),
+    (0x1_0000_0000, 120, 8, MemoryPlace::Record(120)),
+    (0x1_0000_0000, 0, 128, MemoryPlace::Record(0)),
+    (0x1_0000_0000, 0, 129, MemoryPlace::Nowhere),
+    (0x2_0000_0200, -512, 1, MemoryPlace::Stack(0)),
+    (0x2_0000_0200, -513, 8, MemoryPlace::Nowhere),
+    (0x2_0000_0200, -512, 8, MemoryPlace::Stack(0)),
+    (0x2_0000_0200, -8, 8, MemoryPlace::Stack(504)),
+    (0x2_0000_0200, -7, 8, MemoryPlace::Nowhere),
+    (0x2_0000_0200, -1, 1, MemoryPlace::Stack(511)),
+    (0x2_0000_0200, 0, 1, MemoryPlace::Nowhere),
+    (0x2_0000_0000, 0, 512, MemoryPlace::Stack(0)),
+    (0x2_0000_0000, 0, 513, MemoryPlace::Nowhere),
     // From below 0, and to 2^64 and beyond.
-    (0, -1, 1, Place::Nowhere),
-    (u64::MAX, 0, 1, Place::Nowhere),
-    (u64::MAX, 1, 1, Place::Nowhere),
+    (0, -1, 1, MemoryPlace::Nowhere),
+    (u64::MAX, 0, 1, MemoryPlace::Nowhere),
+    (u64::MAX, 1, 1, MemoryPlace::Nowhere),
 ];
 
 #[test]
@@ -48,15 +48,15 @@ fn places_of_accesses(rt: HostRuntime) {
         let (base, offset, count, place) = *row;
         lies(&rt, 128, base, offset, count, place);
     }
-    lies(&rt, 4, RECORD_BASE, 4, 1, Place::Nowhere);
-    lies(&rt, 5, RECORD_BASE, 4, 1, Place::Record(4));
+    lies(&rt, 4, RECORD_BASE, 4, 1, MemoryPlace::Nowhere);
+    lies(&rt, 5, RECORD_BASE, 4, 1, MemoryPlace::Record(4));
     lies(
         &rt,
         128,
         STACK_BASE,
         0,
         STACK_LENGTH as u32,
-        Place::Stack(0),
+        MemoryPlace::Stack(0),
     );
 }
 

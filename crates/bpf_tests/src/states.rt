@@ -9,7 +9,7 @@ use crate::fixtures::{no_sigs, range, taxi_sigs};
 use bpf_decode::{ByteOrder, Bytes, Code, Condition, Op, Operand, Part, Register, Size, Width};
 use bpf_helpers::{Range, Sigs};
 use bpf_regstate::{Length, Reg, State, place_of_access};
-use bpf_semantics::Place;
+use bpf_semantics::MemoryPlace;
 use std::alloc::Global;
 use std::process::Abort;
 
@@ -502,7 +502,7 @@ fn marks_cross_from_word_to_word(rt: HostRuntime) {
 }
 
 /// An access of four bytes somewhere in this range, at this offset, has this place.
-fn lies(rt: &impl Abort, range: Range, offset: i32, place: Place)
+fn lies(rt: &impl Abort, range: Range, offset: i32, place: MemoryPlace)
     requires { range.lo ≤ range.hi }
 {
     assert!(rt; place_of_access(128, range, offset, 4) == place, "{offset}");
@@ -511,12 +511,17 @@ fn lies(rt: &impl Abort, range: Range, offset: i32, place: Place)
 #[test]
 fn accesses_have_places(rt: HostRuntime) {
     let first = range(0x1_0000_0000, 0x1_0000_0000);
-    lies(&rt, first, 124, Place::Record(124));
-    lies(&rt, first, 125, Place::Nowhere);
-    lies(&rt, first, -1, Place::Nowhere);
+    lies(&rt, first, 124, MemoryPlace::Record(124));
+    lies(&rt, first, 125, MemoryPlace::Nowhere);
+    lies(&rt, first, -1, MemoryPlace::Nowhere);
     let end = range(0x2_0000_01f8, 0x2_0000_0200);
-    lies(&rt, end, -4, Place::Stack(500));
-    lies(&rt, end, -3, Place::Nowhere);
-    lies(&rt, range(0x1_0000_0000, 0x2_0000_01f8), 0, Place::Nowhere);
-    lies(&rt, range(0, ALL), 0, Place::Nowhere);
+    lies(&rt, end, -4, MemoryPlace::Stack(500));
+    lies(&rt, end, -3, MemoryPlace::Nowhere);
+    lies(
+        &rt,
+        range(0x1_0000_0000, 0x2_0000_01f8),
+        0,
+        MemoryPlace::Nowhere,
+    );
+    lies(&rt, range(0, ALL), 0, MemoryPlace::Nowhere);
 }

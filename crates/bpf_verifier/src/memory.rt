@@ -10,10 +10,16 @@ ghost use Rattle.bpf_regstate.specs.Faults.{stores_in_record};
 use crate::reads::range_of;
 use bpf_decode::{Op, Register};
 use bpf_regstate::{State, place_of_access};
-use bpf_semantics::{Place, byte_count, part_byte_count};
+use bpf_semantics::{MemoryPlace, byte_count, part_byte_count};
 
 /// Where all addresses lie that so many bytes at a register plus the offset may have.
-fn place_at(record_length: usize, state: &State, base: Register, offset: i32, count: usize) -> Place
+fn place_at(
+    record_length: usize,
+    state: &State,
+    base: Register,
+    offset: i32,
+    count: usize,
+) -> MemoryPlace
     requires short { record_length < 2 ^ 16 }
     requires few { count ≤ 8 }
     ensures { let range = range_of (known state.now base) in
@@ -35,7 +41,7 @@ pub fn misses_memory(record_length: usize, state: &State, op: Op) -> bool
             offset,
             ..
         } => place_at(record_length, state, base, offset as i32, byte_count(size))
-            == Place::Nowhere,
+            == MemoryPlace::Nowhere,
         Op::LoadSigned {
             part,
             base,
@@ -47,14 +53,14 @@ pub fn misses_memory(record_length: usize, state: &State, op: Op) -> bool
             base,
             offset as i32,
             part_byte_count(part),
-        ) == Place::Nowhere,
+        ) == MemoryPlace::Nowhere,
         Op::Store {
             size,
             base,
             offset,
             ..
         } => place_at(record_length, state, base, offset as i32, byte_count(size))
-            == Place::Nowhere,
+            == MemoryPlace::Nowhere,
         _ => false,
     }
 }
@@ -73,7 +79,7 @@ fn is_unmarked(
         result ≡ is_unmarked state.now range count (access record_length range offset count) }
 {
     match place_at(record_length, state, base, offset, count) {
-        Place::Stack(at) => {
+        MemoryPlace::Stack(at) => {
             let range = range_of(state, base);
             !state.all_marked(at, (range.hi - range.lo) as usize + count)
         }
@@ -122,7 +128,7 @@ pub fn stores_in_record(record_length: usize, state: &State, op: Op) -> bool
             ..
         } => matches!(
             place_at(record_length, state, base, offset as i32, byte_count(size)),
-            Place::Record(_)
+            MemoryPlace::Record(_)
         ),
         _ => false,
     }

@@ -3,7 +3,7 @@ use crate::feeding::{BOARD, FIRST, NAMED, NAMED_BEHIND_BOTH, NAMED_BEHIND_ONE, S
 use crate::following::{entries_of, tick, ticked};
 use acdm_displays::{Shown, answer, follow_events};
 use acdm_lines::{Sink, Source};
-use acdm_web::{PAGE, Request, TimeLimit, Wanted, first_wanted, wanted_in};
+use acdm_web::{BrowserRequest, PAGE, TimeLimit, Wanted, first_wanted, wanted_in};
 use bpf_helpers::{Bank, Helpers};
 use httpdate::HttpDate;
 use std::alloc::Global;
@@ -12,15 +12,15 @@ use std::process::Abort;
 use std::sync::atomic::AtomicBool;
 
 // What is asked for by `GET`, by `HEAD`, or by no method that is answered.
-fn got(wanted: Wanted) -> Request {
-    Request {
+fn got(wanted: Wanted) -> BrowserRequest {
+    BrowserRequest {
         wanted,
         is_head: false,
     }
 }
 
-fn head(wanted: Wanted) -> Request {
-    Request {
+fn head(wanted: Wanted) -> BrowserRequest {
+    BrowserRequest {
         wanted,
         is_head: true,
     }
@@ -145,7 +145,7 @@ static FIELDS: [(&str, bool); 22] = [
 ];
 
 // What a request for the page with these fields asks for.
-fn asked_with(alloc: Global, fields: &str, name: Option<&str>) -> Option<Request> {
+fn asked_with(alloc: Global, fields: &str, name: Option<&str>) -> Option<BrowserRequest> {
     let mut head = String::new(alloc);
     if write!(head, "GET / HTTP/1.1\r\n{fields}\r\n").is_err() {
         return None;
@@ -187,7 +187,7 @@ impl TimeLimit for Over {
 }
 
 // What is heard of these bytes.
-fn heard(alloc: Global, mut bytes: &[u8]) -> Option<Request> {
+fn heard(alloc: Global, mut bytes: &[u8]) -> Option<BrowserRequest> {
     let mut reader = Source::new(&mut bytes);
     first_wanted(alloc, &mut reader, None, &Never)
 }
@@ -207,7 +207,12 @@ fn a_browser_is_heard(rt: HostRuntime) {
 const DATE: u64 = 784_111_777;
 
 // What is answered, at this moment where it is known.
-fn answered(rt: &impl Abort, alloc: Global, request: Request, seconds: Option<u64>) -> Vec<u8> {
+fn answered(
+    rt: &impl Abort,
+    alloc: Global,
+    request: BrowserRequest,
+    seconds: Option<u64>,
+) -> Vec<u8> {
     let date = match seconds {
         Some(seconds) => HttpDate::from_unix_secs(seconds).ok(),
         None => None,

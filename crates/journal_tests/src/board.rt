@@ -9,7 +9,7 @@ use acdm_record::Field;
 use acdm_slots::Kind;
 use acdm_step::{Command, Load, Verdict};
 use bpf_decode::decode;
-use bpf_helpers::{Bank, Code, Helper, Helpers, Range, Signature, Sigs};
+use bpf_helpers::{Bank, Helper, HelperCode, Helpers, Range, Signature, Sigs};
 use bpf_regstate::Length;
 use bpf_verifier::verify;
 use std::alloc::Global;
@@ -165,7 +165,7 @@ fn five_minutes_later<H: Helpers + Drop>(rt: &impl Abort, alloc: Global, helpers
 #[test]
 fn a_helper_is_asked_through_the_desk(rt: HostRuntime) {
     let alloc = rt.alloc();
-    let minutes: Code = Box::new(
+    let minutes: HelperCode = Box::new(
         alloc,
         |a: u64, b: u64, _c: u64, _d: u64, _e: u64| -> u64
             requires { a + b < 2 ^ 64 }

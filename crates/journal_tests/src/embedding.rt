@@ -100,7 +100,7 @@ mod tests {
     use super::target;
     use crate::board::sum_signature;
     use crate::fixture::plan;
-    use bpf_helpers::{Bank, Code, Helper};
+    use bpf_helpers::{Bank, Helper, HelperCode};
     use std::process::Abort;
 
     fn is_five_later(rt: &impl Abort, found: Result<u64, u16>) {
@@ -110,7 +110,7 @@ mod tests {
     #[test]
     fn a_board_runs_over_a_bank_of_closures(rt: HostRuntime) {
         let alloc = rt.alloc();
-        let minutes: Code = Box::new(
+        let minutes: HelperCode = Box::new(
             alloc,
             |a: u64, b: u64, _c: u64, _d: u64, _e: u64| -> u64
                 requires { a + b < 2 ^ 64 }

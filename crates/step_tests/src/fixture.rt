@@ -5,7 +5,7 @@ ghost use Rattle.bpf_helpers.specs.Known.{taxi, taxi_from};
 
 use acdm_record::{Field, Record};
 use bpf_decode::{Program, decode};
-use bpf_helpers::{Bank, Code, Helper, Range, Signature, Sigs};
+use bpf_helpers::{Bank, Helper, HelperCode, Range, Signature, Sigs};
 use bpf_regstate::Length;
 use bpf_verifier::{Checked, verify};
 use std::alloc::Global;
@@ -60,7 +60,7 @@ fn taxi_minutes(stand: u64, _b: u64, _c: u64, _d: u64, _e: u64) -> u64
 
 /// The signatures of helper 2 alone: the taxi time from a stand, which is 10 minutes from stand 12.
 pub(crate) fn taxi_sigs(rt: &impl Abort, alloc: Global) -> Sigs {
-    let stands: Code = Box::new(alloc, taxi_minutes).expect(rt, "code");
+    let stands: HelperCode = Box::new(alloc, taxi_minutes).expect(rt, "code");
     let helper = Helper::new(2, taxi_signature(rt, alloc), stands);
     let mut bank = Bank::new(alloc).expect(rt, "a bank");
     if bank.add(helper).is_err() {

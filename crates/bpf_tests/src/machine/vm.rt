@@ -8,7 +8,7 @@ use crate::fixtures::{
 use crate::machine::planned;
 use crate::programs::{EXIT, bytes_of, exited, is_fault, slot};
 use acdm_milestones::Milestone;
-use bpf_helpers::{Code, Helper, Signature};
+use bpf_helpers::{Helper, HelperCode, Signature};
 use bpf_machine::{EbpfVmRaw, Ended};
 use bpf_regstate::Length;
 use std::alloc::Global;
@@ -26,13 +26,13 @@ const FIVE_LATER: &str = "bf31000000000000b7020000050000008500000003000000950000
 
 /// Helper 1.
 fn turn_round_helper(rt: &impl Abort, alloc: Global) -> Helper {
-    let code: Code = Box::new(alloc, turn_round_minutes).expect(rt, "code");
+    let code: HelperCode = Box::new(alloc, turn_round_minutes).expect(rt, "code");
     Helper::new(1, turn_round_signature(rt, alloc), code)
 }
 
 /// Helper 3.
 pub(crate) fn sum_helper(rt: &impl Abort, alloc: Global) -> Helper {
-    let code: Code = Box::new(alloc, minutes_later).expect(rt, "code");
+    let code: HelperCode = Box::new(alloc, minutes_later).expect(rt, "code");
     Helper::new(3, sum_signature(rt, alloc), code)
 }
 
@@ -40,7 +40,7 @@ pub(crate) fn sum_helper(rt: &impl Abort, alloc: Global) -> Helper {
 fn second_helper(rt: &impl Abort, alloc: Global) -> Helper {
     let args = vec![in alloc; range(0, 9)].expect(rt, "an argument");
     let signature = Signature::new(args, range(0, 0), Vec::new(alloc));
-    let code: Code = Box::new(
+    let code: HelperCode = Box::new(
         alloc,
         |_a: u64, b: u64, _c: u64, _d: u64, _e: u64| -> u64
             ensures { result ≡ b }

@@ -4,7 +4,7 @@ ghost use Rattle.std.specs.Prelude.{◌≤◌};
 
 use bpf_decode::{Code, Op, Operand, Register};
 use bpf_regstate::{Reg, State, place_of_access};
-use bpf_semantics::{Place, byte_count, part_byte_count};
+use bpf_semantics::{MemoryPlace, byte_count, part_byte_count};
 
 /// Whether an instruction begins at a slot.
 fn is_entry(ops: &[Op], slot: Option<usize>) -> bool {
@@ -95,7 +95,7 @@ fn reads_unset(state: &State, op: &Op) -> bool {
 }
 
 /// Where so many bytes lie at a register plus an offset, and how many bytes they may be in all.
-fn access(state: &State, base: Register, offset: i16, count: usize) -> (Place, usize)
+fn access(state: &State, base: Register, offset: i16, count: usize) -> (MemoryPlace, usize)
     requires { count ≤ 8 }
 {
     match state.register(base) {
@@ -104,15 +104,15 @@ fn access(state: &State, base: Register, offset: i16, count: usize) -> (Place, u
             let place = place_of_access(128, range, offset as i32, count);
             (place, more.saturating_add(count))
         }
-        _ => (Place::Nowhere, count),
+        _ => (MemoryPlace::Nowhere, count),
     }
 }
 
 /// The fault of a load from there.
-fn fault_of_load(state: &State, access: (Place, usize)) -> Option<u16> {
+fn fault_of_load(state: &State, access: (MemoryPlace, usize)) -> Option<u16> {
     match access.0 {
-        Place::Nowhere => Some(309),
-        Place::Stack(at) if !state.all_marked(at, access.1) => Some(310),
+        MemoryPlace::Nowhere => Some(309),
+        MemoryPlace::Stack(at) if !state.all_marked(at, access.1) => Some(310),
         _ => None,
     }
 }
@@ -138,9 +138,9 @@ fn fault_of_memory(state: &State, op: &Op) -> Option<u16> {
             offset,
             ..
         } => match access(state, *base, *offset, byte_count(*size)).0 {
-            Place::Nowhere => Some(309),
-            Place::Record(_) => Some(311),
-            Place::Stack(_) => None,
+            MemoryPlace::Nowhere => Some(309),
+            MemoryPlace::Record(_) => Some(311),
+            MemoryPlace::Stack(_) => None,
         },
         _ => None,
     }

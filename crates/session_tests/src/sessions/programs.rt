@@ -7,7 +7,7 @@ ghost use Rattle.bpf_helpers.specs.Known.{sum, taxi, taxi_from};
 use crate::sessions::{are_answered, replies_of};
 use acdm_board::Desk;
 use acdm_record::Field;
-use bpf_helpers::{Bank, Code, Helper, Helpers, Range, Signature};
+use bpf_helpers::{Bank, Helper, HelperCode, Helpers, Range, Signature};
 use std::alloc::Global;
 use std::process::Abort;
 use std::sync::Arc;
@@ -175,7 +175,7 @@ fn sum_signature(rt: &impl Abort, alloc: Global) -> Signature
 #[test]
 fn a_helper_adds_up_a_target(rt: HostRuntime) {
     let alloc = rt.alloc();
-    let code: Code = Box::new(
+    let code: HelperCode = Box::new(
         alloc,
         |a: u64, b: u64, _c: u64, _d: u64, _e: u64| -> u64
             requires { a + b < 2 ^ 64 }
@@ -224,7 +224,7 @@ const TAXI_ALERTS: &str =
 #[test]
 fn local_alerts_stay_when_their_program_is_gone(rt: HostRuntime) {
     let alloc = rt.alloc();
-    let code: Code = Box::new(
+    let code: HelperCode = Box::new(
         alloc,
         |stand: u64, _b: u64, _c: u64, _d: u64, _e: u64| -> u64
             ensures { result ≡ taxi_from stand }

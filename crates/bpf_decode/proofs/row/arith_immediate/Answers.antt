@@ -6,7 +6,7 @@ use Rattle.std.proofs.lemmas.Result.{err_from_is_err_and}
 use Rattle.bpf_decode.specs.declared.op.Op.TheVariants as op
 use Rattle.bpf_decode.specs.declared.op.Operand.TheVariants.{Immediate}
 use Rattle.bpf_decode.specs.declared.form.Form.TheVariants as form
-use Rattle.bpf_decode.specs.declared.form.Source.TheVariants as source
+use Rattle.bpf_decode.specs.declared.form.OperandSource.TheVariants as source
 use Rattle.bpf_decode.proofs.RowLemmas.{field_fault, register_fault}
 use Rattle.bpf_decode.proofs.row.arith_immediate.Goals as goal
 

@@ -10,7 +10,7 @@ use Rattle.bpf_decode.specs.declared.op.Operand.TheVariants.{From}
 use Rattle.bpf_decode.specs.declared.op.Code.{Code}
 use Rattle.bpf_decode.specs.declared.op.Code.TheVariants.{Mov}
 use Rattle.bpf_decode.specs.declared.form.Form.TheVariants as form
-use Rattle.bpf_decode.specs.declared.form.Source.TheVariants as source
+use Rattle.bpf_decode.specs.declared.form.OperandSource.TheVariants as source
 use Rattle.bpf_decode.proofs.RowLemmas.{field_fault, register_fault, zero32, part_not_none}
 use Rattle.bpf_decode.proofs.RowLemmas.{not_true}
 use Rattle.bpf_decode.proofs.row.arith_register.Goals as goal
