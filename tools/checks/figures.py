@@ -264,11 +264,11 @@ def passes_faults(top: Path = TOP) -> list[str]:
 
 def message_faults(top: Path = TOP) -> list[str]:
     """Returns the lines on standard error that docs/RULES.md does not have."""
-    source = (top / "crates/acdm_judging/src/failure.rt").read_text(encoding="utf-8")
+    source = (top / "crates/acdm_failures/src/failure.rt").read_text(encoding="utf-8")
     text = " ".join((top / "docs/RULES.md").read_text(encoding="utf-8").split())
     messages = re.findall(r'b"(acdm: [^"]*?) ?"', source)
     return [f"docs/RULES.md lacks the line `{said}`" for said in messages if f"`{said}" not in text] or (
-        [] if messages else ["crates/acdm_judging/src/failure.rt has no line that begins with acdm:"]
+        [] if messages else ["crates/acdm_failures/src/failure.rt has no line that begins with acdm:"]
     )
 
 

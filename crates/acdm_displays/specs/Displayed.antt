@@ -6,8 +6,8 @@ use Rattle.acdm_step.specs.Commands.{History}
 use Rattle.acdm_step.specs.History.{IsLegal}
 use Rattle.acdm_row.specs.Views.{RowView}
 use Rattle.acdm_journal.specs.Whole.{Saves}
-use Rattle.acdm_judging.specs.declared.failure.Failure.{Failure}
-use Rattle.acdm_judging.specs.declared.failure.Failure.TheVariants.{Save, Memory}
+use Rattle.acdm_failures.specs.declared.failure.Failure.{Failure}
+use Rattle.acdm_failures.specs.declared.failure.Failure.TheVariants.{Save, Memory}
 use Rattle.acdm_feed.specs.declared.known.Known.{Known}
 use Rattle.acdm_feed.specs.Knowing.{Knows}
 use Rattle.acdm_feed.specs.Resumed.{IsFront, board_text, feed_from, journal_line, journal_since, journal_text}

@@ -9,7 +9,7 @@ use crate::entries::Entries;
 use crate::following::{Form, MOST_REFUSALS, Shown, follow, follow_changes};
 use crate::leaving::has_left;
 use crate::places::{Place, Shared};
-use acdm_judging::Failure;
+use acdm_failures::Failure;
 use acdm_keeping::Reach;
 use acdm_lines::{Sink, Source};
 use acdm_row::Row;

@@ -9,9 +9,9 @@ ghost use Rattle.acdm_feed.specs.Knowing.{Knows};
 ghost use Rattle.acdm_feed.specs.Resumed.{journal_text};
 ghost use Rattle.acdm_displays.specs.Displayed.{Adds, Begun, CutsShort, EventsFrom, TellsFrom};
 
+use acdm_failures::Failure;
 use acdm_feed::{Known, push_journal, tell_next};
 use acdm_journal::push_entry;
-use acdm_judging::Failure;
 use acdm_row::Row;
 use acdm_watch::Watch;
 use acdm_web::push_event;

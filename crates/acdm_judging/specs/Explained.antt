@@ -7,9 +7,9 @@ use Rattle.bpf_helpers.specs.Promise.{Promise}
 use Rattle.bpf_regstate.specs.declared.length.Length.{Length}
 use Rattle.acdm_lines.specs.Counted.{SinkView, SourceView, faults_after}
 use Rattle.acdm_judging.specs.Gave.{GaveBytes, most_bytes}
-use Rattle.acdm_judging.specs.declared.failure.Failure.{Failure}
-use Rattle.acdm_judging.specs.declared.failure.Failure.TheVariants.{Read, Write, Memory}
-use Rattle.acdm_judging.specs.Failures.{Complains, failure_text}
+use Rattle.acdm_failures.specs.declared.failure.Failure.{Failure}
+use Rattle.acdm_failures.specs.declared.failure.Failure.TheVariants.{Read, Write, Memory}
+use Rattle.acdm_failures.specs.Failures.{Complains, failure_text}
 
 -- the status of the command, which is that of `verify`
 abbrev pub status_of : Told → ℕ

@@ -9,8 +9,8 @@ use Rattle.acdm_journal.specs.Whole.{GaveLegal, FoundFaulty, FoundUnended}
 use Rattle.acdm_wire.specs.Writes.{Wrote, WroteInPart}
 use Rattle.acdm_judging.specs.declared.auditing.Finding.{Finding}
 use Rattle.acdm_judging.specs.declared.auditing.Finding.TheVariants.{Legal, Faulty}
-use Rattle.acdm_judging.specs.declared.failure.Failure.{Failure}
-use Rattle.acdm_judging.specs.declared.failure.Failure.TheVariants.{Read, Write, Memory}
+use Rattle.acdm_failures.specs.declared.failure.Failure.{Failure}
+use Rattle.acdm_failures.specs.declared.failure.Failure.TheVariants.{Read, Write, Memory}
 
 -- what is found in what a reader gives
 abbrev pub Finds : {R : Type 0} → List (ℕ × Promise) → SourceView R → SourceView R

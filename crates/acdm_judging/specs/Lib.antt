@@ -1,5 +1,4 @@
 pub mod Explained
-pub mod Failures
 pub mod Findings
 pub mod Gave
 pub mod Verdicts

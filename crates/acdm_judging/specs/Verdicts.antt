@@ -13,8 +13,8 @@ use Rattle.acdm_wire.specs.Writes.{Wrote, WroteInPart}
 use Rattle.acdm_judging.specs.Gave.{GaveBytes, most_bytes}
 use Rattle.acdm_judging.specs.declared.verifying.ProgramVerdict.{ProgramVerdict}
 use Rattle.acdm_judging.specs.declared.verifying.ProgramVerdict.TheVariants.{Accepted, Refused}
-use Rattle.acdm_judging.specs.declared.failure.Failure.{Failure}
-use Rattle.acdm_judging.specs.declared.failure.Failure.TheVariants.{Read, Write, Memory}
+use Rattle.acdm_failures.specs.declared.failure.Failure.{Failure}
+use Rattle.acdm_failures.specs.declared.failure.Failure.TheVariants.{Read, Write, Memory}
 
 -- the verdict is the one right reading of the bytes, beside records of this length
 abbrev pub IsVerdict : List (ℕ × Promise) → Length → List ℕ → ProgramVerdict → Type 0

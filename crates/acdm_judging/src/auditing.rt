@@ -1,10 +1,10 @@
 //! The command `audit`, over the reader and the writers that it is handed.
 ghost use Rattle.std.specs.Prelude.{◌≡◌, ◌-◌, ◌^◌, ◌<◌};
-ghost use Rattle.acdm_judging.specs.Failures.{EndsBy};
+ghost use Rattle.acdm_failures.specs.Failures.{EndsBy};
 ghost use Rattle.acdm_judging.specs.Findings.{Audited, Finds, Tells, finding_text, status_of};
 ghost use Rattle.acdm_tables.specs.Helpers.{helpers_by};
 
-use crate::failure::{Failure, ended};
+use acdm_failures::{Failure, ended};
 use acdm_journal::{Clause, Fault, audit};
 use acdm_lines::{Sink, Source};
 use acdm_tables::{Tables, known_sigs};

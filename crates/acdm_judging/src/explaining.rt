@@ -1,12 +1,12 @@
 //! The command `explain`, over the reader and the writers that it is handed.
 ghost use Rattle.std.specs.Prelude.{◌≡◌, ◌⊎◌, ℕ, List, IfOk};
-ghost use Rattle.acdm_judging.specs.Failures.{EndsBy};
+ghost use Rattle.acdm_failures.specs.Failures.{EndsBy};
 ghost use Rattle.acdm_judging.specs.Explained.{Explains, FailsToRead, TellsBytes, TellsUnread};
 ghost use Rattle.acdm_judging.specs.Explained.{status_of, unread_text};
 ghost use Rattle.acdm_tables.specs.Helpers.{helpers_by};
 
 use crate::bytes::{BytesError, MOST_BYTES, bytes_of};
-use crate::failure::{Failure, ended};
+use acdm_failures::{Failure, ended};
 use acdm_lines::{Sink, Source};
 use acdm_tables::{Tables, known_sigs};
 use acdm_wire::write_out;

@@ -1,16 +1,13 @@
-//! The commands that judge what is in a file, a program or a journal; and what keeps any command of the
-//! program `acdm` from its work, as a line and a status. It is a crate of its own so that it is proved
+//! The commands that judge what is in a file, a program or a journal. It is a crate of its own so that it is proved
 //! while the sessions are, which `acdm_commands` waits for.
 #![tactic(auto)]
 
 mod auditing;
 mod bytes;
 mod explaining;
-mod failure;
 mod verifying;
 
 pub use auditing::{Finding, audit_on};
 pub use bytes::{BytesError, bytes_of};
 pub use explaining::{explain_on, unread};
-pub use failure::{Failure, ServeError, ended};
 pub use verifying::{ProgramVerdict, verify_on};

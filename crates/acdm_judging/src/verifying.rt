@@ -1,14 +1,14 @@
 //! The command `verify`, over the reader and the writers that it is handed.
 ghost use Rattle.std.specs.Prelude.{◌≡◌, ◌++◌, [], ◌∷◌, codes, length, IfOk, IfErr, OnOk};
 ghost use Rattle.std.specs.Fmt.{decimal};
-ghost use Rattle.acdm_judging.specs.Failures.{EndsBy};
+ghost use Rattle.acdm_failures.specs.Failures.{EndsBy};
 ghost use Rattle.acdm_tables.specs.Helpers.{helpers_by};
 ghost use Rattle.acdm_judging.specs.Verdicts.{IsVerdict, Judges, Verifies, slots_text, status_of};
 ghost use Rattle.acdm_judging.specs.Verdicts.{verdict_text};
-ghost use Rattle.acdm_judging.specs.declared.failure.Failure.TheVariants.{Memory};
+ghost use Rattle.acdm_failures.specs.declared.failure.Failure.TheVariants.{Memory};
 
 use crate::bytes::{BytesError, MOST_BYTES, bytes_of};
-use crate::failure::{Failure, ended};
+use acdm_failures::{Failure, ended};
 use acdm_lines::{Sink, Source};
 use acdm_tables::{Tables, known_sigs};
 use acdm_wire::write_out;

@@ -1,7 +1,7 @@
 -- What is kept of a journal.
 use Rattle.std.specs.Prelude.{◌≡◌, Bool, false, ℕ, ◌+◌, ◌++◌, ◌⊎◌, List, Option, Result, MatchOption, OnOk, IsErr, reverse}
-use Rattle.acdm_judging.specs.declared.failure.Failure.{Failure}
-use Rattle.acdm_judging.specs.declared.failure.Failure.TheVariants.{Memory, Save}
+use Rattle.acdm_failures.specs.declared.failure.Failure.{Failure}
+use Rattle.acdm_failures.specs.declared.failure.Failure.TheVariants.{Memory, Save}
 use Rattle.acdm_journal.specs.Whole.{Saves}
 use Rattle.acdm_lines.specs.Counted.{SinkView}
 use Rattle.acdm_row.specs.Views.{RowView}

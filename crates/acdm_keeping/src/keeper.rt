@@ -4,8 +4,8 @@ ghost use Rattle.std.specs.Prelude.{OnOk, Ok, None};
 ghost use Rattle.std.specs.Arc.{arc_value};
 ghost use Rattle.acdm_keeping.specs.Kept.{CutsShort, Keeps};
 
+use acdm_failures::Failure;
 use acdm_journal::{MOST_KEPT, push_entry, write_whole};
-use acdm_judging::Failure;
 use acdm_lines::Sink;
 use acdm_row::Row;
 use acdm_step::Entry;

@@ -1,10 +1,10 @@
 //! How far a journal is kept, for those who wait.
 ghost use Rattle.std.specs.Prelude.{◌≡◌, ◌<◌, ◌≤◌, true, false, IfErr, IfOk, OnErr, OnOk};
-ghost use Rattle.acdm_judging.specs.declared.failure.Failure.TheVariants.{Save};
+ghost use Rattle.acdm_failures.specs.declared.failure.Failure.TheVariants.{Save};
 ghost use Rattle.acdm_keeping.specs.Turns.{Turns};
 
 use crate::receipt::Receipt;
-use acdm_judging::Failure;
+use acdm_failures::Failure;
 
 /// What somebody does who waits for entries to be kept.
 #[derive(Clone, Copy, Debug, PartialEq, Eq)]

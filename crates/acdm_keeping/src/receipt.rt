@@ -1,12 +1,12 @@
 //! The writing of entries for many who wait, and what it is told by.
 ghost use Rattle.std.specs.Prelude.{◌≡◌, List, [], true, false, length, IfErr, IfOk, IsErr, OnErr, OnOk};
-ghost use Rattle.acdm_judging.specs.declared.failure.Failure.TheVariants.{Save};
+ghost use Rattle.acdm_failures.specs.declared.failure.Failure.TheVariants.{Save};
 ghost use Rattle.acdm_keeping.specs.Kept.{Keeps};
 ghost use Rattle.acdm_row.specs.Views.{RowView};
 ghost use Rattle.acdm_step.specs.declared.entry.Entry.{Entry};
 
 use crate::keeper::Keeper;
-use acdm_judging::Failure;
+use acdm_failures::Failure;
 use std::io::Write;
 use std::marker::{Brand, Model, PhantomData};
 

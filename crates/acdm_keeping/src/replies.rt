@@ -6,7 +6,7 @@ ghost use Rattle.acdm_keeping.specs.Kept.{Waited, WaitsBefore};
 
 use crate::receipt::{Opening, Receipt};
 use crate::shared::{SharedKeeper, Waits};
-use acdm_judging::Failure;
+use acdm_failures::Failure;
 use std::io::{self, ErrorKind, Write};
 use std::sync::Wait;
 

@@ -1,7 +1,7 @@
 //! A keeper that many sessions share.
 ghost use Rattle.std.specs.Prelude.{◌≡◌, ◌+◌, ◌≤◌, [], false, IfErr, IfOk, OnErr, OnOk};
 ghost use Rattle.std.specs.Arc.{arc_value};
-ghost use Rattle.acdm_judging.specs.declared.failure.Failure.TheVariants.{Memory, Save};
+ghost use Rattle.acdm_failures.specs.declared.failure.Failure.TheVariants.{Memory, Save};
 ghost use Rattle.acdm_keeping.specs.Kept.{Keeps};
 ghost use Rattle.acdm_keeping.specs.Turns.{TellsKept};
 
@@ -9,7 +9,7 @@ use crate::keeper::Keeper;
 use crate::progress::{Progress, Turn};
 use crate::reach::Reach;
 use crate::receipt::{Opening, Receipt, Writing};
-use acdm_judging::Failure;
+use acdm_failures::Failure;
 use acdm_row::Row;
 use std::alloc::{AllocError, Global};
 use std::io::Write;

@@ -1,7 +1,7 @@
 -- Why something was not told, by the result of a call.
 use Rattle.std.proofs.Common.{Result, Ok, Err, IfErr}
-use Rattle.acdm_judging.specs.declared.failure.ServeError.{ServeError}
-use Rattle.acdm_judging.specs.declared.failure.ServeError.TheVariants as serve_errors
+use Rattle.acdm_failures.specs.declared.failure.ServeError.{ServeError}
+use Rattle.acdm_failures.specs.declared.failure.ServeError.TheVariants as serve_errors
 use Rattle.acdm_lines.specs.Counted.{SinkView}
 use Rattle.acdm_serving.specs.Partners.{FailsToTell, IsOfAccepting}
 

@@ -5,8 +5,8 @@ use Rattle.std.specs.Fmt.{decimal}
 use Rattle.acdm_milestones.specs.Names.{role_name}
 use Rattle.acdm_milestones.specs.declared.role.Role.{Role}
 use Rattle.acdm_milestones.specs.declared.role.Role.TheVariants.{AirportOperator}
-use Rattle.acdm_judging.specs.declared.failure.ServeError.{ServeError}
-use Rattle.acdm_judging.specs.declared.failure.ServeError.TheVariants as serve_errors
+use Rattle.acdm_failures.specs.declared.failure.ServeError.{ServeError}
+use Rattle.acdm_failures.specs.declared.failure.ServeError.TheVariants as serve_errors
 use Rattle.acdm_lines.specs.Counted.{SinkView, faults_after}
 use Rattle.acdm_lines.specs.declared.run_error.RunError.{RunError}
 use Rattle.acdm_wire.specs.Writes.{Writes, Wrote}

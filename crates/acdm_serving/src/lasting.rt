@@ -12,7 +12,7 @@ use crate::host::Host;
 use crate::partners::{REPLIES_HELD, ServedPartners, announce, served_by, tell};
 use crate::ticks::{Ticks, Timer};
 use acdm_board::Desk;
-use acdm_judging::ServeError;
+use acdm_failures::ServeError;
 use acdm_keeping::{Named, Opening, Paths, Replies, SharedKeeper, Synced};
 use acdm_milestones::Role;
 use acdm_partners::{

@@ -6,14 +6,14 @@ ghost use Rattle.std.specs.Net.Text.{socket_text};
 ghost use Rattle.acdm_serving.specs.Partners.{Announces, AnnouncesOne, FailsToTell, TellsPartners};
 ghost use Rattle.acdm_serving.specs.Partners.{IsOfAccepting, closed_text};
 ghost use Rattle.acdm_serving.specs.Partners.{end_text, listen_text, session_text};
-ghost use Rattle.acdm_judging.specs.declared.failure.ServeError.TheVariants.{Memory};
+ghost use Rattle.acdm_failures.specs.declared.failure.ServeError.TheVariants.{Memory};
 ghost use Rattle.acdm_sessions.specs.Sessions.{ServesSessions, new_session, session_start};
 ghost use Rattle.acdm_sessions.specs.Sessions.{session_told};
 ghost use Rattle.acdm_wire.specs.Writes.{Writes};
 
 use acdm_board::Desk;
+use acdm_failures::ServeError;
 use acdm_headline::serve_sessions;
-use acdm_judging::ServeError;
 use acdm_milestones::Role;
 use acdm_partners::{PATIENCE, Patient};
 use acdm_sessions::{Clock, Closed, End, EndedSession, Gate, RunError, Session, Sink, Source};

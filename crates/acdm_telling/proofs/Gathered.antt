@@ -28,8 +28,8 @@ use Rattle.acdm_wire.proofs.Writing.{wrote-back, wrote-both, wrote-front}
 use Rattle.acdm_judging.specs.Findings.{Tells, finding_text}
 use Rattle.acdm_judging.specs.declared.auditing.Finding.{Finding}
 use Rattle.acdm_judging.specs.declared.auditing.Finding.TheVariants.{Legal, Faulty}
-use Rattle.acdm_judging.specs.declared.failure.Failure.{Failure}
-use Rattle.acdm_judging.specs.declared.failure.Failure.TheVariants as failures
+use Rattle.acdm_failures.specs.declared.failure.Failure.{Failure}
+use Rattle.acdm_failures.specs.declared.failure.Failure.TheVariants as failures
 use Rattle.acdm_feed.specs.declared.known.Known.{Known}
 use Rattle.acdm_feed.specs.Knowing.{Knows}
 use Rattle.acdm_feed.specs.Told.{feed, told}

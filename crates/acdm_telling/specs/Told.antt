@@ -18,8 +18,8 @@ use Rattle.acdm_wire.specs.Writes.{AppendsPart, Wrote, WroteInPart}
 use Rattle.acdm_judging.specs.Findings.{Finds, finding_text, status_of}
 use Rattle.acdm_judging.specs.declared.auditing.Finding.{Finding}
 use Rattle.acdm_judging.specs.declared.auditing.Finding.TheVariants.{Legal, Faulty}
-use Rattle.acdm_judging.specs.declared.failure.Failure.{Failure}
-use Rattle.acdm_judging.specs.declared.failure.Failure.TheVariants.{Read, Write, Memory}
+use Rattle.acdm_failures.specs.declared.failure.Failure.{Failure}
+use Rattle.acdm_failures.specs.declared.failure.Failure.TheVariants.{Read, Write, Memory}
 use Rattle.acdm_feed.specs.Told.{feed}
 use Rattle.acdm_telling.specs.declared.judged.Judged.{Judged}
 use Rattle.acdm_telling.specs.declared.telling.Stop.{Stop}

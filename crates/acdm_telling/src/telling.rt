@@ -1,6 +1,6 @@
 //! The command `tell`, over the reader and the writers that it is handed.
 ghost use Rattle.std.specs.Prelude.{◌≡◌, ◌<◌, ◌-◌, ◌^◌, true, [], length, Ok};
-ghost use Rattle.acdm_judging.specs.Failures.{EndsBy};
+ghost use Rattle.acdm_failures.specs.Failures.{EndsBy};
 ghost use Rattle.acdm_feed.specs.Knowing.{Knows};
 ghost use Rattle.acdm_tables.specs.Helpers.{helpers_by};
 ghost use Rattle.acdm_lines.specs.Lines.{weight};
@@ -12,8 +12,9 @@ ghost use Rattle.acdm_telling.specs.Told.{TakesNext, TellsFound, TellsRest};
 ghost use Rattle.acdm_lines.specs.Counted.{SinkView};
 
 use crate::judged::{Judged, tell_line};
+use acdm_failures::{Failure, ended};
 use acdm_journal::{AuditError, Clause, MOST_KEPT};
-use acdm_judging::{Failure, Finding, ended};
+use acdm_judging::Finding;
 use acdm_lines::{Lines, RunError, Sink, Source};
 use acdm_tables::{Tables, known_sigs};
 use acdm_wire::write_out;

@@ -118,7 +118,7 @@ class Figures(Folder):
 
     def test_a_message_that_the_rules_lack_is_named(self) -> None:
         source = 'Failure::Keep => line(b"acdm: keep failed"), Failure::Role(n) => numbered(b"acdm: role ", n),'
-        self.write("crates/acdm_judging/src/failure.rt", source)
+        self.write("crates/acdm_failures/src/failure.rt", source)
         self.write("docs/RULES.md", "It says `acdm: keep\nfailed`.\n")
         self.assertEqual(figures.message_faults(self.top), ["docs/RULES.md lacks the line `acdm: role`"])
         self.write("docs/RULES.md", "It says `acdm: keep failed` or `acdm: role K`.\n")

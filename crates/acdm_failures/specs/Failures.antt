@@ -8,12 +8,12 @@ use Rattle.acdm_lines.specs.Counted.{SinkView}
 use Rattle.acdm_lines.specs.declared.run_error.RunError.{RunError}
 use Rattle.acdm_lines.specs.declared.run_error.RunError.TheVariants as errors
 use Rattle.acdm_wire.specs.Writes.{Wrote, WroteInPart}
-use Rattle.acdm_judging.specs.declared.failure.Failure.{Failure}
-use Rattle.acdm_judging.specs.declared.failure.Failure.TheVariants.{Read, Write, Save, Memory, Accept}
-use Rattle.acdm_judging.specs.declared.failure.Failure.TheVariants.{Role, Address, Watch, Control, Log, Word, Stream}
-use Rattle.acdm_judging.specs.declared.failure.Failure.TheVariants.{Keep, InUse, Room, Untold}
-use Rattle.acdm_judging.specs.declared.failure.ServeError.{ServeError}
-use Rattle.acdm_judging.specs.declared.failure.ServeError.TheVariants as serve_errors
+use Rattle.acdm_failures.specs.declared.failure.Failure.{Failure}
+use Rattle.acdm_failures.specs.declared.failure.Failure.TheVariants.{Read, Write, Save, Memory, Accept}
+use Rattle.acdm_failures.specs.declared.failure.Failure.TheVariants.{Role, Address, Watch, Control, Log, Word, Stream}
+use Rattle.acdm_failures.specs.declared.failure.Failure.TheVariants.{Keep, InUse, Room, Untold}
+use Rattle.acdm_failures.specs.declared.failure.ServeError.{ServeError}
+use Rattle.acdm_failures.specs.declared.failure.ServeError.TheVariants as serve_errors
 
 abbrev pub failure_of : RunError → Failure
 failure_of errors.Read = Read

@@ -1,7 +1,7 @@
 //! What keeps a command from its work.
 ghost use Rattle.std.specs.Prelude.{◌≡◌, ◌≤◌, ◌++◌, [], ◌∷◌, length};
 ghost use Rattle.std.specs.Fmt.{decimal};
-ghost use Rattle.acdm_judging.specs.Failures.{Complains, Ends, failure_text};
+ghost use Rattle.acdm_failures.specs.Failures.{Complains, Ends, failure_text};
 
 use acdm_journal::WriteError;
 use acdm_lines::{RunError, Sink};
@@ -150,7 +150,7 @@ pub fn ended<E: Write>(work: Result<u8, Failure>, errors: &mut Sink<E>) -> u8
 
 impl From<RunError> for Failure {
     ghost use Rattle.std.specs.Prelude.{◌≡◌};
-    ghost use Rattle.acdm_judging.specs.Failures.{failure_of};
+    ghost use Rattle.acdm_failures.specs.Failures.{failure_of};
 
     ghost from_gives = { λ error failure. failure ≡ failure_of error };
 
@@ -165,7 +165,7 @@ impl From<RunError> for Failure {
 
 impl From<WriteError> for Failure {
     ghost use Rattle.std.specs.Prelude.{◌≡◌};
-    ghost use Rattle.acdm_judging.specs.Failures.{failure_of_save};
+    ghost use Rattle.acdm_failures.specs.Failures.{failure_of_save};
 
     ghost from_gives = { λ error failure. failure ≡ failure_of_save error };
 
@@ -179,7 +179,7 @@ impl From<WriteError> for Failure {
 
 impl From<ServeError> for Failure {
     ghost use Rattle.std.specs.Prelude.{◌≡◌};
-    ghost use Rattle.acdm_judging.specs.Failures.{failure_of_serve};
+    ghost use Rattle.acdm_failures.specs.Failures.{failure_of_serve};
 
     ghost from_gives = { λ error failure. failure ≡ failure_of_serve error };
 
@@ -194,7 +194,7 @@ impl From<ServeError> for Failure {
 
 impl From<AllocError> for Failure {
     ghost use Rattle.std.specs.Prelude.{◌≡◌};
-    ghost use Rattle.acdm_judging.specs.declared.failure.Failure.TheVariants.{Memory};
+    ghost use Rattle.acdm_failures.specs.declared.failure.Failure.TheVariants.{Memory};
 
     ghost from_gives = { λ _ failure. failure ≡ Memory };
 
@@ -205,7 +205,7 @@ impl From<AllocError> for Failure {
 
 impl<T: Drop> From<AllocFailed<T>> for Failure {
     ghost use Rattle.std.specs.Prelude.{◌≡◌};
-    ghost use Rattle.acdm_judging.specs.declared.failure.Failure.TheVariants.{Memory};
+    ghost use Rattle.acdm_failures.specs.declared.failure.Failure.TheVariants.{Memory};
 
     ghost from_gives = { λ _ failure. failure ≡ Memory };
 
