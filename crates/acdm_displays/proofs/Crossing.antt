@@ -6,7 +6,7 @@ use Rattle.std.proofs.Crossing.{crosses}
 use Rattle.acdm_row.proofs.Crossing.{row_send, row_sync}
 use Rattle.acdm_keeping.proofs.reach.Reach.TheSendSync as reach
 use Rattle.acdm_displays.proofs.places.Shared.TheSendSync as shared
-use Rattle.acdm_displays.proofs.following.Form.TheSendSync as form
+use Rattle.acdm_displays.proofs.displays.DisplayKind.TheSendSync as kind
 use Rattle.acdm_displays.specs.contracts.displays.Admission as admission
 use Rattle.acdm_displays.specs.contracts.displays.Showing as showing
 use Rattle.acdm_displays.specs.contracts.places.Place as place
@@ -25,7 +25,7 @@ showing_send =
         (
           search (reach.the_send, sendable, crosses) depth 20,
           (
-            search (form.the_send, sendable, crosses) depth 12,
+            search (kind.the_send, sendable, crosses) depth 12,
             (place_send, (search (sendable, crosses) depth 12, tt)),
           ),
         ),
@@ -43,7 +43,7 @@ admission_send K k =
           (
             search (reach.the_send, sendable, crosses) depth 20,
             (
-              search (form.the_send, sendable, crosses) depth 12,
+              search (kind.the_send, sendable, crosses) depth 12,
               (
                 search (shared.the_send, shared.the_sync, sendable, crosses) depth 20,
                 (search (sendable, crosses) depth 12, tt),

@@ -5,6 +5,7 @@ ghost use Rattle.acdm_displays.specs.Displayed.{Begins, CutsShort, TellsFrom, at
 ghost use Rattle.acdm_displays.specs.Within.{StaysWithin};
 
 use crate::asked::Start;
+use crate::entries::Prefix;
 use crate::following::MOST_REFUSALS;
 use crate::telling::Changes;
 use acdm_failures::Failure;
@@ -114,25 +115,25 @@ fn begin_journal<W: Write + Drop>(
 }
 
 /// Begins as a display asked: with the entry of a number, or, where not all before it are in sight, and where
-/// it asked for that, with the line of the board of all entries that are, up to so many.
+/// it asked for that, with the line of the board of all entries that are. No others than those of the prefix are shown.
 pub(crate) fn begin<W: Write + Drop>(
     alloc: Global,
     start: Start,
     teller: &mut Changes,
     watch: &mut Watch,
-    row: &Row,
-    most: usize,
+    prefix: Prefix<'_>,
     writer: &mut Sink<W>,
 ) -> Result<(), Failure>
-    requires row { row.now ≡ watch.old.row }
+    requires row { prefix.row.now ≡ watch.old.row }
     requires empty { watch.old.seen ≡ [] }
     requires knows { Knows [] teller.old.known }
     ensures row { watch.new.row ≡ watch.old.row }
     ensures begins { OnOk result (Begins teller.old.room start teller.new.known teller.new.from teller.new.room
         watch.new.seen writer.old.log writer.new.log) }
-    ensures within { OnOk result (StaysWithin most watch.old.seen watch.new.seen) }
+    ensures within { OnOk result (StaysWithin prefix.entry.most watch.old.seen watch.new.seen) }
     ensures failed { IfErr result CutsShort }
 {
+    let Prefix { row, most } = prefix;
     match start {
         Start::Entry(number) => {
             if !pass_to(watch, &mut teller.known, row, number, most)? {

@@ -8,14 +8,13 @@ ghost use Rattle.acdm_displays.specs.Displayed.{at_board_event, at_event};
 ghost use Rattle.acdm_displays.specs.Within.{StaysWithin};
 
 use crate::beginning::{pass_all, pass_to};
-use crate::entries::{Entries, most_shown, seen_of};
+use crate::entries::{Entries, Prefix, most_shown, seen_of};
 use crate::following::{MOST_REFUSALS, Shown, send_on, shown_of};
 use crate::telling::{Events, push_journal_event};
 use acdm_failures::Failure;
 use acdm_feed::{Known, push_board};
 use acdm_journal::write_whole;
 use acdm_lines::Sink;
-use acdm_row::Row;
 use acdm_watch::Watch;
 use acdm_web::{BrowserRequest, Wanted, push_answer, push_event};
 use httpdate::HttpDate;
@@ -99,25 +98,25 @@ fn begin_journal<W: Write + Drop>(
 }
 
 // Begins with the events from the entry on that comes next for a browser, where all before it are in
-// sight, else with the board after all that are. No more than so many are looked at.
+// sight, else with the board after all that are. No others than those of the prefix are looked at.
 fn begin_events<W: Write + Drop>(
     alloc: Global,
     last: Option<u64>,
     teller: &mut Events,
     watch: &mut Watch,
-    row: &Row,
-    most: usize,
+    prefix: Prefix<'_>,
     writer: &mut Sink<W>,
 ) -> Result<(), Failure>
-    requires row { row.now ≡ watch.old.row }
+    requires row { prefix.row.now ≡ watch.old.row }
     requires empty { watch.old.seen ≡ [] }
     requires knows { Knows [] teller.old.known }
     ensures row { watch.new.row ≡ watch.old.row }
     ensures begins { OnOk result (BeginsEvents teller.old.room last teller.new.known teller.new.from
         teller.new.room watch.new.seen writer.old.log writer.new.log) }
-    ensures within { OnOk result (StaysWithin most watch.old.seen watch.new.seen) }
+    ensures within { OnOk result (StaysWithin prefix.entry.most watch.old.seen watch.new.seen) }
     ensures failed { IfErr result CutsShort }
 {
+    let Prefix { row, most } = prefix;
     let Some(next) = last else {
         pass_all(watch, &mut teller.known, row, most)?;
         return begin_board(alloc, teller, watch, writer);
@@ -155,14 +154,16 @@ pub fn follow_events<R: Read, W: Write + Drop>(
         room: entries.row.len() as u64,
         line: Vec::new(alloc),
     };
-    let most = most_shown(seen.receipt);
+    let prefix = Prefix {
+        row: entries.row,
+        most: most_shown(seen.receipt),
+    };
     begin_events(
         alloc,
         last,
         &mut teller,
         &mut seen.watch,
-        entries.row,
-        most,
+        prefix,
         &mut writer,
     )?;
     send_on(alloc, &mut teller, &mut seen, entries, reader, &mut writer)?;

@@ -6,7 +6,7 @@ ghost use Rattle.acdm_displays.specs.Displayed.{WasSent, WasToldEvents, WasToldS
 use crate::asked::first_asked;
 use crate::browsing::{answer, follow_events};
 use crate::entries::Entries;
-use crate::following::{Form, MOST_REFUSALS, Shown, follow, follow_changes};
+use crate::following::{MOST_REFUSALS, Shown, follow, follow_changes};
 use crate::leaving::has_left;
 use crate::places::{Place, Shared};
 use acdm_failures::Failure;
@@ -41,6 +41,28 @@ const LAST_LOOKS: u64 = 256;
 /// For how many pauses a display that was sent all is waited for, until it is let go: a second.
 const PARTING_PAUSES: u64 = 40;
 
+/// As what text displays are sent the entries.
+#[derive(Clone, Copy, Debug, PartialEq, Eq)]
+pub enum DisplayKind {
+    /// As the journal.
+    Journal,
+    /// As the feed: what each of them says and changes, as a line of JSON.
+    Changes,
+    /// As a page for browsers, with the feed as events.
+    Web,
+}
+
+/// Where displays of a kind connect.
+#[derive(Drop)]
+pub struct DisplayListener<'a> {
+    /// Their kind.
+    pub kind: DisplayKind,
+    /// The socket that listens for them.
+    pub socket: TcpListener,
+    /// The name by which browsers may ask for the board, beside its addresses, if it has one.
+    pub name: Option<&'a str>,
+}
+
 // What a thread does.
 trait Task: Drop + Send {
     fn run(self);
@@ -57,7 +79,7 @@ struct Showing {
     alloc: Global,
     row: Arc<Row>,
     reach: Option<Reach>,
-    form: Form,
+    kind: DisplayKind,
     place: Place,
     stream: TcpStream,
 }
@@ -68,7 +90,7 @@ impl Task for Showing {
             alloc,
             row,
             reach,
-            form,
+            kind,
             place,
             stream,
         } = self;
@@ -77,21 +99,27 @@ impl Task for Showing {
             reach: reach.as_ref(),
             closing: &place.shared.closing,
         };
-        show(alloc, &entries, form, &place.shared, stream);
+        show(alloc, &entries, kind, &place.shared, stream);
         drop(place);
     }
 }
 
-// Sends a display the entries in a form, until it leaves or has all of them.
-fn show(alloc: Global, entries: &Entries<'_>, form: Form, shared: &Shared, stream: TcpStream) {
-    match form {
-        Form::Journal => {
+// Sends a display of a kind the entries, until it leaves or has all of them.
+fn show(
+    alloc: Global,
+    entries: &Entries<'_>,
+    kind: DisplayKind,
+    shared: &Shared,
+    stream: TcpStream,
+) {
+    match kind {
+        DisplayKind::Journal => {
             let _ = show_journal(alloc, entries, stream);
         }
-        Form::Changes => {
+        DisplayKind::Changes => {
             let _ = show_changes(alloc, entries, stream);
         }
-        Form::Web => {
+        DisplayKind::Web => {
             let _ = show_web(alloc, entries, shared, stream);
         }
     }
@@ -245,9 +273,9 @@ struct Admission<K: Drop> {
     alloc: Global,
     row: Arc<Row>,
     reach: Option<Reach>,
-    form: Form,
+    kind: DisplayKind,
     shared: Arc<Shared>,
-    listener: TcpListener,
+    socket: TcpListener,
 }
 
 impl<K: SystemClock + Threads + Drop + Send> Task for Admission<K> {
@@ -307,7 +335,7 @@ impl<K: SystemClock + Threads + Drop> Admission<K> {
 
     // Accepts a display, if one waits.
     fn accept(&self) -> io::Result<()> {
-        let (stream, _) = self.listener.accept()?;
+        let (stream, _) = self.socket.accept()?;
         let _ = self.admit_one(stream);
         Ok(())
     }
@@ -315,7 +343,7 @@ impl<K: SystemClock + Threads + Drop> Admission<K> {
     // Starts a thread for a display, where a place is left.
     fn admit_one(&self, stream: TcpStream) -> Result<(), Failure> {
         let Some(place) = Place::take(&self.shared)? else {
-            if self.form == Form::Web {
+            if self.kind == DisplayKind::Web {
                 let _writer = refuse_browser(self.alloc, self.shared.date(), stream)?;
             }
             return Ok(());
@@ -324,7 +352,7 @@ impl<K: SystemClock + Threads + Drop> Admission<K> {
             alloc: self.alloc,
             row: Arc::try_clone(&self.row)?,
             reach: copy_of(self.reach.as_ref())?,
-            form: self.form,
+            kind: self.kind,
             place,
             stream,
         };
@@ -333,7 +361,7 @@ impl<K: SystemClock + Threads + Drop> Admission<K> {
     }
 }
 
-/// Displays that are sent the entries of a row in a form, by threads of their own.
+/// Displays that are sent the entries of a row, by threads of their own.
 #[derive(Drop)]
 pub struct Displays {
     shared: Arc<Shared>,
@@ -341,29 +369,28 @@ pub struct Displays {
 }
 
 impl Displays {
-    /// Has each display that a listener accepts sent the entries of a row in a form, from the first one on; where
-    /// the row is kept, as far as it is. Browsers may ask for the board by this name, if there is one, beside its
-    /// addresses. The system's error where the listener can't be used, one of the kind `OutOfMemory` where memory
-    /// was refused.
+    /// Has each display that a listener accepts sent the entries of a row, from the first one on; where the row is
+    /// kept, as far as it is.
+    ///
+    /// The system's error where the socket can't be used, one of the kind `OutOfMemory` where memory was refused.
     pub fn start<Rt: SystemClock + Threads + Clone + Drop + Send + 'static>(
         rt: &Rt,
         alloc: Global,
-        form: Form,
-        listener: TcpListener,
-        name: Option<&str>,
+        listener: DisplayListener<'_>,
         row: &Arc<Row>,
         reach: Option<&Reach>,
     ) -> io::Result<Displays> {
-        listener.set_nonblocking(true)?;
+        let DisplayListener { kind, socket, name } = listener;
+        socket.set_nonblocking(true)?;
         let shared = Shared::new(alloc, name)?;
         let admission = Admission {
             rt: rt.clone()?,
             alloc,
             row: Arc::try_clone(row)?,
             reach: copy_of(reach)?,
-            form,
+            kind,
             shared: Arc::try_clone(&shared)?,
-            listener,
+            socket,
         };
         match begin(rt, admission) {
             Some(admitting) => Ok(Displays { shared, admitting }),

@@ -22,6 +22,13 @@ pub struct Entries<'a> {
     pub closing: &'a AtomicBool,
 }
 
+/// The entries of a row that may be shown to a display: the first ones, up to so many.
+#[derive(Drop)]
+pub(crate) struct Prefix<'a> {
+    pub(crate) row: &'a Row,
+    pub(crate) most: usize,
+}
+
 /// What was seen of a row, and the receipt that says that it is kept, where entries are kept.
 #[derive(Drop)]
 pub(crate) struct Seen {

@@ -9,7 +9,7 @@ ghost use Rattle.acdm_step.specs.History.{IsLegal};
 
 use crate::asked::Start;
 use crate::beginning::begin;
-use crate::entries::{Entries, Seen, most_shown, seen_of};
+use crate::entries::{Entries, Prefix, Seen, most_shown, seen_of};
 use crate::leaving::has_left;
 use crate::telling::{Changes, Journal, Telling};
 use acdm_failures::Failure;
@@ -28,17 +28,6 @@ const BUFFER: usize = 65_536;
 
 /// How often in a row a writer may take nothing in its time, until it is given up.
 pub(crate) const MOST_REFUSALS: u64 = 120;
-
-/// As what text entries are sent.
-#[derive(Clone, Copy, Debug, PartialEq, Eq)]
-pub enum Form {
-    /// As the journal.
-    Journal,
-    /// As the feed: what each of them says and changes, as a line of JSON.
-    Changes,
-    /// As a page for browsers, with the feed as events.
-    Web,
-}
 
 /// What was shown to a display: the watch that saw it, the receipt that says that it is kept, where entries
 /// are kept, and the writer that took it.
@@ -113,14 +102,16 @@ pub fn follow_changes<R: Read, W: Write + Drop>(
         room: entries.row.len() as u64,
         line: Vec::new(alloc),
     };
-    let most = most_shown(seen.receipt);
+    let prefix = Prefix {
+        row: entries.row,
+        most: most_shown(seen.receipt),
+    };
     begin(
         alloc,
         start,
         &mut teller,
         &mut seen.watch,
-        entries.row,
-        most,
+        prefix,
         &mut writer,
     )?;
     send_on(alloc, &mut teller, &mut seen, entries, reader, &mut writer)?;

@@ -13,6 +13,6 @@ mod telling;
 
 pub use asked::{Start, start_named};
 pub use browsing::{answer, follow_events};
-pub use displays::Displays;
+pub use displays::{DisplayKind, DisplayListener, Displays};
 pub use entries::Entries;
-pub use following::{Form, Shown, follow, follow_changes};
+pub use following::{Shown, follow, follow_changes};

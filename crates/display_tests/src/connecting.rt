@@ -1,6 +1,6 @@
 //! Displays over connections of this machine with itself.
 use crate::following::{TICKS, tick, ticked};
-use acdm_displays::{Displays, Form};
+use acdm_displays::{DisplayKind, DisplayListener, Displays};
 use bpf_helpers::{Bank, Helpers};
 use std::alloc::Global;
 use std::io::{Read, Write};
@@ -18,6 +18,15 @@ const PLACES: usize = 64;
 // For how many pauses a place is waited for: 10 seconds.
 const PATIENCE: u64 = 400;
 
+// Displays of the journal that connect at this socket.
+fn journals_at(socket: TcpListener) -> DisplayListener<'static> {
+    DisplayListener {
+        kind: DisplayKind::Journal,
+        socket,
+        name: None,
+    }
+}
+
 // Displays of the journal of a desk with two ticks, and where they connect.
 fn shown<
     H: Helpers + Drop,
@@ -32,11 +41,12 @@ fn shown<
 >(rt: &Rt, alloc: Global, helpers: H) -> (Displays, SocketAddr) {
     let mut desk = ticked(rt, alloc, helpers, 10);
     assert!(rt; tick(&mut desk, 9));
-    let listener = TcpListener::bind(rt, "127.0.0.1:0")
+    let socket = TcpListener::bind(rt, "127.0.0.1:0")
         .ok()
         .expect(rt, "a port");
-    let address = listener.local_addr().ok().expect(rt, "an address");
-    let displays = Displays::start(rt, alloc, Form::Journal, listener, None, desk.row(), None)
+    let address = socket.local_addr().ok().expect(rt, "an address");
+    let listener = journals_at(socket);
+    let displays = Displays::start(rt, alloc, listener, desk.row(), None)
         .ok()
         .expect(rt, "displays");
     drop(desk);
@@ -95,8 +105,8 @@ fn opened<
 >(rt: &Rt, alloc: Global, helpers: H, address: &str) -> Option<Displays> {
     let mut desk = ticked(rt, alloc, helpers, 10);
     assert!(rt; tick(&mut desk, 9));
-    let listener = TcpListener::bind(rt, address).ok()?;
-    let displays = Displays::start(rt, alloc, Form::Journal, listener, None, desk.row(), None).ok();
+    let listener = journals_at(TcpListener::bind(rt, address).ok()?);
+    let displays = Displays::start(rt, alloc, listener, desk.row(), None).ok();
     drop(desk);
     displays
 }
