@@ -15,8 +15,17 @@ use bpf_regstate::Length;
 use std::alloc::Global;
 use std::io::{self, Read, Write};
 
-/// Lists the program that the bytes of the file encode, with what is known before each slot, and
-/// its first fault where it may not run with the known helpers by these tables beside records of this
+/// The file of a program that is to be explained.
+#[derive(Clone, Copy, Debug, PartialEq, Eq)]
+pub struct ProgramFile<'a> {
+    /// Its path, as it was asked for.
+    pub path: &'a str,
+    /// The length of the records beside which the program is to run.
+    pub length: Length,
+}
+
+/// Lists the program that the bytes of the file encode, which the reader gives, with what is known before each
+/// slot, and its first fault where it may not run with the known helpers by these tables beside records of this
 /// length; or tells what is wrong with the bytes.
 ///
 /// The status is 0 for a program that is accepted and 1 for one that is refused, else 2, with a
@@ -24,19 +33,19 @@ use std::io::{self, Read, Write};
 pub fn explain_on<R: Read, W: Write, E: Write>(
     alloc: Global,
     tables: &Tables,
-    length: Length,
-    file: &str,
+    file: ProgramFile<'_>,
     reader: &mut Source<R>,
     writer: &mut Sink<W>,
     errors: &mut Sink<E>,
 ) -> u8
-    ensures { EndsBy (Explains (helpers_by tables.now) length reader.old reader.new) result errors.old errors.new
-        ⊎ FailsToRead file.now reader.old reader.new writer.old writer.new result errors.old
+    ensures { EndsBy (Explains (helpers_by tables.now) file.entry.length reader.old reader.new) result errors.old
+        errors.new ⊎ FailsToRead file.entry.path.now reader.old reader.new writer.old writer.new result errors.old
         errors.new }
 {
+    let ProgramFile { path, length } = file;
     let bytes = match bytes_of(alloc, reader, MOST_BYTES) {
         Ok(bytes) => bytes,
-        Err(BytesError::Read(error)) => return unread(alloc, file, &error, errors),
+        Err(BytesError::Read(error)) => return unread(alloc, path, &error, errors),
         Err(BytesError::Memory) => return ended(Err(Failure::Memory), errors),
     };
     ended(

@@ -9,5 +9,5 @@ mod verifying;
 
 pub use auditing::{Finding, audit_on};
 pub use bytes::{BytesError, bytes_of};
-pub use explaining::{explain_on, unread};
+pub use explaining::{ProgramFile, explain_on, unread};
 pub use verifying::{ProgramVerdict, verify_on};

@@ -256,23 +256,41 @@ fn turn_round_at(
     }
 }
 
-// A number at a key of the step of a number.
+// From which number to which one another may lie.
+#[derive(Clone, Copy)]
+struct Bounds {
+    lowest: u64,
+    highest: u64,
+}
+
+// The numbers of stands.
+const STANDS: Bounds = Bounds {
+    lowest: 0,
+    highest: 999,
+};
+
+// How many minutes the way from a stand may take.
+const TAXI_MINUTES: Bounds = Bounds {
+    lowest: 1,
+    highest: 60,
+};
+
+// A number within these bounds at a key of the step of a number.
 fn number_at(
     alloc: Global,
     step: usize,
     key: &str,
     why: Why,
-    lo: u64,
-    hi: u64,
+    bounds: Bounds,
     value: Option<&Value>,
 ) -> Result<u64, TablesError>
-    ensures { GivesView (λ x. x) result (number_at (step_path step key.now) why lo hi
+    ensures { GivesView (λ x. x) result (number_at (step_path step key.now) why bounds.lowest bounds.highest
         (option_map (λ v. view v.now) value.entry)) }
 {
     let Some(value) = value else {
         return Err(wrong_step(alloc, step, key, why));
     };
-    match whole(lo, hi, value) {
+    match whole(bounds.lowest, bounds.highest, value) {
         Some(number) => Ok(number),
         None => Err(wrong_step(alloc, step, key, why)),
     }
@@ -287,12 +305,12 @@ fn step_in(alloc: Global, number: usize, table: &Table) -> Result<(u64, u64), Ta
         return Err(wrong_key(alloc, number, key));
     }
     let stand = member(table, "from");
-    let from = match number_at(alloc, number, ".from", Why::NoStand, 0, 999, stand) {
+    let from = match number_at(alloc, number, ".from", Why::NoStand, STANDS, stand) {
         Ok(from) => from,
         Err(error) => return Err(error),
     };
     let taxi = member(table, "minutes");
-    match number_at(alloc, number, ".minutes", Why::NoTaxi, 1, 60, taxi) {
+    match number_at(alloc, number, ".minutes", Why::NoTaxi, TAXI_MINUTES, taxi) {
         Ok(minutes) => Ok((from, minutes)),
         Err(error) => Err(error),
     }
