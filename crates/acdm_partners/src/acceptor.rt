@@ -2,10 +2,9 @@
 use crate::control::{BoardState, Control, Standing};
 use crate::doors::Door;
 use crate::levels::Levels;
-use crate::line_queue::LineQueue;
 use crate::reporter::Reporter;
 use crate::times::{LAST_PAUSES, PAUSE};
-use std::alloc::{AllocError, Global};
+use std::alloc::AllocError;
 use std::net::Shutdown;
 use std::sync::atomic::{AtomicBool, Ordering};
 use std::sync::{Arc, Wait};
@@ -32,20 +31,18 @@ pub struct Acceptor<K: Drop, S: Drop> {
 }
 
 impl<K: Wait + Clock + Drop, S: Standing + Drop> Acceptor<K, S> {
-    /// One for these addresses, which tells on standard error by the first, and in the log by the second, if there is
-    /// one. The word tells that the board closes.
+    /// One for these addresses, and for this control address, if there is one. What is to be told of them and of the
+    /// journal goes to the reporter. The word tells that the board closes.
     pub fn new(
-        rt: K,
-        alloc: Global,
-        (errors, log): (LineQueue, Option<LineQueue>),
+        reporter: Reporter<K>,
         doors: Vec<Door>,
         control: Option<Control>,
         standing: S,
         closing: Arc<AtomicBool>,
     ) -> Result<Acceptor<K, S>, AllocError> {
-        let done = Arc::new(alloc, AtomicBool::new(false))?;
+        let done = Arc::new(reporter.alloc, AtomicBool::new(false))?;
         Ok(Acceptor {
-            reporter: Reporter::new(rt, alloc, errors, log),
+            reporter,
             doors,
             control,
             standing,

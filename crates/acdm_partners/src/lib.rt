@@ -40,5 +40,6 @@ pub use patient::Patient;
 pub use places::{PartnerPlace, Terms};
 pub use reader::WholeLines;
 pub use replies::PartnerReplies;
+pub use reporter::Reporter;
 pub use request::{ControlRequest, control_request};
 pub use times::PATIENCE;

@@ -19,9 +19,10 @@ pub(crate) struct SessionName {
     pub(crate) is_spoken: bool,
 }
 
-/// Tells lines with their moments.
+/// Tells who comes and leaves and how full the journal is, each in a line with its moment: on standard error, and in the
+/// log of an operator, if there is one.
 #[derive(Drop)]
-pub(crate) struct Reporter<K: Drop> {
+pub struct Reporter<K: Drop> {
     pub(crate) rt: K,
     pub(crate) alloc: Global,
     errors: LineQueue,
@@ -32,13 +33,8 @@ pub(crate) struct Reporter<K: Drop> {
 }
 
 impl<K: Wait + Clock + Drop> Reporter<K> {
-    /// One that hands its lines to these.
-    pub(crate) fn new(
-        rt: K,
-        alloc: Global,
-        errors: LineQueue,
-        log: Option<LineQueue>,
-    ) -> Reporter<K> {
+    /// One that hands its lines to these queues: that of standard error, and that of the log, if there is one.
+    pub fn new(rt: K, alloc: Global, errors: LineQueue, log: Option<LineQueue>) -> Reporter<K> {
         let stopwatch = Stopwatch::begin(&rt);
         Reporter {
             rt,

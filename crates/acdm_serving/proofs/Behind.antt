@@ -1,9 +1,10 @@
 -- The sessions of partners, and behind them that of ticks.
-use Rattle.std.proofs.Common.{◌≡◌, ℕ, ◌≤◌, Bool, List, [], ◌∷◌, ◌++◌, length, map, Option, ap, ◌∙◌, arith, length-append}
+use Rattle.std.proofs.Common.{◌≡◌, ℕ, ◌≤◌, Bool, List, [], ◌∷◌, ◌++◌, length, map, Option, ap, sym, ◌∙◌, arith}
+use Rattle.std.proofs.Common.{append-nil, length-append}
 use Rattle.std.proofs.lemmas.List.{map-append, length-map}
-use Rattle.acdm_milestones.specs.declared.role.Role.{Role}
 use Rattle.acdm_sessions.specs.Sessions.{SessionStart, new_session}
 use Rattle.acdm_serving.specs.Partners.{starts_of, tick_starts}
+use Rattle.acdm_serving.specs.declared.partners.Listener.{Listener}
 
 -- one session more, of which it is known how it starts
 pub one_start : {S : Type 0} (start : S → SessionStart) (sessions later : List S) (session : S) (one : SessionStart)
@@ -12,13 +13,19 @@ one_start start sessions later session one grown same =
     ap (map start) grown ∙ map-append start sessions (session ∷ [])
     ∙ ap (λ s. map start sessions ++ s ∷ []) same
 
+-- what was made of each is what is asked, where none is left
+pub none_left : {S P X : Type 0} (made : S → X) (asked : P → X) (done : List S) (rest : List P) (all : List X)
+    → rest ≡ [] → map made done ++ map asked rest ≡ all → map made done ≡ all
+none_left made asked done rest all none sofar =
+    sym (append-nil (map made done)) ∙ ap (λ xs. map made done ++ map asked xs) (sym none) ∙ sofar
+
 -- partners are no more than all sessions
-pub few_partners : {L C : Type 0} (gives : C → ℕ → Bool) (partners : List (Role × L × C)) (ticks : Option C) (n : ℕ)
-    → length (starts_of gives partners ticks) ≤ n → length partners ≤ n
-few_partners gives partners ticks n few =
+pub few_partners : {C : Type 0} (gives : C → ℕ → Bool) (listeners : List (Listener C)) (ticks : Option C) (n : ℕ)
+    → length (starts_of gives listeners ticks) ≤ n → length listeners ≤ n
+few_partners gives listeners ticks n few =
     omega (
       arith,
       few,
-      length-append (map (λ p. new_session p.0 (gives p.2)) partners) (tick_starts gives ticks),
-      length-map partners (λ p. new_session p.0 (gives p.2)),
+      length-append (map (λ l. new_session l.role (gives l.clock)) listeners) (tick_starts gives ticks),
+      length-map listeners (λ l. new_session l.role (gives l.clock)),
     )

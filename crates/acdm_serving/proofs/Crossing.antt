@@ -28,9 +28,9 @@ use Rattle.acdm_keeping.proofs.synced.Synced.TheSendSync as synced
 use Rattle.acdm_keeping.specs.contracts.synced.Synced as of_synced
 use Rattle.acdm_keeping.specs.contracts.replies.Replies as behind
 use Rattle.acdm_keeping.specs.declared.receipt.Opening as opening
-use Rattle.acdm_serving.specs.contracts.lasting.Answering as answering
-use Rattle.acdm_serving.specs.contracts.lasting.Reading as either
-use Rattle.acdm_serving.specs.contracts.lasting.Tally as tally
+use Rattle.acdm_serving.specs.contracts.reconnecting.Answering as answering
+use Rattle.acdm_serving.specs.contracts.reconnecting.Reading as either
+use Rattle.acdm_serving.specs.contracts.reconnecting.Tally as tally
 use Rattle.acdm_serving.specs.contracts.ticks.Ticks as ticks
 use Rattle.acdm_serving.specs.contracts.ticks.Ticks.TheInside as ticks_inside
 use Rattle.acdm_serving.specs.contracts.ticks.Timer as timer

@@ -13,6 +13,7 @@ use Rattle.acdm_wire.specs.Writes.{Writes, Wrote}
 use Rattle.acdm_sessions.specs.Sessions.{SessionStart, SessionTold, new_session}
 use Rattle.acdm_sessions.specs.declared.session.End.{End}
 use Rattle.acdm_sessions.specs.declared.session.End.TheVariants as ends
+use Rattle.acdm_serving.specs.declared.partners.Listener.{Listener}
 
 -- ---- the sessions
 
@@ -22,8 +23,8 @@ tick_starts gives None = []
 tick_starts gives (Some clock) = new_session AirportOperator (gives clock) ∷ []
 
 -- those of partners at listeners, in order, and behind them that one
-abbrev pub starts_of : {L C : Type 0} → (C → ℕ → Bool) → List (Role × L × C) → Option C → List SessionStart
-starts_of gives partners ticks = map (λ p. new_session p.0 (gives p.2)) partners ++ tick_starts gives ticks
+abbrev pub starts_of : {C : Type 0} → (C → ℕ → Bool) → List (Listener C) → Option C → List SessionStart
+starts_of gives listeners ticks = map (λ l. new_session l.role (gives l.clock)) listeners ++ tick_starts gives ticks
 
 -- ---- what is told
 

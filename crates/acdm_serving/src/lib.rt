@@ -4,13 +4,14 @@
 #![tactic(auto)]
 
 mod host;
-mod lasting;
 mod partners;
+mod reconnecting;
 mod ticks;
 
 pub use host::Host;
-pub use lasting::{
-    Answering, FileKeeper, KeptReplyWriter, Operation, Partners, Reading, Ticking, serve_again,
+pub use partners::{Listener, ReplyWriter, ServedPartners, serve_on, serve_partners};
+pub use reconnecting::{
+    Answering, FileKeeper, KeptReplyWriter, Operation, Partners, Reading, Ticking,
+    serve_reconnecting,
 };
-pub use partners::{ReplyWriter, ServedPartners, serve_on, serve_partners};
 pub use ticks::{Beat, Ticks, Timer};

@@ -70,6 +70,17 @@ impl Gate for Connections {
     }
 }
 
+/// Where the partner of a session connects.
+#[derive(Drop)]
+pub struct Listener<C: Drop> {
+    /// The role of the partner.
+    pub role: Role,
+    /// The socket that listens for it.
+    pub socket: TcpListener,
+    /// The clock of its session.
+    pub clock: C,
+}
+
 /// What partners who were served leave.
 #[derive(Drop)]
 pub struct ServedPartners<H: Helpers + Drop, R: Read + Drop, S: Write + Drop, C: Drop> {
@@ -110,7 +121,8 @@ pub fn serve_on<
         (length c.desk.history) writer.old writer.new (Ok tt)) }
     ensures fails { IfErr result (FailsToTell writer.old writer.new) }
 {
-    let served = serve_partners(rt, alloc, partners, desk, writer)?;
+    let listeners = listeners_of(alloc, partners)?;
+    let served = serve_partners(rt, alloc, listeners, desk, writer)?;
     match served.told {
         Ok(()) => Ok(Closed {
             desk: served.desk,
@@ -120,7 +132,34 @@ pub fn serve_on<
     }
 }
 
-/// The same, but that a writer that fails once all partners are gone is told beside what they leave.
+// The listeners of partners. `Memory` where it was refused.
+fn listeners_of<C: Clock + Drop>(
+    alloc: Global,
+    partners: Vec<(Role, TcpListener, C)>,
+) -> Result<Vec<Listener<C>>, ServeError>
+    ensures len { IfOk result (λ listeners. vec_len listeners ≡ vec_len partners) }
+    ensures roles { IfOk result (λ listeners. map (λ l. l.role) listeners.items
+        ≡ map (λ p. p.0) partners.items) }
+    ensures starts { IfOk result (λ listeners. map (λ l. new_session l.role (C.gives l.clock)) listeners.items
+        ≡ map (λ p. new_session p.0 (C.gives p.2)) partners.items) }
+    ensures memory { IfErr result (λ error. error ≡ Memory) }
+{
+    let Ok(mut listeners) = Vec::with_capacity(alloc, partners.len()) else {
+        return Err(ServeError::Memory);
+    };
+    for partner in partners {
+        let (role, socket, clock) = partner;
+        listeners.push_reserved(Listener {
+            role,
+            socket,
+            clock,
+        });
+    }
+    Ok(listeners)
+}
+
+/// The same over these listeners, but that a writer that fails once all partners are gone is told beside what they
+/// leave.
 pub fn serve_partners<
     Rt: Threads + Wait + Sync,
     H: Helpers + Drop + Send,
@@ -129,16 +168,16 @@ pub fn serve_partners<
 >(
     rt: &Rt,
     alloc: Global,
-    partners: Vec<(Role, TcpListener, C)>,
+    listeners: Vec<Listener<C>>,
     desk: Desk<H>,
     writer: &mut Sink<W>,
 ) -> Result<ServedPartners<H, TcpStream, ReplyWriter, C>, ServeError>
-    requires few { vec_len partners ≤ 64 }
+    requires few { vec_len listeners ≤ 64 }
     ensures serves { IfOk result (λ c. ServesSessions desk c.desk
-        (map (λ p. new_session p.0 (C.gives p.2)) partners.items)
+        (map (λ l. new_session l.role (C.gives l.clock)) listeners.items)
         (map (λ e. session_told e.number e.role e.calls e.end e.torn e.reader e.writer e.pass)
         c.sessions.items)) }
-    ensures tells { IfOk result (λ c. TellsPartners (map (λ p. p.0) partners.items)
+    ensures tells { IfOk result (λ c. TellsPartners (map (λ l. l.role) listeners.items)
         (flat_map (λ e. session_text e.number e.calls e.end e.torn) c.sessions.items)
         (length c.desk.history) writer.old writer.new c.told) }
     ensures fails { IfErr result (FailsToTell writer.old writer.new) }
@@ -146,8 +185,10 @@ pub fn serve_partners<
     let mut connections = Connections {
         streams: Vec::new(alloc),
     };
-    let sessions = arrived(alloc, partners, &mut connections, writer)?;
-    let closed = served_by(rt, alloc, desk, sessions, &connections)?;
+    let sessions = arrived(alloc, listeners, &mut connections, writer)?;
+    let Ok(closed) = serve_sessions(rt, alloc, desk, sessions, &connections) else {
+        return Err(ServeError::Memory);
+    };
     let told = tell(&closed, writer);
     let Closed { desk, sessions } = closed;
     Ok(ServedPartners {
@@ -160,50 +201,22 @@ pub fn serve_partners<
 // Tells of the listeners, and accepts a partner on each.
 fn arrived<C: Clock + Drop, W: Write>(
     alloc: Global,
-    partners: Vec<(Role, TcpListener, C)>,
+    listeners: Vec<Listener<C>>,
     connections: &mut Connections,
     writer: &mut Sink<W>,
 ) -> Result<Vec<Session<TcpStream, ReplyWriter, C>>, ServeError>
-    requires few { vec_len partners ≤ 64 }
-    ensures len { IfOk result (λ sessions. vec_len sessions ≡ vec_len partners) }
+    requires few { vec_len listeners ≤ 64 }
+    ensures len { IfOk result (λ sessions. vec_len sessions ≡ vec_len listeners) }
     ensures roles { IfOk result (λ sessions. map (λ s. s.role) sessions.items
-        ≡ map (λ p. p.0) partners.items) }
+        ≡ map (λ l. l.role) listeners.items) }
     ensures starts { IfOk result (λ sessions. map (λ s. session_start s.role s.reader s.writer
         (C.gives s.clock)) sessions.items
-        ≡ map (λ p. new_session p.0 (C.gives p.2)) partners.items) }
-    ensures tells { OnOk result (Announces (map (λ p. p.0) partners.items) writer.old writer.new) }
+        ≡ map (λ l. new_session l.role (C.gives l.clock)) listeners.items) }
+    ensures tells { OnOk result (Announces (map (λ l. l.role) listeners.items) writer.old writer.new) }
     ensures fails { IfErr result (FailsToTell writer.old writer.new) }
 {
-    announce(alloc, partners.as_slice(), writer)?;
-    accept_all(alloc, partners, connections)
-}
-
-/// Serves all sessions. `Memory` where it was refused before they began.
-pub(crate) fn served_by<
-    Rt: Threads + Wait + Sync,
-    H: Helpers + Drop + Send,
-    R: Read + Drop + Send,
-    S: Write + Drop + Send,
-    C: Clock + Drop + Send,
-    G: Gate + Sync,
->(
-    rt: &Rt,
-    alloc: Global,
-    desk: Desk<H>,
-    sessions: Vec<Session<R, S, C>>,
-    gate: &G,
-) -> Result<Closed<H, R, S, C>, ServeError>
-    requires few { vec_len sessions ≤ 64 }
-    ensures serves { IfOk result (λ c. ServesSessions desk c.desk
-        (map (λ s. session_start s.role s.reader s.writer (C.gives s.clock)) sessions.items)
-        (map (λ e. session_told e.number e.role e.calls e.end e.torn e.reader e.writer e.pass)
-        c.sessions.items)) }
-    ensures fails { IfErr result IsOfAccepting }
-{
-    match serve_sessions(rt, alloc, desk, sessions, gate) {
-        Ok(closed) => Ok(closed),
-        Err(_desk) => Err(ServeError::Memory),
-    }
+    announce(alloc, listeners.as_slice(), writer)?;
+    accept_all(alloc, listeners, connections)
 }
 
 // The line of a listener.
@@ -227,19 +240,18 @@ fn listen_line(
 }
 
 // Writes the line of a listener.
-fn announce_one<W: Write>(
+fn announce_one<C: Drop, W: Write>(
     alloc: Global,
     number: usize,
-    role: Role,
-    listener: &TcpListener,
+    listener: &Listener<C>,
     writer: &mut Sink<W>,
 ) -> Result<(), ServeError>
-    ensures { AnnouncesOne number role writer.old writer.new result }
+    ensures { AnnouncesOne number listener.now.role writer.old writer.new result }
 {
-    let Ok(address) = listener.local_addr() else {
+    let Ok(address) = listener.socket.local_addr() else {
         return Err(ServeError::Accept(number));
     };
-    let line = listen_line(alloc, number, role, address)?;
+    let line = listen_line(alloc, number, listener.role, address)?;
     match write_out(writer, line.as_slice()) {
         Ok(()) => Ok(()),
         Err(_) => Err(ServeError::Write),
@@ -247,19 +259,19 @@ fn announce_one<W: Write>(
 }
 
 /// Writes the line of each listener.
-pub(crate) fn announce<C, W: Write>(
+pub(crate) fn announce<C: Drop, W: Write>(
     alloc: Global,
-    partners: &[(Role, TcpListener, C)],
+    listeners: &[Listener<C>],
     writer: &mut Sink<W>,
 ) -> Result<(), ServeError>
-    requires few { length partners.now ≤ 64 }
-    ensures tells { OnOk result (Announces (map (λ p. p.0) partners.now) writer.old writer.new) }
+    requires few { length listeners.now ≤ 64 }
+    ensures tells { OnOk result (Announces (map (λ l. l.role) listeners.now) writer.old writer.new) }
     ensures fails { IfErr result (FailsToTell writer.old writer.new) }
 {
     let mut number = 1;
-    let mut rest = partners;
-    while let Some(((role, listener, _), more)) = rest.split_first() {
-        announce_one(alloc, number, *role, listener, writer)?;
+    let mut rest = listeners;
+    while let Some((listener, more)) = rest.split_first() {
+        announce_one(alloc, number, listener, writer)?;
         number += 1;
         rest = more;
     }
@@ -269,23 +281,23 @@ pub(crate) fn announce<C, W: Write>(
 // Accepts a partner on each listener, in order.
 fn accept_all<C: Clock + Drop>(
     alloc: Global,
-    partners: Vec<(Role, TcpListener, C)>,
+    listeners: Vec<Listener<C>>,
     connections: &mut Connections,
 ) -> Result<Vec<Session<TcpStream, ReplyWriter, C>>, ServeError>
-    ensures len { IfOk result (λ sessions. vec_len sessions ≡ vec_len partners) }
+    ensures len { IfOk result (λ sessions. vec_len sessions ≡ vec_len listeners) }
     ensures roles { IfOk result (λ sessions. map (λ s. s.role) sessions.items
-        ≡ map (λ p. p.0) partners.items) }
+        ≡ map (λ l. l.role) listeners.items) }
     ensures starts { IfOk result (λ sessions. map (λ s. session_start s.role s.reader s.writer
         (C.gives s.clock)) sessions.items
-        ≡ map (λ p. new_session p.0 (C.gives p.2)) partners.items) }
+        ≡ map (λ l. new_session l.role (C.gives l.clock)) listeners.items) }
     ensures fails { IfErr result IsOfAccepting }
 {
-    let Ok(mut sessions) = Vec::with_capacity(alloc, partners.len()) else {
+    let Ok(mut sessions) = Vec::with_capacity(alloc, listeners.len()) else {
         return Err(ServeError::Memory);
     };
-    for partner in partners {
+    for listener in listeners {
         let number = sessions.len() + 1;
-        sessions.push_reserved(accept(alloc, number, partner, connections)?);
+        sessions.push_reserved(accept(alloc, number, listener, connections)?);
     }
     Ok(sessions)
 }
@@ -294,16 +306,20 @@ fn accept_all<C: Clock + Drop>(
 fn accept<C: Clock + Drop>(
     alloc: Global,
     number: usize,
-    partner: (Role, TcpListener, C),
+    listener: Listener<C>,
     connections: &mut Connections,
 ) -> Result<Session<TcpStream, ReplyWriter, C>, ServeError>
-    ensures role { IfOk result (λ session. session.role ≡ partner.0) }
+    ensures role { IfOk result (λ session. session.role ≡ listener.role) }
     ensures start { IfOk result (λ s. session_start s.role s.reader s.writer (C.gives s.clock)
-        ≡ new_session partner.0 (C.gives partner.2)) }
+        ≡ new_session listener.role (C.gives listener.clock)) }
     ensures fails { IfErr result IsOfAccepting }
 {
-    let (role, listener, clock) = partner;
-    let Ok((stream, _)) = listener.accept() else {
+    let Listener {
+        role,
+        socket,
+        clock,
+    } = listener;
+    let Ok((stream, _)) = socket.accept() else {
         return Err(ServeError::Accept(number));
     };
     let Ok(same) = stream.try_clone() else {

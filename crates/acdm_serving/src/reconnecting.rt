@@ -1,6 +1,6 @@
 //! Partners who come and go, and a control address.
 ghost use Rattle.std.specs.Prelude.{◌≡◌, ◌+◌, ◌++◌, ◌≤◌, IfOk, IfErr, OnOk, length, map, option_map};
-ghost use Rattle.std.specs.Prelude.{vec_len};
+ghost use Rattle.std.specs.Prelude.{true, None, vec_len};
 ghost use Rattle.std.specs.List.{flat_map};
 ghost use Rattle.acdm_serving.specs.Partners.{Announces, FailsToTell, IsOfAccepting, TellsPartners};
 ghost use Rattle.acdm_serving.specs.Partners.{session_text, starts_of, tick_starts};
@@ -9,15 +9,16 @@ ghost use Rattle.acdm_sessions.specs.Sessions.{session_told};
 ghost use Rattle.acdm_serving.specs.Outcomes.{outcome_of};
 
 use crate::host::Host;
-use crate::partners::{REPLIES_HELD, ServedPartners, announce, served_by, tell};
+use crate::partners::{Listener, REPLIES_HELD, ServedPartners, announce, tell};
 use crate::ticks::{Ticks, Timer};
 use acdm_board::Desk;
 use acdm_failures::ServeError;
+use acdm_headline::serve_sessions;
 use acdm_keeping::{Named, Opening, Paths, Replies, SharedKeeper, Synced};
 use acdm_milestones::Role;
 use acdm_partners::{
     Acceptor, Arriving, Connection, Control, Door, LineOutcome, LineQueue, PartnerPlace,
-    PartnerReplies, Reception, Standing, Terms, WholeLines,
+    PartnerReplies, Reception, Reporter, Standing, Terms, WholeLines,
 };
 use acdm_row::Row;
 use acdm_sessions::{Answer, Clock, Closed, Gate, Session, Sink, Source};
@@ -83,8 +84,8 @@ pub type KeptReplyWriter<'r, J, Rt> = BufWriter<Replies<'r, Synced<Rt>, J, Answe
 /// it gives any.
 #[derive(Drop)]
 pub struct Partners<C: Drop> {
-    /// The role, the listener and the clock of each.
-    pub listeners: Vec<(Role, TcpListener, C)>,
+    /// Where they connect.
+    pub listeners: Vec<Listener<C>>,
     /// The ticks.
     pub ticks: Option<Ticking<C>>,
 }
@@ -98,16 +99,38 @@ pub struct Ticking<C: Drop> {
     pub clock: C,
 }
 
-/// How a board is run whose partners come and go: by which terms they are served, where it can be closed, the word
-/// that says that it closes, the file in which its journal is kept, if it is, and the path of the file in which it
-/// logs what its operator is told, if it does.
+/// How a board is run whose partners come and go.
 #[derive(Drop)]
-pub struct Operation {
+pub struct Operation<'r, J: Opening, Rt: Host> {
+    /// By which terms they are served.
     pub terms: Terms,
+    /// Where it can be closed and asked how it is, if it can be.
     pub control: Option<Control>,
+    /// The word that says that it closes.
     pub closing: Arc<AtomicBool>,
+    /// The file in which its journal is kept, if it is.
     pub kept: Option<Named>,
+    /// Who keeps its journal there, if it is kept.
+    pub keeper: Option<&'r FileKeeper<J, Rt>>,
+    /// The path of the file in which it logs what its operator is told, if it does.
     pub log: Option<String>,
+}
+
+impl<J: Opening, Rt: Host> Operation<'_, J, Rt> {
+    /// Whether nothing of it was asked for: each session ends with its connection, lines are taken at any pace,
+    /// nothing is kept or logged, and there is no control address. Partners of such a board, where it gives no ticks,
+    /// are served by `serve_partners` too.
+    pub fn is_plain(&self) -> bool
+        ensures kept { result ≡ true → self.now.kept ≡ None }
+        ensures keeper { result ≡ true → self.now.keeper ≡ None }
+    {
+        !self.terms.again
+            && self.terms.pace.is_none()
+            && self.control.is_none()
+            && self.kept.is_none()
+            && self.keeper.is_none()
+            && self.log.is_none()
+    }
 }
 
 // Where partners connect, in the order of their sessions.
@@ -129,13 +152,13 @@ impl Addresses {
     }
 
     // Opens the address of a session, and says where its partner connects.
-    fn add(
+    fn add<J: Opening, Rt: Host>(
         &mut self,
         alloc: Global,
         number: usize,
         role: Role,
-        listener: TcpListener,
-        operation: &Operation,
+        socket: TcpListener,
+        operation: &Operation<'_, J, Rt>,
     ) -> Result<Arc<PartnerPlace>, ServeError>
         ensures fails { IfErr result IsOfAccepting }
     {
@@ -145,7 +168,7 @@ impl Addresses {
         let (Ok(kept), Ok(given)) = (Arc::try_clone(&place), Arc::try_clone(&place)) else {
             return Err(ServeError::Memory);
         };
-        let Ok(door) = Door::new(alloc, number, role.name(), MOST_KEPT, place, listener) else {
+        let Ok(door) = Door::new(alloc, number, role.name(), MOST_KEPT, place, socket) else {
             return Err(ServeError::Memory);
         };
         let Some(door) = door else {
@@ -334,8 +357,7 @@ fn session_ticking<'r, J: Opening, Rt: Host, C: Clock + Drop>(
     rt: &'r Rt,
     alloc: Global,
     ticks: Ticking<C>,
-    operation: &Operation,
-    keeper: Option<&'r FileKeeper<J, Rt>>,
+    operation: &Operation<'r, J, Rt>,
 ) -> Result<Session<Reading<'r, Rt>, KeptReplyWriter<'r, J, Rt>, C>, ServeError>
     ensures start { IfOk result (λ s. session_start s.role s.reader s.writer (C.gives s.clock)
         ≡ new_session Role.AirportOperator (C.gives ticks.clock)) }
@@ -349,7 +371,8 @@ fn session_ticking<'r, J: Opening, Rt: Host, C: Clock + Drop>(
         Reading::Ticks(Ticks::new(Timer::new(rt, seconds, closing))),
         Answering::Nobody,
     );
-    session_of(rt, alloc, Role::AirportOperator, ends, keeper, clock)
+    let role = Role::AirportOperator;
+    session_of(rt, alloc, role, ends, operation.keeper, clock)
 }
 
 // Adds that session, if there is one, for which there is room.
@@ -357,8 +380,7 @@ fn add_ticks<'r, J: Opening, Rt: Host, C: Clock + Drop>(
     rt: &'r Rt,
     alloc: Global,
     ticks: Option<Ticking<C>>,
-    operation: &Operation,
-    keeper: Option<&'r FileKeeper<J, Rt>>,
+    operation: &Operation<'r, J, Rt>,
     sessions: &mut Vec<Session<Reading<'r, Rt>, KeptReplyWriter<'r, J, Rt>, C>>,
 ) -> Result<(), ServeError>
     ensures starts { OnOk result (map (λ s. session_start s.role s.reader s.writer
@@ -370,7 +392,7 @@ fn add_ticks<'r, J: Opening, Rt: Host, C: Clock + Drop>(
     let Some(ticks) = ticks else {
         return Ok(());
     };
-    let session = session_ticking(rt, alloc, ticks, operation, keeper)?;
+    let session = session_ticking(rt, alloc, ticks, operation)?;
     match sessions.push(session) {
         Ok(()) => {}
         Err(_) => return Err(ServeError::Memory),
@@ -383,55 +405,57 @@ fn open<'r, J: Opening, Rt: Host, C: Clock + Drop>(
     rt: &'r Rt,
     alloc: Global,
     number: usize,
-    partner: (Role, TcpListener, C),
-    operation: &Operation,
-    keeper: Option<&'r FileKeeper<J, Rt>>,
+    listener: Listener<C>,
+    operation: &Operation<'r, J, Rt>,
     addresses: &mut Addresses,
 ) -> Result<Session<Reading<'r, Rt>, KeptReplyWriter<'r, J, Rt>, C>, ServeError>
-    ensures role { IfOk result (λ session. session.role ≡ partner.0) }
+    ensures role { IfOk result (λ session. session.role ≡ listener.role) }
     ensures start { IfOk result (λ s. session_start s.role s.reader s.writer (C.gives s.clock)
-        ≡ new_session partner.0 (C.gives partner.2)) }
+        ≡ new_session listener.role (C.gives listener.clock)) }
     ensures fails { IfErr result IsOfAccepting }
 {
-    let (role, listener, clock) = partner;
-    let place = addresses.add(alloc, number, role, listener, operation)?;
-    session_at(rt, alloc, role, place, keeper, clock)
+    let Listener {
+        role,
+        socket,
+        clock,
+    } = listener;
+    let place = addresses.add(alloc, number, role, socket, operation)?;
+    session_at(rt, alloc, role, place, operation.keeper, clock)
 }
 
 // Opens the address of each partner, in order, and its session.
 fn open_all<'r, J: Opening, Rt: Host, C: Clock + Drop>(
     rt: &'r Rt,
     alloc: Global,
-    partners: Vec<(Role, TcpListener, C)>,
-    operation: &Operation,
-    keeper: Option<&'r FileKeeper<J, Rt>>,
+    listeners: Vec<Listener<C>>,
+    operation: &Operation<'r, J, Rt>,
     addresses: &mut Addresses,
 ) -> Result<Vec<Session<Reading<'r, Rt>, KeptReplyWriter<'r, J, Rt>, C>>, ServeError>
-    ensures len { IfOk result (λ sessions. vec_len sessions ≡ vec_len partners) }
+    ensures len { IfOk result (λ sessions. vec_len sessions ≡ vec_len listeners) }
     ensures roles { IfOk result (λ sessions. map (λ s. s.role) sessions.items
-        ≡ map (λ p. p.0) partners.items) }
+        ≡ map (λ l. l.role) listeners.items) }
     ensures starts { IfOk result (λ sessions. map (λ s. session_start s.role s.reader s.writer
         (C.gives s.clock)) sessions.items
-        ≡ map (λ p. new_session p.0 (C.gives p.2)) partners.items) }
+        ≡ map (λ l. new_session l.role (C.gives l.clock)) listeners.items) }
     ensures fails { IfErr result IsOfAccepting }
 {
-    let Ok(mut sessions) = Vec::with_capacity(alloc, partners.len()) else {
+    let Ok(mut sessions) = Vec::with_capacity(alloc, listeners.len()) else {
         return Err(ServeError::Memory);
     };
-    for partner in partners {
+    for listener in listeners {
         let number = sessions.len() + 1;
-        let session = open(rt, alloc, number, partner, operation, keeper, addresses)?;
+        let session = open(rt, alloc, number, listener, operation, addresses)?;
         sessions.push_reserved(session);
     }
     Ok(sessions)
 }
 
 // Who accepts partners and answers at the control address.
-fn acceptor_of<Rt: Host>(
+fn acceptor_of<J: Opening, Rt: Host>(
     rt: &Rt,
     alloc: Global,
     addresses: (Vec<Door>, Option<u32>),
-    operation: Operation,
+    operation: Operation<'_, J, Rt>,
     row: &Arc<Row>,
 ) -> Result<Acceptor<Rt, Tally<Rt>>, AllocError> {
     let Operation {
@@ -453,16 +477,16 @@ fn acceptor_of<Rt: Host>(
         Some(path) => Some(LineQueue::at_file(rt, rt.clone()?, alloc, path)?),
         None => None,
     };
-    let queues = (errors, log);
-    Acceptor::new(rt.clone()?, alloc, queues, doors, control, tally, closing)
+    let reporter = Reporter::new(rt.clone()?, alloc, errors, log);
+    Acceptor::new(reporter, doors, control, tally, closing)
 }
 
 // Starts the thread that accepts partners and answers at the control address.
-fn receive<Rt: Host>(
+fn receive<J: Opening, Rt: Host>(
     rt: &Rt,
     alloc: Global,
     addresses: (Vec<Door>, Option<u32>),
-    operation: Operation,
+    operation: Operation<'_, J, Rt>,
     row: &Arc<Row>,
 ) -> Result<Reception, ServeError>
     ensures fails { IfErr result IsOfAccepting }
@@ -481,8 +505,7 @@ fn opened<'r, J: Opening, Rt: Host, C: Clock + Drop, W: Write>(
     rt: &'r Rt,
     alloc: Global,
     partners: Partners<C>,
-    operation: &Operation,
-    keeper: Option<&'r FileKeeper<J, Rt>>,
+    operation: &Operation<'r, J, Rt>,
     addresses: &mut Addresses,
     writer: &mut Sink<W>,
 ) -> Result<Vec<Session<Reading<'r, Rt>, KeptReplyWriter<'r, J, Rt>, C>>, ServeError>
@@ -490,7 +513,7 @@ fn opened<'r, J: Opening, Rt: Host, C: Clock + Drop, W: Write>(
     ensures starts { IfOk result (λ sessions. map (λ s. session_start s.role s.reader s.writer
         (C.gives s.clock)) sessions.items
         ≡ starts_of C.gives partners.listeners.items (option_map (λ t. t.clock) partners.ticks)) }
-    ensures tells { OnOk result (Announces (map (λ p. p.0) partners.listeners.items) writer.old writer.new) }
+    ensures tells { OnOk result (Announces (map (λ l. l.role) partners.listeners.items) writer.old writer.new) }
     ensures fails { IfErr result (FailsToTell writer.old writer.new) }
 {
     let Partners { listeners, ticks } = partners;
@@ -499,8 +522,8 @@ fn opened<'r, J: Opening, Rt: Host, C: Clock + Drop, W: Write>(
         None => None,
     };
     announce(alloc, listeners.as_slice(), writer)?;
-    let mut sessions = open_all(rt, alloc, listeners, operation, keeper, addresses)?;
-    match add_ticks(rt, alloc, ticks, operation, keeper, &mut sessions) {
+    let mut sessions = open_all(rt, alloc, listeners, operation, addresses)?;
+    match add_ticks(rt, alloc, ticks, operation, &mut sessions) {
         Ok(()) => Ok(sessions),
         Err(error) => Err(error),
     }
@@ -519,7 +542,7 @@ fn served_while<
     desk: Desk<H>,
     sessions: Vec<Session<Reading<'r, Rt>, KeptReplyWriter<'r, J, Rt>, C>>,
     addresses: Addresses,
-    operation: Operation,
+    operation: Operation<'r, J, Rt>,
 ) -> Result<Closed<H, Reading<'r, Rt>, KeptReplyWriter<'r, J, Rt>, C>, ServeError>
     requires few { vec_len sessions ≤ 64 }
     ensures serves { IfOk result (λ c. ServesSessions desk c.desk
@@ -543,9 +566,12 @@ fn served_while<
         closing,
     };
     let reception = receive(rt, alloc, (doors, ticks), operation, desk.row())?;
-    let closed = served_by(rt, alloc, desk, sessions, &places);
+    let served = serve_sessions(rt, alloc, desk, sessions, &places);
     reception.end(rt);
-    closed
+    match served {
+        Ok(closed) => Ok(closed),
+        Err(_desk) => Err(ServeError::Memory),
+    }
 }
 
 /// Serves a partner on each listener, all at once against one desk, as `serve_partners`, by these terms: who
@@ -558,7 +584,7 @@ fn served_while<
 ///
 /// `Accept` where a listener has no address or can't be asked; `Write` where the writer failed before the
 /// sessions; `Memory` where it was refused before they began, or no thread could be made.
-pub fn serve_again<
+pub fn serve_reconnecting<
     'r,
     J: Opening + Send + Sync,
     Rt: Host,
@@ -569,8 +595,7 @@ pub fn serve_again<
     rt: &'r Rt,
     alloc: Global,
     partners: Partners<C>,
-    operation: Operation,
-    keeper: Option<&'r FileKeeper<J, Rt>>,
+    operation: Operation<'r, J, Rt>,
     desk: Desk<H>,
     writer: &mut Sink<W>,
 ) -> Result<ServedPartners<H, Reading<'r, Rt>, KeptReplyWriter<'r, J, Rt>, C>, ServeError>
@@ -580,14 +605,14 @@ pub fn serve_again<
         (starts_of C.gives partners.listeners.items (option_map (λ t. t.clock) partners.ticks))
         (map (λ e. session_told e.number e.role e.calls e.end e.torn e.reader e.writer e.pass)
         c.sessions.items)) }
-    ensures tells { IfOk result (λ c. TellsPartners (map (λ p. p.0) partners.listeners.items)
+    ensures tells { IfOk result (λ c. TellsPartners (map (λ l. l.role) partners.listeners.items)
         (flat_map (λ e. session_text e.number e.calls e.end e.torn) c.sessions.items)
         (length c.desk.history) writer.old writer.new c.told) }
     ensures fails { IfErr result (FailsToTell writer.old writer.new) }
 {
     let mut addresses = Addresses::new(alloc);
     let open = &mut addresses;
-    let sessions = opened(rt, alloc, partners, &operation, keeper, open, writer)?;
+    let sessions = opened(rt, alloc, partners, &operation, open, writer)?;
     let closed = served_while(rt, alloc, desk, sessions, addresses, operation)?;
     let told = tell(&closed, writer);
     let Closed { desk, sessions } = closed;

@@ -1,5 +1,5 @@
 use Rattle.acdm_serving.proofs.Behind.{one_start}
-use Rattle.acdm_serving.proofs.lasting.add_ticks.Goals as goal
+use Rattle.acdm_serving.proofs.reconnecting.add_ticks.Goals as goal
 
 pub returns-clause-starts : goal.returns-clause-starts
 returns-clause-starts g c =

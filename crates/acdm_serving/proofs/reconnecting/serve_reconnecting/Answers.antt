@@ -1,7 +1,7 @@
 use Rattle.std.proofs.lemmas.Result.{err_from_is_err_and}
 use Rattle.acdm_serving.proofs.Failing.{untold_error}
 use Rattle.acdm_serving.proofs.Told.{told_partners}
-use Rattle.acdm_serving.proofs.lasting.serve_again.Goals as goal
+use Rattle.acdm_serving.proofs.reconnecting.serve_reconnecting.Goals as goal
 
 pub returns-in_err-closed-clause-fails : goal.returns-in_err-closed-clause-fails
 returns-in_err-closed-clause-fails g c =
