@@ -7,7 +7,8 @@ mod streams;
 mod words;
 
 use acdm_commands::{
-    Appends, Cause, Failure, Noting, Paths, WordsGiven, complete, is_error_file, words_given,
+    Appends, Cause, Context, Failure, Noting, Paths, WordsGiven, complete, is_error_file,
+    words_given,
 };
 use acdm_lines::{Sink, Source};
 use resumed::Resumed;
@@ -74,7 +75,8 @@ fn status<
         return Failure::Memory.complain(&mut errors);
     };
     // What a word names is told before a stream, whose failure alone need not end the command.
-    let (why, streams) = (Cause::new(), Cause::new());
+    let why = Cause::new();
+    let streams = Cause::new();
     let output = Noting::new(alloc, Resumed::new(output), "standard output", "", &streams);
     let output = Sink::new(output);
     let Ok(output) = BufWriter::with_capacity(alloc, BUFFER, output) else {
@@ -85,16 +87,10 @@ fn status<
     let input = Noting::new(alloc, Resumed::new(input), "standard input", "", &streams);
     let mut input = Source::new(input);
     let mut output = Sink::new(output);
-    let status = complete(
-        alloc,
-        rt,
-        words.as_slice(),
-        &why,
-        &mut input,
-        &mut output,
-        &mut errors,
-    );
-    if status == 2 && !why.tell(&mut errors) {
+    let context = Context { rt, alloc, why };
+    let words = words.as_slice();
+    let status = complete(&context, words, &mut input, &mut output, &mut errors);
+    if status == 2 && !context.why.tell(&mut errors) {
         let _ = streams.tell(&mut errors);
     }
     status

@@ -1,13 +1,13 @@
 -- Why something was not done, by the result of a call.
-use Rattle.std.proofs.Common.{List, ℕ}
-use Rattle.acdm_judging.specs.declared.failure.Failure.{Failure}
-use Rattle.acdm_judging.specs.declared.failure.Failure.TheVariants as failures
-use Rattle.acdm_judging.specs.declared.failure.ServeError.{ServeError}
-use Rattle.acdm_judging.specs.declared.failure.ServeError.TheVariants as serve_errors
+use Rattle.std.proofs.Common.{Bool, List, ℕ, inl}
+use Rattle.acdm_failures.specs.declared.failure.Failure.{Failure}
+use Rattle.acdm_failures.specs.declared.failure.Failure.TheVariants as failures
+use Rattle.acdm_failures.specs.declared.failure.ServeError.{ServeError}
+use Rattle.acdm_failures.specs.declared.failure.ServeError.TheVariants as serve_errors
 use Rattle.acdm_lines.specs.Counted.{SinkView}
-use Rattle.acdm_judging.specs.Failures.{failure_of_serve}
+use Rattle.acdm_failures.specs.Failures.{failure_of_serve}
 use Rattle.acdm_serving.specs.Partners.{FailsToTell}
-use Rattle.acdm_commands.specs.Partners.{FailsToListen, FailsToOpen, FailsToServeAll}
+use Rattle.acdm_commands.specs.Partners.{FailsToListen, FailsToSeat, FailsToServeAll}
 
 -- partners were not served to their end, or that could not be told
 pub unserved : {W : Type 0} (old new : SinkView W) (error : ServeError) → FailsToTell old new error
@@ -16,22 +16,22 @@ unserved old new (serve_errors.Accept n) p = tt
 unserved old new serve_errors.Write p = p
 unserved old new serve_errors.Memory p = tt
 
--- nobody listens, so nothing is opened
-pub unopened : (words : List (List ℕ)) (failure : Failure) → FailsToListen words failure
-    → FailsToOpen words failure
-unopened words (failures.Role n) p = p
-unopened words (failures.Address n) p = tt
-unopened words failures.Watch p = tt
-unopened words failures.Memory p = tt
-unopened words failures.Read (front, word, more, split, all, fails) = absurd fails
-unopened words failures.Write (front, word, more, split, all, fails) = absurd fails
-unopened words failures.Untold (front, word, more, split, all, fails) = absurd fails
-unopened words failures.Save (front, word, more, split, all, fails) = absurd fails
-unopened words (failures.Accept n) (front, word, more, split, all, fails) = absurd fails
-unopened words failures.Control p = tt
-unopened words failures.Log p = tt
-unopened words failures.Word (front, word, more, split, all, fails) = absurd fails
-unopened words failures.Stream (front, word, more, split, all, fails) = absurd fails
-unopened words failures.Keep (front, word, more, split, all, fails) = absurd fails
-unopened words failures.InUse (front, word, more, split, all, fails) = absurd fails
-unopened words failures.Room (front, word, more, split, all, fails) = absurd fails
+-- nobody listens
+pub unseated : (words : List (List ℕ)) (ticks : Bool) (failure : Failure) → FailsToListen words failure
+    → FailsToSeat words ticks failure
+unseated words ticks (failures.Role n) p = p
+unseated words ticks (failures.Address n) p = inl p
+unseated words ticks failures.Memory p = tt
+unseated words ticks failures.Watch (front, word, more, split, all, fails) = absurd fails
+unseated words ticks failures.Control (front, word, more, split, all, fails) = absurd fails
+unseated words ticks failures.Log (front, word, more, split, all, fails) = absurd fails
+unseated words ticks failures.Read (front, word, more, split, all, fails) = absurd fails
+unseated words ticks failures.Write (front, word, more, split, all, fails) = absurd fails
+unseated words ticks failures.Untold (front, word, more, split, all, fails) = absurd fails
+unseated words ticks failures.Save (front, word, more, split, all, fails) = absurd fails
+unseated words ticks (failures.Accept n) (front, word, more, split, all, fails) = absurd fails
+unseated words ticks failures.Word (front, word, more, split, all, fails) = absurd fails
+unseated words ticks failures.Stream (front, word, more, split, all, fails) = absurd fails
+unseated words ticks failures.Keep (front, word, more, split, all, fails) = absurd fails
+unseated words ticks failures.InUse (front, word, more, split, all, fails) = absurd fails
+unseated words ticks failures.Room (front, word, more, split, all, fails) = absurd fails

@@ -1,12 +1,12 @@
 -- What is done with files, whatever they are.
-use Rattle.std.proofs.Common.{◌≡◌, ◌⊎◌, ℕ, List, Option, Some, None, Result, Ok, Err, option_map}
+use Rattle.std.proofs.Common.{◌≡◌, ◌⊎◌, ℕ, Bool, true, false, List, Option, Some, None, Result, Ok, Err, option_map}
 use Rattle.std.proofs.Common.{inl, inr, sym, subst}
 use Rattle.bpf_helpers.specs.Promise.{Promise}
 use Rattle.bpf_regstate.specs.declared.length.Length.{Length}
 use Rattle.acdm_step.specs.Commands.{History}
-use Rattle.acdm_judging.specs.Failures.{Ends, EndsBy}
-use Rattle.acdm_judging.specs.declared.failure.Failure.{Failure}
-use Rattle.acdm_judging.specs.declared.failure.Failure.TheVariants as failures
+use Rattle.acdm_failures.specs.Failures.{Ends, EndsBy}
+use Rattle.acdm_failures.specs.declared.failure.Failure.{Failure}
+use Rattle.acdm_failures.specs.declared.failure.Failure.TheVariants as failures
 use Rattle.acdm_judging.specs.Explained.{Explains, FailsToRead}
 use Rattle.acdm_judging.specs.Findings.{Audited, Finds}
 use Rattle.acdm_judging.specs.Gave.{GaveBytes, most_bytes}
@@ -17,12 +17,12 @@ use Rattle.acdm_judging.specs.declared.verifying.ProgramVerdict.{ProgramVerdict}
 use Rattle.acdm_lines.specs.Counted.{SinkView, SourceView}
 use Rattle.acdm_telling.specs.Told.{Gives, Told}
 use Rattle.acdm_commands.specs.Completed.{ExplainsLine, InFile, IsUnread, IsUnwritten, read_from}
-use Rattle.acdm_commands.specs.Completed.{KeepsLine, Places, RunsLine, ServesKeptLine, ServesLine, Settles}
+use Rattle.acdm_commands.specs.Completed.{ComesOfRun, Places, RunsLine, ServesLine, Settles}
 use Rattle.acdm_commands.specs.Completed.{written_to}
 use Rattle.acdm_board.specs.Desk.{DeskView}
-use Rattle.acdm_commands.specs.Keeping.{KeepsTo, ServesKeptTo, ServesKeptWords, StopsFrom}
-use Rattle.acdm_commands.specs.Served.{FailsToSave, IsSaved, Runs, RunsTo, empty_desk}
-use Rattle.acdm_commands.specs.Partners.{Named, SavesSo, ServesNamed, ServesWords, ServesWordsTo}
+use Rattle.acdm_commands.specs.Keeping.{KeepsTo, ServesTo, StopsAtDesk, StopsFrom}
+use Rattle.acdm_commands.specs.Served.{FailsToSave, IsSaved, Runs, RunsTo}
+use Rattle.acdm_commands.specs.Partners.{Named, SavesSo, ServesNamed}
 use Rattle.acdm_serving.specs.Partners.{Telling}
 
 -- ---- files that are read
@@ -264,43 +264,12 @@ named_as opening words old new said Kept Known knows named =
       };
     }
 
-served_as : {W : Type 0} (sigs : List (ℕ × Promise)) (capacity : ℕ) (words : Named)
-    (old new : SinkView W) (said : Telling) (Kept Known : History → Type 0)
-    → ((J : History) → Kept J → Known J) → ServesWords sigs capacity words old new said Kept
-    → ServesWords sigs capacity words old new said Known
-served_as sigs capacity words old new said Kept Known knows p = record {
-  cells = p.cells;
-  serves = named_as (empty_desk sigs capacity p.cells) words old new said Kept Known knows p.serves;
-}
-
 saves_any : {F : Type 0} (said : Telling) (J : History) (file later : Option (SinkView F))
     (failure : Failure) → SavesSo {T = Unit {0}} said J file later (Err failure)
     → SavesSo {T = Unit {0}} said J (option_map written_to file) (option_map written_to later)
     (Err failure)
 saves_any said J file later failure (inl p) = inl (fails_any file later failure p)
 saves_any said J file later failure (inr p) = inr (p.0, p.1, saved_any J file later p.2)
-
-pub served_any : {W F : Type 0} (sigs : List (ℕ × Promise)) (capacity : ℕ) (words : Named)
-    (old new : SinkView W) (file later : Option (SinkView F)) (work : Result ℕ Failure)
-    → ServesWordsTo sigs capacity words old new file later work
-    → ServesWordsTo sigs capacity words old new (option_map written_to file)
-    (option_map written_to later) work
-served_any sigs capacity words old new file later (Ok status) p = (
-  served_as sigs capacity words old new (Ok tt) (λ J. IsSaved J file later)
-      (λ J. IsSaved J (option_map written_to file) (option_map written_to later))
-      (λ J. saved_any J file later) p.0,
-  p.1,
-)
-served_any sigs capacity words old new file later (Err failure) (inl p) = inl p
-served_any sigs capacity words old new file later (Err failure) (inr (said, p)) =
-    inr (
-      said,
-      served_as sigs capacity words old new said
-          (λ J. SavesSo {T = Unit {0}} said J file later (Err failure))
-          (λ J. SavesSo {T = Unit {0}} said J (option_map written_to file) (option_map written_to later)
-          (Err failure))
-          (λ J. saves_any said J file later failure) p,
-    )
 
 -- a command with a file that takes its place, whatever the file is
 in_file : {F E : Type 0} (path : Option (List ℕ)) (file later : Option (SinkView F))
@@ -324,31 +293,6 @@ in_file path file later Own Comes Untouched seen work given status errors last m
       );
       ends = ends;
     }
-
--- `run`
-pub ran_line : {R W F E : Type 0} (sigs : List (ℕ × Promise)) (journal : ℕ) (path : Option (List ℕ))
-    (file later : Option (SinkView F)) (input input_after : SourceView R) (output output_after : SinkView W)
-    (work given : Result ℕ Failure) (status : ℕ) (errors last : SinkView E) → IsUnwritten path file
-    → RunsTo sigs journal input input_after output output_after file later work
-    → Settles path work given → Ends given status errors last
-    → EndsBy (RunsLine sigs journal path input input_after output output_after) status errors last
-ran_line sigs journal path file later input input_after output output_after =
-    in_file path file later (RunsTo sigs journal input input_after output output_after file later)
-    (RunsTo sigs journal input input_after output output_after)
-    ((input_after ≡ input) × (output_after ≡ output))
-    (runs_any sigs journal input input_after output output_after file later)
-
--- `serve`
-pub served_line : {W F E : Type 0} (sigs : List (ℕ × Promise)) (journal : ℕ) (path : Option (List ℕ))
-    (partners : Named) (file later : Option (SinkView F)) (output output_after : SinkView W)
-    (work given : Result ℕ Failure) (status : ℕ) (errors last : SinkView E) → IsUnwritten path file
-    → ServesWordsTo sigs journal partners output output_after file later work
-    → Settles path work given → Ends given status errors last
-    → EndsBy (ServesLine sigs journal path partners output output_after) status errors last
-served_line sigs journal path partners file later output output_after =
-    in_file path file later (ServesWordsTo sigs journal partners output output_after file later)
-    (ServesWordsTo sigs journal partners output output_after) (output_after ≡ output)
-    (served_any sigs journal partners output output_after file later)
 
 unsaved_any : {F : Type 0} {P Q : Type 0} (file later : Option (SinkView F)) (failure : Failure)
     → P ⊎ (Q × FailsToSave file later failure)
@@ -392,71 +336,74 @@ keeps_any sigs journal input input_after output output_after file later (Err fai
 keeps_any sigs journal input input_after output output_after file later (Err failure) (inr (inr p)) =
     inr (inr (stops_any sigs journal input input_after output output_after file later failure p))
 
--- `run --keep`
-pub kept_line : {R W F E : Type 0} (sigs : List (ℕ × Promise)) (journal : ℕ) (path : Option (List ℕ))
+comes_any : {R W F : Type 0} (sigs : List (ℕ × Promise)) (capacity : ℕ) (kept : Bool)
+    (input input_after : SourceView R) (output output_after : SinkView W) (file later : Option (SinkView F))
+    (work : Result ℕ Failure) → ComesOfRun sigs capacity kept input input_after output output_after file later work
+    → ComesOfRun sigs capacity kept input input_after output output_after (option_map written_to file)
+    (option_map written_to later) work
+comes_any sigs capacity true = keeps_any sigs capacity
+comes_any sigs capacity false = runs_any sigs capacity
+
+-- `run`
+pub ran_line : {R W F E : Type 0} (sigs : List (ℕ × Promise)) (capacity : ℕ) (path : Option (List ℕ)) (kept : Bool)
     (file later : Option (SinkView F)) (input input_after : SourceView R) (output output_after : SinkView W)
     (work given : Result ℕ Failure) (status : ℕ) (errors last : SinkView E) → IsUnwritten path file
-    → KeepsTo sigs journal input input_after output output_after file later work
+    → ComesOfRun sigs capacity kept input input_after output output_after file later work
     → Settles path work given → Ends given status errors last
-    → EndsBy (KeepsLine sigs journal path input input_after output output_after) status errors last
-kept_line sigs journal path file later input input_after output output_after =
-    in_file path file later (KeepsTo sigs journal input input_after output output_after file later)
-    (KeepsTo sigs journal input input_after output output_after)
+    → EndsBy (RunsLine sigs capacity path kept input input_after output output_after) status errors last
+ran_line sigs capacity path kept file later input input_after output output_after =
+    in_file path file later (ComesOfRun sigs capacity kept input input_after output output_after file later)
+    (ComesOfRun sigs capacity kept input input_after output output_after)
     ((input_after ≡ input) × (output_after ≡ output))
-    (keeps_any sigs journal input input_after output output_after file later)
+    (comes_any sigs capacity kept input input_after output output_after file later)
 
-kept_words_any : {W F : Type 0} (opening : DeskView) (words : Named) (old new : SinkView W)
+stops_at_any : {W F : Type 0} (kept : Bool) (opening : DeskView) (named : Named) (old new : SinkView W)
     (file later : Option (SinkView F)) (failure : Failure)
-    → ServesKeptWords {T = Unit {0}} opening words old new file later (Err failure)
-    → ServesKeptWords {T = Unit {0}} opening words old new (option_map written_to file)
-    (option_map written_to later) (Err failure)
-kept_words_any opening words old new file later failure (inl p) = inl p
-kept_words_any opening words old new file later failure (inr (inl p)) = inr (inl p)
-kept_words_any opening words old new file later failure (inr (inr (said, p))) =
-    inr (inr (
+    → StopsAtDesk kept opening named old new file later failure
+    → StopsAtDesk kept opening named old new (option_map written_to file) (option_map written_to later) failure
+stops_at_any kept opening named old new file later failure (inl p) = inl p
+stops_at_any kept opening named old new file later failure (inr (said, p)) =
+    inr (
       said,
-      named_as opening words old new said
+      named_as opening named old new said
           (λ J. SavesSo {T = Unit {0}} said J file later (Err failure))
           (λ J. SavesSo {T = Unit {0}} said J (option_map written_to file) (option_map written_to later)
           (Err failure))
           (λ J. saves_any said J file later failure) p,
-    ))
+    )
 
-serves_kept_any : {W F : Type 0} (sigs : List (ℕ × Promise)) (capacity : ℕ) (words : Named) (old new : SinkView W)
-    (file later : Option (SinkView F)) (work : Result ℕ Failure)
-    → ServesKeptTo sigs capacity words old new file later work
-    → ServesKeptTo sigs capacity words old new (option_map written_to file)
-    (option_map written_to later) work
-serves_kept_any sigs capacity words old new file later (Ok status) (inl p) = inl (
+serves_any : {W F : Type 0} (sigs : List (ℕ × Promise)) (capacity : ℕ) (kept : Bool) (named : Named)
+    (old new : SinkView W) (file later : Option (SinkView F)) (work : Result ℕ Failure)
+    → ServesTo sigs capacity kept named old new file later work
+    → ServesTo sigs capacity kept named old new (option_map written_to file) (option_map written_to later) work
+serves_any sigs capacity kept named old new file later (Ok status) (inl p) = inl (
   record {
     opening = p.0.opening;
-    room = p.0.room;
-    helpers = p.0.helpers;
-    serves = named_as p.0.opening words old new (Ok tt) (λ J. IsSaved J file later)
+    begins = p.0.begins;
+    serves = named_as p.0.opening named old new (Ok tt) (λ J. IsSaved J file later)
         (λ J. IsSaved J (option_map written_to file) (option_map written_to later))
         (λ J. saved_any J file later) p.0.serves;
   },
   p.1,
 )
-serves_kept_any sigs capacity words old new file later (Ok status) (inr p) = inr p
-serves_kept_any sigs capacity words old new file later (Err failure) (inl p) = inl p
-serves_kept_any sigs capacity words old new file later (Err failure) (inr (inl p)) = inr (inl p)
-serves_kept_any sigs capacity words old new file later (Err failure) (inr (inr p)) =
+serves_any sigs capacity kept named old new file later (Ok status) (inr p) = inr p
+serves_any sigs capacity kept named old new file later (Err failure) (inl p) = inl p
+serves_any sigs capacity kept named old new file later (Err failure) (inr (inl p)) = inr (inl p)
+serves_any sigs capacity kept named old new file later (Err failure) (inr (inr p)) =
     inr (inr (record {
       opening = p.opening;
-      room = p.room;
-      helpers = p.helpers;
-      why = kept_words_any p.opening words old new file later failure p.why;
+      begins = p.begins;
+      why = stops_at_any kept p.opening named old new file later failure p.why;
     }))
 
--- `serve --keep`
-pub served_kept_line : {W F E : Type 0} (sigs : List (ℕ × Promise)) (journal : ℕ) (path : Option (List ℕ))
-    (partners : Named) (file later : Option (SinkView F)) (output output_after : SinkView W)
+-- `serve`
+pub served_line : {W F E : Type 0} (sigs : List (ℕ × Promise)) (capacity : ℕ) (path : Option (List ℕ)) (kept : Bool)
+    (named : Named) (file later : Option (SinkView F)) (output output_after : SinkView W)
     (work given : Result ℕ Failure) (status : ℕ) (errors last : SinkView E) → IsUnwritten path file
-    → ServesKeptTo sigs journal partners output output_after file later work
+    → ServesTo sigs capacity kept named output output_after file later work
     → Settles path work given → Ends given status errors last
-    → EndsBy (ServesKeptLine sigs journal path partners output output_after) status errors last
-served_kept_line sigs journal path partners file later output output_after =
-    in_file path file later (ServesKeptTo sigs journal partners output output_after file later)
-    (ServesKeptTo sigs journal partners output output_after) (output_after ≡ output)
-    (serves_kept_any sigs journal partners output output_after file later)
+    → EndsBy (ServesLine sigs capacity path kept named output output_after) status errors last
+served_line sigs capacity path kept named file later output output_after =
+    in_file path file later (ServesTo sigs capacity kept named output output_after file later)
+    (ServesTo sigs capacity kept named output output_after) (output_after ≡ output)
+    (serves_any sigs capacity kept named output output_after file later)

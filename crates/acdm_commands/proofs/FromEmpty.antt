@@ -2,7 +2,7 @@
 use Rattle.std.proofs.Common.{◌≡◌, ℕ, List, [], Result, Err, subst}
 use Rattle.bpf_helpers.specs.Promise.{Promise}
 use Rattle.acdm_board.specs.Desk.{DeskView}
-use Rattle.acdm_judging.specs.Failures.{failure_of}
+use Rattle.acdm_failures.specs.Failures.{failure_of}
 use Rattle.acdm_lines.specs.Counted.{SinkView, SourceView}
 use Rattle.acdm_lines.specs.declared.run_error.RunError.{RunError}
 use Rattle.acdm_lines.specs.declared.run_error.RunError.TheVariants.{Memory, Read, Write}

@@ -5,7 +5,6 @@ mod Files
 mod FromEmpty
 mod FromSettings
 mod MinuteRows
-mod KeptOn
 mod Named
 mod Refusing
 mod Ticks

@@ -3,8 +3,8 @@ use Rattle.std.specs.Prelude.{ℕ, ◌≡◌, ◌⊎◌, ⊤, List, [], ◌∷�
 use Rattle.std.specs.Prelude.{string_bytes}
 use Rattle.std.specs.Fmt.{decimal}
 use Rattle.acdm_judging.specs.Explained.{TellsUnread}
-use Rattle.acdm_judging.specs.Failures.{Complains, failure_text}
-use Rattle.acdm_judging.specs.declared.failure.Failure.TheVariants.{Memory}
+use Rattle.acdm_failures.specs.Failures.{Complains, failure_text}
+use Rattle.acdm_failures.specs.declared.failure.Failure.TheVariants.{Memory}
 use Rattle.acdm_judging.specs.Gave.{GaveBytes}
 use Rattle.acdm_lines.specs.Counted.{SinkView, SourceView}
 use Rattle.acdm_settings.specs.Settings.{Place, Reads, most_text, place_in, why_text, with_settings}

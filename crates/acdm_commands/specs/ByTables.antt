@@ -5,8 +5,8 @@ use Rattle.std.specs.Fmt.{decimal}
 use Rattle.acdm_command_line.specs.declared.command_line.Subcommand.{Subcommand}
 use Rattle.acdm_command_line.specs.declared.command_line.Subcommand.TheVariants.{Audit, Explain, Run, Serve}
 use Rattle.acdm_command_line.specs.declared.command_line.Subcommand.TheVariants.{Tell, Verify}
-use Rattle.acdm_judging.specs.Failures.{Complains, failure_text}
-use Rattle.acdm_judging.specs.declared.failure.Failure.TheVariants.{Memory}
+use Rattle.acdm_failures.specs.Failures.{Complains, failure_text}
+use Rattle.acdm_failures.specs.declared.failure.Failure.TheVariants.{Memory}
 use Rattle.acdm_judging.specs.Explained.{TellsUnread}
 use Rattle.acdm_judging.specs.Gave.{GaveBytes}
 use Rattle.acdm_lines.specs.Counted.{SinkView, SourceView}

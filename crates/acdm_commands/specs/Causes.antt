@@ -2,9 +2,9 @@
 use Rattle.std.specs.Prelude.{◌≡◌, ◌⊎◌, ◌++◌, ◌∷◌, [], List, ℕ, codes}
 use Rattle.std.specs.declared.io.ErrorKind.{ErrorKind}
 use Rattle.std.specs.declared.io.ErrorKind.TheVariants.{OutOfMemory, WouldBlock}
-use Rattle.acdm_judging.specs.Failures.{Complains}
-use Rattle.acdm_judging.specs.declared.failure.Failure.{Failure}
-use Rattle.acdm_judging.specs.declared.failure.Failure.TheVariants.{InUse, Keep, Memory}
+use Rattle.acdm_failures.specs.Failures.{Complains}
+use Rattle.acdm_failures.specs.declared.failure.Failure.{Failure}
+use Rattle.acdm_failures.specs.declared.failure.Failure.TheVariants.{InUse, Keep, Memory}
 use Rattle.acdm_lines.specs.Counted.{SinkView}
 
 -- an option with its blank, the value that stands behind it, and what the system says of it

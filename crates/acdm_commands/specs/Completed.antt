@@ -1,21 +1,21 @@
 -- What is done for a line, with the helpers of these signatures.
-use Rattle.std.specs.Prelude.{ℕ, ◌≡◌, ◌⊎◌, ⊤, false, List, [], Option, Some, None, Result, Ok, Err}
-use Rattle.std.specs.Prelude.{map, option_map}
+use Rattle.std.specs.Prelude.{ℕ, ◌≡◌, ◌⊎◌, ⊤, Bool, true, false, List, [], Option, Some, None, Result, Ok, Err}
+use Rattle.std.specs.Prelude.{is_some, map, option_map}
 use Rattle.bpf_helpers.specs.Promise.{Promise}
 use Rattle.bpf_regstate.specs.declared.length.Length.{Length}
 use Rattle.acdm_command_line.specs.declared.command_line.Subcommand.{Subcommand}
 use Rattle.acdm_command_line.specs.declared.command_line.Subcommand.TheVariants.{Audit, Explain, Run, Serve}
 use Rattle.acdm_command_line.specs.declared.command_line.Subcommand.TheVariants.{Tell, Verify}
-use Rattle.acdm_judging.specs.Failures.{EndsBy}
-use Rattle.acdm_judging.specs.declared.failure.Failure.{Failure}
-use Rattle.acdm_judging.specs.declared.failure.Failure.TheVariants.{Memory, Read, Save, Untold}
+use Rattle.acdm_failures.specs.Failures.{EndsBy}
+use Rattle.acdm_failures.specs.declared.failure.Failure.{Failure}
+use Rattle.acdm_failures.specs.declared.failure.Failure.TheVariants.{Memory, Read, Save, Untold}
 use Rattle.acdm_judging.specs.Explained.{Explains, TellsUnread}
 use Rattle.acdm_judging.specs.Findings.{Audited}
 use Rattle.acdm_judging.specs.Verdicts.{Verifies}
 use Rattle.acdm_lines.specs.Counted.{SinkView, SourceView}
 use Rattle.acdm_telling.specs.Told.{Told}
-use Rattle.acdm_commands.specs.Keeping.{KeepsTo, ServesKeptTo}
-use Rattle.acdm_commands.specs.Partners.{Named, ServesWordsTo, named_by}
+use Rattle.acdm_commands.specs.Keeping.{KeepsTo, ServesTo}
+use Rattle.acdm_commands.specs.Partners.{Named, has_outlet}
 use Rattle.acdm_commands.specs.Served.{RunsTo}
 
 -- ---- files
@@ -95,47 +95,26 @@ InFile path Comes Untouched work =
     × Places path (Comes saved saved_after) work)
     ⊎ (IsNotMade path work × Untouched)
 
+-- what comes of `run`, where the journal is kept or not
+abbrev pub ComesOfRun : {R W F : Type 0} → List (ℕ × Promise) → ℕ → Bool → SourceView R → SourceView R
+    → SinkView W → SinkView W → Option (SinkView F) → Option (SinkView F) → Result ℕ Failure → Type 0
+ComesOfRun sigs capacity true input input_after output output_after saved saved_after work =
+    KeepsTo sigs capacity input input_after output output_after saved saved_after work
+ComesOfRun sigs capacity false input input_after output output_after saved saved_after work =
+    RunsTo sigs capacity input input_after output output_after saved saved_after work
+
 -- `run`
-abbrev pub RunsLine : {R W : Type 0} → List (ℕ × Promise) → ℕ → Option (List ℕ) → SourceView R
+abbrev pub RunsLine : {R W : Type 0} → List (ℕ × Promise) → ℕ → Option (List ℕ) → Bool → SourceView R
     → SourceView R → SinkView W → SinkView W → Result ℕ Failure → Type 0
-RunsLine sigs journal path input input_after output output_after work =
-    InFile path (RunsTo sigs journal input input_after output output_after)
+RunsLine sigs capacity path kept input input_after output output_after work =
+    InFile path (ComesOfRun sigs capacity kept input input_after output output_after)
     ((input_after ≡ input) × (output_after ≡ output)) work
-
--- the same with a journal that is kept
-abbrev pub KeepsLine : {R W : Type 0} → List (ℕ × Promise) → ℕ → Option (List ℕ) → SourceView R
-    → SourceView R → SinkView W → SinkView W → Result ℕ Failure → Type 0
-KeepsLine sigs journal path input input_after output output_after work =
-    InFile path (KeepsTo sigs journal input input_after output output_after)
-    ((input_after ≡ input) × (output_after ≡ output)) work
-
--- `run`, with a journal that is kept in the file of this path, if there is one
-abbrev pub RunsWords : {R W E : Type 0} → List (ℕ × Promise) → ℕ → Option (List ℕ) → Option (List ℕ)
-    → SourceView R → SourceView R → SinkView W → SinkView W → ℕ → SinkView E → SinkView E → Type 0
-RunsWords sigs journal path None input input_after output output_after status errors errors_after =
-    EndsBy (RunsLine sigs journal path input input_after output output_after) status errors errors_after
-RunsWords sigs journal path (Some kept) input input_after output output_after status errors errors_after =
-    EndsBy (KeepsLine sigs journal path input input_after output output_after) status errors errors_after
 
 -- `serve`
-abbrev pub ServesLine : {W : Type 0} → List (ℕ × Promise) → ℕ → Option (List ℕ) → Named
+abbrev pub ServesLine : {W : Type 0} → List (ℕ × Promise) → ℕ → Option (List ℕ) → Bool → Named
     → SinkView W → SinkView W → Result ℕ Failure → Type 0
-ServesLine sigs journal path partners output output_after work =
-    InFile path (ServesWordsTo sigs journal partners output output_after) (output_after ≡ output) work
-
--- the same with a journal that is kept
-abbrev pub ServesKeptLine : {W : Type 0} → List (ℕ × Promise) → ℕ → Option (List ℕ) → Named
-    → SinkView W → SinkView W → Result ℕ Failure → Type 0
-ServesKeptLine sigs journal path partners output output_after work =
-    InFile path (ServesKeptTo sigs journal partners output output_after) (output_after ≡ output) work
-
--- `serve`, with a journal that is kept in the file of this path, if there is one
-abbrev pub ServesLines : {W E : Type 0} → List (ℕ × Promise) → ℕ → Option (List ℕ) → Option (List ℕ)
-    → Named → SinkView W → SinkView W → ℕ → SinkView E → SinkView E → Type 0
-ServesLines sigs journal path None partners output output_after status errors errors_after =
-    EndsBy (ServesLine sigs journal path partners output output_after) status errors errors_after
-ServesLines sigs journal path (Some kept) partners output output_after status errors errors_after =
-    EndsBy (ServesKeptLine sigs journal path partners output output_after) status errors errors_after
+ServesLine sigs capacity path kept named output output_after work =
+    InFile path (ServesTo sigs capacity kept named output output_after) (output_after ≡ output) work
 
 -- a file could not be opened, and nothing was written
 abbrev pub FailsToOpen : {W : Type 0} → SinkView W → SinkView W → Result ℕ Failure → Type 0
@@ -177,12 +156,17 @@ ExplainsLine sigs long path output output_after status errors errors_after =
 abbrev pub Does : {R W E : Type 0} → List (ℕ × Promise) → Subcommand → SourceView R → SourceView R
     → SinkView W → SinkView W → ℕ → SinkView E → SinkView E → Type 0
 Does sigs (Run journal save keep sync) input input_after output output_after status errors errors_after =
-    RunsWords sigs journal (option_map (λ s. s.now) save) (option_map (λ s. s.now) keep) input input_after
-    output output_after status errors errors_after
+    EndsBy (RunsLine sigs journal (option_map (λ s. s.now) save) (is_some keep) input input_after output output_after)
+    status errors errors_after
 Does sigs (Serve journal save keep sync watch changes web web_name again control pace tick log partners) input input_after output output_after status errors errors_after =
-    (input_after ≡ input) × ServesLines sigs journal (option_map (λ s. s.now) save)
-    (option_map (λ s. s.now) keep) (named_by (map (λ s. s.now) partners.items) tick) output output_after status errors
-    errors_after
+    (input_after ≡ input) × EndsBy (ServesLine sigs journal (option_map (λ s. s.now) save) (is_some keep)
+    (record {
+      words = map (λ s. s.now) partners.items;
+      ticks = is_some tick;
+      controlled = is_some control;
+      logged = is_some log;
+      shown = has_outlet (is_some watch) (is_some changes) (is_some web);
+    }) output output_after) status errors errors_after
 Does sigs (Audit file) input input_after output output_after status errors errors_after =
     (input_after ≡ input) × EndsBy (AuditsLine sigs output output_after) status errors errors_after
 Does sigs (Verify long file) input input_after output output_after status errors errors_after =

@@ -1,30 +1,48 @@
--- What `run` does with a journal that is kept in a file.
-use Rattle.std.specs.Prelude.{ℕ, ◌≡◌, ◌<◌, ◌⊎◌, [], List, Option, Some, None, Result, Ok, Err}
+-- What `run` and `serve` do with a journal that is kept in a file.
+use Rattle.std.specs.Prelude.{ℕ, ◌≡◌, ◌<◌, ◌⊎◌, Bool, true, false, [], List, length, Option, Some, None, Result, Ok, Err}
 use Rattle.bpf_helpers.specs.Promise.{Promise}
-use Rattle.acdm_board.specs.Desk.{DeskView}
-use Rattle.acdm_judging.specs.declared.failure.Failure.{Failure}
+use Rattle.acdm_board.specs.Desk.{DeskView, row_of}
+use Rattle.acdm_failures.specs.declared.failure.Failure.{Failure}
 use Rattle.acdm_judging.specs.Findings.{Tells, status_of}
 use Rattle.acdm_judging.specs.declared.auditing.Finding.{Finding}
 use Rattle.acdm_lines.specs.Counted.{SinkView, SourceView}
 use Rattle.acdm_lines.specs.declared.run_error.RunError.{RunError}
 use Rattle.acdm_lines.specs.declared.run_error.RunError.TheVariants as errors
 use Rattle.acdm_sessions.specs.Run.{serving_desk}
-use Rattle.acdm_judging.specs.declared.failure.Failure.TheVariants.{InUse, Keep, Memory, Read, Room}
-use Rattle.acdm_judging.specs.declared.failure.Failure.TheVariants.{Write}
-use Rattle.acdm_milestones.specs.declared.role.Role.{Role}
-use Rattle.acdm_sessions.specs.Sessions.{SessionStart}
+use Rattle.acdm_failures.specs.declared.failure.Failure.TheVariants.{InUse, Keep, Memory, Read, Room}
+use Rattle.acdm_failures.specs.declared.failure.Failure.TheVariants.{Write}
+use Rattle.acdm_keeping.specs.Kept.{KeeperView}
 use Rattle.acdm_sessions.specs.Stream.{AnswersAll, AnswersPart, AnswersWhole}
-use Rattle.acdm_commands.specs.Partners.{FailsServed, FailsToServe, FailsToServeAll, Named, ServesNamed}
-use Rattle.acdm_commands.specs.Partners.{ServesPartners}
+use Rattle.acdm_commands.specs.Partners.{FailsServed, FailsToServe, Named, ServesNamed}
+use Rattle.acdm_commands.specs.declared.resuming.Resumption.{Resumption}
+use Rattle.acdm_commands.specs.declared.resuming.Resumption.TheVariants.{Illegal, Ready}
+use Rattle.acdm_commands.specs.declared.serve_command.BeginError.{BeginError}
+use Rattle.acdm_commands.specs.declared.serve_command.BeginError.TheVariants as begin_errors
 use Rattle.acdm_serving.specs.Partners.{Telling}
 use Rattle.acdm_step.specs.Commands.{History}
+use Rattle.acdm_step.specs.declared.entry.Entry.{Entry}
 use Rattle.acdm_commands.specs.Served.{FailsToSave, IsSaved}
 
 -- A desk that had no entry has those of a kept journal, and the rest of it is as it was; or something is
 -- to be told of the journal, with the status 1.
-abbrev pub GoesOn : DeskView → DeskView → Option Finding → Type 0
-GoesOn before after None = after ≡ record before { history = after.history }
-GoesOn before after (Some finding) = status_of finding ≡ 1
+abbrev pub ResumesAs : DeskView → DeskView → Option Finding → Type 0
+ResumesAs before after None = after ≡ record before { history = after.history }
+ResumesAs before after (Some finding) = status_of finding ≡ 1
+
+abbrev pub Resumes : {Rt : Type 0} → DeskView → DeskView → Resumption Rt → Type 0
+Resumes before after (Ready kept) = ResumesAs before after None
+Resumes before after (Illegal finding) = ResumesAs before after (Some finding)
+
+-- a keeper of what a desk has, all of which is kept already: it has written nothing
+pub record IsNewKeeper {F : Type 0} (desk : DeskView) (keeper : KeeperView F) : Type 0 where
+  pub row : keeper.row ≡ row_of desk
+  pub all : length keeper.seen ≡ length desk.history
+  pub fresh : keeper.writer.log ≡ []
+
+-- what a keeper has seen, if there is one
+abbrev pub seen_by : {F : Type 0} → Option (KeeperView F) → List Entry
+seen_by None = []
+seen_by (Some keeper) = keeper.seen
 
 -- all lines that a reader gave, to its end, were answered by a desk
 pub record ServesKept {R : Type 0} (before after : DeskView) (read read_after : SourceView R)
@@ -45,13 +63,13 @@ pub record KeepsAll {R F : Type 0} (sigs : List (ℕ × Promise)) (capacity : �
 
 -- why a kept journal was not gone on from: its file could not be opened, read or cut off, somebody else
 -- keeps it, it has more entries than there is room for, or memory was refused
-abbrev pub FailsToGoOn : Failure → Type 0
-FailsToGoOn Keep = Unit {0}
-FailsToGoOn InUse = Unit {0}
-FailsToGoOn Room = Unit {0}
-FailsToGoOn Read = Unit {0}
-FailsToGoOn Memory = Unit {0}
-FailsToGoOn failure = ⊥
+abbrev pub FailsToResume : Failure → Type 0
+FailsToResume Keep = Unit {0}
+FailsToResume InUse = Unit {0}
+FailsToResume Room = Unit {0}
+FailsToResume Read = Unit {0}
+FailsToResume Memory = Unit {0}
+FailsToResume failure = ⊥
 
 -- a kept journal is not legal, and that was told with this, or could not be
 abbrev pub TellsFault : {W : Type 0} → SinkView W → SinkView W → Result ℕ Failure → Type 0
@@ -100,7 +118,7 @@ AnswersSome before after read read_after written written_after =
 abbrev pub StopsKept : {R W : Type 0} → DeskView → DeskView → SourceView R → SourceView R
     → SinkView W → SinkView W → Failure → Type 0
 StopsKept before after read read_after written written_after failure =
-    (FailsToGoOn failure × (read_after ≡ read) × (after ≡ before) × (written_after ≡ written))
+    (FailsToResume failure × (read_after ≡ read) × (after ≡ before) × (written_after ≡ written))
     ⊎ StopsAnswering before after read read_after written written_after failure
     ⊎ ((failure ≡ Keep) × AnswersSome before after read read_after written written_after)
 
@@ -125,70 +143,85 @@ KeepsTo sigs capacity read read_after written written_after saved saved_after (O
     (KeepsAll sigs capacity read read_after saved saved_after × (status ≡ 0))
     ⊎ (TellsFault written written_after (Ok status) × (read_after ≡ read))
 KeepsTo sigs capacity read read_after written written_after saved saved_after (Err failure) =
-    (FailsToGoOn failure × (written_after ≡ written) × (read_after ≡ read))
+    (FailsToResume failure × (written_after ≡ written) × (read_after ≡ read))
     ⊎ (TellsFault written written_after (Err failure) × (read_after ≡ read))
     ⊎ StopsFrom sigs capacity read read_after written written_after saved saved_after failure
 
 -- ---- `serve`
 
--- Why partners were not served by a desk that is kept, or not to their end, or what they made was not kept
--- or saved, or not told. That it was not kept is told only once they were served.
-abbrev pub FailsToServeKept : {W F : Type 0} → DeskView → List Role → List SessionStart → SinkView W
-    → SinkView W → Option (SinkView F) → Option (SinkView F) → Failure → Type 0
-FailsToServeKept desk roles starts written written_after saved saved_after failure =
-    FailsToServeAll written written_after failure
-    ⊎ ((failure ≡ Keep)
-    × ((told : Telling) × ServesPartners desk roles starts written written_after told (λ J. Unit {0})))
-    ⊎ FailsServed (ServesPartners desk roles starts written written_after) saved saved_after failure
-
--- what comes of serving partners by a desk that is kept
-abbrev pub ServesKeptAt : {W F T : Type 0} → DeskView → List Role → List SessionStart → SinkView W
-    → SinkView W → Option (SinkView F) → Option (SinkView F) → Result T Failure → Type 0
-ServesKeptAt desk roles starts written written_after saved saved_after (Ok x) =
-    ServesPartners desk roles starts written written_after (Ok tt) (λ J. IsSaved J saved saved_after)
-ServesKeptAt desk roles starts written written_after saved saved_after (Err failure) =
-    FailsToServeKept desk roles starts written written_after saved saved_after failure
-
--- the same of the partners that words name, or none was accepted
-abbrev pub ServesKeptWords : {W F T : Type 0} → DeskView → Named → SinkView W → SinkView W
-    → Option (SinkView F) → Option (SinkView F) → Result T Failure → Type 0
-ServesKeptWords desk named written written_after saved saved_after (Ok x) =
-    ServesNamed desk named written written_after (Ok tt) (λ J. IsSaved J saved saved_after)
-ServesKeptWords desk named written written_after saved saved_after (Err failure) =
-    FailsToServe named.words written written_after failure
-    ⊎ ((failure ≡ Keep)
-    × ((told : Telling) × ServesNamed desk named written written_after told (λ J. Unit {0})))
-    ⊎ FailsServed (ServesNamed desk named written written_after) saved saved_after failure
-
--- That desk had room for so many entries, and went on from a kept journal.
-pub record ServesFrom {W : Type 0} (sigs : List (ℕ × Promise)) (capacity : ℕ) (named : Named)
-    (written written_after : SinkView W) (told : Telling) (Kept : History → Type 0) : Type 0 where
-  pub opening : DeskView
+-- The desk that partners are served by has room for so many entries, and these helpers. Where its journal is not kept
+-- it has no entry.
+pub record BeginsWith (sigs : List (ℕ × Promise)) (capacity : ℕ) (kept : Bool) (opening : DeskView)
+    : Type 0 where
   pub room : opening.capacity ≡ capacity
   pub helpers : opening.sigs ≡ sigs
+  pub empty : kept ≡ false → opening.history ≡ []
+
+-- why there is no such desk: where the journal is kept, it is not legal, or it was not gone on from; else memory was
+-- refused
+abbrev pub FailsToBegin : Bool → BeginError → Type 0
+FailsToBegin kept (begin_errors.Illegal finding) = (kept ≡ true) × (status_of finding ≡ 1)
+FailsToBegin true (begin_errors.Failed failure) = FailsToResume failure
+FailsToBegin false (begin_errors.Failed failure) = failure ≡ Memory
+
+-- the journal of a desk is kept, and what its partners made was not; that is told only once they were served
+pub record FailsKept {W : Type 0} (kept : Bool) (desk : DeskView) (named : Named) (written written_after : SinkView W)
+    (failure : Failure) : Type 0 where
+  pub is_kept : kept ≡ true
+  pub failure_is : failure ≡ Keep
+  pub told : Telling
+  pub served : ServesNamed desk named written written_after told (λ J. Unit {0})
+
+-- why partners were not served by a desk, or not to their end, or what they made was not kept
+abbrev pub FailsAtDesk : {W : Type 0} → Bool → DeskView → Named → SinkView W → SinkView W → Failure → Type 0
+FailsAtDesk kept desk named written written_after failure =
+    FailsToServe named written written_after failure
+    ⊎ FailsKept kept desk named written written_after failure
+
+-- why they were not, or what they made was not saved, or not told
+abbrev pub StopsAtDesk : {W F : Type 0} → Bool → DeskView → Named → SinkView W → SinkView W
+    → Option (SinkView F) → Option (SinkView F) → Failure → Type 0
+StopsAtDesk kept desk named written written_after saved saved_after failure =
+    FailsAtDesk kept desk named written written_after failure
+    ⊎ FailsServed (ServesNamed desk named written written_after) saved saved_after failure
+
+-- what comes of serving the partners that the words name by a desk: all was done, with the status 0, or not
+abbrev pub ServesWordsTo : {W F : Type 0} → Bool → DeskView → Named → SinkView W → SinkView W
+    → Option (SinkView F) → Option (SinkView F) → Result ℕ Failure → Type 0
+ServesWordsTo kept desk named written written_after saved saved_after (Ok status) =
+    ServesNamed desk named written written_after (Ok tt) (λ J. IsSaved J saved saved_after) × (status ≡ 0)
+ServesWordsTo kept desk named written written_after saved saved_after (Err failure) =
+    StopsAtDesk kept desk named written written_after saved saved_after failure
+
+-- partners were served by a desk that was begun so
+pub record ServesFrom {W : Type 0} (sigs : List (ℕ × Promise)) (capacity : ℕ) (kept : Bool) (named : Named)
+    (written written_after : SinkView W) (told : Telling) (Kept : History → Type 0) : Type 0 where
+  pub opening : DeskView
+  pub begins : BeginsWith sigs capacity kept opening
   pub serves : ServesNamed opening named written written_after told Kept
 
--- That desk went on so, and its partners were not served to their end, or what they made was not kept or
--- saved, or not told.
-pub record StopsServing {W F : Type 0} (sigs : List (ℕ × Promise)) (capacity : ℕ)
+-- they were not, or not to their end, or what they made was not kept or saved, or not told
+pub record StopsServing {W F : Type 0} (sigs : List (ℕ × Promise)) (capacity : ℕ) (kept : Bool)
     (named : Named) (written written_after : SinkView W) (saved saved_after : Option (SinkView F))
     (failure : Failure) : Type 0 where
   pub opening : DeskView
-  pub room : opening.capacity ≡ capacity
-  pub helpers : opening.sigs ≡ sigs
-  pub why : ServesKeptWords {T = Unit {0}} opening named written written_after saved saved_after
-      (Err failure)
+  pub begins : BeginsWith sigs capacity kept opening
+  pub why : StopsAtDesk kept opening named written written_after saved saved_after failure
+
+-- why nobody was served: where the journal is kept it was not gone on from; else memory was refused
+abbrev pub FailsFirst : Bool → Failure → Type 0
+FailsFirst kept failure = FailsToBegin kept (begin_errors.Failed failure)
 
 -- What comes of it: all was done, with the status 0; or the kept journal is not legal, which was told, with
--- the status 1; or it was not gone on from, or that could not be told, and nobody was served; or something
+-- the status 1; or there was no desk, or that could not be told, and nobody was served; or something
 -- failed then.
-abbrev pub ServesKeptTo : {W F : Type 0} → List (ℕ × Promise) → ℕ → Named → SinkView W
+abbrev pub ServesTo : {W F : Type 0} → List (ℕ × Promise) → ℕ → Bool → Named → SinkView W
     → SinkView W → Option (SinkView F) → Option (SinkView F) → Result ℕ Failure → Type 0
-ServesKeptTo sigs capacity named written written_after saved saved_after (Ok status) =
-    (ServesFrom sigs capacity named written written_after (Ok tt) (λ J. IsSaved J saved saved_after)
+ServesTo sigs capacity kept named written written_after saved saved_after (Ok status) =
+    (ServesFrom sigs capacity kept named written written_after (Ok tt) (λ J. IsSaved J saved saved_after)
     × (status ≡ 0))
-    ⊎ TellsFault written written_after (Ok status)
-ServesKeptTo sigs capacity named written written_after saved saved_after (Err failure) =
-    (FailsToGoOn failure × (written_after ≡ written))
-    ⊎ TellsFault written written_after (Err failure)
-    ⊎ StopsServing sigs capacity named written written_after saved saved_after failure
+    ⊎ ((kept ≡ true) × TellsFault written written_after (Ok status))
+ServesTo sigs capacity kept named written written_after saved saved_after (Err failure) =
+    (FailsFirst kept failure × (written_after ≡ written))
+    ⊎ ((kept ≡ true) × TellsFault written written_after (Err failure))
+    ⊎ StopsServing sigs capacity kept named written written_after saved saved_after failure

@@ -7,5 +7,5 @@ pub mod Keeping
 pub mod Minutes
 pub mod Partners
 pub mod Served
-pub use Rattle.acdm_judging.specs.Failures
+pub use Rattle.acdm_failures.specs.Failures
 pub use Rattle.acdm_tables.specs.Helpers

@@ -1,5 +1,5 @@
 -- What `serve` does for its partners and tells of them, from its words on.
-use Rattle.std.specs.Prelude.{ℕ, ◌+◌, ◌≡◌, ◌≢◌, ◌⊎◌, ◌==◌, Bool, nat_lt}
+use Rattle.std.specs.Prelude.{ℕ, ◌+◌, ◌<◌, ◌≡◌, ◌≢◌, ◌⊎◌, ◌==◌, ◌||◌, Bool, nat_lt}
 use Rattle.std.specs.Prelude.{if◌then◌else◌, List, []}
 use Rattle.std.specs.Prelude.{◌∷◌, ◌++◌, length, map, Option, Some, None, Result, Ok, Err}
 use Rattle.std.specs.Prelude.{IsSome, is_some, true, false}
@@ -9,14 +9,15 @@ use Rattle.acdm_milestones.specs.Names.{role_named}
 use Rattle.acdm_milestones.specs.declared.role.Role.{Role}
 use Rattle.acdm_milestones.specs.declared.role.Role.TheVariants.{AirportOperator}
 use Rattle.acdm_board.specs.Desk.{DeskView}
-use Rattle.acdm_judging.specs.declared.failure.Failure.{Failure}
-use Rattle.acdm_judging.specs.declared.failure.Failure.TheVariants as failures
+use Rattle.acdm_failures.specs.declared.failure.Failure.{Failure}
+use Rattle.acdm_failures.specs.declared.failure.Failure.TheVariants as failures
 use Rattle.acdm_lines.specs.Counted.{SinkView, faults_after}
 use Rattle.acdm_sessions.specs.Sessions.{ServesSessions, SessionStart, SessionTold, new_session}
 use Rattle.acdm_step.specs.Commands.{History}
 use Rattle.acdm_serving.specs.Partners.{Telling, TellsPartners, told_text}
 use Rattle.acdm_commands.specs.Minutes.{is_minute}
-use Rattle.acdm_commands.specs.Served.{FailsToSave, IsSaved, empty_desk}
+use Rattle.acdm_commands.specs.Served.{FailsToSave, IsSaved}
+use Rattle.acdm_commands.specs.declared.request.ServeRequest.{ServeRequest}
 
 -- ---- the words
 
@@ -33,13 +34,28 @@ role_in word =
 abbrev pub address_in : List ℕ → List ℕ
 address_in word = after_first is_equals word
 
--- what the words of `serve` name: its partners, and whether the board ticks by itself
+-- displays have an address: one at least of those for the journal, for what it changes and for browsers
+abbrev pub has_outlet : Bool → Bool → Bool → Bool
+has_outlet journal changes web = journal || (changes || web)
+
+-- what the words of `serve` name: its partners; and whether the board ticks by itself, whether there is a control
+-- address and a log, and whether displays have an address
 pub record Named : Type 0 where
   pub words : List (List ℕ)
   pub ticks : Bool
+  pub controlled : Bool
+  pub logged : Bool
+  pub shown : Bool
 
-abbrev pub named_by : List (List ℕ) → Option ℕ → Named
-named_by words tick = record { words = words; ticks = is_some tick }
+abbrev pub named_of : ServeRequest → Named
+named_of request = record {
+  words = map (λ w. w.now) request.words.items;
+  ticks = is_some request.options.tick;
+  controlled = is_some request.options.control;
+  logged = is_some request.options.log;
+  shown = has_outlet (is_some request.outlets.journal) (is_some request.outlets.changes)
+      (is_some request.outlets.web);
+}
 
 -- the session of those ticks, in role `APT`, whose clock may give any minute
 abbrev pub ticking : Bool → List SessionStart
@@ -92,23 +108,42 @@ pub record ServesNamed {W : Type 0} (desk : DeskView) (named : Named)
   pub partners : ServesPartners desk roles
       (map (λ role. new_session role is_minute) roles ++ ticking named.ticks) written written_after told Kept
 
--- that desk was empty at first, with room for so many entries
-pub record ServesWords {W : Type 0} (sigs : List (ℕ × Promise)) (capacity : ℕ)
-    (named : Named) (written written_after : SinkView W) (told : Telling)
-    (Kept : History → Type 0) : Type 0 where
-  pub cells : List ℕ
-  pub serves : ServesNamed (empty_desk sigs capacity cells) named written written_after told Kept
+-- a partner is one too many, by its number from 1: at most 64 sessions are served, of which the board's own ticks are
+-- one
+abbrev pub IsOneTooMany : List (List ℕ) → Bool → ℕ → Type 0
+IsOneTooMany words true n = (n ≡ 64) × (63 < length words)
+IsOneTooMany words false n = (n ≡ 65) × (64 < length words)
 
--- why no partner was accepted: of the words, one names no role, or its address or that of displays or of
--- the control is none or can't be listened at; or the log can't be written; or memory was refused
-abbrev pub FailsToOpen : List (List ℕ) → Failure → Type 0
-FailsToOpen words (failures.Role n) = FailsToListen words (failures.Role n)
-FailsToOpen words (failures.Address n) = Unit {0}
-FailsToOpen words failures.Watch = Unit {0}
-FailsToOpen words failures.Control = Unit {0}
-FailsToOpen words failures.Log = Unit {0}
-FailsToOpen words failures.Memory = Unit {0}
-FailsToOpen words failure = ⊥
+-- why the partners of the words have no listeners: one of these words names no role, or its address is none or can't
+-- be listened at, or it is one too many; or memory was refused
+abbrev pub FailsToSeat : List (List ℕ) → Bool → Failure → Type 0
+FailsToSeat words ticks (failures.Role n) = FailsToListen words (failures.Role n)
+FailsToSeat words ticks (failures.Address n) =
+    FailsToListen words (failures.Address n) ⊎ IsOneTooMany words ticks n
+FailsToSeat words ticks failures.Memory = Unit {0}
+FailsToSeat words ticks failure = ⊥
+
+-- why displays have no listeners: where there is an address for them, it is none or can't be listened at; or memory
+-- was refused
+abbrev pub FailsToShow : Bool → Failure → Type 0
+FailsToShow shown failures.Watch = shown ≡ true
+FailsToShow shown failures.Memory = Unit {0}
+FailsToShow shown failure = ⊥
+
+-- why an operator does not have what was asked for: where there is a control address, it is none or can't be listened
+-- at; where there is a log, it can't be written; or memory was refused
+abbrev pub FailsToOperate : Bool → Bool → Failure → Type 0
+FailsToOperate controlled logged failures.Control = controlled ≡ true
+FailsToOperate controlled logged failures.Log = logged ≡ true
+FailsToOperate controlled logged failures.Memory = Unit {0}
+FailsToOperate controlled logged failure = ⊥
+
+-- why nobody was served, by what the words name
+abbrev pub FailsToOpen : Named → Failure → Type 0
+FailsToOpen named failure =
+    FailsToSeat named.words named.ticks failure
+    ⊎ FailsToShow named.shown failure
+    ⊎ FailsToOperate named.controlled named.logged failure
 
 -- why partners were not served to their end
 abbrev pub FailsToServeAll : {W : Type 0} → SinkView W → SinkView W → Failure → Type 0
@@ -118,9 +153,9 @@ FailsToServeAll written written_after (failures.Accept n) = Unit {0}
 FailsToServeAll written written_after failures.Memory = Unit {0}
 FailsToServeAll written written_after failure = ⊥
 
-abbrev pub FailsToServe : {W : Type 0} → List (List ℕ) → SinkView W → SinkView W → Failure → Type 0
-FailsToServe words written written_after failure =
-    FailsToOpen words failure ⊎ FailsToServeAll written written_after failure
+abbrev pub FailsToServe : {W : Type 0} → Named → SinkView W → SinkView W → Failure → Type 0
+FailsToServe named written written_after failure =
+    FailsToOpen named failure ⊎ FailsToServeAll written written_after failure
 
 -- What was saved of a history, where it was told so how its partners ended.
 abbrev pub SavesSo : {F T : Type 0} → Telling → History → Option (SinkView F) → Option (SinkView F)
@@ -136,32 +171,3 @@ abbrev pub FailsServed : {F : Type 0} → (Telling → (History → Type 0) → 
     → Option (SinkView F) → Failure → Type 0
 FailsServed Served saved saved_after failure =
     (told : Telling) × Served told (λ J. SavesSo {T = Unit {0}} told J saved saved_after (Err failure))
-
--- What comes of serving partners: all was done; or they were not served to their end; or they were, and
--- that was not saved, or not told.
-abbrev pub ServesPartnersTo : {W F T : Type 0} → DeskView → List Role → List SessionStart → SinkView W
-    → SinkView W → Option (SinkView F) → Option (SinkView F) → Result T Failure → Type 0
-ServesPartnersTo desk roles starts written written_after saved saved_after (Ok x) =
-    ServesPartners desk roles starts written written_after (Ok tt) (λ J. IsSaved J saved saved_after)
-ServesPartnersTo desk roles starts written written_after saved saved_after (Err failure) =
-    FailsToServeAll written written_after failure
-    ⊎ FailsServed (ServesPartners desk roles starts written written_after) saved saved_after failure
-
--- the same of the partners that words name, or none was accepted
-abbrev pub ServesNamedTo : {W F T : Type 0} → DeskView → Named → SinkView W → SinkView W
-    → Option (SinkView F) → Option (SinkView F) → Result T Failure → Type 0
-ServesNamedTo desk named written written_after saved saved_after (Ok x) =
-    ServesNamed desk named written written_after (Ok tt) (λ J. IsSaved J saved saved_after)
-ServesNamedTo desk named written written_after saved saved_after (Err failure) =
-    FailsToServe named.words written written_after failure
-    ⊎ FailsServed (ServesNamed desk named written written_after) saved saved_after failure
-
--- what comes of the words: all was done, with the status 0, or what kept it from that, as before
-abbrev pub ServesWordsTo : {W F : Type 0} → List (ℕ × Promise) → ℕ → Named → SinkView W
-    → SinkView W → Option (SinkView F) → Option (SinkView F) → Result ℕ Failure → Type 0
-ServesWordsTo sigs capacity named written written_after saved saved_after (Ok status) =
-    ServesWords sigs capacity named written written_after (Ok tt) (λ J. IsSaved J saved saved_after)
-    × (status ≡ 0)
-ServesWordsTo sigs capacity named written written_after saved saved_after (Err failure) =
-    FailsToServe named.words written written_after failure
-    ⊎ FailsServed (ServesWords sigs capacity named written written_after) saved saved_after failure

@@ -1,12 +1,13 @@
 //! The tables by which a journal was made, in a file beside it.
 ghost use Rattle.std.specs.Prelude.{◌≡◌, ◌⊎◌, IfOk, IsFalse, IsTrue, option_map, string_bytes};
 ghost use Rattle.acdm_commands.specs.ByTables.{GivesOther, RefusesJournal, beside, journals_of, other_text};
-ghost use Rattle.acdm_judging.specs.Failures.{Complains, failure_text};
-ghost use Rattle.acdm_judging.specs.declared.failure.Failure.TheVariants.{Memory};
+ghost use Rattle.acdm_failures.specs.Failures.{Complains, failure_text};
+ghost use Rattle.acdm_failures.specs.declared.failure.Failure.TheVariants.{Memory};
 
 use crate::tables::tables_on;
 use acdm_command_line::Subcommand;
-use acdm_judging::{Failure, unread};
+use acdm_failures::Failure;
+use acdm_judging::unread;
 use acdm_keeping::{Replacement, is_special};
 use acdm_sessions::{Sink, Source};
 use acdm_tables::Tables;

@@ -5,7 +5,7 @@ ghost use Rattle.std.specs.Io.KnownBytes.{Keeps, ReadConsumes, WriteAppends};
 ghost use Rattle.std.specs.IoError.{error_kind};
 ghost use Rattle.acdm_commands.specs.Causes.{TellsCause, cause_text, failure_by};
 
-use acdm_judging::Failure;
+use acdm_failures::Failure;
 use acdm_sessions::Sink;
 use acdm_wire::write_out;
 use std::alloc::Global;

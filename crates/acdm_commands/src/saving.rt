@@ -1,18 +1,20 @@
 //! The saving of a desk's journal, as text.
 ghost use Rattle.std.specs.Prelude.{◌≡◌, ◌≤◌, true, false, IfOk, IfErr, OnOk, Some, option_map};
 ghost use Rattle.acdm_board.specs.Desk.{row_of};
-ghost use Rattle.acdm_judging.specs.declared.failure.Failure.TheVariants.{Memory};
+ghost use Rattle.acdm_failures.specs.declared.failure.Failure.TheVariants.{Memory};
 ghost use Rattle.acdm_commands.specs.Completed.{FailsToMake, IsDone, IsUnwritten, Settles};
 ghost use Rattle.acdm_commands.specs.Partners.{SavesSo};
 ghost use Rattle.acdm_commands.specs.Served.{FailsToSave, IsSaved};
 ghost use Rattle.acdm_journal.specs.Whole.{Saves};
 
 use crate::beside::note_tables;
-use crate::cause::{Cause, Noting};
-use crate::standard::is_standard;
+use crate::cause::Noting;
+use crate::context::Context;
+use crate::request::JournalFiles;
+use crate::standard_streams::is_standard;
 use acdm_board::Desk;
+use acdm_failures::Failure;
 use acdm_journal::{MOST_KEPT, write_entry_by};
-use acdm_judging::Failure;
 use acdm_keeping::{Replacement, is_special, leads_to};
 use acdm_row::Row;
 use acdm_sessions::{RunError, Sink};
@@ -32,15 +34,6 @@ const BUFFER: usize = 65_536;
 pub(crate) struct Saving<F: Write + Drop> {
     pub file: Option<Sink<BufWriter<F>>>,
     replacement: Option<Replacement>,
-}
-
-/// What else the words of a command name: the file that its journal is kept in, and that of the tables. And where
-/// it is noted why the file could not be used.
-#[derive(Clone, Copy)]
-pub(crate) struct Others<'a> {
-    pub(crate) kept: Option<&'a str>,
-    pub(crate) tables: Option<&'a str>,
-    pub(crate) why: &'a Cause,
 }
 
 /// That a file is something else too, which is not written over.
@@ -82,8 +75,10 @@ fn is_kept<Rt: Files<File = File>>(rt: &Rt, path: &str) -> bool {
 }
 
 // Whether a path is that of a standard stream, or of what else the words name.
-fn is_taken<Rt: Files<File = File>>(rt: &Rt, path: &str, others: Others<'_>) -> bool {
-    is_standard(rt, path) || is_one(rt, path, others.kept) || is_one(rt, path, others.tables)
+fn is_taken<Rt: Files<File = File>>(rt: &Rt, path: &str, files: JournalFiles<'_>) -> bool {
+    is_standard(rt, path)
+        || is_one(rt, path, files.kept_path())
+        || is_one(rt, path, files.tables.path)
 }
 
 // Makes the file to be written, where its path is that of something that a journal may take the place of.
@@ -91,9 +86,9 @@ fn create<Rt: Files<File = File>>(
     rt: &Rt,
     alloc: Global,
     path: &str,
-    others: Others<'_>,
+    files: JournalFiles<'_>,
 ) -> io::Result<(File, Option<Replacement>)> {
-    if is_taken(rt, path, others) {
+    if is_taken(rt, path, files) {
         return Err(taken());
     }
     if is_kept(rt, path) {
@@ -102,40 +97,39 @@ fn create<Rt: Files<File = File>>(
     if is_special(rt, path) {
         return Ok((fs::create(rt, path)?, None));
     }
-    let (file, replacement) = Replacement::create(rt, alloc, path, others.kept)?;
+    let (file, replacement) = Replacement::create(rt, alloc, path, files.kept_path())?;
     Ok((file, Some(replacement)))
 }
 
-/// Makes the file that a journal is to be saved in by this path, if there is one, and leaves the one
+/// Makes the file that a journal is to be saved in, if there is one, and leaves the one
 /// that is there. `Save` where it can't be made, or where the one that is there is that of a standard
 /// stream or of what else the words name, or another board keeps its journal there; `Memory` where that was
 /// refused. Why is noted, also why it can't be written later.
 pub(crate) fn saving_in<'a, Rt: Files<File = File>>(
-    rt: &Rt,
-    alloc: Global,
-    path: Option<&'a str>,
-    others: Others<'a>,
+    context: &'a Context<'_, Rt>,
+    files: JournalFiles<'a>,
 ) -> Result<Saving<Noting<'a, File>>, Failure>
-    ensures made { IfOk result (λ s. IsUnwritten (option_map (λ p. p.now) path.entry) s.file) }
-    ensures fails { IfErr result (FailsToMake (option_map (λ p. p.now) path.entry)) }
+    ensures made { IfOk result (λ s. IsUnwritten (option_map (λ p. p.now) files.entry.save) s.file) }
+    ensures fails { IfErr result (FailsToMake (option_map (λ p. p.now) files.entry.save)) }
 {
-    let Some(path) = path else {
+    let Some(path) = files.save else {
         return Ok(Saving {
             file: None,
             replacement: None,
         });
     };
-    let (file, replacement) = match create(rt, alloc, path, others) {
+    let (rt, alloc) = (context.rt, context.alloc);
+    let (file, replacement) = match create(rt, alloc, path, files) {
         Ok(made) => made,
         Err(error) => {
             return Err(
-                others
+                context
                     .why
                     .failure(alloc, Failure::Save, "--save ", path, &error),
             );
         }
     };
-    let file = Noting::new(alloc, file, "--save ", path, others.why);
+    let file = Noting::new(alloc, file, "--save ", path, &context.why);
     match BufWriter::with_capacity(alloc, BUFFER, file) {
         Ok(writer) => Ok(Saving {
             file: Some(Sink::new(writer)),
@@ -186,17 +180,14 @@ fn is_done(work: Result<u8, Failure>) -> bool
 /// Puts the file of a command whose work came so in its place, where its journal was written, and beside it the
 /// text of the tables by which it was made; else what was there stays. `Save` where that failed, and why is noted.
 pub(crate) fn settle<Rt: Files<File = File>>(
-    rt: &Rt,
-    alloc: Global,
-    path: Option<&str>,
-    tables: &[u8],
-    why: &Cause,
+    context: &Context<'_, Rt>,
+    files: JournalFiles<'_>,
     saving: Saving<Noting<'_, File>>,
     work: Result<u8, Failure>,
 ) -> Result<u8, Failure>
-    ensures { Settles (option_map (λ p. p.now) path.entry) work result }
+    ensures { Settles (option_map (λ p. p.now) files.entry.save) work result }
 {
-    let Some(target) = path else {
+    let Some(target) = files.save else {
         return work;
     };
     let Saving { file, replacement } = saving;
@@ -206,14 +197,15 @@ pub(crate) fn settle<Rt: Files<File = File>>(
     let Some(file) = file else {
         return work;
     };
+    let (rt, alloc) = (context.rt, context.alloc);
     if !is_done(work) {
         replacement.remove(rt);
         return work;
     }
-    match put_with_tables(rt, alloc, target, tables, file, &replacement) {
+    match put_with_tables(rt, alloc, target, files.tables.text, file, &replacement) {
         Ok(()) => work,
         Err(error) => {
-            why.note(alloc, "--save ", target, &error);
+            context.why.note(alloc, "--save ", target, &error);
             replacement.remove(rt);
             Err(Failure::Save)
         }

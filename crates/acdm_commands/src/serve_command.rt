@@ -1,406 +1,373 @@
 //! The command `serve`, from its words on.
-ghost use Rattle.std.specs.Prelude.{◌≡◌, ◌≤◌, IfOk, IfErr, Some, is_some, length, map, option_map, vec_len};
+ghost use Rattle.std.specs.Prelude.{◌≡◌, ◌≤◌, true, false, IfErr, IfOk, IfSome, OnErr, is_some, length, map, option_map};
+ghost use Rattle.acdm_board.specs.Desk.{row_of};
+ghost use Rattle.acdm_commands.specs.Completed.{ServesLine};
+ghost use Rattle.acdm_commands.specs.Keeping.{BeginsWith, FailsAtDesk, FailsToBegin, FailsToResume, IsNewKeeper};
+ghost use Rattle.acdm_commands.specs.Keeping.{ServesWordsTo, seen_by};
 ghost use Rattle.acdm_commands.specs.Minutes.{is_minute};
-ghost use Rattle.acdm_commands.specs.Partners.{FailsToOpen, ServesNamedTo, ServesPartnersTo};
-ghost use Rattle.acdm_commands.specs.Partners.{ServesWordsTo, named_by, role_in};
+ghost use Rattle.acdm_commands.specs.Partners.{FailsToOpen, FailsToServeAll, ServesNamed, ServesPartners};
+ghost use Rattle.acdm_commands.specs.Partners.{named_of, role_in};
+ghost use Rattle.acdm_failures.specs.Failures.{EndsBy};
+ghost use Rattle.acdm_failures.specs.declared.failure.Failure.TheVariants.{Memory};
 ghost use Rattle.acdm_serving.specs.Partners.{starts_of};
 ghost use Rattle.acdm_tables.specs.Helpers.{helpers_by};
-ghost use Rattle.acdm_sessions.specs.Sessions.{new_session};
 
-use crate::addresses::{listen, listener_at};
-use crate::cause::Cause;
-use crate::minutes::SystemMinutes;
-use crate::saving::{buffer_for, save_served};
-use crate::service::{Operator, Service};
+use crate::addresses::few_partners;
+use crate::context::Context;
+use crate::outlets::{Outlets, close_all, outlets_at};
+use crate::request::{KeepIn, ServeRequest, Setup};
+use crate::resuming::{KeptFile, Resumption, keeper_of, resume};
+use crate::saving::{buffer_for, save_served, saving_in, settle};
+use crate::serve_options::{Operator, operator_of};
+use crate::system_clock::SystemMinutes;
 use acdm_board::Desk;
-use acdm_displays::{Displays, Form};
-use acdm_judging::Failure;
-use acdm_keeping::{Opening, Reach};
-use acdm_milestones::Role;
+use acdm_failures::{Failure, ended};
+use acdm_judging::Finding;
+use acdm_keeping::{Keeper, Named, Opening, Paths, Reach, SharedKeeper, Synced};
 use acdm_row::Row;
-use acdm_serving::{FileKeeper, Host, Operation, Partners, Ticking, serve_again, serve_partners};
-use acdm_sessions::{Clock, Sink};
-use acdm_tables::{KnownHelpers, Tables};
+use acdm_serving::{
+    FileKeeper, Host, Operation, Partners, ServedPartners, serve_partners, serve_reconnecting,
+};
+use acdm_sessions::{Clock, RunError, Sink};
+use acdm_tables::KnownHelpers;
 use bpf_helpers::Helpers;
 use std::alloc::Global;
 use std::fs::{File, Files};
-use std::io::{self, ErrorKind, Write};
+use std::io::Write;
 use std::marker::Brand;
-use std::net::{Net, TcpListener, TcpStream};
+use std::sync::Arc;
 use std::sync::atomic::AtomicBool;
-use std::sync::{Arc, Wait};
-use std::thread::Threads;
-use std::time::Clock as SystemClock;
 
-/// Where displays are sent the journal, where they are told what it changes, and where browsers have
-/// the board as a page: an IP address and a port each, or nowhere. And by which name browsers may ask for it.
-#[derive(Clone, Copy)]
-pub(crate) struct Audience<'a> {
-    pub(crate) journal: Option<&'a str>,
-    pub(crate) changes: Option<&'a str>,
-    pub(crate) web: Option<&'a str>,
-    pub(crate) web_name: Option<&'a str>,
-    // Where it is noted what could not be listened at.
-    pub(crate) why: &'a Cause,
-}
-
-/// Serves a partner for each word `ROLE=ADDR`, at most 64, all at once, with room for so many
-/// entries in the journal, and tells on the writer what it does. Displays are sent meanwhile what
-/// they have an address for. When all partners are gone, the journal is written as text to the writer that
-/// it is to be saved by, if there is one, whether it could be told how they ended or not.
-///
-/// The status is 0 where all was told and the journal was saved.
-pub(crate) fn serve_words<Rt: Host + Files<File = File>, W: Write, F: Write + Drop>(
-    rt: &Rt,
-    alloc: Global,
-    tables: Tables,
-    journal: usize,
-    audience: Audience<'_>,
-    service: Service<'_>,
-    words: &[&str],
-    writer: &mut Sink<W>,
-    saved: &mut Option<Sink<F>>,
-) -> Result<u8, Failure>
-    ensures { ServesWordsTo (helpers_by tables) journal (named_by (map (λ w. w.now) words.now) service.entry.tick) writer.old writer.new
-        saved.old saved.new result }
-{
-    let helpers = KnownHelpers::new(alloc, tables);
-    serve_with(
-        rt, alloc, helpers, journal, audience, service, words, writer, saved,
-    )
-}
-
-// Makes a desk that is empty at first.
-fn serve_with<Rt: Host + Files<File = File>, H: Helpers + Drop + Send, W: Write, F: Write + Drop>(
-    rt: &Rt,
-    alloc: Global,
-    helpers: H,
-    journal: usize,
-    audience: Audience<'_>,
-    asked: Service<'_>,
-    words: &[&str],
-    writer: &mut Sink<W>,
-    saved: &mut Option<Sink<F>>,
-) -> Result<u8, Failure>
-    ensures { ServesWordsTo (H.entries helpers) journal (named_by (map (λ w. w.now) words.now) asked.entry.tick) writer.old
-        writer.new saved.old saved.new result }
-{
-    let desk = Desk::new(alloc, helpers, journal)?;
-    serve_at(rt, alloc, desk, audience, asked, words, writer, saved)?;
-    Ok(0)
-}
-
-// Serves a desk at the addresses of the words, and of displays.
-fn serve_at<Rt: Host + Files<File = File>, H: Helpers + Drop + Send, W: Write, F: Write + Drop>(
-    rt: &Rt,
-    alloc: Global,
+/// A board that partners are to be served by, and the keeper of its journal, if it is kept, with the name of the file.
+#[derive(Drop)]
+struct BoardStart<Rt: Paths + Drop, H: Helpers + Drop> {
     desk: Desk<H>,
-    audience: Audience<'_>,
-    service: Service<'_>,
-    words: &[&str],
-    writer: &mut Sink<W>,
+    keeper: Option<Keeper<Synced<Rt>>>,
+    named: Option<Named>,
+}
+
+/// Why no partner is served.
+#[derive(Drop)]
+enum BeginError {
+    /// The journal that was kept is not legal, and this is to be told of it.
+    Illegal(Finding),
+    /// This failed.
+    Failed(Failure),
+}
+
+/// Serves a partner for each word `ROLE=ADDR`, at most 64, all at once, and tells on the writer what it does.
+/// Displays are sent meanwhile what they have an address for. Where the journal is kept, the board goes on from the one
+/// in the file, and a reply is sent once its entry stands there. When all partners are gone, the journal is saved, if
+/// that was asked for, whether it could be told how they ended or not.
+///
+/// The status is 0 where all was told and the journal was kept and saved; 1 where what the file has is
+/// no legal journal, which is told as an audit tells it, and nobody is served; else 2, with a line on the errors'
+/// writer.
+pub(crate) fn serve_command<'a, Rt: Host + Files<File = File>, W: Write, E: Write>(
+    context: &'a Context<'_, Rt>,
+    setup: Setup,
+    request: &'a ServeRequest<'a>,
+    output: &mut Sink<W>,
+    errors: &mut Sink<E>,
+) -> u8
+    ensures { EndsBy (ServesLine (helpers_by setup.tables) setup.capacity
+        (option_map (λ s. s.now) request.now.files.save) (is_some request.now.files.keep) (named_of request.now)
+        output.old output.new) result errors.old errors.new }
+{
+    match saving_in(context, request.files) {
+        Ok(mut saving) => {
+            let work = match begin(context, setup, request.files.keep) {
+                Ok(begun) => serve_begun(context, request, begun, output, &mut saving.file),
+                Err(BeginError::Illegal(finding)) => finding.tell(output),
+                Err(BeginError::Failed(failure)) => Err(failure),
+            };
+            ended(settle(context, request.files, saving, work), errors)
+        }
+        Err(failure) => ended(Err(failure), errors),
+    }
+}
+
+// Makes a board, which goes on from the journal in a file where it is kept.
+fn begin<Rt: Host + Files<File = File>>(
+    context: &Context<'_, Rt>,
+    setup: Setup,
+    keep: Option<KeepIn<'_>>,
+) -> Result<BoardStart<Rt, KnownHelpers>, BeginError>
+    ensures begins { IfOk result (λ b. BeginsWith (helpers_by setup.tables) setup.capacity (is_some keep.entry) b.desk) }
+    ensures kept { IfOk result (λ b. is_some b.keeper ≡ is_some keep.entry) }
+    ensures new { IfOk result (λ b. IfSome b.keeper (IsNewKeeper b.desk)) }
+    ensures fails { IfErr result (FailsToBegin (is_some keep.entry)) }
+{
+    let Setup { tables, capacity } = setup;
+    let helpers = KnownHelpers::new(context.alloc, tables);
+    let Ok(mut desk) = Desk::new(context.alloc, helpers, capacity) else {
+        return Err(BeginError::Failed(Failure::Memory));
+    };
+    let Some(keep) = keep else {
+        return Ok(BoardStart {
+            desk,
+            keeper: None,
+            named: None,
+        });
+    };
+    let KeptFile { writer, named } = match resume(context, keep, &mut desk) {
+        Ok(Resumption::Ready(kept)) => kept,
+        Ok(Resumption::Illegal(finding)) => return Err(BeginError::Illegal(finding)),
+        Err(failure) => return Err(BeginError::Failed(failure)),
+    };
+    match keeper_of(context.alloc, &desk, writer) {
+        Ok(keeper) => Ok(BoardStart {
+            desk,
+            keeper: Some(keeper),
+            named: Some(named),
+        }),
+        Err(failure) => Err(BeginError::Failed(failure)),
+    }
+}
+
+// Serves partners by a board, and saves what they made.
+fn serve_begun<Rt: Host + Files<File = File>, H: Helpers + Drop + Send, W: Write, F: Write + Drop>(
+    context: &Context<'_, Rt>,
+    request: &ServeRequest<'_>,
+    begun: BoardStart<Rt, H>,
+    output: &mut Sink<W>,
     saved: &mut Option<Sink<F>>,
-) -> Result<(), Failure>
-    ensures { ServesNamedTo desk (named_by (map (λ w. w.now) words.now) service.entry.tick) writer.old writer.new saved.old
+) -> Result<u8, Failure>
+    requires new { IfSome begun.keeper (IsNewKeeper begun.desk) }
+    ensures { ServesWordsTo (is_some begun.keeper) begun.desk (named_of request.now) output.old output.new saved.old
         saved.new result }
 {
-    let operator = match service.operator(rt, alloc, audience.why) {
-        Ok(operator) => operator,
-        Err(Failure::Memory) => return Err(Failure::Memory),
-        Err(Failure::Log) => return Err(Failure::Log),
-        Err(_) => return Err(Failure::Control),
-    };
-    let (partners, displays) = opened(rt, alloc, desk.row(), None, audience, service.tick, words)?;
-    let ended = serve_all(rt, alloc, partners, desk, service, operator, writer, saved);
-    close_all(rt, displays);
-    ended
+    serve_desk::<Brand, Rt, H, W, F>(context, request, begun, output, saved)
 }
 
-// Notes that a word, by its place from 0, names one partner too many.
-fn note_word(alloc: Global, why: &Cause, words: &[&str], place: usize) {
-    let error = io::Error::new(
-        ErrorKind::InvalidInput,
-        "more sessions than 64, of which ticks take one",
-    );
-    if let Some(word) = words.get(place) {
-        why.note(alloc, "", word, &error);
-    }
-}
-
-// Listens for the partners of the words, and has the clock of ticks, each so many seconds, if there are any.
-fn few_partners<'r, Rt: Net<Listener = TcpListener, Stream = TcpStream> + SystemClock>(
-    rt: &'r Rt,
-    alloc: Global,
-    why: &Cause,
-    tick: Option<u32>,
-    words: &[&str],
-) -> Result<Partners<SystemMinutes<'r, Rt>>, Failure>
-    ensures few { IfOk result (λ p. length (starts_of (λ _. is_minute) p.listeners.items
-        (option_map (λ t. t.clock) p.ticks)) ≤ 64) }
-    ensures roles { IfOk result (λ p.
-        map role_in (map (λ w. w.now) words.now) ≡ map (λ p. Some p.0) p.listeners.items) }
-    ensures ticks { IfOk result (λ p. is_some p.ticks ≡ is_some tick) }
-    ensures fails { IfErr result (FailsToOpen (map (λ w. w.now) words.now)) }
+// The same, by a keeper that is shared, if there is one: displays are shown what is kept. They are disconnected once
+// the journal is saved, so that none of them delays it.
+fn serve_desk<
+    J: Opening + Send + Sync,
+    Rt: Host + Files<File = File>,
+    H: Helpers + Drop + Send,
+    W: Write,
+    F: Write + Drop,
+>(
+    context: &Context<'_, Rt>,
+    request: &ServeRequest<'_>,
+    begun: BoardStart<Rt, H>,
+    output: &mut Sink<W>,
+    saved: &mut Option<Sink<F>>,
+) -> Result<u8, Failure>
+    requires desk { row_of begun.desk ≡ J.desk_row }
+    requires opening { seen_by begun.keeper ≡ J.opening }
+    requires new { IfSome begun.keeper (IsNewKeeper begun.desk) }
+    ensures { ServesWordsTo (is_some begun.keeper) begun.desk (named_of request.now) output.old output.new saved.old
+        saved.new result }
 {
-    let listeners = listen(rt, alloc, why, words)?;
-    match tick {
-        Some(seconds) => {
-            if listeners.len() > 63 {
-                note_word(alloc, why, words, 63);
-                return Err(Failure::Address(64));
-            }
-            let clock = SystemMinutes::new(rt);
-            Ok(Partners {
-                listeners,
-                ticks: Some(Ticking { seconds, clock }),
-            })
-        }
-        None => {
-            if listeners.len() > 64 {
-                note_word(alloc, why, words, 64);
-                return Err(Failure::Address(65));
-            }
-            Ok(Partners {
-                listeners,
-                ticks: None,
-            })
-        }
-    }
-}
-
-/// Displays that are sent the journal, those that are told what it changes, and browsers.
-#[derive(Drop)]
-pub(crate) struct Outlets {
-    open: Vec<Displays>,
-}
-
-/// Lets all displays go, once they were sent what there is.
-pub(crate) fn close_all<Rt: SystemClock + Threads>(rt: &Rt, outlets: Outlets) {
-    let Outlets { open } = outlets;
-    for displays in open {
-        displays.close(rt);
-    }
-}
-
-// The option that names the address of displays of a form.
-fn option_of(form: Form) -> &'static str {
-    match form {
-        Form::Journal => "--watch ",
-        Form::Changes => "--changes ",
-        Form::Web => "--web ",
-    }
-}
-
-// Displays of a row that connect at an address.
-fn displays_at<Rt: Host>(
-    rt: &Rt,
-    alloc: Global,
-    form: Form,
-    address: &str,
-    name: Option<&str>,
-    row: &Arc<Row>,
-    reach: Option<&Reach>,
-) -> io::Result<Displays> {
-    let listener = listener_at(rt, address)?;
-    Displays::start(rt, alloc, form, listener, name, row, reach)
-}
-
-// Listens for displays of a row at an address, if there is one. Why not is noted.
-fn add_outlet<Rt: Host>(
-    rt: &Rt,
-    alloc: Global,
-    form: Form,
-    address: Option<&str>,
-    row: &Arc<Row>,
-    reach: Option<&Reach>,
-    audience: Audience<'_>,
-    outlets: &mut Outlets,
-) -> Result<(), Failure> {
-    let Some(address) = address else {
-        return Ok(());
+    let alloc = context.alloc;
+    let BoardStart {
+        desk,
+        keeper,
+        named,
+    } = begun;
+    let Ok(mut buffer) = buffer_for(alloc, saved) else {
+        return Err(Failure::Memory);
     };
-    match displays_at(rt, alloc, form, address, audience.web_name, row, reach) {
-        Ok(displays) => {
-            outlets.open.push(displays)?;
-            Ok(())
-        }
-        Err(error) => Err(
-            audience
-                .why
-                .failure(alloc, Failure::Watch, option_of(form), address, &error),
-        ),
-    }
-}
-
-// Listens for all displays of a row, which are shown it as far as it is kept where it is.
-fn add_outlets<Rt: Host>(
-    rt: &Rt,
-    alloc: Global,
-    row: &Arc<Row>,
-    reach: Option<&Reach>,
-    audience: Audience<'_>,
-    outlets: &mut Outlets,
-) -> Result<(), Failure> {
-    let Audience {
-        journal,
-        changes,
-        web,
-        ..
-    } = audience;
-    add_outlet(
-        rt,
-        alloc,
-        Form::Journal,
-        journal,
-        row,
-        reach,
-        audience,
-        outlets,
-    )?;
-    add_outlet(
-        rt,
-        alloc,
-        Form::Changes,
-        changes,
-        row,
-        reach,
-        audience,
-        outlets,
-    )?;
-    add_outlet(rt, alloc, Form::Web, web, row, reach, audience, outlets)
-}
-
-// Listens for all displays of a row, or for none. The room for them is there before the first.
-fn outlets_of<Rt: Host>(
-    rt: &Rt,
-    alloc: Global,
-    row: &Arc<Row>,
-    reach: Option<&Reach>,
-    audience: Audience<'_>,
-) -> Result<Outlets, Failure> {
-    let mut outlets = Outlets {
-        open: Vec::with_capacity(alloc, 3)?,
+    let Ok(closing) = Arc::new(alloc, AtomicBool::new(false)) else {
+        return Err(Failure::Memory);
     };
-    match add_outlets(rt, alloc, row, reach, audience, &mut outlets) {
-        Ok(()) => Ok(outlets),
+    let Ok(same) = copy_of(alloc, &named) else {
+        return Err(Failure::Memory);
+    };
+    let Operator { control, log } = match operator_of(context, &request.options, &request.files) {
+        Ok(operator) => operator,
+        Err(failure) => return Err(failure),
+    };
+    let shared: Option<FileKeeper<J, Rt>> = match share(alloc, keeper, &desk, &closing) {
+        Ok(shared) => shared,
+        Err(_) => return Err(Failure::Memory),
+    };
+    let Ok(reach) = reach_of(&shared) else {
+        return Err(Failure::Memory);
+    };
+    let (partners, outlets) = match opened(context, request, desk.row(), reach.as_ref()) {
+        Ok(opened) => opened,
+        Err(failure) => return Err(failure),
+    };
+    let operation = Operation {
+        terms: request.options.terms(),
+        control,
+        closing,
+        kept: named,
+        log,
+        keeper: shared.as_ref(),
+    };
+    let served = serve_opened(context.rt, alloc, partners, desk, operation, output);
+    let kept = keep_rest(shared);
+    let (mut desk, told) = match served {
+        Ok(served) => served,
         Err(failure) => {
-            close_all(rt, outlets);
+            close_all(context.rt, outlets);
+            note_kept(context, request.files.keep, &same);
+            return Err(failure);
+        }
+    };
+    match kept {
+        Ok(()) => {}
+        Err(_) => {
+            close_all(context.rt, outlets);
+            note_kept(context, request.files.keep, &same);
+            return Err(Failure::Keep);
+        }
+    }
+    let came = save_served(&mut buffer, &mut desk, told, saved);
+    close_all(context.rt, outlets);
+    match came {
+        Ok(()) => Ok(0),
+        Err(failure) => {
+            note_kept(context, request.files.keep, &same);
             Err(failure)
         }
     }
 }
 
-/// Listens for partners, and for displays of a row.
-pub(crate) fn opened<'r, Rt: Host>(
-    rt: &'r Rt,
+// The name of a file, if there is one, once more.
+fn copy_of(alloc: Global, named: &Option<Named>) -> Result<Option<Named>, Failure> {
+    match named {
+        Some(named) => Ok(Some(named.copy(alloc)?)),
+        None => Ok(None),
+    }
+}
+
+// Notes why the file in which a journal is kept could not be written any more, where it could not.
+fn note_kept<Rt>(context: &Context<'_, Rt>, keep: Option<KeepIn<'_>>, named: &Option<Named>) {
+    if let (Some(keep), Some(named)) = (keep, named) {
+        keep.note_failure(context, named);
+    }
+}
+
+// Shares the keeper of a desk, if there is one.
+fn share<J: Opening, Rt: Host, H: Helpers + Drop>(
     alloc: Global,
+    keeper: Option<Keeper<Synced<Rt>>>,
+    desk: &Desk<H>,
+    closing: &Arc<AtomicBool>,
+) -> Result<Option<FileKeeper<J, Rt>>, Failure>
+    requires desk { row_of desk.now ≡ J.desk_row }
+    requires opening { seen_by keeper ≡ J.opening }
+    requires new { IfSome keeper (IsNewKeeper desk.now) }
+    ensures shared { IfOk result (λ s. is_some s ≡ is_some keeper) }
+    ensures fails { IfErr result (λ failure. failure ≡ Memory) }
+{
+    match keeper {
+        Some(keeper) => match SharedKeeper::new(alloc, keeper, desk.row(), closing) {
+            Ok(shared) => Ok(Some(shared)),
+            Err(_) => Err(Failure::Memory),
+        },
+        None => Ok(None),
+    }
+}
+
+// How far the journal is kept, if it is.
+fn reach_of<J: Opening, Rt: Host>(
+    shared: &Option<FileKeeper<J, Rt>>,
+) -> Result<Option<Reach>, Failure> {
+    match shared {
+        Some(keeper) => Ok(Some(keeper.reach()?)),
+        None => Ok(None),
+    }
+}
+
+// Keeps what is left, where the journal is kept.
+fn keep_rest<J: Opening, Rt: Host>(shared: Option<FileKeeper<J, Rt>>) -> Result<(), Failure>
+    ensures { OnErr result (is_some shared ≡ true) }
+{
+    match shared {
+        Some(keeper) => match keeper.into_keeper() {
+            Ok(_keeper) => Ok(()),
+            Err(failure) => Err(failure),
+        },
+        None => Ok(()),
+    }
+}
+
+// Listens for partners, and for displays of a row.
+fn opened<'r, Rt: Host>(
+    context: &Context<'r, Rt>,
+    request: &ServeRequest<'_>,
     row: &Arc<Row>,
     reach: Option<&Reach>,
-    audience: Audience<'_>,
-    tick: Option<u32>,
-    words: &[&str],
 ) -> Result<(Partners<SystemMinutes<'r, Rt>>, Outlets), Failure>
     ensures few { IfOk result (λ opened. length (starts_of (λ _. is_minute) opened.0.listeners.items
         (option_map (λ t. t.clock) opened.0.ticks)) ≤ 64) }
     ensures roles { IfOk result (λ opened.
-        map role_in (map (λ w. w.now) words.now) ≡ map (λ p. Some p.0) opened.0.listeners.items) }
-    ensures ticks { IfOk result (λ opened. is_some opened.0.ticks ≡ is_some tick) }
-    ensures fails { IfErr result (FailsToOpen (map (λ w. w.now) words.now)) }
+        map role_in (named_of request.now).words ≡ map (λ p. Some p.role) opened.0.listeners.items) }
+    ensures ticks { IfOk result (λ opened. is_some opened.0.ticks ≡ (named_of request.now).ticks) }
+    ensures fails { IfErr result (FailsToOpen (named_of request.now)) }
 {
-    let partners = few_partners(rt, alloc, audience.why, tick, words)?;
-    match outlets_of(rt, alloc, row, reach, audience) {
-        Ok(displays) => Ok((partners, displays)),
-        Err(Failure::Memory) => Err(Failure::Memory),
-        Err(_) => Err(Failure::Watch),
-    }
-}
-
-// Serves the partners, and saves what they made.
-fn serve_all<Rt: Host, H: Helpers + Drop + Send, C: Clock + Drop + Send, W: Write, F: Write + Drop>(
-    rt: &Rt,
-    alloc: Global,
-    partners: Partners<C>,
-    desk: Desk<H>,
-    service: Service<'_>,
-    operator: Operator,
-    writer: &mut Sink<W>,
-    saved: &mut Option<Sink<F>>,
-) -> Result<(), Failure>
-    requires ticks { is_some partners.ticks ≡ is_some service.tick }
-    requires few { length (starts_of C.gives partners.listeners.items
-        (option_map (λ t. t.clock) partners.ticks)) ≤ 64 }
-    ensures { ServesPartnersTo desk (map (λ p. p.0) partners.listeners.items)
-        (starts_of C.gives partners.listeners.items (option_map (λ t. t.clock) partners.ticks))
-        writer.old writer.new saved.old saved.new result }
-{
-    if service.is_plain() {
-        let Partners { listeners, .. } = partners;
-        return serve_once(rt, alloc, listeners, desk, writer, saved);
-    }
-    let Operator { control, log } = operator;
-    let operation = Operation {
-        terms: service.terms(),
-        control,
-        closing: Arc::new(alloc, AtomicBool::new(false))?,
-        kept: None,
-        log,
+    let partners = match few_partners(context, request.options.tick, request.words.as_slice()) {
+        Ok(partners) => partners,
+        Err(failure) => return Err(failure),
     };
-    serve_unkept::<Brand, Rt, H, C, W, F>(rt, alloc, partners, desk, operation, writer, saved)
+    match outlets_at(context, request.outlets, row, reach) {
+        Ok(outlets) => Ok((partners, outlets)),
+        Err(failure) => Err(failure),
+    }
 }
 
-// Serves partners who come and go, and saves what they made. The journal is not kept.
-fn serve_unkept<
+// Whether each partner is served to the end of its one connection.
+fn is_served_once<J: Opening, Rt: Host, C: Drop>(
+    partners: &Partners<C>,
+    operation: &Operation<'_, J, Rt>,
+) -> bool
+    ensures { result ≡ true → is_some partners.now.ticks ≡ false }
+{
+    partners.ticks.is_none() && operation.is_plain()
+}
+
+// Serves the partners. Answers the desk once they are gone, and how it went to tell how they ended.
+fn serve_opened<
     'r,
     J: Opening + Send + Sync + 'r,
     Rt: Host,
     H: Helpers + Drop + Send,
     C: Clock + Drop + Send,
     W: Write,
-    F: Write + Drop,
 >(
     rt: &'r Rt,
     alloc: Global,
     partners: Partners<C>,
     desk: Desk<H>,
-    operation: Operation,
-    writer: &mut Sink<W>,
-    saved: &mut Option<Sink<F>>,
-) -> Result<(), Failure>
+    operation: Operation<'r, J, Rt>,
+    output: &mut Sink<W>,
+) -> Result<(Desk<H>, Result<(), RunError>), Failure>
     requires few { length (starts_of C.gives partners.listeners.items
         (option_map (λ t. t.clock) partners.ticks)) ≤ 64 }
-    ensures { ServesPartnersTo desk (map (λ p. p.0) partners.listeners.items)
+    ensures serves { IfOk result (λ after. ServesPartners desk (map (λ p. p.role) partners.listeners.items)
         (starts_of C.gives partners.listeners.items (option_map (λ t. t.clock) partners.ticks))
-        writer.old writer.new saved.old saved.new result }
+        output.old output.new after.1 (λ J. J ≡ after.0.history)) }
+    ensures fails { IfErr result (FailsToServeAll output.old output.new) }
 {
-    let mut buffer = buffer_for(alloc, saved)?;
-    let keeper: Option<&'r FileKeeper<J, Rt>> = None;
-    let mut served = serve_again(rt, alloc, partners, operation, keeper, desk, writer)?;
-    let told = served.told;
-    save_served(&mut buffer, &mut served.desk, told, saved)
-}
-
-// Serves each partner to the end of its connection, and saves what they made.
-fn serve_once<
-    Rt: Threads + Wait + Sync,
-    H: Helpers + Drop + Send,
-    C: Clock + Drop + Send,
-    W: Write,
-    F: Write + Drop,
->(
-    rt: &Rt,
-    alloc: Global,
-    partners: Vec<(Role, TcpListener, C)>,
-    desk: Desk<H>,
-    writer: &mut Sink<W>,
-    saved: &mut Option<Sink<F>>,
-) -> Result<(), Failure>
-    requires { vec_len partners ≤ 64 }
-    ensures { ServesPartnersTo desk (map (λ p. p.0) partners.items)
-        (map (λ p. new_session p.0 (C.gives p.2)) partners.items) writer.old writer.new saved.old
-        saved.new result }
-{
-    let mut buffer = buffer_for(alloc, saved)?;
-    let mut served = serve_partners(rt, alloc, partners, desk, writer)?;
-    let told = served.told;
-    save_served(&mut buffer, &mut served.desk, told, saved)
+    if is_served_once(&partners, &operation) {
+        let Partners { listeners, .. } = partners;
+        let served = match serve_partners(rt, alloc, listeners, desk, output) {
+            Ok(served) => served,
+            Err(error) => return Err(Failure::from(error)),
+        };
+        let ServedPartners {
+            desk,
+            sessions,
+            told,
+        } = served;
+        drop(sessions);
+        return Ok((desk, told));
+    }
+    let served = match serve_reconnecting(rt, alloc, partners, operation, desk, output) {
+        Ok(served) => served,
+        Err(error) => return Err(Failure::from(error)),
+    };
+    let ServedPartners {
+        desk,
+        sessions,
+        told,
+    } = served;
+    drop(sessions);
+    Ok((desk, told))
 }

@@ -1,10 +1,11 @@
 //! The words of a command line, with those of a file of settings in their place.
 ghost use Rattle.std.specs.Prelude.{◌≡◌, ◌≤◌, ◌+◌, ◌⊎◌, IfNone, IfOk, IfSome, OnSome, length, map, string_bytes};
-ghost use Rattle.acdm_judging.specs.Failures.{Complains, failure_text};
-ghost use Rattle.acdm_judging.specs.declared.failure.Failure.TheVariants.{Memory};
+ghost use Rattle.acdm_failures.specs.Failures.{Complains, failure_text};
+ghost use Rattle.acdm_failures.specs.declared.failure.Failure.TheVariants.{Memory};
 ghost use Rattle.acdm_commands.specs.BySettings.{GivesNone, GivesWords, ReadsWords, refusal_text};
 
-use acdm_judging::{BytesError, Failure, bytes_of, unread};
+use acdm_failures::Failure;
+use acdm_judging::{BytesError, bytes_of, unread};
 use acdm_lines::{Sink, Source};
 use acdm_settings::{ConfigPlace, MOST_TEXT, SettingsError, place_in, with_settings, words_in};
 use acdm_wire::write_out;

@@ -1,11 +1,12 @@
 //! The tables by which a command works.
 ghost use Rattle.std.specs.Prelude.{◌≡◌, ◌⊎◌, IfNone, IfOk, IfSome, OnSome, Some, option_map};
 ghost use Rattle.acdm_commands.specs.ByTables.{AreTables, GivesNone, ReadsTables, RefusesTables, refusal_text};
-ghost use Rattle.acdm_judging.specs.Failures.{Complains, failure_text};
-ghost use Rattle.acdm_judging.specs.declared.failure.Failure.TheVariants.{Memory};
+ghost use Rattle.acdm_failures.specs.Failures.{Complains, failure_text};
+ghost use Rattle.acdm_failures.specs.declared.failure.Failure.TheVariants.{Memory};
 ghost use Rattle.acdm_tables.specs.Helpers.{built_in};
 
-use acdm_judging::{BytesError, Failure, bytes_of, unread};
+use acdm_failures::Failure;
+use acdm_judging::{BytesError, bytes_of, unread};
 use acdm_sessions::{Sink, Source};
 use acdm_tables::{MOST_TEXT, Tables, TablesError, read_tables};
 use acdm_wire::write_out;
@@ -21,6 +22,13 @@ const BUILT_IN: &[u8] = b"# the tables that are built in\n";
 pub(crate) struct TablesFile<'a> {
     pub(crate) path: Option<&'a str>,
     pub(crate) text: &'a [u8],
+}
+
+/// The tables of a command, with their file.
+#[derive(Drop)]
+pub(crate) struct TablesRead<'a> {
+    pub(crate) tables: Tables,
+    pub(crate) file: TablesFile<'a>,
 }
 
 /// The tables of the airport in the file of a path, or those that are built in where none is named. Their

@@ -10,8 +10,7 @@ mod tell;
 mod unreliable;
 
 use acdm_board::Desk;
-use acdm_commands::{Appends, Cause, Paths, complete, run_on, verify_on};
-use acdm_judging::Failure;
+use acdm_commands::{Appends, Cause, Context, Failure, Paths, Setup, complete, run_on, verify_on};
 use acdm_sessions::{Sink, Source, run};
 use acdm_tables::Tables;
 use bpf_helpers::{Bank, Helpers};
@@ -60,6 +59,14 @@ pub(crate) fn built_in(rt: &impl Abort, alloc: Global) -> Tables {
     Tables::built_in(alloc).expect(rt, "tables")
 }
 
+// A board with room for ten entries, by those tables.
+pub(crate) fn ten_entries(rt: &impl Abort, alloc: Global) -> Setup {
+    Setup {
+        tables: built_in(rt, alloc),
+        capacity: 10,
+    }
+}
+
 // A run from this reader to this writer, with room for ten entries, ends with this status and
 // complaint.
 fn run_ends<R: Read + Drop, W: Write + Drop>(
@@ -74,8 +81,7 @@ fn run_ends<R: Read + Drop, W: Write + Drop>(
     let mut writer = Sink::new(writer);
     let status = run_on(
         alloc,
-        built_in(rt, alloc),
-        10,
+        ten_entries(rt, alloc),
         &mut reader,
         &mut writer,
         &mut no_file(),
@@ -157,15 +163,9 @@ fn status_of<
     let mut input = Source::new(input);
     let mut output = Sink::new(output);
     let mut errors = Sink::new(errors);
-    complete(
-        alloc,
-        rt,
-        words,
-        &Cause::new(),
-        &mut input,
-        &mut output,
-        &mut errors,
-    )
+    let why = Cause::new();
+    let context = Context { rt, alloc, why };
+    complete(&context, words, &mut input, &mut output, &mut errors)
 }
 
 const TICK: &str = "1 29000580 APT {\"cmd\":\"tick\"}\n";

@@ -1,5 +1,5 @@
 //! Journals that are saved, and the audit of them.
-use crate::commands::built_in;
+use crate::commands::{built_in, ten_entries};
 use acdm_commands::{audit_on, run_on};
 use acdm_sessions::{Sink, Source};
 use std::alloc::Global;
@@ -62,11 +62,10 @@ fn day_saved(rt: &impl Abort, alloc: Global) -> (u8, Vec<u8>) {
     let mut writer = Sink::new(Vec::new(alloc));
     let mut saved = Some(Sink::new(Vec::new(alloc)));
     let mut errors = Sink::new(Vec::new(alloc));
-    let tables = built_in(rt, alloc);
+    let setup = ten_entries(rt, alloc);
     let status = run_on(
         alloc,
-        tables,
-        10,
+        setup,
         &mut reader,
         &mut writer,
         &mut saved,
@@ -445,11 +444,10 @@ fn saving_fails(rt: &impl Abort, alloc: Global, complaint: &str) {
     let mut writer = Sink::new(Vec::new(alloc));
     let mut errors = Sink::new(Vec::new(alloc));
     let mut file = Some(Sink::new(Broken));
-    let tables = built_in(rt, alloc);
+    let setup = ten_entries(rt, alloc);
     let status = run_on(
         alloc,
-        tables,
-        10,
+        setup,
         &mut reader,
         &mut writer,
         &mut file,

@@ -1,6 +1,6 @@
 //! Why what a word of the command line names could not be used, as it is told behind the failure.
 use crate::commands::Broken;
-use acdm_commands::{Appends, Cause, Noting, Paths, complete};
+use acdm_commands::{Appends, Cause, Context, Noting, Paths, complete};
 use acdm_sessions::{Sink, Source};
 use std::alloc::Global;
 use std::fs::{File, Files};
@@ -80,10 +80,11 @@ fn fails_by<
     let mut input = Source::new(b"".as_slice());
     let mut output = Sink::new(Vec::new(alloc));
     let mut errors = Sink::new(Vec::new(alloc));
-    let status = complete(alloc, rt, words, &why, &mut input, &mut output, &mut errors);
+    let context = Context { rt, alloc, why };
+    let status = complete(&context, words, &mut input, &mut output, &mut errors);
     assert!(rt; status == 2, "{line}");
     assert!(rt;
-        told(rt, alloc, &why).as_slice() == line.as_bytes(),
+        told(rt, alloc, &context.why).as_slice() == line.as_bytes(),
         "{line}"
     );
 }

@@ -1,7 +1,7 @@
 //! Displays, which are sent the journal while partners are served.
 use crate::commands::serve::{Morning, Partner, listening, served_at, talk};
 use acdm_board::Desk;
-use acdm_displays::{Displays, Entries, Form, Shown, follow};
+use acdm_displays::{DisplayKind, DisplayListener, Displays, Entries, Shown, follow};
 use acdm_lines::Sink;
 use acdm_milestones::Role;
 use acdm_row::Row;
@@ -42,10 +42,15 @@ fn is_sent(stream: TcpStream, wanted: &str) -> bool {
 fn started<Rt: SystemClock + Threads + Abort + Clone + Drop + Send + 'static>(
     rt: &Rt,
     alloc: Global,
-    listener: TcpListener,
+    socket: TcpListener,
     row: &Arc<Row>,
 ) -> Displays {
-    Displays::start(rt, alloc, Form::Journal, listener, None, row, None)
+    let listener = DisplayListener {
+        kind: DisplayKind::Journal,
+        socket,
+        name: None,
+    };
+    Displays::start(rt, alloc, listener, row, None)
         .ok()
         .expect(rt, "displays")
 }

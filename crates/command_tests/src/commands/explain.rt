@@ -1,6 +1,6 @@
 //! What `explain` tells of files, and its statuses.
 use crate::commands::{Broken, Short, built_in, completes};
-use acdm_commands::{explain_on, verify_on};
+use acdm_commands::{ProgramFile, explain_on, verify_on};
 use acdm_sessions::{Sink, Source};
 use bpf_regstate::Length;
 use std::alloc::Global;
@@ -18,17 +18,12 @@ fn explain_ends<R: Read + Drop, W: Write + Drop>(
     let mut errors = Sink::new(Vec::new(alloc));
     let mut reader = Source::new(reader);
     let mut writer = Sink::new(writer);
-    let file = "rules/slot.bin";
+    let file = ProgramFile {
+        path: "rules/slot.bin",
+        length: Length::L128,
+    };
     let tables = built_in(rt, alloc);
-    let status = explain_on(
-        alloc,
-        &tables,
-        Length::L128,
-        file,
-        &mut reader,
-        &mut writer,
-        &mut errors,
-    );
+    let status = explain_on(alloc, &tables, file, &mut reader, &mut writer, &mut errors);
     let (wanted, complaint) = expected;
     assert!(rt; status == wanted);
     assert!(rt; errors.into_inner().as_slice() == complaint.as_bytes());
@@ -86,17 +81,12 @@ fn both_end_with(rt: &impl Abort, alloc: Global, bytes: &[u8], line: &str) {
         &mut errors,
     );
     let mut reader = Source::new(bytes);
-    let file = "rules/slot.bin";
+    let file = ProgramFile {
+        path: "rules/slot.bin",
+        length: Length::L128,
+    };
     let tables = built_in(rt, alloc);
-    let status = explain_on(
-        alloc,
-        &tables,
-        Length::L128,
-        file,
-        &mut reader,
-        &mut text,
-        &mut errors,
-    );
+    let status = explain_on(alloc, &tables, file, &mut reader, &mut text, &mut errors);
     assert!(rt; status == wanted, "{line}");
     assert!(rt;
         verdict.into_inner().as_slice().ends_with(line.as_bytes()),

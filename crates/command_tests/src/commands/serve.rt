@@ -5,6 +5,7 @@ use super::status_of;
 use acdm_board::Desk;
 use acdm_commands::{Appends, Paths, serve_on, serve_partners};
 use acdm_milestones::Role;
+use acdm_serving::Listener;
 use acdm_sessions::{Clock, RunError, Sink};
 use bpf_helpers::{Bank, Helpers};
 use faulty_streams::{Fault, Narrow};
@@ -83,13 +84,23 @@ pub(crate) fn listening<Rt: Net<Listener = TcpListener, Stream = TcpStream> + Ab
 
 pub(crate) type Partner = (Role, TcpListener, Morning);
 
-fn both(rt: &impl Abort, alloc: Global, first: Partner, second: Partner) -> Vec<Partner>
+fn both<T: Drop>(rt: &impl Abort, alloc: Global, first: T, second: T) -> Vec<T>
     ensures { vec_len result ≡ 2 }
 {
     let mut partners = Vec::with_capacity(alloc, 2).expect(rt, "room for two");
     partners.push_reserved(first);
     partners.push_reserved(second);
     partners
+}
+
+// The same partner, by names.
+fn listener_of(partner: Partner) -> Listener<Morning> {
+    let (role, socket, clock) = partner;
+    Listener {
+        role,
+        socket,
+        clock,
+    }
 }
 
 // What `serve` tells of two partners at this desk.
@@ -155,9 +166,9 @@ fn left_untold<H: Helpers + Drop + Send, Rt: Threads + Wait + Abort + Sync>(
     second: Partner,
 ) -> u64 {
     let desk = Desk::new(alloc, helpers, 10).expect(rt, "a desk");
-    let partners = both(rt, alloc, first, second);
+    let listeners = both(rt, alloc, listener_of(first), listener_of(second));
     let mut output = Sink::new(Narrow::new(alloc, 100, 2, Fault::Fails));
-    let served = serve_partners(rt, alloc, partners, desk, &mut output)
+    let served = serve_partners(rt, alloc, listeners, desk, &mut output)
         .ok()
         .expect(rt, "partners who were served");
     assert!(rt; served.told == Err(RunError::Write));

@@ -1,7 +1,7 @@
 //! The tables of an airport, as a file has them: what programs are answered by them, and which files are
 //! refused.
 use crate::commands::{TAXI_TIME, completes};
-use acdm_commands::run_on;
+use acdm_commands::{Setup, run_on};
 use acdm_sessions::{Sink, Source};
 use acdm_tables::{Tables, TablesError, read_tables};
 use std::alloc::Global;
@@ -208,10 +208,13 @@ fn programs_ask_helpers_by_the_file(rt: HostRuntime) {
     let mut replies = Sink::new(Vec::new(alloc));
     let mut errors = Sink::new(Vec::new(alloc));
     let mut saved: Option<Sink<Vec<u8>>> = None;
+    let setup = Setup {
+        tables: tables_of(&rt, alloc, OWN),
+        capacity: 10,
+    };
     let status = run_on(
         alloc,
-        tables_of(&rt, alloc, OWN),
-        10,
+        setup,
         &mut Source::new(TAXI_TIME.as_bytes()),
         &mut replies,
         &mut saved,

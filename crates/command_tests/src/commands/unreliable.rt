@@ -1,5 +1,5 @@
 //! Commands over readers and writers that fail, at each place in turn.
-use crate::commands::{FLIGHT_PLAN, SCHEDULE, built_in};
+use crate::commands::{FLIGHT_PLAN, SCHEDULE, built_in, ten_entries};
 use acdm_commands::{audit_on, run_on, verify_on};
 use acdm_sessions::{Sink, Source};
 use bpf_regstate::Length;
@@ -67,11 +67,10 @@ fn run_over(rt: &impl Abort, alloc: Global, text: &[u8], row: &RunRow) -> (Came,
     let mut writer = Sink::new(Narrow::new(alloc, 2, writes, fault));
     let mut saved = Some(Sink::new(Narrow::new(alloc, 20, saves, fault)));
     let mut errors = Sink::new(Vec::new(alloc));
-    let tables = built_in(rt, alloc);
+    let setup = ten_entries(rt, alloc);
     let status = run_on(
         alloc,
-        tables,
-        10,
+        setup,
         &mut reader,
         &mut writer,
         &mut saved,

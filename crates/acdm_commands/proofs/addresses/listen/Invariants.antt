@@ -5,5 +5,5 @@ use Rattle.acdm_commands.proofs.addresses.listen.Given as goal
 abbrev pub invariant-loop-word : goal.invariant-loop-word
 invariant-loop-word g l = record {
   roles : map role_in (map (λ w. w.now) (take l.word-index l.words))
-      ≡ map (λ p. Some p.0) l.partners.items;
+      ≡ map (λ p. Some p.role) l.partners.items;
 }

@@ -1,0 +1,160 @@
+//! The addresses of displays, at which the command `serve` listens beside its partners.
+ghost use Rattle.std.specs.Prelude.{◌≡◌, IfErr, is_some};
+ghost use Rattle.acdm_commands.specs.Partners.{FailsToShow, has_outlet};
+
+use crate::addresses::socket_at;
+use crate::context::Context;
+use acdm_displays::{DisplayKind, DisplayListener, Displays};
+use acdm_failures::Failure;
+use acdm_keeping::Reach;
+use acdm_row::Row;
+use acdm_serving::Host;
+use std::io;
+use std::sync::Arc;
+use std::thread::Threads;
+use std::time::Clock as SystemClock;
+
+/// Where displays are sent the journal, where they are told what it changes, and where browsers have
+/// the board as a page: an IP address and a port each, or nowhere. And by which name browsers may ask for it.
+#[derive(Clone, Copy, Debug, PartialEq, Eq)]
+pub(crate) struct OutletAddresses<'a> {
+    pub(crate) journal: Option<&'a str>,
+    pub(crate) changes: Option<&'a str>,
+    pub(crate) web: Option<&'a str>,
+    pub(crate) web_name: Option<&'a str>,
+}
+
+impl<'a> OutletAddresses<'a> {
+    // Whether there is one.
+    fn is_any(&self) -> bool
+        ensures { result ≡ has_outlet (is_some self.now.journal) (is_some self.now.changes) (is_some self.now.web) }
+    {
+        if self.journal.is_some() {
+            return true;
+        }
+        if self.changes.is_some() {
+            return true;
+        }
+        self.web.is_some()
+    }
+
+    // That of a kind of displays.
+    fn of(&self, kind: DisplayKind) -> Option<&'a str> {
+        match kind {
+            DisplayKind::Journal => self.journal,
+            DisplayKind::Changes => self.changes,
+            DisplayKind::Web => self.web,
+        }
+    }
+}
+
+/// Displays that are sent the journal, those that are told what it changes, and browsers.
+#[derive(Drop)]
+pub(crate) struct Outlets {
+    open: Vec<Displays>,
+}
+
+/// Disconnects all displays, once they were sent what there is.
+pub(crate) fn close_all<Rt: SystemClock + Threads>(rt: &Rt, outlets: Outlets) {
+    let Outlets { open } = outlets;
+    for displays in open {
+        displays.close(rt);
+    }
+}
+
+// The option that names the address of displays of a kind.
+fn option_of(kind: DisplayKind) -> &'static str {
+    match kind {
+        DisplayKind::Journal => "--watch ",
+        DisplayKind::Changes => "--changes ",
+        DisplayKind::Web => "--web ",
+    }
+}
+
+// Displays of a row that connect at an address.
+fn displays_at<Rt: Host>(
+    context: &Context<'_, Rt>,
+    kind: DisplayKind,
+    address: &str,
+    name: Option<&str>,
+    row: &Arc<Row>,
+    reach: Option<&Reach>,
+) -> io::Result<Displays> {
+    let socket = socket_at(context.rt, address)?;
+    let listener = DisplayListener { kind, socket, name };
+    Displays::start(context.rt, context.alloc, listener, row, reach)
+}
+
+impl Outlets {
+    // Listens for displays of a row at the address of their kind, if there is one. Why not is noted.
+    fn add<Rt: Host>(
+        &mut self,
+        context: &Context<'_, Rt>,
+        addresses: OutletAddresses<'_>,
+        kind: DisplayKind,
+        row: &Arc<Row>,
+        reach: Option<&Reach>,
+    ) -> Result<(), Failure> {
+        let Some(address) = addresses.of(kind) else {
+            return Ok(());
+        };
+        match displays_at(context, kind, address, addresses.web_name, row, reach) {
+            Ok(displays) => {
+                self.open.push(displays)?;
+                Ok(())
+            }
+            Err(error) => {
+                let option = option_of(kind);
+                Err(
+                    context
+                        .why
+                        .failure(context.alloc, Failure::Watch, option, address, &error),
+                )
+            }
+        }
+    }
+
+    // Listens for all displays of a row, which are shown it as far as it is kept where it is.
+    fn add_all<Rt: Host>(
+        &mut self,
+        context: &Context<'_, Rt>,
+        addresses: OutletAddresses<'_>,
+        row: &Arc<Row>,
+        reach: Option<&Reach>,
+    ) -> Result<(), Failure> {
+        self.add(context, addresses, DisplayKind::Journal, row, reach)?;
+        self.add(context, addresses, DisplayKind::Changes, row, reach)?;
+        self.add(context, addresses, DisplayKind::Web, row, reach)
+    }
+}
+
+/// Listens for all displays of a row, or for none. The room for them is there before the first. `Watch` where an
+/// address is none or can't be listened at, and why is noted; `Memory` where that was refused.
+pub(crate) fn outlets_at<Rt: Host>(
+    context: &Context<'_, Rt>,
+    addresses: OutletAddresses<'_>,
+    row: &Arc<Row>,
+    reach: Option<&Reach>,
+) -> Result<Outlets, Failure>
+    ensures { IfErr result (FailsToShow (has_outlet (is_some addresses.entry.journal)
+        (is_some addresses.entry.changes) (is_some addresses.entry.web))) }
+{
+    let Ok(open) = Vec::with_capacity(context.alloc, 3) else {
+        return Err(Failure::Memory);
+    };
+    let mut outlets = Outlets { open };
+    if !addresses.is_any() {
+        return Ok(outlets);
+    }
+    match outlets.add_all(context, addresses, row, reach) {
+        Ok(()) => Ok(outlets),
+        Err(Failure::Memory) => {
+            close_all(context.rt, outlets);
+            Err(Failure::Memory)
+        }
+        Err(_) => {
+            close_all(context.rt, outlets);
+            Err(Failure::Watch)
+        }
+    }
+}
