@@ -2,8 +2,8 @@
 -- that is told (this project's profile).
 use Rattle.std.specs.Prelude.{ℕ, ◌≡◌, ◌⊎◌, List, [], ◌∷◌, ◌++◌, codes, Result, Ok, Err}
 use Rattle.std.specs.Fmt.{decimal}
-use Rattle.acdm_journal.specs.declared.entry_text.WriteError.{WriteError}
-use Rattle.acdm_journal.specs.declared.entry_text.WriteError.TheVariants as write_errors
+use Rattle.acdm_lines.specs.declared.write_error.WriteError.{WriteError}
+use Rattle.acdm_lines.specs.declared.write_error.WriteError.TheVariants as write_errors
 use Rattle.acdm_lines.specs.Counted.{SinkView}
 use Rattle.acdm_lines.specs.declared.run_error.RunError.{RunError}
 use Rattle.acdm_lines.specs.declared.run_error.RunError.TheVariants as errors

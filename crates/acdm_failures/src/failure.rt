@@ -3,8 +3,7 @@ ghost use Rattle.std.specs.Prelude.{◌≡◌, ◌≤◌, ◌++◌, [], ◌∷�
 ghost use Rattle.std.specs.Fmt.{decimal};
 ghost use Rattle.acdm_failures.specs.Failures.{Complains, Ends, failure_text};
 
-use acdm_journal::WriteError;
-use acdm_lines::{RunError, Sink};
+use acdm_lines::{RunError, Sink, WriteError};
 use acdm_wire::{TextBuffer, write_out};
 use std::alloc::{AllocError, AllocFailed};
 use std::io::Write;

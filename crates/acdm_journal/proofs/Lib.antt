@@ -6,10 +6,8 @@ pub mod PlainWords
 pub mod OneLine
 pub mod Pieces
 pub mod Digits
-pub mod Unanswered
 pub mod Checked
 pub mod Refusals
-pub mod Judging
 pub mod NextEntry
 pub mod Needs
 pub mod MemoryRows
@@ -21,4 +19,3 @@ pub mod FewAnswers
 pub mod Readable
 pub mod Taken
 pub mod TextRows
-pub mod Further

@@ -16,7 +16,8 @@ use Rattle.acdm_journal.specs.declared.judge.Clause.{Clause}
 use Rattle.acdm_journal.specs.declared.judge.Clause.TheVariants as clauses
 use Rattle.acdm_journal.specs.Text.{line_of, stated_in, asked_in, entry_text}
 use Rattle.acdm_journal.specs.Text.{history_text}
-use Rattle.acdm_journal.specs.Audit.{IsCommandOf, UsesAnswers, States, StatesNext}
+use Rattle.acdm_journal.specs.Audit.{IsCommandOf, States, StatesNext}
+use Rattle.acdm_step.specs.Planning.{UsesAnswers}
 use Rattle.acdm_journal.specs.Audit.{Breaks}
 use Rattle.acdm_journal.specs.Whole.{IsReadable, AreReadable, IsTextOf, BreaksNext, at_line, at_end}
 use Rattle.acdm_journal.specs.Whole.{FirstFault}

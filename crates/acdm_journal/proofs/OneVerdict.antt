@@ -14,7 +14,8 @@ use Rattle.acdm_journal.specs.declared.stated.StatedCommand.TheVariants.{Plain, 
 use Rattle.acdm_journal.specs.declared.judge.Clause.{Clause}
 use Rattle.acdm_journal.specs.declared.judge.Clause.TheVariants as clauses
 use Rattle.acdm_journal.specs.Text.{stated_in, outcome_code}
-use Rattle.acdm_journal.specs.Audit.{IsCommandOf, UsesAnswers, States, Continues, Breaks}
+use Rattle.acdm_journal.specs.Audit.{IsCommandOf, States, Continues, Breaks}
+use Rattle.acdm_step.specs.Planning.{UsesAnswers}
 use Rattle.acdm_journal.proofs.OneLine.{one_line}
 
 pub one_command : (sigs : List (ℕ × Promise)) (a : StatedCommand) (c d : Command) → IsCommandOf sigs a c

@@ -1,5 +1,5 @@
 -- What an audit says of the lines of a journal (this project's profile).
-use Rattle.std.specs.Prelude.{ℕ, ◌≡◌, ◌≢◌, ◌≤◌, Bool, true, false, List, [], ◌∷◌, length, Some}
+use Rattle.std.specs.Prelude.{ℕ, ◌≡◌, ◌≢◌, ◌≤◌, List, [], ◌∷◌, length, Some}
 use Rattle.std.specs.Prelude.{Result, Ok, Err}
 use Rattle.bpf_decode.specs.declared.op.Op.{Op}
 use Rattle.bpf_decode.specs.Encoding.{Encodes}
@@ -9,18 +9,15 @@ use Rattle.bpf_regstate.specs.Lengths.{bytes_in}
 use Rattle.bpf_regstate.specs.States.{Accepts}
 use Rattle.bpf_verifier.specs.Verdict.{Verified}
 use Rattle.acdm_milestones.specs.declared.role.Role.{Role}
-use Rattle.acdm_milestones.specs.declared.refusal.Refusal.TheVariants.{Unanswered}
-use Rattle.acdm_step.specs.declared.entry.Verdict.{Verdict}
-use Rattle.acdm_step.specs.declared.entry.Verdict.TheVariants.{Refused}
 use Rattle.acdm_step.specs.declared.command.Command.{Command}
 use Rattle.acdm_step.specs.declared.command.Command.TheVariants as commands
 use Rattle.acdm_step.specs.declared.entry.Entry.{Entry}
-use Rattle.acdm_step.specs.Commands.{History, is_accepted}
-use Rattle.acdm_step.specs.declared.outcome.Outcome.{Outcome}
+use Rattle.acdm_step.specs.Commands.{History}
 use Rattle.acdm_step.specs.Verdicts.{verdict_of, verdict_in}
 use Rattle.acdm_step.specs.Prepared.{after_change}
 use Rattle.acdm_step.specs.declared.prepare.Plan.{Plan}
-use Rattle.acdm_step.specs.History.{Board, IsLegal, replay, after, left_by}
+use Rattle.acdm_step.specs.History.{Board, IsLegal, replay, after}
+use Rattle.acdm_step.specs.Planning.{UsesAnswers}
 use Rattle.acdm_journal.specs.declared.stated.Stated.{Stated}
 use Rattle.acdm_journal.specs.declared.stated.StatedCommand.{StatedCommand}
 use Rattle.acdm_journal.specs.declared.stated.StatedCommand.TheVariants.{Plain, Load}
@@ -52,22 +49,6 @@ IsCommandOf sigs (Load l) command =
       kind = l.kind;
       program = record { record_length = l.record_length; ops = ops; sigs = sigs };
     })
-
--- the answers are those that the programs of an accepted command use, and there are none where it
--- is refused
-pub record UsesAnswers (sigs : List (ℕ × Promise)) (J : History) (role : Role) (moment : ℕ)
-    (c : Command) (answers : List ℕ)
-    : Type 0 where
-  pub used : is_accepted (verdict_of sigs J role c) ≡ true → left_by J c moment answers ≡ Some []
-  pub unused : is_accepted (verdict_of sigs J role c) ≡ false → answers ≡ []
-
--- a plan of a command with these answers: what comes of it, and the board after it
-pub record PlansWith (sigs : List (ℕ × Promise)) (J : History) (role : Role) (moment : ℕ)
-    (c : Command) (answers : List ℕ) (outcome : Outcome) (board : Board) : Type 0 where
-  pub uses : UsesAnswers sigs J role moment c answers
-  pub verdict_is : verdict_in outcome ≡ verdict_of sigs J role c
-  pub replays : (session : ℕ)
-      → board ≡ replay sigs (after J session role moment c (verdict_of sigs J role c) answers)
 
 -- a line states this, and is not too long
 pub record States (line : List ℕ) (s : Stated) : Type 0 where
@@ -134,11 +115,6 @@ GivesProgram sigs bytes record_length (Err Memory) = Unit {0}
 GivesProgram sigs bytes record_length (Err (Faulty clause)) =
     (clause ≡ clauses.Program)
     × ((ops : List Op) → Encodes bytes ops → Accepts (bytes_in record_length) ops sigs → ⊥)
-
--- an oracle left a question without an answer
-abbrev pub lacks_answer : Verdict → Bool
-lacks_answer (Refused Unanswered) = true
-lacks_answer _ = false
 
 -- what comes of reading the program of what is asked for
 abbrev pub Commands : List (ℕ × Promise) → StatedCommand → Result Command AuditError → Type 0

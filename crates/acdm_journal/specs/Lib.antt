@@ -5,4 +5,4 @@ pub mod Reading
 pub mod Audit
 pub mod Memory
 pub mod Whole
-pub mod Written
+pub mod Appended

@@ -15,7 +15,7 @@ pub(crate) struct Appended {
 
 impl Model for Appended {
     ghost use Rattle.std.specs.Prelude.{◌≤◌, take, drop, length};
-    ghost use Rattle.acdm_journal.specs.Written.{AppendedView};
+    ghost use Rattle.acdm_journal.specs.Appended.{AppendedView};
 
     ghost Value = { AppendedView };
 

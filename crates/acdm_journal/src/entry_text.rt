@@ -13,11 +13,10 @@ ghost use Rattle.acdm_journal.specs.Text.{asked_in, stated_in, entry_text};
 ghost use Rattle.acdm_journal.specs.Ranges.{IsWord, IsByte, IsPlan, AreTimes, IsScheduleLine};
 ghost use Rattle.acdm_journal.specs.Ranges.{IsReportLine, IsAsked, LoadsProgram, FitsTypes};
 ghost use Rattle.acdm_journal.specs.Spaced.{spaced};
-ghost use Rattle.acdm_journal.specs.Written.{TookPart};
+ghost use Rattle.acdm_lines.specs.Written.{TookPart};
 
 use crate::appended::Appended;
-use crate::writing::write_whole;
-use acdm_lines::Sink;
+use acdm_lines::{Sink, WriteError, write_whole};
 use acdm_milestones::Milestone;
 use acdm_step::{Command, Deice, Entry, FlightPlan, Load, Report, Schedule, Verdict};
 use bpf_decode::{Op, Program, encode_op};
@@ -26,18 +25,6 @@ use itoa::Buffer;
 use std::alloc::{AllocError, Global};
 use std::io::Write;
 use std::mem;
-use thiserror::Error;
-
-/// Why an entry was not written.
-#[derive(Clone, Copy, Debug, PartialEq, Eq, Error)]
-pub enum WriteError {
-    /// There was no memory for its text.
-    #[error("no memory")]
-    Memory,
-    /// The writer failed.
-    #[error("the writer failed")]
-    Write,
-}
 
 pub(crate) fn code_of(verdict: Verdict) -> u64
     ensures { result ≡ outcome_code verdict }

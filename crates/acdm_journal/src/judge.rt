@@ -4,19 +4,19 @@ ghost use Rattle.bpf_helpers.specs.Promise.{Promise};
 ghost use Rattle.acdm_step.specs.Commands.{History};
 ghost use Rattle.acdm_step.specs.History.{IsLegal, replay, needs_memory};
 ghost use Rattle.acdm_step.specs.Prepared.{Fits, after_change};
-ghost use Rattle.acdm_journal.specs.Audit.{Commands, GivesProgram, lacks_answer};
-ghost use Rattle.acdm_journal.specs.Audit.{Judges, PlansCommand, PlansLine, PlansWith, UsesAnswers};
+ghost use Rattle.acdm_journal.specs.Audit.{Commands, GivesProgram};
+ghost use Rattle.acdm_journal.specs.Audit.{Judges, PlansCommand, PlansLine};
 ghost use Rattle.acdm_journal.specs.Audit.{clause_code};
 ghost use Rattle.acdm_journal.specs.Memory.{JudgingNeedsMemory, is_load_line};
 
 use crate::entry_text::code_of;
 use crate::reading::read_line;
 use crate::stated::{LoadLine, ReadError, StatedCommand};
-use acdm_milestones::{Refusal, Role};
-use acdm_step::{Command, Core, Entry, Load, Plan, Verdict};
-use bpf_helpers::{Logged, Sigs};
+use acdm_milestones::Role;
+use acdm_step::{Command, Core, Entry, Load, Plan, plan_with};
+use bpf_helpers::Sigs;
 use bpf_verifier::{Checked, ProgramError, read_program};
-use std::alloc::{AllocError, Global};
+use std::alloc::Global;
 use thiserror::Error;
 
 /// What an entry of a journal must fulfil, in the order of the tests (this project's profile).
@@ -96,49 +96,6 @@ fn command_of(alloc: Global, asked: StatedCommand, sigs: &Sigs) -> Result<Comman
             }))
         }
     }
-}
-
-fn is_unanswered(verdict: Verdict) -> bool
-    ensures { result ≡ lacks_answer verdict }
-{
-    matches!(verdict, Verdict::Refused(Refusal::Unanswered))
-}
-
-/// What would come of a command with these answers of helpers, as `Core::plan` answers it, and
-/// `None` where its programs use others. The answers of a helper that it may not give, answers left
-/// over and a missing one are others; a refused command uses none. The moment is in minutes since
-/// 1970-01-01T00:00Z. `Err` only where memory was refused, which is asked for for a load, for a
-/// migrate and for a list of alerts.
-pub fn plan_with(
-    core: &Core,
-    role: Role,
-    moment: u32,
-    command: &Command,
-    answers: &[u64],
-) -> Result<Option<Plan>, AllocError>
-    ensures plans { IfOk result (λ o. IfSome o (λ p. (sigs : List (ℕ × Promise)) (J : History) →
-        IsLegal sigs J → core.now ≡ replay sigs J →
-        PlansWith sigs J role moment command.now answers.now p.outcome
-        (after_change core.now p.change))) }
-    ensures fits { IfOk result (λ o. IfSome o (λ p. Fits core.now p.change)) }
-    ensures sigs { IfOk result (λ o. IfSome o (λ p.
-        (after_change core.now p.change).slots.sigs ≡ core.now.slots.sigs)) }
-    ensures misses { result ≡ Ok None → (sigs : List (ℕ × Promise)) (J : History) →
-        IsLegal sigs J → core.now ≡ replay sigs J →
-        UsesAnswers sigs J role moment command.now answers.now → ⊥ }
-    ensures memory { OnErr result ((sigs : List (ℕ × Promise)) (J : History) → IsLegal sigs J
-        → core.now ≡ replay sigs J → IsTrue (needs_memory sigs J role command.now)) }
-{
-    let mut logged = Logged::new(core.sigs(), answers);
-    let plan = core.plan(&mut logged, role, moment, command)?;
-    let left = logged.left();
-    if is_unanswered(plan.outcome.verdict()) {
-        return Ok(None);
-    }
-    if !left.is_empty() {
-        return Ok(None);
-    }
-    Ok(Some(plan))
 }
 
 // Plans a command with the answers of a list, and judges what would come of it.

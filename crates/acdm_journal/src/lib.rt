@@ -10,12 +10,10 @@ pub mod law;
 mod reading;
 mod stated;
 mod words;
-mod writing;
 
 pub use acdm_slots::ProgramBytes;
 pub use auditing::{Fault, MOST_KEPT, audit};
-pub use entry_text::{WriteError, push_entry, write_entry, write_entry_by};
-pub use judge::{AuditError, Clause, PlannedEntry, judge_line, plan_line, plan_with};
+pub use entry_text::{push_entry, write_entry, write_entry_by};
+pub use judge::{AuditError, Clause, PlannedEntry, judge_line, plan_line};
 pub use reading::read_line;
 pub use stated::{LoadLine, ReadError, Stated, StatedCommand};
-pub use writing::write_whole;

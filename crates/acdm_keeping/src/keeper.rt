@@ -5,8 +5,8 @@ ghost use Rattle.std.specs.Arc.{arc_value};
 ghost use Rattle.acdm_keeping.specs.Kept.{CutsShort, Keeps};
 
 use acdm_failures::Failure;
-use acdm_journal::{MOST_KEPT, push_entry, write_whole};
-use acdm_lines::Sink;
+use acdm_journal::{MOST_KEPT, push_entry};
+use acdm_lines::{Sink, write_whole};
 use acdm_row::Row;
 use acdm_step::Entry;
 use acdm_watch::Sight;

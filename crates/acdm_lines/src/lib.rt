@@ -9,6 +9,8 @@ mod run_error;
 mod sink;
 mod source;
 mod window;
+mod write_error;
+mod writing;
 
 pub use kept_line::KeptLine;
 pub use lines::{Ending, Lines};
@@ -16,3 +18,5 @@ pub use run_error::RunError;
 pub use sink::Sink;
 pub use source::Source;
 pub use window::Window;
+pub use write_error::WriteError;
+pub use writing::write_whole;

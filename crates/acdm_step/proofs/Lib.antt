@@ -13,3 +13,6 @@ pub mod Planned
 pub mod Told
 pub mod Rows
 mod Refused
+pub mod Loading
+pub mod Unanswered
+pub mod Answering

@@ -11,3 +11,4 @@ pub mod Running
 pub mod Marked
 pub mod Prepared
 pub mod Laws
+pub mod Planning

@@ -8,6 +8,7 @@ mod entry;
 pub mod law;
 mod marks;
 mod outcome;
+mod planning;
 mod prepare;
 mod programs;
 mod state;
@@ -18,5 +19,6 @@ pub use command::{
 };
 pub use entry::{Answers, Entry, Verdict};
 pub use outcome::{AlertList, Alerted, Outcome, UnloadedList};
+pub use planning::plan_with;
 pub use prepare::{Change, Plan};
 pub use state::Core;

@@ -10,7 +10,7 @@ use Rattle.acdm_step.specs.declared.outcome.Outcome.{Outcome}
 use Rattle.acdm_step.specs.Commands.{History, is_accepted}
 use Rattle.acdm_step.specs.Verdicts.{verdict_of, verdict_in}
 use Rattle.acdm_step.specs.History.{Board, IsLegal, after, replay}
-use Rattle.acdm_journal.specs.Audit.{PlansWith}
+use Rattle.acdm_step.specs.Planning.{PlansWith}
 use Rattle.acdm_watch.specs.Watching.{IsNumbered}
 
 after_is : (J : History) (e : Entry) (v : Verdict) → e.number ≡ length J → e.verdict ≡ v

@@ -6,8 +6,7 @@ ghost use Rattle.acdm_step.specs.History.{IsLegal, replay};
 ghost use Rattle.acdm_step.specs.Prepared.{Fits, after_change};
 ghost use Rattle.acdm_watch.specs.Watching.{IsNumbered};
 
-use acdm_journal::plan_with;
-use acdm_step::{Core, Entry, Plan};
+use acdm_step::{Core, Entry, Plan, plan_with};
 use bpf_helpers::Sigs;
 use std::alloc::AllocError;
 

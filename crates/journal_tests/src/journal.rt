@@ -1,10 +1,9 @@
 //! Entries written, and lines read.
 use crate::fixture::{SEVEN, TEN, deiced, planned, reported, same_number, scheduled};
 use acdm_journal::{
-    ReadError, Stated, StatedCommand, WriteError, push_entry, read_line, write_entry,
-    write_entry_by,
+    ReadError, Stated, StatedCommand, push_entry, read_line, write_entry, write_entry_by,
 };
-use acdm_lines::Sink;
+use acdm_lines::{Sink, WriteError};
 use acdm_milestones::{DeicingTime, Milestone, Refusal, Role};
 use acdm_slots::Kind;
 use acdm_step::{Answers, Command, Entry, FlightNumber, Load, Report, Schedule, Unload, Verdict};

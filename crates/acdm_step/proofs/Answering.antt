@@ -2,7 +2,7 @@
 use Rattle.std.proofs.Common.{◌≡◌, ◌≢◌, ℕ, Bool, true, false, not, cond, suc, arith, List, [], ◌∷◌}
 use Rattle.std.proofs.Common.{◌++◌, length, Option, Some, None, Ok, Err, refl, sym, ap, subst, ◌∙◌, append-nil}
 use Rattle.std.proofs.Common.{inl, inr}
-use Rattle.std.specs.Prelude.{◌==◌, ◌&&◌, nat_lt, slice_get}
+use Rattle.std.specs.Prelude.{◌==◌, ◌&&◌, ◌⊎◌, nat_lt, slice_get}
 use Rattle.std.specs.List.{list_all}
 use Rattle.std.proofs.lemmas.Bool.{eqb-true}
 use Rattle.std.proofs.lemmas.Option.{same_Some}
@@ -47,10 +47,9 @@ use Rattle.acdm_step.specs.Verdicts.{obstacle, refused_by, unload_obstacle, unle
 use Rattle.acdm_step.specs.Verdicts.{migrate_obstacle, deice_obstacle}
 use Rattle.acdm_step.specs.History.{IsLegal, left_by, left_after}
 use Rattle.acdm_step.proofs.Saying.{say_said, left_ran, ran_left}
-use Rattle.acdm_journal.specs.Audit.{UsesAnswers, lacks_answer}
-use Rattle.acdm_journal.proofs.Checked.{tobt_checked, alert_checked}
-use Rattle.acdm_journal.proofs.Splitting.{cases_of}
-use Rattle.acdm_journal.proofs.Unanswered.{Reads, not_these}
+use Rattle.acdm_step.specs.Planning.{UsesAnswers, lacks_answer}
+use Rattle.acdm_step.proofs.Loading.{tobt_checked, alert_checked}
+use Rattle.acdm_step.proofs.Unanswered.{Reads, not_these}
 use Rattle.acdm_step.specs.declared.verdicts.TheConstants.{MOST_FLIGHTS}
 
 -- ---- no test refuses for want of an answer
@@ -226,6 +225,10 @@ module _ (sigs : List (ℕ × Promise)) (J : History) (role : Role) (moment : �
   parts : (used : List ℕ) → Gained before after used → used ++ left ≡ answers
   parts used gained = ap (λ l. l ++ left) (sym (gained ∙ ap (λ l. l ++ used) reads.none)) ∙ all
 
+  either_way : (b : Bool) → (b ≡ true) ⊎ (b ≡ false)
+  either_way true = inl refl
+  either_way false = inr refl
+
   -- answers are left over
   pub more : ComesOf sigs J role moment c before after outcome
       → lacks_answer (verdict_in outcome) ≡ false → left ≢ []
@@ -233,7 +236,7 @@ module _ (sigs : List (ℕ × Promise)) (J : History) (role : Role) (moment : �
   more (unanswered_so is accepted asks) lacks some uses =
       clash (lacks_answer (verdict_in outcome)) (ap (λ o. lacks_answer (verdict_in o)) is) lacks
   more (answered_so used gained same is ran none) lacks some uses =
-      elim (cases_of (is_accepted (verdict_of sigs J role c))) [
+      elim (either_way (is_accepted (verdict_of sigs J role c))) [
         | inl accepted ↦
             let r = ran accepted in
             let effect = say_said (programs_of J c) (run_record_of J c) moment (told_milestone c) used r.0

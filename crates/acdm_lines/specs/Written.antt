@@ -1,8 +1,8 @@
 -- What a writer took of a text.
 use Rattle.std.specs.Prelude.{ℕ, ◌≡◌, ◌≤◌, true, List, ◌++◌, take, Result, Ok, Err}
 use Rattle.acdm_lines.specs.Counted.{SinkView, faults_after}
-use Rattle.acdm_journal.specs.declared.entry_text.WriteError.{WriteError}
-use Rattle.acdm_journal.specs.declared.entry_text.WriteError.TheVariants as errors
+use Rattle.acdm_lines.specs.declared.write_error.WriteError.{WriteError}
+use Rattle.acdm_lines.specs.declared.write_error.WriteError.TheVariants as errors
 
 -- a writer failed at least once more
 abbrev pub HasFailed : {W : Type 0} → SinkView W → SinkView W → Type 0
@@ -19,8 +19,3 @@ abbrev pub Takes : {W : Type 0} {T : Type 0} → SinkView W → SinkView W → L
     → Type 0
 Takes old new text (Ok x) = new.log ≡ old.log ++ text
 Takes old new text (Err error) = TookPart old new text × (error ≡ errors.Write)
-
--- a text that is added to: what stood there before, and what was added
-pub record AppendedView : Type 0 where
-  pub before : List ℕ
-  pub added : List ℕ

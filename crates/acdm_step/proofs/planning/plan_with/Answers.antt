@@ -1,9 +1,9 @@
 use Rattle.std.proofs.Common.{◌≡◌, sym, ap, subst, ◌∙◌}
 use Rattle.acdm_step.specs.History.{replay, after}
 use Rattle.acdm_step.specs.Prepared.{after_change}
-use Rattle.acdm_journal.specs.Audit.{lacks_answer}
-use Rattle.acdm_journal.proofs.Judging.{reads_of, some_left, none_left, asked, more, used_up}
-use Rattle.acdm_journal.proofs.judge.plan_with.Goals as goal
+use Rattle.acdm_step.specs.Planning.{lacks_answer}
+use Rattle.acdm_step.proofs.Answering.{reads_of, some_left, none_left, asked, more, used_up}
+use Rattle.acdm_step.proofs.planning.plan_with.Goals as goal
 
 pub returns-then-is_unanswered-clause-misses : goal.returns-then-is_unanswered-clause-misses
 returns-then-is_unanswered-clause-misses c =

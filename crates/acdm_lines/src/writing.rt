@@ -1,9 +1,9 @@
 //! The writing of bytes to a writer that may be slow.
 ghost use Rattle.std.specs.Prelude.{◌≤◌};
-ghost use Rattle.acdm_journal.specs.Written.{Takes};
+ghost use Rattle.acdm_lines.specs.Written.{Takes};
 
-use crate::entry_text::WriteError;
-use acdm_lines::Sink;
+use crate::sink::Sink;
+use crate::write_error::WriteError;
 use std::io::{ErrorKind, Write};
 
 /// Writes all of some bytes. A write that a signal interrupts is made once more, and so is one that

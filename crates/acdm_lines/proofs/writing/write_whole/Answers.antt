@@ -1,7 +1,7 @@
 use Rattle.std.proofs.Common.{ℕ, List, arith, length-drop}
 use Rattle.std.proofs.lemmas.List.{take_rest}
-use Rattle.acdm_journal.proofs.Further.{log-further}
-use Rattle.acdm_journal.proofs.writing.write_whole.Goals as goal
+use Rattle.acdm_lines.proofs.Further.{log-further}
+use Rattle.acdm_lines.proofs.writing.write_whole.Goals as goal
 
 pub loop-at-smaller-then-taken-gt0 : goal.loop-at-smaller-then-taken-gt0
 loop-at-smaller-then-taken-gt0 g c =
