@@ -1,4 +1,4 @@
-"""The pairs of the edits of several wrong bodies, and the function that each pair turns. It is no script: edits.py uses it."""
+"""The pairs of the edits of several wrong bodies, the function that each pair turns, and its copies. It is no script: edits.py uses it."""
 import collections
 import pathlib
 import re
@@ -8,15 +8,16 @@ FOLDER = "must-fail-each"
 HEAD = re.compile(r"( *)(?:pub(?:\([^)]*\))? )?fn (\w+)")
 # A type or a trait by its path, without what stands in angle brackets.
 NAME = re.compile(r"(?:&(?:'\w+ )?(?:mut )?)?(?:\w+::)*(\w+)")
-# A function with a body: the name by which the prover finds it, and the lines of the braces around the body.
-Function = collections.namedtuple("Function", "name first last")
+# A function with a body: the name by which the prover finds it, the line that its attributes begin with, that of its own
+# name, those of the braces around the body, and whether a trait asks for it.
+Function = collections.namedtuple("Function", "name begins named first last has_trait")
 
 
 class Pair:
-    """One wrong body: its edit, its place in it from 1, the file, what is replaced by what, and the function that has it."""
+    """One wrong body: its edit, its place in it from 1, the file, what is replaced by what, and the function that has it, or what is behind the name of the copy that has it."""
 
     def __init__(self, edit, number, file):
-        self.edit, self.number, self.file, self.changes, self.function = edit, number, file, [], None
+        self.edit, self.number, self.file, self.changes, self.function, self.behind = edit, number, file, [], None, ""
 
     def __str__(self):
         return f"{self.edit}, pair {self.number}"
@@ -26,6 +27,10 @@ class Pair:
         function = function_at(self.file, text, old)
         self.function = function if not self.changes or function == self.function else None
         self.changes.append((old, new))
+
+    def name(self):
+        """Returns the name of the function, or of its copy, that has this body in a check of several."""
+        return self.function + self.behind
 
     def told(self):
         """Returns what is replaced first."""
@@ -107,9 +112,11 @@ def functions_of(file, text):
         opens = re.compile(rf"{head[1]}(\{{|\).* \{{)$")
         first = next((it for it in range(at, end) if opens.match(lines[it]) or it == at and line.endswith("{")), end)
         if first < end:
-            named, has_trait = owner_of(owner) if head[1] else ("", True)
+            named, has_trait = owner_of(owner) if head[1] else ("", False)
             # (a method without a trait has the path of its type, which may stand in another file)
-            found.append(Function("::".join([*path * has_trait, *[named] * bool(named), head[2]]), first, end))
+            name = "::".join([*path * (has_trait or not named), *[named] * bool(named), head[2]])
+            begins = next(it for it in range(at, -1, -1) if not lines[it - 1].strip().startswith(("#[", "//")) or it == 0)
+            found.append(Function(name, begins, at, first, end, has_trait))
     return found
 
 
@@ -121,6 +128,52 @@ def function_at(file, text, old):
     return next((it.name for it in functions_of(file, text) if it.first < place < it.last), None)
 
 
+def proofs_of(folder, function):
+    """Returns the folders of the proof files of a function, of which there is one, or none where the prover needs no file."""
+    return sorted(it for it in pathlib.Path(folder, "proofs").glob(f"**/{function.replace('::', '/')}") if it.is_dir())
+
+
+def can_be_copied(crate, pair, behind):
+    """Returns whether a copy of the function that a pair turns may stand behind it, with these letters behind its name."""
+    text = pathlib.Path(crate.folder, pair.file).read_text(encoding="utf-8")
+    own = next(it for it in functions_of(pair.file, text) if it.name == pair.function)
+    # (a trait asks for one function of a name; a proof by hand states the function's own theorem)
+    is_by_hand = any((it / "Proof.antt").exists() for it in proofs_of(crate.folder, pair.function))
+    return not own.has_trait and not is_by_hand and own.name != "main" and f"{own.name.rpartition('::')[2]}{behind}" not in text
+
+
+def with_copies(file, text, turned):
+    """Returns the text of a file with copies of its functions, each behind its function, by the pairs that have them, each with the text of the file that it is copied from."""
+    lines = text.split("\n")
+    # (a pair replaces lines by as many, so a function stands at the same lines in each text)
+    found = {it.name: it for it in functions_of(file, text)}
+    for pair, source in sorted(turned, key=lambda it: found[it[0].function].last, reverse=True):
+        own = found[pair.function]
+        copy = source.split("\n")[own.begins : own.last + 1]
+        at = own.named - own.begins
+        copy[at] = re.sub(r"\bfn \w+", rf"\g<0>{pair.behind}", copy[at], count=1)
+        lines[own.last + 1 : own.last + 1] = ["", *copy]
+    return "\n".join(lines)
+
+
+def copy_proofs(crate, folder, pair):
+    """Copies the proof files of the function that a pair turns for the copy of it that has the pair, in a folder with the crate's files."""
+    for own in proofs_of(folder, pair.function):
+        path = ".".join(own.relative_to(pathlib.Path(folder, "proofs")).parts)
+        named = re.compile(rf"\bRattle\.{crate.name}\.(?:proofs|specs\.contracts)\.{re.escape(path)}(?=[.\s])")
+        for it in own.rglob("*.antt"):
+            to = own.parent / f"{own.name}{pair.behind}" / it.relative_to(own)
+            to.parent.mkdir(parents=True, exist_ok=True)
+            to.write_text(named.sub(rf"\g<0>{pair.behind}", it.read_text(encoding="utf-8")), encoding="utf-8")
+
+
+def lacks_proofs(crate, pair, path):
+    """Returns whether a copy was left without the proof files that its function has, by where the prover looked for the copy's."""
+    looked = pathlib.Path(crate.folder, path).parent
+    own = looked.with_name(looked.name.removesuffix(pair.behind))
+    return pair.behind != "" and own.is_dir() and own not in proofs_of(crate.folder, pair.function)
+
+
 def bared(file, text, kept):
     """Returns the text of a file with the bodies of all functions left out but of those that are kept."""
     lines = text.split("\n")
@@ -128,3 +181,4 @@ def bared(file, text, kept):
         if it.name not in kept:
             lines[it.first + 1 : it.last] = ["unreachable!()"] + [None] * (it.last - it.first - 2)
     return "\n".join(it for it in lines if it is not None)
+

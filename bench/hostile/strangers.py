@@ -10,6 +10,7 @@ what `--save` and `--keep` name is left alone where it is something else's; and 
 line is `N cases, M failed`; status 1 where one failed.
 """
 
+import contextlib
 import itertools
 import os
 import pathlib
@@ -173,9 +174,13 @@ def full_pipe(program, cases):
     board = Board(program, ["--again", "--control", "PORT"], ("APT",) * 60, is_heard=False)
     # (each place tells 30 a minute: 60 of them fill the pipe and the room behind it, which nobody reads)
     for _ in range(30):
-        for at in range(60):
-            with board.connect(at) as partner:
-                asked(partner, TICK)
+        # (a newcomer waits until its place sees that who was there has left, so all places get one at once)
+        with contextlib.ExitStack() as opened:
+            partners = [opened.enter_context(board.connect(at)) for at in range(60)]
+            for partner in partners:
+                partner.sendall(TICK.encode() + b"\n")
+            for partner in partners:
+                replied(partner)
     cases.expect("a full pipe of errors holds up nobody", "entries 1800 of" in board.ask("status"))
     began = time.monotonic()
     cases.expect("nor the end", board.close() == 0 and time.monotonic() - began < 10)

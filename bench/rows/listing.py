@@ -1,5 +1,6 @@
 #!/usr/bin/env python3
-"""Holds what `acdm verify` prints of programs against rows that are written by hand: each form of the listing, and numbers with letters.
+"""Holds what `acdm verify` prints of programs against rows that are written by hand: each form of the listing, numbers with letters, and
+each instruction of RFC 9669 that programs may not have.
 
     python3 bench/rows/listing.py [--program PATH]
 
@@ -8,6 +9,7 @@ The last line is `N cases, M failed`; the status is 1 where one failed, and 77 w
 
 import argparse
 import pathlib
+import re
 import subprocess
 import sys
 import tempfile
@@ -160,6 +162,46 @@ b70100000c000000  mov64 r1, 12
 9500000000000000  exit
 """
 
+# Each instruction of the conformance groups of RFC 9669 that programs may not have, and those of callx, by which suites of tests know a
+# call by a register: the group, the bytes, and the verdict of a program that begins with it.
+OTHERS = """
+base32    8510000001000000                   refused 304 0
+base32    8520000001000000                   refused 304 0
+base64    1810000001000000 0000000000000000  refused 304 0
+base64    1820000001000000 0000000000000000  refused 304 0
+base64    1830000001000000 0000000000000000  refused 304 0
+base64    1840000001000000 0000000000000000  refused 304 0
+base64    1850000001000000 0000000000000000  refused 304 0
+base64    1860000001000000 0000000000000000  refused 304 0
+atomic32  c31af8ff00000000                   refused 303 0
+atomic32  c31af8ff01000000                   refused 303 0
+atomic32  c31af8ff40000000                   refused 303 0
+atomic32  c31af8ff41000000                   refused 303 0
+atomic32  c31af8ff50000000                   refused 303 0
+atomic32  c31af8ff51000000                   refused 303 0
+atomic32  c31af8ffa0000000                   refused 303 0
+atomic32  c31af8ffa1000000                   refused 303 0
+atomic32  c31af8ffe1000000                   refused 303 0
+atomic32  c31af8fff1000000                   refused 303 0
+atomic64  db1af8ff00000000                   refused 303 0
+atomic64  db1af8ff01000000                   refused 303 0
+atomic64  db1af8ff40000000                   refused 303 0
+atomic64  db1af8ff41000000                   refused 303 0
+atomic64  db1af8ff50000000                   refused 303 0
+atomic64  db1af8ff51000000                   refused 303 0
+atomic64  db1af8ffa0000000                   refused 303 0
+atomic64  db1af8ffa1000000                   refused 303 0
+atomic64  db1af8ffe1000000                   refused 303 0
+atomic64  db1af8fff1000000                   refused 303 0
+packet    2000000000000000                   refused 303 0
+packet    2800000000000000                   refused 303 0
+packet    3000000000000000                   refused 303 0
+packet    4000000000000000                   refused 303 0
+packet    4800000000000000                   refused 303 0
+packet    5000000000000000                   refused 303 0
+callx     8d00000000000000                   refused 303 0
+"""
+
 
 def rows():
     """The bytes of all slots, and their lines."""
@@ -173,6 +215,22 @@ def rows():
     return code, [*lines, f"accepted {len(lines)}"]
 
 
+def others():
+    """The bytes of each program that is refused for its first instruction, and its verdict."""
+    for line in OTHERS.split("\n")[1:-1]:
+        _, digits, verdict = re.fullmatch(r"(\w+) +([0-9a-f ]+?) +(refused \d+ \d+)", line).groups()
+        yield bytes.fromhex(digits) + bytes.fromhex("b7000000000000009500000000000000"), verdict
+
+
+def printed(program, code):
+    """The lines that the program prints of these bytes."""
+    with tempfile.NamedTemporaryFile() as file:
+        file.write(code)
+        file.flush()
+        words = [program, "verify", file.name]
+        return subprocess.run(words, capture_output=True, text=True, timeout=60, check=False).stdout.splitlines()
+
+
 def main():
     words = argparse.ArgumentParser(description="Holds the listing of a program against rows by hand.")
     words.add_argument("--program", type=pathlib.Path, default=PROVED)
@@ -181,18 +239,19 @@ def main():
         print(f"left out: there is no {program}")
         return 77
     code, wanted = rows()
-    with tempfile.NamedTemporaryFile() as file:
-        file.write(code)
-        file.flush()
-        found = subprocess.run(
-            [program, "verify", file.name], capture_output=True, text=True, timeout=60, check=False
-        ).stdout.splitlines()
+    found = printed(program, code)
     failed = abs(len(found) - len(wanted))
     for one, other in zip(wanted, found):
         if one != other:
             failed += 1
             print(f"FAILED wanted {one!r}, found {other!r}")
-    print(f"{len(wanted)} cases, {failed} failed")
+    count = len(wanted)
+    for code, verdict in others():
+        count += 1
+        if printed(program, code) != [verdict]:
+            failed += 1
+            print(f"FAILED {code.hex()}: wanted {verdict!r}, found {printed(program, code)!r}")
+    print(f"{count} cases, {failed} failed")
     return 1 if failed else 0
 
 

@@ -6,8 +6,9 @@
 
 Each .hex of examples/rules must have the listing and the verdict of its .lst, each of examples/rules/pairs the verdict
 of verdicts.txt. A source must compile to the bytes that are shipped; another clang than 14 may make others, and then
-its verdict is printed beside. The proved program judges where there is one, else a build without proofs. Outside what
-is proved.
+its verdict is printed beside. For each verdicts-N.txt the sources are compiled with clang-N too, where it is there, and
+must have its verdicts. The table of docs/RULES-IN-C.md must have the numbers of these files. The proved program judges
+where there is one, else a build without proofs. Outside what is proved.
 """
 import argparse
 import pathlib
@@ -21,7 +22,8 @@ TOP = pathlib.Path(__file__).resolve().parents[2]
 RULES = TOP / "examples" / "rules"
 PAIRS = RULES / "pairs"
 VERDICTS = PAIRS / "verdicts.txt"
-COMPILE = ["clang", "-O2", "-target", "bpf", "-mcpu=v3", "-I", str(RULES), "-c"]
+PAGE = TOP / "docs" / "RULES-IN-C.md"
+COMPILE = ["-O2", "-target", "bpf", "-mcpu=v3", "-I", str(RULES), "-c"]
 MADE_BY = "14"
 
 
@@ -40,10 +42,10 @@ class Rule:
     def shipped(self):
         return bytes.fromhex(self.file("hex").read_text())
 
-    def compiled(self, room):
+    def compiled(self, room, compiler="clang"):
         """The bytes of the section, as the recipe of docs/RULES-IN-C.md makes them."""
         made, cut = room / "rule.o", room / "rule.bin"
-        subprocess.run([*COMPILE, str(self.source), "-o", str(made)], check=True)
+        subprocess.run([compiler, *COMPILE, str(self.source), "-o", str(made)], check=True)
         copied = ["llvm-objcopy", "-O", "binary", f"--only-section={self.section}", str(made), str(cut)]
         subprocess.run(copied, check=True)
         return cut.read_bytes()
@@ -60,6 +62,11 @@ class Rule:
 
 def last(text):
     return text.splitlines()[-1] if text else "nothing"
+
+
+def kind(text):
+    """A verdict without its slot or its count of slots, in which builds of one clang may differ."""
+    return last(text).rsplit(" ", 1)[0]
 
 
 def rules():
@@ -110,6 +117,48 @@ def clang():
     return found and found[1]
 
 
+def verdicts_in(file):
+    """The verdicts of a file, by the names of the programs."""
+    return dict(line.split(" ", 1) for line in file.read_text().splitlines())
+
+
+def other_clangs():
+    """The other clangs that were tried: the number of each, and the file of its verdicts."""
+    return {re.search(r"(\d+)", file.stem)[1]: file for file in sorted(PAIRS.glob("verdicts-*.txt"))}
+
+
+def judged_by(number, acdm, room):
+    """The verdicts of what another clang makes of the sources, or nothing where it is not there."""
+    if not shutil.which(f"clang-{number}") or not shutil.which("llvm-objcopy"):
+        return None
+    codes = {rule.name: rule.compiled(room, f"clang-{number}") for rule in rules()}
+    found = judged(codes, acdm, pathlib.Path(tempfile.mkdtemp(dir=room)))
+    return {name: kind(text) for name, text in found.items()}
+
+
+def differences_of_others(acdm, room):
+    """What other clangs make of the sources that is judged otherwise than it was."""
+    for number, file in other_clangs().items():
+        found = judged_by(number, acdm, room)
+        if found is None:
+            print(f"clang {number} is not here, and what it makes is not judged again")
+        for name, wanted in verdicts_in(file).items() if found else ():
+            if found.get(name) != wanted:
+                yield f"{name}: {found.get(name)} as clang {number} makes it, and {wanted} is told"
+
+
+def differences_of_page():
+    """What the table of the page says of pairs otherwise than the files."""
+    told = {MADE_BY: verdicts_in(VERDICTS)} | {number: verdicts_in(file) for number, file in other_clangs().items()}
+    rows = re.findall(r"^\| `([\w-]+)\.c` \|(.*)\|$", PAGE.read_text(), re.MULTILINE)
+    shown = {name: [cell.strip() for cell in cells.split(" | ")] for name, cells in rows}
+    for pair in sorted(source.stem for source in PAIRS.glob("*.c")):
+        verdicts = [found.get(f"{pair}.refused", "nothing").split() for found in told.values()]
+        numbers = [words[1] if words[0] == "refused" else words[0] for words in verdicts]
+        if shown.get(pair, [])[2 : 2 + len(numbers)] != numbers:
+            yield f"docs/RULES-IN-C.md: its row of {pair}.c does not say {', '.join(numbers)}"
+
+
 def write(acdm, room):
     codes = {rule.name: rule.compiled(room) for rule in rules()}
     found = judged(codes, acdm, pathlib.Path(tempfile.mkdtemp(dir=room)))
@@ -118,11 +167,15 @@ def write(acdm, room):
         if not rule.is_of_pair:
             rule.file("lst").write_text(found[rule.name] + "\n")
     VERDICTS.write_text("".join(f"{it.name} {last(found[it.name])}\n" for it in rules() if it.is_of_pair))
+    for number, file in other_clangs().items():
+        found = judged_by(number, acdm, room)
+        if found:
+            file.write_text("".join(f"{it.name} {found[it.name]}\n" for it in rules()))
 
 
 def differences(acdm, compiler, room):
     """What is not as it is shipped."""
-    verdicts = dict(line.split(" ", 1) for line in VERDICTS.read_text().splitlines())
+    verdicts = verdicts_in(VERDICTS)
     codes = {rule.name: rule.shipped() for rule in rules()}
     again = {rule.name: rule.compiled(room) for rule in rules()} if compiler else codes
     others = {f"{name}.compiled": again[name] for name in codes if again[name] != codes[name]}
@@ -136,6 +189,8 @@ def differences(acdm, compiler, room):
             yield f"{rule.name}: its source compiles to other bytes, {last(other)}"
         elif other is not None:
             print(f"{rule.name}: {last(other)} as clang {compiler} makes it, {last(wanted)} is shipped")
+    yield from differences_of_others(acdm, room)
+    yield from differences_of_page()
 
 
 def main():

@@ -18,6 +18,8 @@ PORTS = (8443, 8444, 8445, 9180)
 def test_the_trial_opens_everything_and_ends(folder: Path) -> None:
     environment = {**os.environ, "ACDM": str(PROGRAM)}
     command = [sys.executable, str(TOP / "desk" / "desk"), "--demo"]
+    # (what a shell begins in the background is not told of an interrupt, nor is what that begins)
+    signal.signal(signal.SIGINT, signal.default_int_handler)
     with subprocess.Popen(command, cwd=folder, env=environment, stdout=subprocess.PIPE, text=True) as process:
         try:
             assert until(lambda: all(listens(port) for port in PORTS))
@@ -36,7 +38,10 @@ def test_the_trial_opens_everything_and_ends(folder: Path) -> None:
             assert (folder / "desk-demo").stat().st_mode & 0o077 == 0
         finally:
             process.send_signal(signal.SIGINT)
-            assert process.wait(20) == 0
+            try:
+                assert process.wait(20) == 0
+            finally:
+                process.kill()
     assert until(lambda: not any(listens(port) for port in PORTS))
     log = (folder / "desk-demo" / "board.log").read_text(encoding="ascii")
     assert "closed " in log, "the board has closed in good order"

@@ -1,7 +1,7 @@
 #!/usr/bin/env python3
 """Runs all checks that need no proof, and says of each whether it passed.
 
-    .ci/quick [--program FILE] [--no-build] [--list]
+    .ci/quick [--program FILE] [--no-build] [--rest] [--list]
 
 Each check is one line: how it ended, how long it took, its name; what it printed follows where it failed. A check
 that can't be made here, for want of a library or a file, is left out and says why. The last line is `N passed, M
@@ -9,7 +9,8 @@ failed`, and the status is 1 where one failed. Two checks run at a time.
 
 The program is the proved one where these sources are proved, else that of --program, else a build that is not proved,
 which is made first where the kit is there (tools/unproved.py, two minutes more, once for the same sources). With
---no-build none is made, and what needs the program is left out.
+--no-build none is made, and what needs the program is left out. With --rest, as .ci/run has it, those checks are left
+out that .ci/run makes itself, and makes whole.
 """
 from __future__ import annotations
 
@@ -37,24 +38,28 @@ SECONDS = 300
 
 @dataclass(frozen=True)
 class Check:
-    """A check: its name, its command, and a file without which it is left out."""
+    """A check: its name and command, a file and a tool that it can't do without, and whether .ci/run makes it whole."""
 
     name: str
     command: str
     file: str = ""
     tool: str = ""
+    is_whole_there: bool = False
 
 
 CHECKS = (
     Check("every command line of the documents runs", "tools/checks/commands.py{program}"),
     Check("tests of the clients", f"{{python}} {TESTS} clients/tests", "clients/tests"),
     Check("tests of the bridges", "{debian} bridges/tests/try_bridges.py --quick", "bridges/tests/try_bridges.py"),
-    Check("tests of the desk", "{debian} desk/tests/try_desk.py --quick", "desk/tests/try_desk.py"),
+    Check(
+        "tests of the desk", "{debian} desk/tests/try_desk.py --quick", "desk/tests/try_desk.py", is_whole_there=True
+    ),
     Check("names, files and links of the documents", "tools/checks/names.py"),
     Check("the kit's crates, the kit's line, the version", "tools/checks/trusted.py"),
     Check("numbers of sources and documents", "tools/checks/figures.py"),
     Check("sentences and lines of the documents", "tools/checks/sentences.py"),
     Check("where to change what, each file by purpose", "tools/checks/where.py"),
+    Check("programs to begin with: what they stand on and print", "tools/checks/embedding.py --names"),
     Check("examples and the feed by their schemas", "tools/checks/schemas.py"),
     Check("tests of these checks", f"{{python}} {TESTS} tools/checks/tests", "tools/checks/tests"),
     Check(
@@ -65,8 +70,12 @@ CHECKS = (
     Check("words of codes and alerts, written once", "{python} clients/words.py --check", "clients/words.py"),
     Check("rows of the rules, and cells without one", "{python} bench/rows/check.py"),
     Check("rows of the rules, replied by the program", "{python} bench/rows/ask.py{program}"),
-    Check("the listing of each form of instruction", "{python} bench/rows/listing.py{program}"),
-    Check("walks through all milestones, an eighth of them", "{python} bench/walks/run.py --short{program}"),
+    Check("the listing of each form of instruction", "{python} bench/rows/listing.py{program}", is_whole_there=True),
+    Check(
+        "walks through all milestones, an eighth of them",
+        "{python} bench/walks/run.py --short{program}",
+        is_whole_there=True,
+    ),
     Check("the archive runs a day without the kit", "tools/checks/packaged.py{program}"),
     Check("edits stand on a line of the sources", "{python} bench/gate/stands.py"),
     Check("tests of the model: the board", "{python} bench/model/test_board.py"),
@@ -160,6 +169,7 @@ def asked_words() -> argparse.Namespace:
         "--program", type=Path, metavar="FILE", help="a build of the program to run, where none is proved"
     )
     words.add_argument("--no-build", action="store_true", help="build no program where there is none")
+    words.add_argument("--rest", action="store_true", help="leave out what .ci/run makes whole")
     words.add_argument("--list", action="store_true", help="print the checks with their commands, and run none")
     return words.parse_args()
 
@@ -167,8 +177,9 @@ def asked_words() -> argparse.Namespace:
 def main() -> int:
     """Runs the checks, and returns the status."""
     asked, lock = asked_words(), threading.Lock()
+    checks = [check for check in CHECKS if not (asked.rest and check.is_whole_there)]
     if asked.list:
-        print("\n".join(f"{check.name}: {check.command}" for check in CHECKS))
+        print("\n".join(f"{check.name}: {check.command}" for check in checks))
         return 0
     program, which = program_for(asked)
     print(f"checks with {which}", flush=True)
@@ -178,7 +189,7 @@ def main() -> int:
             print(text, flush=True)
 
     with ThreadPoolExecutor(2) as pool:
-        ends = list(pool.map(lambda check: run(check, program, say), CHECKS))
+        ends = list(pool.map(lambda check: run(check, program, say), checks))
     failed = ends.count("FAILED")
     print(f"{ends.count('ok')} passed, {failed} failed")
     return 1 if failed else 0
