@@ -50,6 +50,7 @@ NOT_RUN = {
     "./acdm package": "needs the proved program; tools/checks/packaged.py tries it",
     "rt ": PROVES,
     "cd crates/": PROVES,
+    "(cd ../": "builds by rt, which tools/checks/embedding.py does",
     ".ci/quick": "is what runs this",
     "python3 -m unittest discover": "is a check of .ci/quick by itself",
     "tools/checks/commands.py": "is this",
@@ -132,7 +133,8 @@ NEEDS_TOOL = re.compile(r"(?:^|\| )(clang|llvm-objcopy|llvm-objdump|xxd|node|ope
 NEEDS_CLANG = re.compile(r"clients/load\.py \S+\.c\b|bench/explain/page\.py")
 MAKES = re.compile(r"(?:-o|>) (\S+)|^llvm-objcopy .* (\S+)$")
 FORM = re.compile(
-    r"\s'?(?:\.\.|\[|(?:ADDR|ADDRESS|CRATE|EDIT|FILE|FLIGHT|HOST|JOURNAL|LINE|NAME|PAGE|PORT|RULE|STREAM|URL|WORD)\b)"
+    r"\s'?(?:\.\.(?!/)|\["
+    r"|(?:ADDR|ADDRESS|CRATE|EDIT|FILE|FLIGHT|HOST|JOURNAL|LINE|NAME|PAGE|PORT|RULE|STREAM|URL|WORD)\b)"
 )
 PORT = re.compile(r"(?:(?<=127\.0\.0\.1:)|(?<=localhost:)|(?<=--control )|(?<=--web )|(?<=control\.py ))\d+(?![\d.])")
 SECONDS = 120

@@ -64,7 +64,7 @@ ELSEWHERE = {
 }
 # Names of other programs, of the kit and of the system, in groups.
 OUTSIDE = {
-    "programs": "cron dmesg gcc-bpf logrotate nginx nice perf rbpf stunnel vmstat",
+    "programs": "clang-19 cron dmesg gcc-bpf logrotate nginx nice perf rbpf stunnel vmstat",
     "crates of the kit below those that crates.txt names": "jiff_core jiff_duration jiff_span jiff_strtime jiff_tz"
     " jiff_zoned ryu simdutf8 strsim toml_datetime toml_parser toml_writer unicode",
     "words of the kit": "Processes hides rattle-kit-13b rattle-kit-13f",

@@ -5,8 +5,10 @@
 
 Each file and each pattern of the table is there. And no file is missing: for each kind the table names examples, such
 as the name of the newest role. A file that has one of them as a whole word stands among the places of the kind, or
-beside them with a reason. An example that no file has is told too, and so is what stands beside a kind without need.
-In a pattern `*` is any part of one name, and `**` any folders. `tools/where` prints the table.
+beside them with a reason. So does a file that has all the older names of a list: where these are told one by one, a new
+one is missing, though the newest is not there either. An example that no file has is told too, and so is what stands
+beside a kind without need. In a pattern `*` is any part of one name, and `**` any folders. `tools/where` prints the
+table.
 """
 from __future__ import annotations
 
@@ -27,7 +29,7 @@ except ImportError:
 TABLE = "docs/where.toml"
 WIDTH = 120
 KINDS = ("alert", "role", "command", "field", "range", "instruction", "display", "option")
-KEYS_OF_KIND = ("what", "examples", "places", "beside", "note")
+KEYS_OF_KIND = ("what", "examples", "older", "places", "beside", "note")
 
 
 class Faulty(ValueError):
@@ -46,11 +48,12 @@ class Group:
 
 @dataclass(frozen=True)
 class Kind:
-    """A kind of change: what it is, words to search by, the places that it changes, and what only uses it."""
+    """A kind of change: what it is, words to search by, older names, the places that it changes, what only uses it."""
 
     name: str
     what: str
     examples: tuple[str, ...]
+    older: tuple[tuple[str, ...], ...]
     places: tuple[Group, ...]
     beside: tuple[Group, ...]
     note: str
@@ -80,6 +83,14 @@ def texts_at(table: dict[str, object], key: str, name: str) -> tuple[str, ...]:
     if twice:
         raise fault(f"{key}.{name}", f"{twice[0]} stands there twice")
     return tuple(found)
+
+
+def lists_at(table: dict[str, object], key: str, name: str) -> tuple[tuple[str, ...], ...]:
+    """Returns the lists of texts that a table has at a name, where it has some."""
+    found = table.get(name, [])
+    if not isinstance(found, list):
+        raise fault(f"{key}.{name}", "no list of lists")
+    return tuple(texts_at({str(place): texts}, f"{key}.{name}", str(place)) for place, texts in enumerate(found, 1))
 
 
 def refuse_others(table: dict[str, object], key: str, allowed: tuple[str, ...]) -> None:
@@ -112,7 +123,7 @@ def kind_of(name: str, table: object) -> Kind:
         raise fault(f"{name}.places", "no place")
     beside = groups_at(table, name, "beside", "why")
     what, note = text_at(table, name, "what"), text_at(table, name, "note", is_needed=False)
-    return Kind(name, what, texts_at(table, name, "examples"), places, beside, note)
+    return Kind(name, what, texts_at(table, name, "examples"), lists_at(table, name, "older"), places, beside, note)
 
 
 def kinds_of(top: Path) -> dict[str, Kind]:
@@ -179,6 +190,12 @@ def faults_of(kind: Kind, texts: dict[str, str]) -> list[str]:
         if not having:
             faults.append(f"{TABLE}: {kind.name}.examples: no file has the word {word}")
         found = {**having, **found}
+    for words in kind.older:
+        told = f"has all of {', '.join(words)}"
+        whole = {name: f"{name} {told}" for name, text in texts.items() if all(line_of(word, text) for word in words)}
+        if not whole:
+            faults.append(f"{TABLE}: {kind.name}.older: no file {told}")
+        found = {**whole, **found}
     rest = set(found).difference(*places.values())
     for (key, glob), names in beside.items():
         if names and not names & rest:

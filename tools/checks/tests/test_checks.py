@@ -13,6 +13,7 @@ sys.path.insert(0, str(Path(__file__).resolve().parents[1]))
 # pylint: disable=wrong-import-position
 import checkout  # noqa: E402
 import commands  # noqa: E402
+import embedding  # noqa: E402
 import figures  # noqa: E402
 import names  # noqa: E402
 import sentences  # noqa: E402
@@ -95,6 +96,50 @@ class Names(Folder):
     def test_links_lead_to_a_file_and_a_heading(self) -> None:
         self.assertEqual(self.faults("[a](GONE.md)\n"), ["docs/PAGE.md: no file for the link GONE.md"])
         self.assertEqual(self.faults("[a](RULES.md#gone)\n"), ["docs/PAGE.md: no heading for the link RULES.md#gone"])
+
+
+class Embedding(Folder):
+    """A program of the page of programs to begin with, and what it stands on."""
+
+    PAGE = (
+        "| [`examples/embedding/one`](#one) | a program | 2 crates |\n\n"
+        "    mkdir -p ../one/crates/app/src\n"
+        "    for crate in low \\\n"
+        '        high; do cp -r crates/$crate ../one/crates; grep "^$crate:" crates.txt >> ../one/crates.txt; done\n'
+        "    cp examples/embedding/one/main.rt.txt ../one/crates/app/src/main.rt\n"
+        "    (cd ../one/crates/app && rt try)\n\n"
+        "It prints\n\n    7\n\nby the line\n\n    app: high hex\n"
+    )
+
+    def faults(self, page: str) -> list[str]:
+        """Returns the faults of a page with one program."""
+        self.write("crates.txt", "low: arrayvec\nhigh: low\nother: low\n")
+        self.write("examples/embedding/one/crates.line", "app: high hex\n")
+        self.write("examples/embedding/one/main.rt.txt", "// other::gone\nuse high::seven;\nlet it = hex::digits();\n")
+        self.write("examples/embedding/one/stdout", "7\n")
+        (example,) = embedding.examples_of(page)
+        return embedding.name_faults(example, page, self.top)
+
+    def test_what_the_page_copies_and_shows_is_no_fault(self) -> None:
+        self.assertEqual(self.faults(self.PAGE), [])
+
+    def test_a_crate_that_is_missing_and_one_too_many_are_named(self) -> None:
+        about = "docs/EMBEDDING.md: one:"
+        wanted = [f"{about} other is copied without need", f"{about} low is not copied"]
+        self.assertEqual(self.faults(self.PAGE.replace("in low", "in other")), wanted)
+
+    def test_another_line_number_and_output_are_named(self) -> None:
+        about = "docs/EMBEDDING.md: one:"
+        self.assertEqual(
+            self.faults(
+                self.PAGE.replace("app: high", "app: high low").replace("    7", "    8").replace("2 crates", "3")
+            ),
+            [
+                f"{about} the line of its crates.txt is not shown",
+                f"{about} its first run prints otherwise than its stdout",
+                f"{about} the table does not say that it stands on 2 crates",
+            ],
+        )
 
 
 class Figures(Folder):
@@ -241,6 +286,18 @@ class Where(Folder):
         head = self.HEAD.replace('["TWR"]', '["TWR", "RAMP"]')
         self.assertEqual(self.faults(head + self.PLACES + self.BESIDE), wanted)
 
+    def test_a_file_with_all_older_names_is_missing_too(self) -> None:
+        self.write("boards.rt", "APT, ATC and NM\n")
+        self.write("airport.rt", "APT alone\n")
+        head = self.HEAD + 'older = [["NM", "ATC", "APT"]]\n'
+        wanted = ["docs/where.toml: role: boards.rt has all of NM, ATC, APT, and is no place of it, nor beside"]
+        self.assertEqual(self.faults(head + self.PLACES + self.BESIDE), wanted)
+        listed = self.PLACES.replace('["names.rt"]', '["names.rt", "boards.rt"]')
+        self.assertEqual(self.faults(head + listed + self.BESIDE), [])
+        head = head.replace('"APT"]]', '"APT", "AO"]]')
+        wanted = ["docs/where.toml: role.older: no file has all of NM, ATC, APT, AO"]
+        self.assertEqual(self.faults(head + self.PLACES + self.BESIDE), wanted)
+
     def test_what_stands_beside_without_need_is_told(self) -> None:
         beside = self.BESIDE.replace('["days', '["other.rt", "names.rt", "days')
         wanted = [
@@ -256,6 +313,7 @@ class Where(Folder):
             (self.HEAD + self.PLACES.replace("its name", " "), "role.places[1].purpose: no text"),
             (self.HEAD.replace('["TWR"]', "[]") + self.PLACES, "role.examples: no list of texts"),
             (self.HEAD.replace('["TWR"]', '["TWR", "TWR"]') + self.PLACES, "role.examples: TWR stands there twice"),
+            (self.HEAD + 'older = ["TWR"]\n' + self.PLACES, "role.older.1: no list of texts"),
             (self.HEAD, "role.places: no place"),
             ("role = 1\n", "role: no table"),
             ("", "role: this kind is missing"),
