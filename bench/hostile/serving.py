@@ -378,6 +378,11 @@ def own_ticks(cases, program):
     done = ran(program, ["serve", "--tick", "60", *words_of_many])
     told = "acdm: address 64\n" + cause("APT=127.0.0.1:0", "more sessions than 64, of which ticks take one")
     cases.expect("64 partners and ticks", (done.returncode, done.stdout, done.stderr) == (2, b"", told.encode()), done)
+    board, _ = opened(program, ["--tick", "60", "--again", "--control", "PORT"], ["GH"] * 63)
+    status = board.ask("status")
+    cases.expect("63 partners and ticks", "session 63 GH " in status and "session 64 APT ticks each 60 s\n" in status, status)
+    answer, status, _ = board.close()
+    cases.expect("63 partners and ticks end", (answer, status) == ("closing\n", 0), (answer, status))
 
 
 def tried(make, cases, *given):
