@@ -6,6 +6,7 @@ pub mod Completed
 pub mod Keeping
 pub mod Minutes
 pub mod Partners
+pub mod Resumed
 pub mod Served
 pub use Rattle.acdm_failures.specs.Failures
 pub use Rattle.acdm_tables.specs.Helpers

@@ -1,6 +1,7 @@
 //! Going on from a journal that is kept in a file.
 ghost use Rattle.std.specs.Prelude.{◌≡◌, [], IfErr, IfOk, length};
 ghost use Rattle.acdm_board.specs.Desk.{row_of};
+ghost use Rattle.acdm_commands.specs.Resumed.{KeptIsResumed};
 ghost use Rattle.acdm_commands.specs.Causes.{keep_failure};
 ghost use Rattle.acdm_commands.specs.Keeping.{FailsToResume, IsNewKeeper, Resumes, ResumesAs};
 ghost use Rattle.std.specs.IoError.{error_kind};
@@ -9,6 +10,7 @@ ghost use Rattle.acdm_failures.specs.declared.failure.Failure.TheVariants.{Room}
 use crate::beside::note_tables;
 use crate::cause::Noting;
 use crate::context::Context;
+use crate::law::what_was_kept_is_resumed;
 use crate::request::KeepIn;
 use crate::saving::{is_one, taken};
 use crate::standard_streams::is_standard;
@@ -17,7 +19,7 @@ use acdm_failures::Failure;
 use acdm_judging::Finding;
 use acdm_keeping::{Keeper, Named, Paths, Synced, open, renew};
 use acdm_restoring::{RestoreError, restore};
-use acdm_sessions::{Sink, Source};
+use acdm_sessions::Source;
 use bpf_helpers::Helpers;
 use std::alloc::Global;
 use std::fs::{File, Files};
@@ -194,7 +196,11 @@ pub(crate) fn resume<Rt: Files<File = File> + Paths + Clone + Drop, H: Helpers +
     requires empty { desk.old.history ≡ [] }
     ensures resumes { IfOk result (Resumes desk.old desk.new) }
     ensures fails { IfErr result FailsToResume }
+
+    // What a crash has left of it is resumed with all that was kept.
+    ensures crash { KeptIsResumed }
 {
+    what_was_kept_is_resumed();
     let file = match open_kept(context, keep) {
         Ok(file) => file,
         Err(failure) => return Err(failure),
@@ -222,7 +228,7 @@ pub(crate) fn keeper_of<H: Helpers + Drop, F: Write + Drop>(
     ensures new { IfOk result (λ k. IsNewKeeper desk.now k) }
     ensures fails { IfErr result FailsToResume }
 {
-    let Ok(mut keeper) = Keeper::new(alloc, desk.row(), Sink::new(writer)) else {
+    let Ok(mut keeper) = Keeper::new(alloc, desk.row(), writer) else {
         return Err(Failure::Memory);
     };
     match keeper.pass_over(desk.len()) {

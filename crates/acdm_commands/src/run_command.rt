@@ -12,13 +12,13 @@ use crate::resuming::{Resumption, keeper_of, resume};
 use crate::saving::{buffer_for, save, saving_in, settle};
 use acdm_board::Desk;
 use acdm_failures::{Failure, ended};
-use acdm_keeping::{Keeper, Kept, Paths};
-use acdm_sessions::{RunError, Sink, Source, run};
+use acdm_keeping::{Keeper, Paths, Replies};
+use acdm_sessions::{RunError, Sink, Source, run, run_announced};
 use acdm_tables::KnownHelpers;
 use bpf_helpers::Helpers;
 use std::alloc::Global;
 use std::fs::{File, Files};
-use std::io::{BufWriter, Read, Write};
+use std::io::{Read, Write};
 
 /// How many bytes of replies are held until the entries before them are kept, at most.
 const BUFFER: usize = 65_536;
@@ -257,10 +257,9 @@ fn run_behind<H: Helpers + Drop, R: Read, W: Write, F: Write + Drop>(
     requires reads { input.old.faults < 2 ^ 64 - 1 }
     ensures { AnswersBehind desk.old desk.new input.old input.new result }
 {
-    let kept = Kept::new(keeper, output);
-    let Ok(buffered) = BufWriter::with_capacity(alloc, BUFFER, kept) else {
+    let Ok(replies) = Replies::new(alloc, keeper, output, BUFFER) else {
         return Err(RunError::Memory);
     };
-    let mut writer = Sink::new(buffered);
-    run(alloc, input, &mut writer, desk)
+    let mut writer = Sink::new(replies);
+    run_announced(alloc, input, &mut writer, desk)
 }

@@ -257,7 +257,7 @@ fn share<J: Opening, Rt: Host, H: Helpers + Drop>(
     ensures fails { IfErr result (λ failure. failure ≡ Memory) }
 {
     match keeper {
-        Some(keeper) => match SharedKeeper::new(alloc, keeper, desk.row(), closing) {
+        Some(keeper) => match SharedKeeper::new(alloc, keeper, closing) {
             Ok(shared) => Ok(Some(shared)),
             Err(_) => Err(Failure::Memory),
         },

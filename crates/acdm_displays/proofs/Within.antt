@@ -8,18 +8,18 @@ use Rattle.acdm_step.specs.History.{IsLegal}
 use Rattle.acdm_watch.specs.Watching.{WatchView}
 use Rattle.acdm_displays.specs.Displayed.{Took}
 use Rattle.acdm_displays.specs.declared.following.Shown.{Shown}
-use Rattle.acdm_keeping.specs.declared.receipt.Receipt.{Receipt}
+use Rattle.acdm_keeping.specs.declared.reach.Extent.{Extent}
 use Rattle.acdm_step.specs.declared.entry.Entry.{Entry}
 use Rattle.acdm_displays.specs.Within.{IsAsKept, IsNoLess, IsWithin}
 
 -- where nothing was seen, no more was than is kept
-pub nothing_within : (receipt : Option Receipt) (seen : List Entry) → seen ≡ [] → IsWithin receipt seen
+pub nothing_within : (extent : Option Extent) (seen : List Entry) → seen ≡ [] → IsWithin extent seen
 nothing_within None seen none = tt
-nothing_within (Some receipt) seen none =
-    subst (λ l. length l ≤ receipt.count) (sym none) (omega arith)
+nothing_within (Some extent) seen none =
+    subst (λ l. length l ≤ extent.count) (sym none) (omega arith)
 
--- a later receipt is there where the first one is
-pub still_kept : {X : Type 0} (reach : Option X) (old new : Option Receipt) → IsAsKept reach old
+-- a later extent is there where the first one is
+pub still_kept : {X : Type 0} (reach : Option X) (old new : Option Extent) → IsAsKept reach old
     → IsNoLess old new → IsAsKept reach new
 still_kept None None None kept less = tt
 still_kept (Some x) (Some old) (Some new) kept less = tt
@@ -30,17 +30,17 @@ still_kept (Some x) (Some old) None kept less = absurd less
 
 -- what was shown, by what was seen and written
 pub took : {W X : Type 0} (Says : List Entry → List ℕ → List ℕ → Type 0) (row : RowView) (reach : Option X)
-    (before : List ℕ) (shown : Shown W) (watch : WatchView) (first receipt : Option Receipt)
-    (writer : SinkView W) → shown.watch ≡ watch → shown.receipt ≡ receipt → shown.writer ≡ writer
+    (before : List ℕ) (shown : Shown W) (watch : WatchView) (first extent : Option Extent)
+    (writer : SinkView W) → shown.watch ≡ watch → shown.extent ≡ extent → shown.writer ≡ writer
     → watch.row ≡ row → IsLegal watch.row.sigs (reverse watch.seen) → Says watch.seen before writer.log
-    → writer.waits ≡ false → IsAsKept reach first → IsNoLess first receipt → IsWithin receipt watch.seen
+    → writer.waits ≡ false → IsAsKept reach first → IsNoLess first extent → IsWithin extent watch.seen
     → Took Says row reach before shown
-took Says row reach before shown watch first receipt writer w r s same legal text flushed kept less within =
+took Says row reach before shown watch first extent writer w r s same legal text flushed kept less within =
     record {
       same = rw w same;
       legal = rw w (subst (λ (r : RowView). IsLegal r.sigs (reverse watch.seen)) same legal);
       text = rw (w, s) text;
       flushed = rw s flushed;
-      kept = rw r (still_kept reach first receipt kept less);
+      kept = rw r (still_kept reach first extent kept less);
       within = rw (w, r) within;
     }

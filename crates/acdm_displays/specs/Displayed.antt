@@ -44,7 +44,7 @@ abbrev pub Adds : {T : Type 0} → Telling T → T → T → List Entry → List
 Adds tells teller teller_after seen later old new = (before : List ℕ)
     → Follows tells teller teller_after seen later (before ++ old) (before ++ new)
 
--- A watch looks at this row, and what it has seen is legal; where the row is kept, a receipt says that all of it
+-- A watch looks at this row, and what it has seen is legal; where the row is kept, a extent says that all of it
 -- is. Behind the bytes that the writer had taken before it took this text of that, and nothing else, and all of it
 -- was flushed.
 pub record Took {W X : Type 0} (Says : List Entry → List ℕ → List ℕ → Type 0) (row : RowView)
@@ -53,8 +53,8 @@ pub record Took {W X : Type 0} (Says : List Entry → List ℕ → List ℕ → 
   pub legal : IsLegal row.sigs (reverse shown.watch.seen)
   pub text : Says shown.watch.seen before shown.writer.log
   pub flushed : shown.writer.waits ≡ false
-  pub kept : IsAsKept reach shown.receipt
-  pub within : IsWithin shown.receipt shown.watch.seen
+  pub kept : IsAsKept reach shown.extent
+  pub within : IsWithin shown.extent shown.watch.seen
 
 -- the text of the journal
 abbrev pub SaysJournal : List Entry → List ℕ → List ℕ → Type 0

@@ -1,21 +1,21 @@
 -- How far entries are shown: no further than they are kept, where they are.
 use Rattle.std.specs.Prelude.{ℕ, ◌≤◌, List, Option, Some, None, length}
-use Rattle.acdm_keeping.specs.declared.receipt.Receipt.{Receipt}
+use Rattle.acdm_keeping.specs.declared.reach.Extent.{Extent}
 use Rattle.acdm_step.specs.declared.entry.Entry.{Entry}
 
--- there is a receipt where entries are kept, and none else
-abbrev pub IsAsKept : {X : Type 0} → Option X → Option Receipt → Type 0
+-- there is a extent where entries are kept, and none else
+abbrev pub IsAsKept : {X : Type 0} → Option X → Option Extent → Type 0
 IsAsKept None None = Unit {0}
-IsAsKept (Some x) (Some receipt) = Unit {0}
+IsAsKept (Some x) (Some extent) = Unit {0}
 IsAsKept _ _ = ⊥
 
--- no more entries were seen than the receipt says are kept, where there is one
-abbrev pub IsWithin : Option Receipt → List Entry → Type 0
+-- no more entries were seen than the extent says are kept, where there is one
+abbrev pub IsWithin : Option Extent → List Entry → Type 0
 IsWithin None seen = Unit {0}
-IsWithin (Some receipt) seen = length seen ≤ receipt.count
+IsWithin (Some extent) seen = length seen ≤ extent.count
 
--- a receipt in the place of another one, for no fewer entries
-abbrev pub IsNoLess : Option Receipt → Option Receipt → Type 0
+-- a extent in the place of another one, for no fewer entries
+abbrev pub IsNoLess : Option Extent → Option Extent → Type 0
 IsNoLess None None = Unit {0}
 IsNoLess (Some old) (Some new) = old.count ≤ new.count
 IsNoLess _ _ = ⊥

@@ -155,7 +155,7 @@ pub fn follow_events<R: Read, W: Write + Drop>(
     };
     let prefix = Prefix {
         row: entries.row,
-        most: most_shown(seen.receipt),
+        most: most_shown(seen.extent),
     };
     begin_events(
         alloc,

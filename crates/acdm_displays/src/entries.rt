@@ -3,7 +3,7 @@ ghost use Rattle.std.specs.Prelude.{◌≡◌, [], IfOk, IfSome};
 ghost use Rattle.std.specs.Arc.{arc_value};
 ghost use Rattle.acdm_displays.specs.Within.{IsAsKept, IsNoLess};
 
-use acdm_keeping::{Reach, Receipt};
+use acdm_keeping::{Extent, Reach};
 use acdm_row::Row;
 use acdm_watch::Watch;
 use std::alloc::{AllocError, Global};
@@ -29,16 +29,16 @@ pub(crate) struct Prefix<'a> {
     pub(crate) most: usize,
 }
 
-/// What was seen of a row, and the receipt that says that it is kept, where entries are kept.
+/// What was seen of a row, and the extent that says that it is kept, where entries are kept.
 #[derive(Drop)]
 pub(crate) struct Seen {
     pub(crate) watch: Watch,
-    pub(crate) receipt: Option<Receipt>,
+    pub(crate) extent: Option<Extent>,
 }
 
 impl Entries<'_> {
-    /// The receipt for what is kept by now, where entries are kept.
-    pub(crate) fn latest(&self) -> Option<Receipt>
+    /// The extent for what is kept by now, where entries are kept.
+    pub(crate) fn latest(&self) -> Option<Extent>
         ensures { IsAsKept self.now.reach result }
     {
         match self.reach {
@@ -47,8 +47,8 @@ impl Entries<'_> {
         }
     }
 
-    /// The receipt for what is kept by now in the place of another one, where it is for more.
-    pub(crate) fn later(&self, before: Option<Receipt>) -> Option<Receipt>
+    /// The extent for what is kept by now in the place of another one, where it is for more.
+    pub(crate) fn later(&self, before: Option<Extent>) -> Option<Extent>
         ensures { IsNoLess before result }
     {
         match (before, self.latest()) {
@@ -62,19 +62,19 @@ impl Entries<'_> {
 pub(crate) fn seen_of(alloc: Global, entries: &Entries<'_>) -> Result<Seen, AllocError>
     ensures row { IfOk result (λ s. s.watch.row ≡ arc_value entries.now.row.now) }
     ensures empty { IfOk result (λ s. s.watch.seen ≡ []) }
-    ensures kept { IfOk result (λ s. IsAsKept entries.now.reach s.receipt) }
+    ensures kept { IfOk result (λ s. IsAsKept entries.now.reach s.extent) }
 {
     let watch = Watch::new(alloc, entries.row)?;
-    let receipt = entries.latest();
-    Ok(Seen { watch, receipt })
+    let extent = entries.latest();
+    Ok(Seen { watch, extent })
 }
 
-/// How many entries may be shown by a receipt, or without one.
-pub(crate) fn most_shown(receipt: Option<Receipt>) -> usize
-    ensures { IfSome receipt (λ r. result ≡ r.count) }
+/// How many entries may be shown by an extent, or without one.
+pub(crate) fn most_shown(extent: Option<Extent>) -> usize
+    ensures { IfSome extent (λ r. result ≡ r.count) }
 {
-    match receipt {
-        Some(receipt) => receipt.count(),
+    match extent {
+        Some(extent) => extent.count(),
         None => usize::MAX,
     }
 }

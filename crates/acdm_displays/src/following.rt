@@ -14,7 +14,7 @@ use crate::leaving::has_left;
 use crate::telling::{Changes, Journal, Telling};
 use acdm_failures::Failure;
 use acdm_feed::Known;
-use acdm_keeping::Receipt;
+use acdm_keeping::Extent;
 use acdm_lines::{Sink, write_whole};
 use acdm_row::Row;
 use acdm_watch::Watch;
@@ -28,12 +28,12 @@ const BUFFER: usize = 65_536;
 /// How often in a row a writer may take nothing in its time, until it is given up.
 pub(crate) const MOST_REFUSALS: u64 = 120;
 
-/// What was shown to a display: the watch that saw it, the receipt that says that it is kept, where entries
+/// What was shown to a display: the watch that saw it, the extent that says that it is kept, where entries
 /// are kept, and the writer that took it.
 #[derive(Drop)]
 pub struct Shown<W: Write> {
     pub watch: Watch,
-    pub receipt: Option<Receipt>,
+    pub extent: Option<Extent>,
     pub writer: Sink<W>,
 }
 
@@ -45,7 +45,7 @@ pub struct Shown<W: Write> {
 ///
 /// It gives back the watch and the writer: the writer took the text of what the watch has seen, and
 /// nothing else, whatever writer it is, and all of it was flushed. Where entries are kept, the watch has seen no
-/// more than the receipt says. What a pass of the same row has
+/// more than the extent says. What a pass of the same row has
 /// seen is the same as far as the shorter goes, which `Watch::meet` tells.
 ///
 /// `Save` where the writer failed, `Memory` where it was refused.
@@ -67,15 +67,15 @@ pub fn follow<R: Read, W: Write + Drop>(
 /// What was shown. (That the board is asked for tells a proof that what was seen is legal.)
 pub(crate) fn shown_of<W: Write + Drop>(seen: Seen, writer: Sink<W>) -> Shown<W>
     ensures watch { result.watch ≡ seen.watch }
-    ensures receipt { result.receipt ≡ seen.receipt }
+    ensures extent { result.extent ≡ seen.extent }
     ensures writer { result.writer ≡ writer }
     ensures legal { IsLegal seen.watch.row.sigs (reverse seen.watch.seen) }
 {
-    let Seen { watch, receipt } = seen;
+    let Seen { watch, extent } = seen;
     let _board = watch.board();
     Shown {
         watch,
-        receipt,
+        extent,
         writer,
     }
 }
@@ -103,7 +103,7 @@ pub fn follow_changes<R: Read, W: Write + Drop>(
     };
     let prefix = Prefix {
         row: entries.row,
-        most: most_shown(seen.receipt),
+        most: most_shown(seen.extent),
     };
     begin(
         alloc,
@@ -128,12 +128,12 @@ pub(crate) fn send_on<T: Telling, R: Read, W: Write + Drop>(
     writer: &mut Sink<W>,
 ) -> Result<(), Failure>
     requires row { arc_value entries.now.row.now ≡ seen.old.watch.row }
-    requires within { IsWithin seen.old.receipt seen.old.watch.seen }
+    requires within { IsWithin seen.old.extent seen.old.watch.seen }
     ensures row { seen.new.watch.row ≡ seen.old.watch.row }
     ensures sent { OnOk result (Follows T.tells teller.old teller.new seen.old.watch.seen
         seen.new.watch.seen writer.old.log writer.new.log) }
-    ensures within { OnOk result (IsWithin seen.new.receipt seen.new.watch.seen) }
-    ensures kept { OnOk result (IsNoLess seen.old.receipt seen.new.receipt) }
+    ensures within { OnOk result (IsWithin seen.new.extent seen.new.watch.seen) }
+    ensures kept { OnOk result (IsNoLess seen.old.extent seen.new.extent) }
     ensures flushed { OnOk result (writer.new.waits ≡ false) }
     ensures failed { IfErr result CutsShort }
 {
@@ -156,18 +156,18 @@ fn send_kept<T: Telling, W: Write + Drop>(
     writer: &mut Sink<W>,
 ) -> Result<(), Failure>
     requires row { arc_value entries.now.row.now ≡ seen.old.watch.row }
-    requires within { IsWithin seen.old.receipt seen.old.watch.seen }
+    requires within { IsWithin seen.old.extent seen.old.watch.seen }
     ensures row { seen.new.watch.row ≡ seen.old.watch.row }
     ensures sent { OnOk result (Follows T.tells teller.old teller.new seen.old.watch.seen
         seen.new.watch.seen writer.old.log writer.new.log) }
-    ensures within { OnOk result (IsWithin seen.new.receipt seen.new.watch.seen) }
-    ensures kept { OnOk result (IsNoLess seen.old.receipt seen.new.receipt) }
+    ensures within { OnOk result (IsWithin seen.new.extent seen.new.watch.seen) }
+    ensures kept { OnOk result (IsNoLess seen.old.extent seen.new.extent) }
     ensures flushed { OnOk result (writer.new.waits ≡ false) }
     ensures failed { IfErr result CutsShort }
 {
-    let receipt = entries.later(seen.receipt);
-    seen.receipt = receipt;
-    let most = most_shown(receipt);
+    let extent = entries.later(seen.extent);
+    seen.extent = extent;
+    let most = most_shown(extent);
     send_all(alloc, teller, &mut seen.watch, entries.row, most, writer)
 }
 

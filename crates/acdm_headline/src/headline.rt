@@ -11,12 +11,12 @@ ghost use Rattle.acdm_headline.specs.Headline.{ChangesNothing, IsInterleaved, Is
 ghost use Rattle.acdm_headline.specs.Headline.{NeverGoesWrong};
 
 use acdm_board::Desk;
-use acdm_sessions::{Clock, Closed, Gate, Session, run_sessions};
+use acdm_sessions::{Clock, Closed, Gate, ReplyWriter, Session, run_sessions};
 use acdm_step::law::{a_refused_command_changes_nothing, slots_are_asked_of_the_history};
 use bpf_helpers::Helpers;
 use bpf_verifier::laws::checked_programs_never_go_wrong;
 use std::alloc::Global;
-use std::io::{Read, Write};
+use std::io::Read;
 use std::sync::Wait;
 use std::thread::Threads;
 
@@ -43,7 +43,7 @@ pub fn the_written_step_is_kept()
 /// programs then loaded (`interleaved`, `step`), a refused command changing nothing (`refused`).
 pub fn serve_sessions<
     R: Read + Drop + Send,
-    W: Write + Drop + Send,
+    W: ReplyWriter + Drop + Send,
     C: Clock + Drop + Send,
     H: Helpers + Drop + Send,
     G: Gate + Sync,

@@ -6,3 +6,4 @@ pub mod Audit
 pub mod Memory
 pub mod Whole
 pub mod Appended
+pub mod Crash

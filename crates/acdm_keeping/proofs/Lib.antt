@@ -1,4 +1,3 @@
 mod Behind
 mod Copied
 pub mod Crossing
-mod Waiting

@@ -1,21 +1,19 @@
 -- What is kept of a journal.
-use Rattle.std.specs.Prelude.{◌≡◌, Bool, false, ℕ, ◌+◌, ◌++◌, ◌⊎◌, List, Option, Result, MatchOption, OnOk, IsErr, reverse}
+use Rattle.std.specs.Prelude.{◌≡◌, Bool, ℕ, [], ◌++◌, List, length, reverse}
 use Rattle.acdm_failures.specs.declared.failure.Failure.{Failure}
 use Rattle.acdm_failures.specs.declared.failure.Failure.TheVariants.{Memory, Save}
+use Rattle.acdm_journal.specs.Crash.{CrashLeaves}
+use Rattle.acdm_journal.specs.Text.{history_text}
 use Rattle.acdm_journal.specs.Whole.{Saves}
 use Rattle.acdm_lines.specs.Counted.{SinkView}
 use Rattle.acdm_row.specs.Views.{RowView}
 use Rattle.acdm_step.specs.declared.entry.Entry.{Entry}
 
--- the row that is followed, its entries that were seen, and the writer that they are kept by
+-- the row that is followed, its entries that were seen, the writer that they are kept by, and whether that has failed
 pub record KeeperView (W : Type 0) : Type 0 where
   pub row : RowView
   pub seen : List Entry
   pub writer : SinkView W
-
--- a keeper, and whether keeping has failed
-pub record WritingView (W : Type 0) : Type 0 where
-  pub keeper : KeeperView W
   pub has_failed : Bool
 
 -- Entries that were seen since are kept: whatever stands before these bytes, where the text of what had
@@ -30,18 +28,39 @@ CutsShort Save = Unit {0}
 CutsShort Memory = Unit {0}
 CutsShort _ = ⊥
 
--- Bytes were handed to a writer once all entries in sight were kept, and none of those waits for a flush; or
--- they could not be kept, and the writer was left alone, which is told.
-abbrev pub HandsBehind : {F W T E : Type 0} → KeeperView F → KeeperView F → W → W → Result T E → Type 0
-HandsBehind old new before after r =
-    (Keeps old.seen new.seen old.writer.log new.writer.log × (new.writer.waits ≡ false))
-    ⊎ ((after ≡ before) × IsErr r)
+-- entries were seen behind others
+abbrev pub SeesOn : List Entry → List Entry → Type 0
+SeesOn seen later = (more : List Entry) × (later ≡ seen ++ more)
 
--- A keeper that is shared, if there is one, has told once more that all entries in sight are kept, or failed.
-abbrev pub Waited : {K T E : Type 0} → Option K → ℕ → ℕ → Result T E → Type 0
-Waited keeper waits later r = MatchOption keeper (Unit {0}) (λ _. OnOk r (later ≡ waits + 1))
+-- Some of what was gathered behind these bytes was written, in order, and nothing else: with the rest, it is the text of
+-- the first of the entries that were seen.
+pub record IsWriting (seen later : List Entry) (old new : List ℕ) : Type 0 where
+  pub taken : List Entry
+  pub behind : SeesOn seen taken
+  pub within : SeesOn taken later
+  pub rest : List ℕ
+  pub keeps : Keeps seen taken old (new ++ rest)
 
--- Bytes were handed to a writer once it had, or the writer was left alone, which is told.
-abbrev pub WaitsBefore : {K W T E : Type 0} → Option K → ℕ → ℕ → W → W → Result T E → Type 0
-WaitsBefore keeper waits later before after r =
-    MatchOption keeper (Unit {0}) (λ _. (later ≡ waits + 1) ⊎ ((after ≡ before) × IsErr r))
+-- a log has these bytes still, and may have more behind them
+abbrev pub GrowsFrom : List ℕ → List ℕ → Type 0
+GrowsFrom old new = (added : List ℕ) × (new ≡ old ++ added)
+
+-- What a crash at any moment of a call may leave of a file: what it had before the call, which stood on the disk, and a
+-- first part of what was written in it, and was still to be written where that was cut short.
+abbrev pub LeavesDuring : List ℕ → List ℕ → List ℕ → Type 0
+LeavesDuring before tried left = CrashLeaves tried (length before) left
+
+-- However a call goes, whatever was in the file before the writer, where that and what the writer had taken is the text
+-- of what had been seen: at any moment of the call a crash may leave no more than that of a text of entries, the first
+-- ones of those that are seen by its end, which has all of those that had been seen before it.
+pub record AtAnyMoment (seen later : List Entry) (old new : List ℕ) : Type 0 where
+  pub grows : GrowsFrom old new
+  pub taken : List Entry
+  pub behind : SeesOn seen taken
+  pub within : SeesOn taken later
+  pub rest : List ℕ
+  pub saves : (before : List ℕ) → Saves (reverse seen) [] (before ++ old)
+      → Saves (reverse taken) [] (before ++ (new ++ rest))
+  pub crash : (before left : List ℕ) → Saves (reverse seen) [] (before ++ old)
+      → LeavesDuring (before ++ old) (before ++ (new ++ rest)) left
+      → CrashLeaves (history_text (reverse taken)) (length (history_text (reverse seen))) left

@@ -1,8 +1,9 @@
 //! The writing of entries to the place where they are kept.
-ghost use Rattle.std.specs.Prelude.{◌≡◌, ◌+◌, ◌++◌, ◌∷◌, [], false, length, IfErr, IfOk, IfSome};
-ghost use Rattle.std.specs.Prelude.{OnOk, Ok, None};
+ghost use Rattle.std.specs.Prelude.{◌≡◌, ◌+◌, ◌++◌, ◌∷◌, [], ℕ, List, true, false, length, IfErr, IfOk};
+ghost use Rattle.std.specs.Prelude.{IfSome, OnErr, OnOk, Ok, None};
 ghost use Rattle.std.specs.Arc.{arc_value};
-ghost use Rattle.acdm_keeping.specs.Kept.{CutsShort, Keeps};
+ghost use Rattle.acdm_failures.specs.declared.failure.Failure.TheVariants.{Save};
+ghost use Rattle.acdm_keeping.specs.Kept.{AtAnyMoment, CutsShort, GrowsFrom, IsWriting, Keeps, SeesOn};
 
 use acdm_failures::Failure;
 use acdm_journal::{MOST_KEPT, push_entry};
@@ -21,6 +22,22 @@ const MOST_REFUSALS: u64 = 120;
 /// How many bytes are gathered until they are written, where more entries are in sight.
 const BUFFER: usize = 65_536;
 
+/// That so many entries are kept: the first of a row. Only a keeper makes one, of what it has seen, as long as nothing
+/// has failed: it has written all of that then, and nothing of it waits for a flush.
+#[derive(Clone, Copy, Debug, PartialEq, Eq)]
+pub struct Receipt {
+    count: usize,
+}
+
+impl Receipt {
+    /// How many entries are kept.
+    pub fn count(self) -> usize
+        ensures { result ≡ self.count }
+    {
+        self.count
+    }
+}
+
 /// Who writes the entries of a row, as text, to the place where they are kept. It follows the row by
 /// a sight of its own, and takes no lock. Its text is gathered in a buffer that it takes at its start, with
 /// room for the longest line behind what is gathered, and that is written and used again.
@@ -34,24 +51,32 @@ pub struct Keeper<W: Write> {
 }
 
 impl<W: Write> Model for Keeper<W> {
-    ghost use Rattle.std.specs.Prelude.{◌≡◌};
+    ghost use Rattle.std.specs.Prelude.{◌≡◌, false};
     ghost use Rattle.std.specs.Arc.{arc_value};
     ghost use Rattle.acdm_keeping.specs.Kept.{KeeperView};
 
     ghost Value = { KeeperView W };
 
-    ghost view = { λ k. record { row = k.sight.row; seen = k.sight.entries; writer = k.writer } };
+    ghost view = { λ k. record {
+      row = k.sight.row;
+      seen = k.sight.entries;
+      writer = k.writer;
+      has_failed = k.has_failed;
+    } };
 
-    ghost invariant = { λ k. arc_value k.row ≡ k.sight.row };
+    ghost invariant = { λ k. (arc_value k.row ≡ k.sight.row)
+        × (k.has_failed ≡ false → k.writer.waits ≡ false) };
 }
 
 impl<W: Write + Drop> Keeper<W> {
     /// One that has seen nothing of a row, and writes to this writer. `Err` only where memory was
     /// refused.
-    pub fn new(alloc: Global, row: &Arc<Row>, writer: Sink<W>) -> Result<Keeper<W>, Failure>
+    pub fn new(alloc: Global, row: &Arc<Row>, writer: W) -> Result<Keeper<W>, Failure>
         ensures row { IfOk result (λ k. k.row ≡ arc_value row.now) }
         ensures empty { IfOk result (λ k. k.seen ≡ []) }
-        ensures writer { IfOk result (λ k. k.writer ≡ writer) }
+        ensures writer { IfOk result (λ k. k.writer.inner ≡ writer) }
+        ensures fresh { IfOk result (λ k. k.writer.log ≡ []) }
+        ensures works { IfOk result (λ k. k.has_failed ≡ false) }
         ensures failed { IfErr result CutsShort }
     {
         let sight = Sight::new(alloc, Arc::try_clone(row)?);
@@ -60,7 +85,7 @@ impl<W: Write + Drop> Keeper<W> {
         Ok(Keeper {
             sight,
             row,
-            writer,
+            writer: Sink::new(writer),
             text,
             has_failed: false,
         })
@@ -86,22 +111,46 @@ impl<W: Write + Drop> Keeper<W> {
     pub fn pass_over(&mut self, count: u64) -> Result<(), Failure>
         ensures row { self.new.row ≡ self.old.row }
         ensures writer { self.new.writer ≡ self.old.writer }
+        ensures works { self.new.has_failed ≡ self.old.has_failed }
         ensures passed { OnOk result (length self.new.seen ≡ length self.old.seen + count) }
         ensures failed { IfErr result CutsShort }
     {
         pass_over(&mut self.sight, &self.row, count)
     }
 
+    /// The receipt for what it has seen. `Save` where the writer has failed.
+    pub fn kept(&self) -> Result<Receipt, Failure>
+        ensures count { IfOk result (λ r. r.count ≡ length self.now.seen) }
+        ensures works { OnOk result (self.now.has_failed ≡ false) }
+        ensures failed { IfErr result (λ e. e ≡ Save) }
+        ensures why { OnErr result (self.now.has_failed ≡ true) }
+    {
+        if self.has_failed {
+            return Err(Failure::Save);
+        }
+        Ok(Receipt {
+            count: self.sight.len(),
+        })
+    }
+
     /// Writes all entries in sight that were not written yet, and flushes them. After an error it
-    /// writes nothing more.
+    /// writes nothing more, and gives no receipt.
     ///
     /// `Save` where the writer failed, now or before, `Memory` where it was refused.
-    pub fn keep(&mut self) -> Result<(), Failure>
+    pub fn keep(&mut self) -> Result<Receipt, Failure>
         ensures row { self.new.row ≡ self.old.row }
+        ensures count { IfOk result (λ r. r.count ≡ length self.new.seen) }
         ensures kept { OnOk result (Keeps self.old.seen self.new.seen self.old.writer.log
             self.new.writer.log) }
         ensures flushed { OnOk result (self.new.writer.waits ≡ false) }
+        ensures works { OnOk result (self.new.has_failed ≡ false) }
         ensures failed { IfErr result CutsShort }
+        ensures why { OnErr result (self.new.has_failed ≡ true) }
+        ensures stays { OnOk result (self.old.has_failed ≡ false) }
+
+        // What a crash at any moment of the call may leave of a file.
+        ensures any_moment { AtAnyMoment self.old.seen self.new.seen self.old.writer.log self.new.writer.log }
+        ensures still { self.old.has_failed ≡ true → self.new ≡ self.old }
     {
         if self.has_failed {
             return Err(Failure::Save);
@@ -110,7 +159,8 @@ impl<W: Write + Drop> Keeper<W> {
         self.text.clear();
         send_all(&mut self.sight, &self.row, &mut self.text, &mut self.writer)?;
         self.has_failed = false;
-        Ok(())
+        let receipt = self.kept()?;
+        Ok(receipt)
     }
 }
 
@@ -121,6 +171,7 @@ fn take_next<'a>(sight: &mut Sight, row: &'a Row) -> Result<Option<&'a Entry>, A
     ensures took { IfOk result (λ o. IfSome o (λ e.
         sight.new.entries ≡ sight.old.entries ++ e.now ∷ [])) }
     ensures left { result ≡ Ok None → sight.new ≡ sight.old }
+    ensures err { OnErr result (sight.new.entries ≡ sight.old.entries) }
 {
     let Some((found, note)) = sight.look(row) else {
         return Ok(None);
@@ -150,6 +201,7 @@ fn add_next(sight: &mut Sight, row: &Row, text: &mut Vec<u8>) -> Result<bool, Fa
     requires { row.now ≡ sight.old.row }
     ensures row { sight.new.row ≡ sight.old.row }
     ensures added { OnOk result (Keeps sight.old.entries sight.new.entries text.old.items text.new.items) }
+    ensures sees { SeesOn sight.old.entries sight.new.entries }
     ensures failed { IfErr result CutsShort }
 {
     let Some(entry) = take_next(sight, row)? else {
@@ -171,13 +223,14 @@ fn send_all<W: Write>(
     ensures row { sight.new.row ≡ sight.old.row }
     ensures sent { OnOk result (Keeps sight.old.entries sight.new.entries writer.old.log writer.new.log) }
     ensures flushed { OnOk result (writer.new.waits ≡ false) }
+    ensures sees { SeesOn sight.old.entries sight.new.entries }
+    ensures part { OnErr result (IsWriting sight.old.entries sight.new.entries writer.old.log writer.new.log) }
+    ensures grows { GrowsFrom writer.old.log writer.new.log }
     ensures failed { IfErr result CutsShort }
 {
     gather_all(sight, row, text, writer)?;
     send(writer, text)?;
-    if writer.flush().is_err() {
-        return Err(Failure::Save);
-    }
+    flush(writer)?;
     Ok(())
 }
 
@@ -192,6 +245,10 @@ fn gather_all<W: Write>(
     ensures row { sight.new.row ≡ sight.old.row }
     ensures gathered { OnOk result (Keeps sight.old.entries sight.new.entries
         (writer.old.log ++ text.old.items) (writer.new.log ++ text.new.items)) }
+    ensures sees { SeesOn sight.old.entries sight.new.entries }
+    ensures part { OnErr result (IsWriting sight.old.entries sight.new.entries
+        (writer.old.log ++ text.old.items) writer.new.log) }
+    ensures grows { GrowsFrom writer.old.log writer.new.log }
     ensures failed { IfErr result CutsShort }
 {
     for _ in sight.len()..row.len() {
@@ -214,6 +271,10 @@ fn gather_next<W: Write>(
     ensures row { sight.new.row ≡ sight.old.row }
     ensures gathered { OnOk result (Keeps sight.old.entries sight.new.entries
         (writer.old.log ++ text.old.items) (writer.new.log ++ text.new.items)) }
+    ensures sees { SeesOn sight.old.entries sight.new.entries }
+    ensures part { OnErr result (IsWriting sight.old.entries sight.new.entries
+        (writer.old.log ++ text.old.items) writer.new.log) }
+    ensures grows { GrowsFrom writer.old.log writer.new.log }
     ensures failed { IfErr result CutsShort }
 {
     let is_there = add_next(sight, row, text)?;
@@ -228,9 +289,23 @@ fn gather_next<W: Write>(
 fn send<W: Write>(writer: &mut Sink<W>, text: &mut Vec<u8>) -> Result<(), Failure>
     ensures sent { OnOk result (writer.new.log ≡ writer.old.log ++ text.old.items) }
     ensures empty { OnOk result (text.new.items ≡ []) }
+    ensures part { OnErr result ((rest : List ℕ) × (writer.old.log ++ text.old.items ≡ writer.new.log ++ rest)) }
+    ensures grows { GrowsFrom writer.old.log writer.new.log }
     ensures failed { IfErr result CutsShort }
 {
     write_whole(writer, text.as_slice(), MOST_REFUSALS)?;
     text.clear();
     Ok(())
+}
+
+// Flushes a writer.
+fn flush<W: Write>(writer: &mut Sink<W>) -> Result<(), Failure>
+    ensures same { writer.new.log ≡ writer.old.log }
+    ensures flushed { OnOk result (writer.new.waits ≡ false) }
+    ensures failed { IfErr result (λ e. e ≡ Save) }
+{
+    match writer.flush() {
+        Ok(()) => Ok(()),
+        Err(_) => Err(Failure::Save),
+    }
 }

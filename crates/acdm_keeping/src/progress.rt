@@ -3,7 +3,7 @@ ghost use Rattle.std.specs.Prelude.{◌≡◌, ◌<◌, ◌≤◌, true, false, 
 ghost use Rattle.acdm_failures.specs.declared.failure.Failure.TheVariants.{Save};
 ghost use Rattle.acdm_keeping.specs.Turns.{Turns};
 
-use crate::receipt::Receipt;
+use crate::keeper::Receipt;
 use acdm_failures::Failure;
 
 /// What somebody does who waits for entries to be kept.

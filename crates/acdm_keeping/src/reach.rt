@@ -2,10 +2,25 @@
 ghost use Rattle.std.specs.Prelude.{◌≡◌, IfOk};
 ghost use Rattle.std.specs.Arc.{arc_value};
 
-use crate::receipt::Receipt;
+use crate::keeper::Receipt;
 use std::alloc::{AllocError, Global};
 use std::sync::Arc;
 use std::sync::atomic::{AtomicUsize, Ordering};
+
+/// How many entries of a row are kept at least, as who shows them is told.
+#[derive(Clone, Copy, Debug, PartialEq, Eq)]
+pub struct Extent {
+    count: usize,
+}
+
+impl Extent {
+    /// How many entries are kept.
+    pub fn count(self) -> usize
+        ensures { result ≡ self.count }
+    {
+        self.count
+    }
+}
 
 /// How far the journal of a row is kept. Who shows entries shows none behind that: what is not kept may be
 /// another entry after the next start. It is asked without a lock.
@@ -31,9 +46,11 @@ impl Reach {
         })
     }
 
-    /// The receipt for what is kept by now.
-    pub fn latest(&self) -> Receipt {
-        Receipt::again(self.kept.load(Ordering::SeqCst))
+    /// What is kept by now.
+    pub fn latest(&self) -> Extent {
+        Extent {
+            count: self.kept.load(Ordering::SeqCst),
+        }
     }
 
     /// As far as this receipt says from now on.

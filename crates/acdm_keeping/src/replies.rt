@@ -1,116 +1,184 @@
-//! The replies of a session, behind the keeping of the entries that they tell of.
-ghost use Rattle.std.specs.Prelude.{◌≡◌, IsErr, OnErr};
+//! Replies behind the keeping of the entries that they tell of.
+ghost use Rattle.std.specs.Prelude.{◌≡◌, ◌<◌, Bool, ℕ, None, [], IfErr, IfOk, IfSome, OnOk};
 ghost use Rattle.std.specs.Io.{WritesAtMost};
-ghost use Rattle.std.specs.Io.KnownBytes.{Keeps, WriteAppends};
-ghost use Rattle.acdm_keeping.specs.Kept.{Waited, WaitsBefore};
+ghost use Rattle.std.specs.Io.KnownBytes.{WriteAppends};
+ghost use Rattle.acdm_failures.specs.declared.failure.Failure.TheVariants.{Save};
+ghost use Rattle.acdm_keeping.specs.Behind.{HandsBehind, HandsOn, IsBacked, IsTold, TakesSome, handed};
+ghost use Rattle.acdm_keeping.specs.Kept.{CutsShort};
 
-use crate::receipt::{Opening, Receipt};
-use crate::shared::{SharedKeeper, Waits};
+use crate::held::Held;
+use crate::keeper::{Keeper, Receipt};
 use acdm_failures::Failure;
+use acdm_lines::{ReplyWriter, Sink};
+use std::alloc::{AllocError, Global};
 use std::io::{self, ErrorKind, Write};
-use std::sync::Wait;
 
-/// A writer that is handed nothing before all entries in sight are kept: what tells of an entry comes
-/// behind the entry. Where they can't be kept, nothing is handed to it any more. Where there is no
-/// keeper, it is handed all at once.
-#[derive(Drop)]
-pub struct Replies<'r, F: Write + Drop, J: Opening, W: Write + Drop, Rt> {
-    rt: &'r Rt,
-    keeper: Option<&'r SharedKeeper<F, J>>,
-    writer: W,
-    // How often it was told that all entries in sight were kept.
-    waits: Waits,
+/// Who keeps the entries of a journal, for a writer of replies that tell of them.
+pub trait EntryKeeper {
+    /// Whether it keeps any. Where it does not, nobody waits for it.
+    ghost keeps: { Self → Bool };
+
+    /// Returns once the entry of this number is kept, if there is one, and all before it, with the receipt for that.
+    ///
+    /// `Save` where the writer failed, now or before, or where the entry is not in sight, `Memory` where it was refused.
+    fn keep_to(&mut self, last: Option<u64>) -> Result<Option<Receipt>, Failure>
+        ensures kept { IfOk result (IsBacked (keeps self.old) last) }
+        ensures same { keeps self.new ≡ keeps self.old }
+        ensures failed { IfErr result CutsShort };
 }
 
-impl<'r, F: Write + Drop, J: Opening, W: Write + Drop, Rt: Wait> Replies<'r, F, J, W, Rt> {
-    /// This writer, behind this keeper, if there is one.
+/// How many entries there are up to that of a number, if there is one. `Save` where 64 bits do not hold that.
+pub(crate) fn entries_to(last: Option<u64>) -> Result<usize, Failure>
+    ensures all { IfOk result (λ count. IfSome last (λ number. number < count)) }
+    ensures failed { IfErr result (λ e. e ≡ Save) }
+{
+    let Some(last) = last else {
+        return Ok(0);
+    };
+    match last.checked_add(1) {
+        Some(count) => Ok(count as usize),
+        None => Err(Failure::Save),
+    }
+}
+
+impl<'a, F: Write + Drop> EntryKeeper for &'a mut Keeper<F> {
+    ghost use Rattle.std.specs.Prelude.{true};
+
+    ghost keeps = { λ _. true };
+
+    fn keep_to(&mut self, last: Option<u64>) -> Result<Option<Receipt>, Failure> {
+        let count = entries_to(last)?;
+        let receipt = self.kept()?;
+        if count <= receipt.count() {
+            return Ok(Some(receipt));
+        }
+        let receipt = self.keep()?;
+        if count <= receipt.count() {
+            return Ok(Some(receipt));
+        }
+        Err(Failure::Save)
+    }
+}
+
+/// A writer of replies that hands on nothing before the entries are kept of which it may tell. It holds replies back
+/// until there are many, or until it is flushed, and waits for the entries of all of them at once. Where they can't be
+/// kept, nothing is handed on any more.
+#[derive(Drop)]
+pub struct Replies<K: EntryKeeper + Drop, W: Write + Drop> {
+    keeper: K,
+    writer: Sink<W>,
+    held: Held,
+    // The greatest number of an entry that was announced.
+    last: Option<u64>,
+    // The latest receipt.
+    receipt: Option<Receipt>,
+}
+
+impl<K: EntryKeeper + Drop, W: Write + Drop> Replies<K, W> {
+    /// Replies to this writer, behind this keeper, of which so many bytes are held back at most, from 1. `Err` only
+    /// where memory was refused.
     pub fn new(
-        rt: &'r Rt,
-        keeper: Option<&'r SharedKeeper<F, J>>,
+        alloc: Global,
+        keeper: K,
         writer: W,
-    ) -> Replies<'r, F, J, W, Rt>
-        ensures keeper { result.keeper ≡ keeper.entry }
-        ensures writer { result.writer ≡ writer }
-        ensures waits { result.waits.count ≡ 0 }
+        room: usize,
+    ) -> Result<Replies<K, W>, AllocError>
+        ensures keeper { IfOk result (λ r. r.keeper ≡ keeper) }
+        ensures writer { IfOk result (λ r. (r.writer.inner ≡ writer) × (r.writer.log ≡ [])) }
+        ensures held { IfOk result (λ r. r.held ≡ []) }
+        ensures last { IfOk result (λ r. r.last ≡ None) }
     {
-        Replies {
-            rt,
+        Ok(Replies {
             keeper,
-            writer,
-            waits: Waits::new(),
+            writer: Sink::new(writer),
+            held: Held::new(alloc, room)?,
+            last: None,
+            receipt: None,
+        })
+    }
+
+    // Hands on what is held back, once the entries are kept of which it may tell.
+    fn send(&mut self) -> io::Result<()>
+        ensures all { HandsOn (handed self.old.writer.log self.old.held)
+            (handed self.new.writer.log self.new.held) }
+        ensures empty { OnOk result (self.new.held ≡ []) }
+        ensures behind { HandsBehind (K.keeps self.old.keeper) self.old.last self.new.receipt
+            self.old.writer.log self.new.writer.log }
+        ensures keeper { K.keeps self.new.keeper ≡ K.keeps self.old.keeper }
+        ensures last { self.new.last ≡ self.old.last }
+    {
+        match self.keeper.keep_to(self.last) {
+            Ok(receipt) => self.receipt = receipt,
+            Err(_) => return Err(io::Error::from(ErrorKind::Other)),
+        }
+        hand_on(&mut self.writer, &mut self.held)
+    }
+}
+
+// Hands on bytes that were held back. A write that a signal interrupts is made once more.
+fn hand_on<W: Write>(writer: &mut Sink<W>, held: &mut Held) -> io::Result<()>
+    ensures all { HandsOn (handed writer.old.log held.old) (handed writer.new.log held.new) }
+    ensures empty { OnOk result (held.new ≡ []) }
+{
+    let mut signals_left = u64::MAX;
+    while !held.as_slice().is_empty() {
+        match writer.write(held.as_slice()) {
+            Ok(0) => return Err(io::Error::from(ErrorKind::WriteZero)),
+            Ok(count) => held.consume(count),
+            Err(error) if error.kind() == ErrorKind::Interrupted && signals_left > 0 => {
+                signals_left -= 1;
+            }
+            Err(error) => return Err(error),
         }
     }
+    Ok(())
 }
 
-// Waits until all entries that are in sight are kept, where there is a keeper.
-fn wait<F: Write + Drop, J: Opening, Rt: Wait>(
-    rt: &Rt,
-    keeper: Option<&SharedKeeper<F, J>>,
-    waits: &mut Waits,
-) -> Result<Option<Receipt>, Failure>
-    ensures { Waited keeper.entry waits.old.count waits.new.count result }
-{
-    let Some(keeper) = keeper else {
-        return Ok(None);
-    };
-    match keeper.wait_for_all(rt, waits) {
-        Ok(receipt) => Ok(Some(receipt)),
-        Err(failure) => Err(failure),
-    }
-}
-
-// Hands bytes to a writer, where the entries before them are kept.
-fn hand_on<W: Write>(
-    kept: Result<Option<Receipt>, Failure>,
-    writer: &mut W,
-    buf: &[u8],
-) -> io::Result<usize>
-    ensures held { OnErr kept ((writer.new ≡ writer.old) × IsErr result) }
-    ensures bound { WritesAtMost result buf.now }
-    ensures bytes { WriteAppends (W.contents writer.old) (W.contents writer.new) result buf.now }
-{
-    match kept {
-        Ok(_) => writer.write(buf),
-        Err(_) => Err(io::Error::from(ErrorKind::Other)),
-    }
-}
-
-// Flushes a writer, where the entries before what it took are kept.
-fn flush_kept<W: Write>(kept: Result<Option<Receipt>, Failure>, writer: &mut W) -> io::Result<()>
-    ensures held { OnErr kept ((writer.new ≡ writer.old) × IsErr result) }
-    ensures bytes { Keeps (W.contents writer.old) (W.contents writer.new) }
-{
-    match kept {
-        Ok(_) => writer.flush(),
-        Err(_) => Err(io::Error::from(ErrorKind::Other)),
-    }
-}
-
-impl<'r, F: Write + Drop, J: Opening, W: Write + Drop, Rt: Wait> Write
-    for Replies<'r, F, J, W, Rt> {
-    ghost contents = { λ r. W.contents r.writer };
-
-    #[tactic(auto, using(crate::proofs::Waiting::waited_before))]
+impl<K: EntryKeeper + Drop, W: Write + Drop> Write for Replies<K, W> {
     fn write(&mut self, buf: &[u8]) -> io::Result<usize>
-        ensures keeper { self.new.keeper ≡ self.old.keeper }
-        ensures behind { WaitsBefore self.old.keeper self.old.waits.count self.new.waits.count
-            self.old.writer self.new.writer result }
         ensures bound { WritesAtMost result buf.now }
-        ensures bytes { WriteAppends (W.contents self.old.writer) (W.contents self.new.writer)
-            result buf.now }
+        ensures bytes { WriteAppends None None result buf.now }
+        ensures takes { TakesSome (handed self.old.writer.log self.old.held)
+            (handed self.new.writer.log self.new.held) result buf.now }
+        ensures behind { HandsBehind (K.keeps self.old.keeper) self.old.last self.new.receipt
+            self.old.writer.log self.new.writer.log }
+        ensures keeper { K.keeps self.new.keeper ≡ K.keeps self.old.keeper }
+        ensures last { self.new.last ≡ self.old.last }
     {
-        let kept = wait(self.rt, self.keeper, &mut self.waits);
-        hand_on(kept, &mut self.writer, buf)
+        if self.held.is_full() {
+            self.send()?;
+        }
+        Ok(self.held.take(buf)?)
     }
 
-    #[tactic(auto, using(crate::proofs::Waiting::waited_before))]
     fn flush(&mut self) -> io::Result<()>
-        ensures keeper { self.new.keeper ≡ self.old.keeper }
-        ensures behind { WaitsBefore self.old.keeper self.old.waits.count self.new.waits.count
-            self.old.writer self.new.writer result }
-        ensures bytes { Keeps (W.contents self.old.writer) (W.contents self.new.writer) }
+        ensures all { HandsOn (handed self.old.writer.log self.old.held)
+            (handed self.new.writer.log self.new.held) }
+        ensures empty { OnOk result (self.new.held ≡ []) }
+        ensures behind { HandsBehind (K.keeps self.old.keeper) self.old.last self.new.receipt
+            self.old.writer.log self.new.writer.log }
+        ensures keeper { K.keeps self.new.keeper ≡ K.keeps self.old.keeper }
+        ensures last { self.new.last ≡ self.old.last }
     {
-        let kept = wait(self.rt, self.keeper, &mut self.waits);
-        flush_kept(kept, &mut self.writer)
+        self.send()?;
+        self.writer.flush()
+    }
+}
+
+impl<K: EntryKeeper + Drop, W: Write + Drop> ReplyWriter for Replies<K, W> {
+    ghost use Rattle.acdm_keeping.specs.Behind.{IsTold};
+
+    ghost tells = { λ r number. IsTold r.last number };
+
+    fn announce(&mut self, number: u64)
+        ensures told { IsTold self.new.last number }
+        ensures before { (n : ℕ) → IsTold self.old.last n → IsTold self.new.last n }
+        ensures same { (self.new.writer ≡ self.old.writer) × (self.new.held ≡ self.old.held)
+            × (self.new.keeper ≡ self.old.keeper) }
+    {
+        self.last = match self.last {
+            Some(last) if number <= last => Some(last),
+            _ => Some(number),
+        };
     }
 }

@@ -1,35 +1,20 @@
 //! A keeper that many sessions share.
-ghost use Rattle.std.specs.Prelude.{◌≡◌, ◌+◌, ◌≤◌, [], false, IfErr, IfOk, OnErr, OnOk};
+ghost use Rattle.std.specs.Prelude.{◌≡◌, ◌≤◌, ◌⊎◌, [], true, false, IfErr, IfOk};
 ghost use Rattle.std.specs.Arc.{arc_value};
 ghost use Rattle.acdm_failures.specs.declared.failure.Failure.TheVariants.{Memory, Save};
 ghost use Rattle.acdm_keeping.specs.Kept.{Keeps};
 ghost use Rattle.acdm_keeping.specs.Turns.{TellsKept};
 
-use crate::keeper::Keeper;
+use crate::keeper::{Keeper, Receipt};
 use crate::progress::{Progress, Turn};
 use crate::reach::Reach;
-use crate::receipt::{Opening, Receipt, Writing};
+use crate::replies::{EntryKeeper, entries_to};
+use crate::writing::{Opening, Writing};
 use acdm_failures::Failure;
-use acdm_row::Row;
 use std::alloc::{AllocError, Global};
 use std::io::Write;
 use std::sync::atomic::{AtomicBool, Ordering};
 use std::sync::{Arc, Condvar, Mutex, Wait};
-
-/// How often somebody was told that all entries in sight were kept. Only a keeper counts on.
-#[derive(Drop)]
-pub struct Waits {
-    count: u64,
-}
-
-impl Waits {
-    /// Never yet.
-    pub fn new() -> Waits
-        ensures { result.count ≡ 0 }
-    {
-        Waits { count: 0 }
-    }
-}
 
 /// Who keeps the entries of a row for many who wait. One of those who wait writes and flushes all
 /// entries in sight, the others are told once he has: so many are served by one write and one flush.
@@ -39,7 +24,6 @@ impl Waits {
 /// that others may look at.
 #[derive(Drop)]
 pub struct SharedKeeper<F: Write + Drop, J: Opening> {
-    row: Arc<Row>,
     reach: Reach,
     progress: Mutex<Progress>,
     changed: Condvar,
@@ -48,51 +32,29 @@ pub struct SharedKeeper<F: Write + Drop, J: Opening> {
 }
 
 impl<F: Write + Drop, J: Opening> SharedKeeper<F, J> {
-    /// Shares a keeper of this row, of which all that it has seen is kept already, and that has
-    /// written nothing. The word is set once keeping has failed. `Err` only where memory was refused.
+    /// Shares a keeper, of which all that it has seen is kept already, and that has
+    /// written nothing. The word is set once keeping has failed. `Memory` where that was refused, `Save` only where
+    /// the keeper's writer has failed.
     pub fn new(
         alloc: Global,
         keeper: Keeper<F>,
-        row: &Arc<Row>,
         failed: &Arc<AtomicBool>,
     ) -> Result<SharedKeeper<F, J>, Failure>
         requires row { keeper.row ≡ J.desk_row }
-        requires same { arc_value row.now ≡ J.desk_row }
         requires opening { keeper.seen ≡ J.opening }
         requires fresh { keeper.writer.log ≡ [] }
-        ensures failed { IfErr result (λ e. e ≡ Memory) }
+        ensures failed { IfErr result (λ e. (e ≡ Memory) ⊎ ((e ≡ Save) × (keeper.has_failed ≡ true))) }
     {
-        let row = Arc::try_clone(row)?;
         let failed = Arc::try_clone(failed)?;
         let writing = Writing::new(keeper);
-        let Ok(receipt) = writing.begun() else {
-            unreachable!();
-        };
+        let receipt = writing.begun()?;
         Ok(SharedKeeper {
-            row,
             reach: Reach::new(alloc, receipt)?,
             progress: Mutex::new(Progress::new(receipt)),
             changed: Condvar::new(),
             writing: Mutex::new(writing),
             failed,
         })
-    }
-
-    /// Waits until all entries that are in sight are kept, and counts that.
-    ///
-    /// `Save` where keeping has failed, or where so much was counted as 64 bits hold.
-    pub fn wait_for_all<Rt: Wait>(&self, rt: &Rt, waits: &mut Waits) -> Result<Receipt, Failure>
-        ensures counted { OnOk result (waits.new.count ≡ waits.old.count + 1) }
-        ensures same { OnErr result (waits.new ≡ waits.old) }
-        ensures failed { IfErr result (λ e. e ≡ Save) }
-    {
-        let Some(count) = waits.count.checked_add(1) else {
-            return Err(Failure::Save);
-        };
-        let in_sight = self.in_sight(rt);
-        let receipt = self.wait_for(rt, in_sight)?;
-        waits.count = count;
-        Ok(receipt)
     }
 
     /// Waits until so many entries are kept, and answers how many are.
@@ -136,19 +98,6 @@ impl<F: Write + Drop, J: Opening> SharedKeeper<F, J> {
         }
     }
 
-    // How many entries are in sight: those that are kept, and those behind them.
-    fn in_sight<Rt: Wait>(&self, rt: &Rt) -> usize {
-        let kept = self.progress.lock(rt).receipt.count();
-        let row = &*self.row;
-        for at in kept..row.len() {
-            let mut note = row.note(at);
-            if row.look(at, &mut note).is_none() {
-                return at;
-            }
-        }
-        kept.max(row.len())
-    }
-
     // Waits as long as somebody keeps entries, and fewer are kept; then it is as he finds it.
     fn take_turn<Rt: Wait>(&self, rt: &Rt, count: usize) -> Turn
         ensures kept { TellsKept count result }
@@ -178,5 +127,39 @@ impl<F: Write + Drop, J: Opening> SharedKeeper<F, J> {
     // Keeps all entries in sight.
     fn write_on<Rt: Wait>(&self, rt: &Rt) -> Result<Receipt, Failure> {
         self.writing.lock(rt).write_on()
+    }
+}
+
+/// A keeper that is shared, if there is one, for a session on a thread of its own. Where there is none, nothing is kept
+/// and nobody waits.
+#[derive(Drop)]
+pub struct Waiting<'r, F: Write + Drop, J: Opening, Rt> {
+    rt: &'r Rt,
+    keeper: Option<&'r SharedKeeper<F, J>>,
+}
+
+impl<'r, F: Write + Drop, J: Opening, Rt> Waiting<'r, F, J, Rt> {
+    /// For this keeper, if there is one.
+    pub fn new(rt: &'r Rt, keeper: Option<&'r SharedKeeper<F, J>>) -> Waiting<'r, F, J, Rt>
+        ensures { result.keeper ≡ keeper.entry }
+    {
+        Waiting { rt, keeper }
+    }
+}
+
+impl<'r, F: Write + Drop, J: Opening, Rt: Wait> EntryKeeper for Waiting<'r, F, J, Rt> {
+    ghost use Rattle.std.specs.Prelude.{is_some};
+
+    ghost keeps = { λ w. is_some w.keeper };
+
+    fn keep_to(&mut self, last: Option<u64>) -> Result<Option<Receipt>, Failure> {
+        let Some(keeper) = self.keeper else {
+            return Ok(None);
+        };
+        let count = entries_to(last)?;
+        match keeper.wait_for(self.rt, count) {
+            Ok(receipt) => Ok(Some(receipt)),
+            Err(failure) => Err(failure),
+        }
     }
 }

@@ -5,6 +5,7 @@ mod faults;
 mod kept_line;
 mod lines;
 mod log;
+mod reply_writer;
 mod run_error;
 mod sink;
 mod source;
@@ -14,6 +15,7 @@ mod writing;
 
 pub use kept_line::KeptLine;
 pub use lines::{Ending, Lines};
+pub use reply_writer::ReplyWriter;
 pub use run_error::RunError;
 pub use sink::Sink;
 pub use source::Source;

@@ -6,6 +6,7 @@ ghost use Rattle.acdm_lines.specs.Counted.{faults_after, waits_after, waits_flus
 
 use crate::faults::count_fault;
 use crate::log::Log;
+use crate::reply_writer::ReplyWriter;
 use std::io::{self, Write};
 use std::marker::Model;
 
@@ -82,6 +83,17 @@ impl<W: Write> Sink<W> {
     {
         let Sink { inner, .. } = self;
         inner
+    }
+}
+
+impl<W: ReplyWriter> Sink<W> {
+    /// What is written from now on may tell of the entry of this number, and of those before it.
+    pub fn announce(&mut self, number: u64)
+        ensures announced { W.tells self.new.inner number }
+        ensures same { self.new ≡ record self.old { inner = self.new.inner } }
+    {
+        self.inner.announce(number);
+        self.log.note(&[], false);
     }
 }
 

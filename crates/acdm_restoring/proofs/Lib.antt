@@ -1,2 +1,3 @@
+mod Crash
 mod Next
 mod Sofar

@@ -1,6 +1,7 @@
 //! The reading of a saved journal into a desk, entry by entry.
-ghost use Rattle.std.specs.Prelude.{◌≡◌, ◌<◌, ◌-◌, ◌^◌, [], Ok};
+ghost use Rattle.std.specs.Prelude.{◌≡◌, ◌<◌, ◌-◌, ◌^◌, [], Ok, OnOk};
 ghost use Rattle.acdm_lines.specs.Lines.{weight};
+ghost use Rattle.acdm_restoring.specs.Crash.{GoesOnFrom};
 ghost use Rattle.acdm_restoring.specs.Restored.{Counts, Plans, Restores, RestoresLine, TakesNext};
 
 use acdm_board::Desk;
@@ -118,6 +119,9 @@ fn restore_lines<R: Read, H: Helpers + Drop>(
 /// desk then goes on from there: its core is their replay, and the next entry is numbered behind
 /// them. A rest behind the last line feed is left out.
 ///
+/// So it goes on from what a crash may leave of a file in which a journal is kept: the desk has the first entries of
+/// that journal, and all of those that stood on the disk (`crash`).
+///
 /// Answers how many bytes the text of the entries has, so that what is behind it is the rest.
 /// `Faulty` with the first entry that is none, from 0, and the first clause that it breaks, as an
 /// audit tells it; `Full` where there are more entries than the desk has room for; `Read` where the
@@ -131,9 +135,13 @@ pub fn restore<R: Read, H: Helpers + Drop>(
     requires reads { reader.old.faults < 2 ^ 64 - 1 }
     requires empty { desk.old.history ≡ [] }
     ensures restores { Restores desk.old desk.new reader.old reader.new result }
+    ensures crash { OnOk result (GoesOnFrom desk.old.sigs reader.old.log reader.new.log desk.new.history) }
 {
     let Ok(mut lines) = Lines::new(alloc) else {
         return Err(RestoreError::Memory);
     };
-    restore_lines(alloc, reader, desk, &mut lines)
+    let restored = restore_lines(alloc, reader, desk, &mut lines)?;
+    // (it says that the journal is legal)
+    let _core = desk.core();
+    Ok(restored)
 }

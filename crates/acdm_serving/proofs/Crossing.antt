@@ -5,11 +5,7 @@ use denote.Ref.{NamedLft}
 use denote.Param.{number}
 use denote.Param.Send.{IsSend, IsSync, sendable, view_send}
 use denote.Param.SendFields.{declared_send, variants_send}
-use Rattle.std.proofs.Crossing.{crosses, frees, send}
-use Rattle.std.proofs.io.buffered.BufWriter.TheSendSync as buffered
-use Rattle.std.specs.contracts.io.buffered.BufWriter as of_buffered
-use Rattle.std.specs.contracts.alloc.Global as heap
-use Rattle.std.specs.contracts.impls.GlobalAllocator.TheImpl.{ghosts}
+use Rattle.std.proofs.Crossing.{crosses}
 use Rattle.acdm_row.proofs.Crossing.{row_send, row_sync}
 use Rattle.std.specs.declared.io.traits.Read as read
 use Rattle.std.specs.declared.io.traits.Write as write
@@ -22,12 +18,13 @@ use Rattle.acdm_partners.specs.contracts.connection.Connection as of_connection
 use Rattle.acdm_partners.specs.contracts.reader.WholeLines as reader
 use Rattle.acdm_partners.proofs.Crossing.{reader_send}
 use Rattle.acdm_partners.proofs.replies.PartnerReplies.TheSendSync as replies
-use Rattle.acdm_keeping.proofs.Crossing.{replies_send}
+use Rattle.acdm_keeping.proofs.Crossing.{replies_send, waiting_send}
 use Rattle.acdm_keeping.proofs.named.Named.TheSendSync as named
 use Rattle.acdm_keeping.proofs.synced.Synced.TheSendSync as synced
 use Rattle.acdm_keeping.specs.contracts.synced.Synced as of_synced
 use Rattle.acdm_keeping.specs.contracts.replies.Replies as behind
-use Rattle.acdm_keeping.specs.declared.receipt.Opening as opening
+use Rattle.acdm_keeping.specs.contracts.shared.Waiting as waiting
+use Rattle.acdm_keeping.specs.declared.writing.Opening as opening
 use Rattle.acdm_serving.specs.contracts.reconnecting.Answering as answering
 use Rattle.acdm_serving.specs.contracts.reconnecting.Reading as either
 use Rattle.acdm_serving.specs.contracts.reconnecting.Tally as tally
@@ -101,16 +98,9 @@ answering_send κ Q q =
 synced_send : (Q : RattleType) → IsSend Q → IsSend (of_synced.the_row Q)
 synced_send Q q = search (synced.the_send, q, sendable, crosses) depth 20
 
-pub behind_send : (κ κ' : NamedLft) (J Q : RattleType) (o : write.Ghosts (of_synced.the_row Q).Denot)
-    (n : opening.Ghosts J.Denot) → IsSend Q → IsSync Q
-    → IsSend (behind.the_row κ (of_synced.the_row Q) J (answering.the_row κ' Q) Q o n)
-behind_send κ κ' J Q o n s q =
-    replies_send κ (of_synced.the_row Q) J (answering.the_row κ' Q) Q o n (synced_send Q s)
-    (answering_send κ' Q q) q
-
 pub writing_send : (κ κ' : NamedLft) (J Q : RattleType) (o : write.Ghosts (of_synced.the_row Q).Denot)
-    (n : opening.Ghosts J.Denot) → IsSend Q → IsSync Q
-    → IsSend (of_buffered.the_row (behind.the_row κ (of_synced.the_row Q) J (answering.the_row κ' Q) Q o n)
-    heap.the_row ghosts)
-writing_send κ κ' J Q o n s q =
-    buffered.the_send _ heap.the_row ghosts (behind_send κ κ' J Q o n s q) send frees
+    (n : opening.Ghosts J.Denot) (w : write.Ghosts (answering.the_row κ' Q).Denot) → IsSend Q → IsSync Q
+    → IsSend (behind.the_row (waiting.the_row κ (of_synced.the_row Q) J Q o n) (answering.the_row κ' Q) w)
+writing_send κ κ' J Q o n w s q =
+    replies_send (waiting.the_row κ (of_synced.the_row Q) J Q o n) (answering.the_row κ' Q) w
+    (waiting_send κ (of_synced.the_row Q) J Q o n (synced_send Q s) q) (answering_send κ' Q q)

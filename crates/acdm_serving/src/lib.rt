@@ -9,7 +9,7 @@ mod reconnecting;
 mod ticks;
 
 pub use host::Host;
-pub use partners::{Listener, ReplyWriter, ServedPartners, serve_on, serve_partners};
+pub use partners::{Listener, PatientWriter, ServedPartners, serve_on, serve_partners};
 pub use reconnecting::{
     Answering, FileKeeper, KeptReplyWriter, Operation, Partners, Reading, Ticking,
     serve_reconnecting,

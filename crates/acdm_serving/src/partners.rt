@@ -16,7 +16,9 @@ use acdm_failures::ServeError;
 use acdm_headline::serve_sessions;
 use acdm_milestones::Role;
 use acdm_partners::{PATIENCE, Patient};
-use acdm_sessions::{Clock, Closed, End, EndedSession, Gate, RunError, Session, Sink, Source};
+use acdm_sessions::{
+    Clock, Closed, End, EndedSession, Gate, ReplyWriter, RunError, Session, Sink, Source,
+};
 use acdm_wire::{TextBuffer, write_out, write_whole};
 use bpf_helpers::Helpers;
 use std::alloc::Global;
@@ -27,7 +29,7 @@ use std::thread::Threads;
 use std::time::Duration;
 
 /// What a partner's replies go to.
-pub type ReplyWriter = BufWriter<Patient<TcpStream>>;
+pub type PatientWriter = BufWriter<Patient<TcpStream>>;
 
 /// How many bytes of a partner's replies are sent in one piece.
 pub(crate) const REPLIES_HELD: usize = 65_536;
@@ -83,7 +85,7 @@ pub struct Listener<C: Drop> {
 
 /// What partners who were served leave.
 #[derive(Drop)]
-pub struct ServedPartners<H: Helpers + Drop, R: Read + Drop, S: Write + Drop, C: Drop> {
+pub struct ServedPartners<H: Helpers + Drop, R: Read + Drop, S: ReplyWriter + Drop, C: Drop> {
     /// The desk, with the entries that their sessions made.
     pub desk: Desk<H>,
     /// Their sessions, in the order of their numbers.
@@ -110,7 +112,7 @@ pub fn serve_on<
     partners: Vec<(Role, TcpListener, C)>,
     desk: Desk<H>,
     writer: &mut Sink<W>,
-) -> Result<Closed<H, TcpStream, ReplyWriter, C>, ServeError>
+) -> Result<Closed<H, TcpStream, PatientWriter, C>, ServeError>
     requires few { vec_len partners ≤ 64 }
     ensures serves { IfOk result (λ c. ServesSessions desk c.desk
         (map (λ p. new_session p.0 (C.gives p.2)) partners.items)
@@ -171,7 +173,7 @@ pub fn serve_partners<
     listeners: Vec<Listener<C>>,
     desk: Desk<H>,
     writer: &mut Sink<W>,
-) -> Result<ServedPartners<H, TcpStream, ReplyWriter, C>, ServeError>
+) -> Result<ServedPartners<H, TcpStream, PatientWriter, C>, ServeError>
     requires few { vec_len listeners ≤ 64 }
     ensures serves { IfOk result (λ c. ServesSessions desk c.desk
         (map (λ l. new_session l.role (C.gives l.clock)) listeners.items)
@@ -204,7 +206,7 @@ fn arrived<C: Clock + Drop, W: Write>(
     listeners: Vec<Listener<C>>,
     connections: &mut Connections,
     writer: &mut Sink<W>,
-) -> Result<Vec<Session<TcpStream, ReplyWriter, C>>, ServeError>
+) -> Result<Vec<Session<TcpStream, PatientWriter, C>>, ServeError>
     requires few { vec_len listeners ≤ 64 }
     ensures len { IfOk result (λ sessions. vec_len sessions ≡ vec_len listeners) }
     ensures roles { IfOk result (λ sessions. map (λ s. s.role) sessions.items
@@ -283,7 +285,7 @@ fn accept_all<C: Clock + Drop>(
     alloc: Global,
     listeners: Vec<Listener<C>>,
     connections: &mut Connections,
-) -> Result<Vec<Session<TcpStream, ReplyWriter, C>>, ServeError>
+) -> Result<Vec<Session<TcpStream, PatientWriter, C>>, ServeError>
     ensures len { IfOk result (λ sessions. vec_len sessions ≡ vec_len listeners) }
     ensures roles { IfOk result (λ sessions. map (λ s. s.role) sessions.items
         ≡ map (λ l. l.role) listeners.items) }
@@ -308,7 +310,7 @@ fn accept<C: Clock + Drop>(
     number: usize,
     listener: Listener<C>,
     connections: &mut Connections,
-) -> Result<Session<TcpStream, ReplyWriter, C>, ServeError>
+) -> Result<Session<TcpStream, PatientWriter, C>, ServeError>
     ensures role { IfOk result (λ session. session.role ≡ listener.role) }
     ensures start { IfOk result (λ s. session_start s.role s.reader s.writer (C.gives s.clock)
         ≡ new_session listener.role (C.gives listener.clock)) }
@@ -383,7 +385,7 @@ fn closed_line(entries: u64) -> TextBuffer
 }
 
 // Writes the line of each session.
-fn tell_sessions<R: Read + Drop, S: Write + Drop, C: Drop, W: Write>(
+fn tell_sessions<R: Read + Drop, S: ReplyWriter + Drop, C: Drop, W: Write>(
     sessions: &[EndedSession<R, S, C>],
     writer: &mut Sink<W>,
 ) -> Result<(), RunError>
@@ -400,7 +402,7 @@ fn tell_sessions<R: Read + Drop, S: Write + Drop, C: Drop, W: Write>(
 }
 
 /// Writes the line of each session, and how many entries there are.
-pub(crate) fn tell<H: Helpers + Drop, R: Read + Drop, S: Write + Drop, C: Drop, W: Write>(
+pub(crate) fn tell<H: Helpers + Drop, R: Read + Drop, S: ReplyWriter + Drop, C: Drop, W: Write>(
     closed: &Closed<H, R, S, C>,
     writer: &mut Sink<W>,
 ) -> Result<(), RunError>

@@ -14,7 +14,7 @@ use crate::ticks::{Ticks, Timer};
 use acdm_board::Desk;
 use acdm_failures::ServeError;
 use acdm_headline::serve_sessions;
-use acdm_keeping::{Named, Opening, Paths, Replies, SharedKeeper, Synced};
+use acdm_keeping::{Named, Opening, Paths, Replies, SharedKeeper, Synced, Waiting};
 use acdm_milestones::Role;
 use acdm_partners::{
     Acceptor, Arriving, Connection, Control, Door, LineOutcome, LineQueue, PartnerPlace,
@@ -26,7 +26,7 @@ use acdm_step::Outcome;
 use acdm_wire::LONGEST_REQUEST;
 use bpf_helpers::Helpers;
 use std::alloc::{AllocError, Global};
-use std::io::{self, BufWriter, Read, Write};
+use std::io::{self, Read, Write};
 use std::net::TcpListener;
 use std::sync::atomic::{AtomicBool, AtomicUsize, Ordering};
 use std::sync::{Arc, Wait};
@@ -78,7 +78,7 @@ impl<'r, Rt: Wait + SystemClock> Write for Answering<'r, Rt> {
 pub type FileKeeper<J, Rt> = SharedKeeper<Synced<Rt>, J>;
 
 /// What its replies go to, once their entries are kept, where the journal is.
-pub type KeptReplyWriter<'r, J, Rt> = BufWriter<Replies<'r, Synced<Rt>, J, Answering<'r, Rt>, Rt>>;
+pub type KeptReplyWriter<'r, J, Rt> = Replies<Waiting<'r, Synced<Rt>, J, Rt>, Answering<'r, Rt>>;
 
 /// Partners at listeners, in the order of their sessions, and behind these the session of the board's own ticks, if
 /// it gives any.
@@ -313,8 +313,7 @@ fn session_of<'r, J: Opening, Rt: Host, C: Clock + Drop>(
     ensures fails { IfErr result IsOfAccepting }
 {
     let (reading, answering) = ends;
-    let replies = Replies::new(rt, keeper, answering);
-    let Ok(writer) = BufWriter::with_capacity(alloc, REPLIES_HELD, replies) else {
+    let Ok(writer) = Replies::new(alloc, Waiting::new(rt, keeper), answering, REPLIES_HELD) else {
         return Err(ServeError::Memory);
     };
     Ok(Session {

@@ -13,6 +13,7 @@ use Rattle.bpf_helpers.proofs.sigs.Sigs.TheSendSync as sigs
 use Rattle.bpf_helpers.specs.contracts.sigs.Sigs as of_sigs
 use Rattle.acdm_milestones.proofs.role.Role.TheSendSync as role
 use Rattle.std.specs.declared.io.traits.Read as read
+use Rattle.acdm_lines.specs.declared.reply_writer.ReplyWriter as reply_writer
 use Rattle.std.specs.declared.io.traits.Write as write
 use Rattle.acdm_lines.proofs.sink.Sink.TheSendSync as sink
 use Rattle.acdm_lines.proofs.source.Source.TheSendSync as source
@@ -65,11 +66,11 @@ caller_send C L n l c =
       ),
     )
 
-seat_send : (R W C L : RattleType) (d : read.Ghosts R.Denot) (o : write.Ghosts W.Denot)
+seat_send : (R W C L : RattleType) (d : read.Ghosts R.Denot) (o : reply_writer.Ghosts W.Denot) (p : write.Ghosts W.Denot)
     (n : naming.Ghosts L.Denot) (l : ledger.Ghosts L.Denot)
-    → IsSend R → IsSend W → IsSend C → IsSend (seat.the_row R W C L d o n l)
-seat_send R W C L d o n l r w c =
-    declared_send (seat.the_type R W C L d o n l) (
+    → IsSend R → IsSend W → IsSend C → IsSend (seat.the_row R W C L d o p n l)
+seat_send R W C L d o p n l r w c =
+    declared_send (seat.the_type R W C L d o p n l) (
       search sendable depth 8,
       (
         search (role.the_send, sendable) depth 8,
@@ -83,11 +84,11 @@ seat_send R W C L d o n l r w c =
       ),
     )
 
-pub served_send : (R W C L : RattleType) (d : read.Ghosts R.Denot) (o : write.Ghosts W.Denot)
+pub served_send : (R W C L : RattleType) (d : read.Ghosts R.Denot) (o : reply_writer.Ghosts W.Denot) (p : write.Ghosts W.Denot)
     (n : naming.Ghosts L.Denot) (l : ledger.Ghosts L.Denot)
-    → IsSend R → IsSend W → IsSend C → IsSend (served.the_row R W C L d o n l)
-served_send R W C L d o n l r w c =
-    declared_send (served.the_type R W C L d o n l) (
+    → IsSend R → IsSend W → IsSend C → IsSend (served.the_row R W C L d o p n l)
+served_send R W C L d o p n l r w c =
+    declared_send (served.the_type R W C L d o p n l) (
       search sendable depth 8,
       (
         search (role.the_send, sendable) depth 8,
@@ -105,12 +106,12 @@ served_send R W C L d o n l r w c =
     )
 
 pub work_send : (κ : NamedLft) (R W C H L G Q : RattleType) (d : read.Ghosts R.Denot)
-    (o : write.Ghosts W.Denot) (g : helpers.Ghosts H.Denot) (n : naming.Ghosts L.Denot)
+    (o : reply_writer.Ghosts W.Denot) (p : write.Ghosts W.Denot) (g : helpers.Ghosts H.Denot) (n : naming.Ghosts L.Denot)
     (l : ledger.Ghosts L.Denot) → IsSend R → IsSend W → IsSend C
-    → IsSend H → IsSync G → IsSync Q → IsSend (work.the_row κ R W C H L G Q d o g n l)
-work_send κ R W C H L G Q d o g n l r w c h s q =
+    → IsSend H → IsSync G → IsSync Q → IsSend (work.the_row κ R W C H L G Q d o p g n l)
+work_send κ R W C H L G Q d o p g n l r w c h s q =
     let shared = lock_sync _ (locked_send H L g n l h) in
-    declared_send (work.the_type κ R W C H L G Q d o g n l) (
+    declared_send (work.the_type κ R W C H L G Q d o p g n l) (
       search (q, sendable) depth 10,
       (
         search sendable depth 10,
@@ -118,7 +119,7 @@ work_send κ R W C H L G Q d o g n l r w c h s q =
           search (shared, sendable) depth 10,
           (
             search (s, sendable) depth 10,
-            (seat_send R W C L d o n l r w c, tt),
+            (seat_send R W C L d o p n l r w c, tt),
           ),
         ),
       ),

@@ -6,6 +6,7 @@ ghost use Rattle.acdm_sessions.specs.Sessions.{CallAnswers, EndsAs, HasServed, S
 ghost use Rattle.acdm_sessions.specs.Sessions.{end_for, session_end, session_left, session_start};
 ghost use Rattle.acdm_sessions.specs.Stream.{AnswersLines, serving_by};
 
+use crate::announcer::Aloud;
 use crate::answer::Answer;
 use crate::answerer::Answerer;
 use crate::clock::{Clock, Gate};
@@ -14,11 +15,11 @@ use crate::order::{Order, order_in};
 use crate::session::{Caller, End, Seat, Served};
 use crate::stream::serve_lines;
 use acdm_board::DeskError;
-use acdm_lines::{RunError, Sink, Source};
+use acdm_lines::{ReplyWriter, RunError, Sink, Source};
 use acdm_wire::Bad;
 use bpf_helpers::Helpers;
 use std::alloc::Global;
-use std::io::{Read, Write};
+use std::io::Read;
 use std::sync::{Mutex, Wait};
 
 impl<C: Clock + Drop, J: Naming> Caller<C, J> {
@@ -115,7 +116,7 @@ impl<'s, C: Clock + Drop, H: Helpers + Drop, J: Naming, G: Gate, Rt: Wait> Answe
 fn answer_all<
     's,
     R: Read,
-    W: Write,
+    W: ReplyWriter,
     C: Clock + Drop,
     H: Helpers + Drop,
     J: Naming,
@@ -136,7 +137,7 @@ fn answer_all<
     ensures role { who.new.caller.role ≡ who.old.caller.role }
     ensures memory { result ≡ Err RunError.Memory → who.new ≡ who.old }
 {
-    serve_lines(alloc, reader, writer, who)
+    serve_lines::<R, W, AtDesk<'s, C, H, J, G, Rt>, Aloud>(alloc, reader, writer, who)
 }
 
 // How a session ends whose lines were answered so.
@@ -154,7 +155,7 @@ fn end_of(answered: Result<(), RunError>) -> End
 // A session from its beginning to its end. With no leave to begin it ends at once.
 pub(crate) fn serve<
     R: Read + Drop,
-    W: Write + Drop,
+    W: ReplyWriter + Drop,
     C: Clock + Drop,
     H: Helpers + Drop,
     J: Naming,

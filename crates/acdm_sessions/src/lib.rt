@@ -1,6 +1,7 @@
 //! Partners' lines in, replies out: the run from a reader to a writer, and sessions on threads.
 #![tactic(auto)]
 
+mod announcer;
 mod answer;
 mod answerer;
 mod at_desk;
@@ -14,7 +15,7 @@ mod session;
 mod sessions;
 mod stream;
 
-pub use acdm_lines::{RunError, Sink, Source};
+pub use acdm_lines::{ReplyWriter, RunError, Sink, Source};
 pub use acdm_wire::{
     Asked, Bad, LineError, LoadRequest, ProgramBytes, Request, RequestFault, request_of,
 };
@@ -22,4 +23,4 @@ pub use answer::Answer;
 pub use clock::{Clock, Gate};
 pub use session::{Closed, End, EndedSession, Session};
 pub use sessions::run_sessions;
-pub use stream::run;
+pub use stream::{run, run_announced};

@@ -2,21 +2,41 @@
 ghost use Rattle.std.specs.Prelude.{◌≡◌, true, false, Err, IfErr, OnOk};
 ghost use Rattle.acdm_lines.specs.Counted.{faults_after};
 ghost use Rattle.acdm_wire.specs.Writes.{Writes};
+ghost use Rattle.acdm_sessions.specs.declared.answer.Answer.TheVariants.{Entered};
 ghost use Rattle.acdm_sessions.specs.Output.{reply_text};
 
+use crate::announcer::Announcer;
 use crate::answer::Answer;
+use acdm_board::Reply;
 use acdm_lines::{RunError, Sink};
 use acdm_wire::{write_entered, write_rejected};
 use std::io::Write;
 
-/// Writes the reply. The writer is not flushed.
-pub(crate) fn write_reply<W: Write>(writer: &mut Sink<W>, answer: &Answer) -> Result<(), RunError>
+/// Writes the reply, once the writer was told of which entry it tells, if of any. The writer is not flushed.
+pub(crate) fn write_reply<W: Write, N: Announcer<W>>(
+    writer: &mut Sink<W>,
+    answer: &Answer,
+) -> Result<(), RunError>
     ensures { Writes writer.old writer.new (reply_text answer.now) result }
 {
     match answer {
-        Answer::Entered(reply) => write_entered(writer, reply.number, &reply.outcome),
+        Answer::Entered(reply) => {
+            N::announce(writer, reply.number);
+            write_announced::<W, N>(writer, reply)
+        }
         Answer::Rejected(bad) => write_rejected(writer, *bad),
     }
+}
+
+// Writes the reply that tells of an entry, which was announced.
+fn write_announced<W: Write, N: Announcer<W>>(
+    writer: &mut Sink<W>,
+    reply: &Reply,
+) -> Result<(), RunError>
+    requires announced { N.tells writer.old.inner reply.now.number }
+    ensures { Writes writer.old writer.new (reply_text (Entered reply.now)) result }
+{
+    write_entered(writer, reply.number, &reply.outcome)
 }
 
 /// Lets the replies go that wait for a flush. `Write` where the flush fails.

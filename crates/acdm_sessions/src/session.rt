@@ -5,16 +5,16 @@ ghost use Rattle.acdm_sessions.specs.Sessions.{new_pass};
 
 use crate::locked::Naming;
 use acdm_board::Desk;
-use acdm_lines::{Sink, Source};
+use acdm_lines::{ReplyWriter, Sink, Source};
 use acdm_milestones::Role;
 use acdm_row::Pass;
 use bpf_helpers::{Helpers, Sigs};
-use std::io::{Read, Write};
+use std::io::Read;
 use std::sync::ledger::Share;
 
 /// What a session is opened with.
 #[derive(Drop)]
-pub struct Session<R: Read + Drop, W: Write + Drop, C: Drop> {
+pub struct Session<R: Read + Drop, W: ReplyWriter + Drop, C: Drop> {
     /// The role of who is at the other end.
     pub role: Role,
     /// Where its lines come from.
@@ -48,7 +48,7 @@ pub enum End {
 
 /// A session, once it has ended.
 #[derive(Drop)]
-pub struct EndedSession<R: Read + Drop, W: Write + Drop, C: Drop> {
+pub struct EndedSession<R: Read + Drop, W: ReplyWriter + Drop, C: Drop> {
     /// Its number, from 1.
     pub number: u8,
     /// Its role.
@@ -69,7 +69,7 @@ pub struct EndedSession<R: Read + Drop, W: Write + Drop, C: Drop> {
     pub torn: bool,
 }
 
-impl<R: Read + Drop, W: Write + Drop, C: Drop> EndedSession<R, W, C> {
+impl<R: Read + Drop, W: ReplyWriter + Drop, C: Drop> EndedSession<R, W, C> {
     /// How it ended; of a torn one that alone is told.
     pub fn end(&self) -> End
         ensures { result ≡ (if self.now.torn then End.Torn else self.now.end) }
@@ -80,7 +80,7 @@ impl<R: Read + Drop, W: Write + Drop, C: Drop> EndedSession<R, W, C> {
 
 /// A desk whose sessions have ended.
 #[derive(Drop)]
-pub struct Closed<H: Helpers + Drop, R: Read + Drop, W: Write + Drop, C: Drop> {
+pub struct Closed<H: Helpers + Drop, R: Read + Drop, W: ReplyWriter + Drop, C: Drop> {
     /// The desk, with the entries that the sessions made.
     pub desk: Desk<H>,
     /// The sessions, in the order of their numbers.
@@ -110,7 +110,7 @@ pub(crate) struct Caller<C: Drop, J: Naming> {
 
 /// A session that has not begun.
 #[derive(Drop)]
-pub(crate) struct Seat<R: Read + Drop, W: Write + Drop, C: Drop, J: Naming> {
+pub(crate) struct Seat<R: Read + Drop, W: ReplyWriter + Drop, C: Drop, J: Naming> {
     pub(crate) number: u8,
     pub(crate) role: Role,
     pub(crate) caller: Caller<C, J>,
@@ -126,7 +126,7 @@ pub(crate) struct Seat<R: Read + Drop, W: Write + Drop, C: Drop, J: Naming> {
 
 /// A session that has ended, with its part of the ledger.
 #[derive(Drop)]
-pub(crate) struct Served<R: Read + Drop, W: Write + Drop, C: Drop, J: Naming> {
+pub(crate) struct Served<R: Read + Drop, W: ReplyWriter + Drop, C: Drop, J: Naming> {
     pub(crate) number: u8,
     pub(crate) role: Role,
     pub(crate) caller: Caller<C, J>,

@@ -14,11 +14,12 @@ use crate::locked::{Locked, Naming};
 use crate::session::{Caller, Closed, EndedSession, Seat, Served, Session};
 use acdm_board::Desk;
 use acdm_jobs::{Crew, Job};
+use acdm_lines::ReplyWriter;
 use acdm_milestones::Role;
 use acdm_row::Pass;
 use bpf_helpers::{Helpers, Sigs};
 use std::alloc::{AllocError, Global};
-use std::io::{Read, Write};
+use std::io::Read;
 use std::marker::Brand;
 use std::sync::ledger::{Blank, Share};
 use std::sync::{Mutex, Wait};
@@ -26,7 +27,16 @@ use std::thread::Threads;
 
 // A session, and what it is served with.
 #[derive(Drop)]
-struct Work<'s, R: Read + Drop, W: Write + Drop, C: Drop, H: Helpers + Drop, J: Naming, G, Rt> {
+struct Work<
+    's,
+    R: Read + Drop,
+    W: ReplyWriter + Drop,
+    C: Drop,
+    H: Helpers + Drop,
+    J: Naming,
+    G,
+    Rt,
+> {
     rt: &'s Rt,
     alloc: Global,
     shared: &'s Mutex<Locked<H, J>>,
@@ -37,7 +47,7 @@ struct Work<'s, R: Read + Drop, W: Write + Drop, C: Drop, H: Helpers + Drop, J: 
 impl<
     's,
     R: Read + Drop + Send,
-    W: Write + Drop + Send,
+    W: ReplyWriter + Drop + Send,
     C: Clock + Drop + Send,
     H: Helpers + Drop + Send,
     J: Naming + Send + Sync,
@@ -69,7 +79,7 @@ impl<
 fn filled<
     's,
     R: Read + Drop + Send,
-    W: Write + Drop + Send,
+    W: ReplyWriter + Drop + Send,
     C: Clock + Drop + Send,
     H: Helpers + Drop + Send,
     J: Naming + Send + Sync,
@@ -100,7 +110,7 @@ fn filled<
 }
 
 // A seat for each session, in order, with a part of the ledger each.
-fn seated<R: Read + Drop, W: Write + Drop, C: Clock + Drop, H: Helpers + Drop, J: Naming>(
+fn seated<R: Read + Drop, W: ReplyWriter + Drop, C: Clock + Drop, H: Helpers + Drop, J: Naming>(
     sessions: Vec<Session<R, W, C>>,
     desk: &Desk<H>,
     all: &mut Share<J>,
@@ -134,7 +144,7 @@ fn seated<R: Read + Drop, W: Write + Drop, C: Clock + Drop, H: Helpers + Drop, J
 }
 
 // The seat of a session at the desk, with a part of the ledger.
-fn seat_for<R: Read + Drop, W: Write + Drop, C: Clock + Drop, H: Helpers + Drop, J: Naming>(
+fn seat_for<R: Read + Drop, W: ReplyWriter + Drop, C: Clock + Drop, H: Helpers + Drop, J: Naming>(
     number: u8,
     session: Session<R, W, C>,
     desk: &Desk<H>,
@@ -156,7 +166,7 @@ fn seat_for<R: Read + Drop, W: Write + Drop, C: Clock + Drop, H: Helpers + Drop,
 }
 
 // The seat of a session.
-fn seat_of<R: Read + Drop, W: Write + Drop, C: Clock + Drop, J: Naming>(
+fn seat_of<R: Read + Drop, W: ReplyWriter + Drop, C: Clock + Drop, J: Naming>(
     number: u8,
     session: Session<R, W, C>,
     sigs: Sigs,
@@ -198,7 +208,7 @@ fn seat_of<R: Read + Drop, W: Write + Drop, C: Clock + Drop, J: Naming>(
 }
 
 // Gathers the share of a session that has ended, and holds its pass against the journal.
-fn left_by<R: Read + Drop, W: Write + Drop, C: Drop, H: Helpers + Drop, J: Naming>(
+fn left_by<R: Read + Drop, W: ReplyWriter + Drop, C: Drop, H: Helpers + Drop, J: Naming>(
     one: Served<R, W, C, J>,
     desk: &mut Desk<H>,
     all: &mut Share<J>,
@@ -246,7 +256,7 @@ fn left_by<R: Read + Drop, W: Write + Drop, C: Drop, H: Helpers + Drop, J: Namin
 }
 
 // Gathers the shares of all, and what else the sessions left.
-fn gathered<R: Read + Drop, W: Write + Drop, C: Drop, H: Helpers + Drop, J: Naming>(
+fn gathered<R: Read + Drop, W: ReplyWriter + Drop, C: Drop, H: Helpers + Drop, J: Naming>(
     served: Vec<Served<R, W, C, J>>,
     desk: &mut Desk<H>,
     all: &mut Share<J>,
@@ -285,7 +295,7 @@ fn hold<H: Helpers + Drop>(desk: &mut Desk<H>, first: &mut Pass)
 }
 
 // Takes the desk from under the lock, and holds the ledger's book against all shares.
-fn close<R: Read + Drop, W: Write + Drop, C: Drop, H: Helpers + Drop, J: Naming>(
+fn close<R: Read + Drop, W: ReplyWriter + Drop, C: Drop, H: Helpers + Drop, J: Naming>(
     locked: Locked<H, J>,
     mut first: Pass,
     mut all: Share<J>,
@@ -314,7 +324,7 @@ fn close<R: Read + Drop, W: Write + Drop, C: Drop, H: Helpers + Drop, J: Naming>
 
 // All that a run has before its threads begin.
 #[derive(Drop)]
-struct Opened<R: Read + Drop, W: Write + Drop, C: Drop, H: Helpers + Drop, J: Naming> {
+struct Opened<R: Read + Drop, W: ReplyWriter + Drop, C: Drop, H: Helpers + Drop, J: Naming> {
     locked: Locked<H, J>,
     // It has seen what the desk had before.
     first: Pass,
@@ -324,7 +334,7 @@ struct Opened<R: Read + Drop, W: Write + Drop, C: Drop, H: Helpers + Drop, J: Na
 }
 
 // Opens the ledger over the desk, and seats the sessions.
-fn open<R: Read + Drop, W: Write + Drop, C: Clock + Drop, H: Helpers + Drop, J: Naming>(
+fn open<R: Read + Drop, W: ReplyWriter + Drop, C: Clock + Drop, H: Helpers + Drop, J: Naming>(
     alloc: Global,
     blank: Blank,
     mut desk: Desk<H>,
@@ -386,7 +396,7 @@ fn open<R: Read + Drop, W: Write + Drop, C: Clock + Drop, H: Helpers + Drop, J: 
 fn run_named<
     J: Naming + Send + Sync,
     R: Read + Drop + Send,
-    W: Write + Drop + Send,
+    W: ReplyWriter + Drop + Send,
     C: Clock + Drop + Send,
     H: Helpers + Drop + Send,
     G: Gate + Sync,
@@ -439,7 +449,7 @@ fn run_named<
 /// `Err` only where memory was refused before any session started: the desk is as it was.
 pub fn run_sessions<
     R: Read + Drop + Send,
-    W: Write + Drop + Send,
+    W: ReplyWriter + Drop + Send,
     C: Clock + Drop + Send,
     H: Helpers + Drop + Send,
     G: Gate + Sync,

@@ -3,11 +3,12 @@ ghost use Rattle.std.specs.Prelude.{◌-◌, ◌^◌, ◌<◌};
 ghost use Rattle.acdm_sessions.specs.Run.{serving_desk};
 ghost use Rattle.acdm_sessions.specs.Stream.{AnswersLine, AnswersLines, serving_by};
 
+use crate::announcer::{Aloud, Announcer};
 use crate::answerer::Answerer;
 use crate::next::next_line;
 use crate::reply::{let_go, write_reply};
 use acdm_board::Desk;
-use acdm_lines::{Ending, Lines, RunError, Sink, Source};
+use acdm_lines::{Ending, Lines, ReplyWriter, RunError, Sink, Source};
 use acdm_wire::LONGEST_REQUEST;
 use bpf_helpers::Helpers;
 use std::alloc::Global;
@@ -16,8 +17,17 @@ use std::io::{Read, Write};
 // One byte more than the longest line has, so that a longer one is told by what is kept of it.
 pub(crate) const MOST_KEPT: usize = LONGEST_REQUEST + 1;
 
+// A writer to which any reply may be written at once is told nothing.
+struct Silent;
+
+impl<W: Write> Announcer<W> for Silent {
+    ghost tells = { λ _ _. Unit {0} };
+
+    fn announce(_writer: &mut Sink<W>, _number: u64) {}
+}
+
 // Answers one line. The writer is not flushed.
-fn serve_line<W: Write, A: Answerer>(
+fn serve_line<W: Write, A: Answerer, N: Announcer<W>>(
     alloc: Global,
     line: &[u8],
     writer: &mut Sink<W>,
@@ -26,14 +36,14 @@ fn serve_line<W: Write, A: Answerer>(
     ensures { AnswersLine A.may writer.old writer.new who.old who.new line.now result }
 {
     let answer = who.answer(alloc, line);
-    write_reply(writer, &answer)?;
+    write_reply::<W, N>(writer, &answer)?;
     who.replied();
     Ok(())
 }
 
 /// Answers each line that is read, at once, until the input ends. Each reply is written and flushed
 /// before more is read, and when all is answered. The errors are those of `run`.
-pub(crate) fn serve_lines<R: Read, W: Write, A: Answerer>(
+pub(crate) fn serve_lines<R: Read, W: Write, A: Answerer, N: Announcer<W>>(
     alloc: Global,
     reader: &mut Source<R>,
     writer: &mut Sink<W>,
@@ -48,12 +58,12 @@ pub(crate) fn serve_lines<R: Read, W: Write, A: Answerer>(
         return Err(RunError::Memory);
     };
     while let Ending::LineFeed = next_line(&mut lines, reader, writer)? {
-        serve_line(alloc, lines.line.as_slice(), writer, who)?;
+        serve_line::<W, A, N>(alloc, lines.line.as_slice(), writer, who)?;
     }
     if lines.line.as_slice().is_empty() {
         return Ok(());
     }
-    serve_line(alloc, lines.line.as_slice(), writer, who)?;
+    serve_line::<W, A, N>(alloc, lines.line.as_slice(), writer, who)?;
     let_go(writer)?;
     Ok(())
 }
@@ -82,5 +92,21 @@ pub fn run<R: Read, W: Write, H: Helpers + Drop>(
     ensures { AnswersLines serving_desk reader.old reader.new writer.old writer.new desk.old desk.new
         result }
 {
-    serve_lines(alloc, reader, writer, desk)
+    serve_lines::<R, W, Desk<H>, Silent>(alloc, reader, writer, desk)
+}
+
+/// Answers each line as `run` does, on a writer that is told of which entry a reply tells before it takes the reply.
+/// The errors are those of `run`.
+pub fn run_announced<R: Read, W: ReplyWriter, H: Helpers + Drop>(
+    alloc: Global,
+    reader: &mut Source<R>,
+    writer: &mut Sink<W>,
+    desk: &mut Desk<H>,
+) -> Result<(), RunError>
+    requires reads { reader.old.faults < 2 ^ 64 - 1 }
+    requires writes { writer.old.faults < 2 ^ 64 - 1 }
+    ensures { AnswersLines serving_desk reader.old reader.new writer.old writer.new desk.old desk.new
+        result }
+{
+    serve_lines::<R, W, Desk<H>, Aloud>(alloc, reader, writer, desk)
 }

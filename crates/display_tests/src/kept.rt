@@ -1,11 +1,10 @@
 //! What displays are shown of a journal that is kept.
 ghost use Rattle.std.specs.Prelude.{◌≡◌, []};
-ghost use Rattle.std.specs.Arc.{arc_value};
 
 use crate::following::{TICKS, row_of, tick, ticked};
 use acdm_board::Desk;
 use acdm_displays::{Entries, Shown, follow};
-use acdm_keeping::{Keeper, Opening, Reach, SharedKeeper, Waits};
+use acdm_keeping::{Keeper, Opening, Reach, SharedKeeper};
 use acdm_lines::Sink;
 use acdm_row::Row;
 use bpf_helpers::{Bank, Helpers};
@@ -47,17 +46,16 @@ fn shows_what_is_kept<J: Opening, H: Helpers + Drop>(
     keeper: Keeper<Vec<u8>>,
 )
     requires row { keeper.row ≡ J.desk_row }
-    requires same { arc_value row.now ≡ J.desk_row }
     requires opening { keeper.seen ≡ J.opening }
     requires fresh { keeper.writer.log ≡ [] }
 {
     let failed = Arc::new(alloc, AtomicBool::new(false)).expect(rt, "a word");
-    let shared: SharedKeeper<Vec<u8>, J> = SharedKeeper::new(alloc, keeper, row, &failed)
+    let shared: SharedKeeper<Vec<u8>, J> = SharedKeeper::new(alloc, keeper, &failed)
         .ok()
         .expect(rt, "a keeper");
     let reach = shared.reach().expect(rt, "how far it is kept");
     assert!(rt; is_shown(alloc, row, &reach, ""));
-    assert!(rt; shared.wait_for_all(rt, &mut Waits::new()).is_ok());
+    assert!(rt; shared.wait_for(rt, 1).is_ok());
     assert!(rt; is_shown(alloc, row, &reach, FIRST));
     assert!(rt; tick(desk, 9));
     assert!(rt; is_shown(alloc, row, &reach, FIRST));
@@ -69,7 +67,7 @@ fn shows_what_is_kept<J: Opening, H: Helpers + Drop>(
 fn shows_of<H: Helpers + Drop>(rt: &(impl Wait + Abort), alloc: Global, helpers: H) {
     let mut desk = ticked(rt, alloc, helpers, 10);
     let row = row_of(rt, &desk);
-    let keeper = Keeper::new(alloc, &row, Sink::new(Vec::new(alloc)))
+    let keeper = Keeper::new(alloc, &row, Vec::new(alloc))
         .ok()
         .expect(rt, "a keeper");
     shows_what_is_kept::<Brand, H>(rt, alloc, &mut desk, &row, keeper);

@@ -3,6 +3,7 @@ ghost use Rattle.std.specs.Prelude.{◌≡◌, ◌≢◌, ◌-◌, ◌<◌, [], 
 ghost use Rattle.std.specs.Io.{WritesAtMost};
 ghost use Rattle.std.specs.Io.KnownBytes.{Keeps, WriteAppends};
 
+use acdm_lines::ReplyWriter;
 use std::alloc::Global;
 use std::io::{self, ErrorKind, Write};
 
@@ -88,4 +89,11 @@ impl Write for Narrow {
             _ => Ok(()),
         }
     }
+}
+
+/// It holds nothing back.
+impl ReplyWriter for Narrow {
+    ghost tells = { λ _ _. Unit {0} };
+
+    fn announce(&mut self, _number: u64) {}
 }

@@ -4,10 +4,10 @@ ghost use Rattle.acdm_board.specs.Desk.{row_of};
 
 use acdm_board::Desk;
 use acdm_journal::audit;
-use acdm_keeping::{Keeper, Opening, Replies, SharedKeeper};
+use acdm_keeping::{Keeper, Opening, Replies, SharedKeeper, Waiting};
 use acdm_milestones::Role;
 use acdm_row::Row;
-use acdm_sessions::{Clock, Closed, Gate, Session, Sink, Source, run_sessions};
+use acdm_sessions::{Clock, Closed, Gate, ReplyWriter, Session, Sink, Source, run_sessions};
 use bpf_helpers::{Bank, Helpers};
 use std::alloc::Global;
 use std::io::{self, Cursor, ErrorKind, Write};
@@ -18,6 +18,9 @@ use std::sync::{Arc, Wait};
 use std::thread::{Threads, yield_now};
 
 const TICK: &str = "{\"cmd\":\"tick\"}\n";
+
+/// How many bytes of replies are held back at most: a reply and a part of the next.
+const HELD: usize = 8;
 
 /// Tells 2025-02-20T07:00Z.
 #[derive(Drop)]
@@ -168,7 +171,7 @@ impl Write for Reader {
     }
 }
 
-type Answered<'r, J, Rt> = Replies<'r, Paper, J, Reader, Rt>;
+type Answered<'r, J, Rt> = Replies<Waiting<'r, Paper, J, Rt>, Reader>;
 
 type Opened<'r, J, Rt> = Session<Cursor<Vec<u8>>, Answered<'r, J, Rt>, Fixed>;
 
@@ -194,10 +197,12 @@ fn opened<'r, J: Opening, Rt: Wait + Abort>(
         words: 0,
         number: 0,
     };
+    let waiting = Waiting::new(rt, Some(keeper));
+    let replies = Replies::new(alloc, waiting, reader, HELD).expect(rt, "room for replies");
     Session {
         role: Role::AirportOperator,
         reader: Source::new(Cursor::new(ticks(rt, alloc, count))),
-        writer: Sink::new(Replies::new(rt, Some(keeper), reader)),
+        writer: Sink::new(replies),
         clock: Fixed,
     }
 }
@@ -222,7 +227,7 @@ fn sessions_of<'r, J: Opening, Rt: Wait + Abort>(
 // How many entries there are once these sessions have ended.
 fn entries_after<
     H: Helpers + Drop + Send,
-    W: Write + Drop + Send,
+    W: ReplyWriter + Drop + Send,
     Rt: Threads + Wait + Abort + Sync,
 >(rt: &Rt, alloc: Global, desk: Desk<H>, sessions: Vec<Session<Cursor<Vec<u8>>, W, Fixed>>) -> u64 {
     assert!(rt; sessions.len() <= 64);
@@ -277,7 +282,7 @@ fn served<J: Opening + Send + Sync, H: Helpers + Drop + Send, Rt: Threads + Wait
     requires fresh { keeper.writer.log ≡ [] }
 {
     let failed = Arc::new(alloc, AtomicBool::new(false)).expect(rt, "a word");
-    let shared: SharedKeeper<Paper, J> = SharedKeeper::new(alloc, keeper, desk.row(), &failed)
+    let shared: SharedKeeper<Paper, J> = SharedKeeper::new(alloc, keeper, &failed)
         .ok()
         .expect(rt, "a keeper");
     let entries = entries_kept(rt, alloc, desk, &shared, shelf, sessions, count);
@@ -317,7 +322,7 @@ fn outcome_of<H: Helpers + Drop + Send, Rt: Threads + Wait + Abort + Sync>(
         lines: 0,
         text: Vec::new(alloc),
     };
-    let keeper = Keeper::new(alloc, desk.row(), Sink::new(paper))
+    let keeper = Keeper::new(alloc, desk.row(), paper)
         .ok()
         .expect(rt, "a keeper");
     served::<Brand, H, Rt>(rt, alloc, desk, keeper, shelf, sessions, count)

@@ -11,7 +11,8 @@ use acdm_milestones::Role;
 use acdm_record::Field;
 use acdm_row::{Pass, Row};
 use acdm_sessions::{
-    Answer, Clock, Closed, End, EndedSession, Gate, Session, Sink, Source, run_sessions,
+    Answer, Clock, Closed, End, EndedSession, Gate, ReplyWriter, Session, Sink, Source,
+    run_sessions,
 };
 use acdm_step::Outcome;
 use acdm_watch::{Meet, Watch, Watched};
@@ -237,6 +238,12 @@ impl Write for Freeing<'_> {
     }
 }
 
+impl ReplyWriter for Freeing<'_> {
+    ghost tells = { λ _ _. Unit {0} };
+
+    fn announce(&mut self, _number: u64) {}
+}
+
 type Opened<W> = Session<Cursor<Vec<u8>>, W, Fixed>;
 
 type Left = EndedSession<Cursor<Vec<u8>>, Vec<u8>, Fixed>;
@@ -244,7 +251,7 @@ type Left = EndedSession<Cursor<Vec<u8>>, Vec<u8>, Fixed>;
 type Stands<H, W> = Closed<H, Cursor<Vec<u8>>, W, Fixed>;
 
 // A session that reads this text and writes to this writer, with a clock that tells this minute.
-fn opened<W: Write + Drop>(
+fn opened<W: ReplyWriter + Drop>(
     rt: &impl Abort,
     alloc: Global,
     role: Role,
@@ -307,7 +314,7 @@ fn closed_by<H: Helpers + Drop + Send, R, W, G: Gate + Sync, Rt: Threads + Wait 
 ) -> Closed<H, R, W, Fixed>
 where
     R: Read + Drop + Send,
-    W: Write + Drop + Send,
+    W: ReplyWriter + Drop + Send,
     ensures { All (λ e. e.pass.row ≡ row_of result.desk) result.sessions.items }
 {
     assert!(rt; sessions.len() <= 64);
@@ -330,13 +337,13 @@ fn target_of<H: Helpers + Drop>(rt: &impl Abort, desk: &Desk<H>) -> u64 {
     flight.get(Field::Tobt)
 }
 
-fn push<W: Write + Drop>(rt: &impl Abort, sessions: &mut Vec<Opened<W>>, session: Opened<W>) {
+fn push<W: ReplyWriter + Drop>(rt: &impl Abort, sessions: &mut Vec<Opened<W>>, session: Opened<W>) {
     let is_pushed = sessions.push(session).is_ok();
     assert!(rt; is_pushed);
 }
 
 // Two sessions that set a target each.
-fn both<W: Write + Drop>(
+fn both<W: ReplyWriter + Drop>(
     rt: &impl Abort,
     alloc: Global,
     writer: W,
@@ -368,13 +375,11 @@ fn last_of(rt: &impl Abort, alloc: Global, sessions: &mut Vec<Left>) -> String {
 }
 
 // What stands after two sessions that meet.
-fn both_meet<H: Helpers + Drop + Send, W: Write + Drop + Send, Rt: Threads + Wait + Abort + Sync>(
-    rt: &Rt,
-    alloc: Global,
-    helpers: H,
-    gate: &Meeting,
-    sessions: Vec<Opened<W>>,
-) -> Stands<H, W>
+fn both_meet<
+    H: Helpers + Drop + Send,
+    W: ReplyWriter + Drop + Send,
+    Rt: Threads + Wait + Abort + Sync,
+>(rt: &Rt, alloc: Global, helpers: H, gate: &Meeting, sessions: Vec<Opened<W>>) -> Stands<H, W>
     ensures { All (λ e. e.pass.row ≡ row_of result.desk) result.sessions.items }
 {
     let desk = begun(rt, alloc, helpers, 10);
@@ -553,8 +558,14 @@ impl Write for Broken {
     }
 }
 
+impl ReplyWriter for Broken {
+    ghost tells = { λ _ _. Unit {0} };
+
+    fn announce(&mut self, _number: u64) {}
+}
+
 // A session with this reader and writer.
-fn session_over<R: Read + Drop, W: Write + Drop>(
+fn session_over<R: Read + Drop, W: ReplyWriter + Drop>(
     rt: &impl Abort,
     alloc: Global,
     reader: R,
@@ -576,7 +587,7 @@ fn session_over<R: Read + Drop, W: Write + Drop>(
 fn served<
     H: Helpers + Drop + Send,
     R: Read + Drop + Send,
-    W: Write + Drop + Send,
+    W: ReplyWriter + Drop + Send,
     Rt: Threads + Wait + Abort + Sync,
 >(
     rt: &Rt,
@@ -589,7 +600,7 @@ fn served<
 }
 
 // How the session at a place ended, its calls, and the journal's length.
-fn end_of<H: Helpers + Drop, R: Read + Drop, W: Write + Drop>(
+fn end_of<H: Helpers + Drop, R: Read + Drop, W: ReplyWriter + Drop>(
     rt: &impl Abort,
     closed: &Closed<H, R, W, Fixed>,
     place: usize,
@@ -602,7 +613,7 @@ fn end_of<H: Helpers + Drop, R: Read + Drop, W: Write + Drop>(
 fn ends_as<
     H: Helpers + Drop + Send,
     R: Read + Drop + Send,
-    W: Write + Drop + Send,
+    W: ReplyWriter + Drop + Send,
     Rt: Threads + Wait + Abort + Sync,
 >(rt: &Rt, alloc: Global, helpers: H, reader: R, writer: W) -> (End, u64, u64) {
     let sessions = session_over(rt, alloc, reader, writer);

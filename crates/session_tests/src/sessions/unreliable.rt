@@ -4,7 +4,8 @@ use acdm_board::Desk;
 use acdm_lines::Lines;
 use acdm_milestones::Role;
 use acdm_sessions::{
-    Clock, Closed, End, EndedSession, Gate, RunError, Session, Sink, Source, run, run_sessions,
+    Clock, Closed, End, EndedSession, Gate, ReplyWriter, RunError, Session, Sink, Source, run,
+    run_sessions,
 };
 use bpf_helpers::{Bank, Helpers};
 use faulty_streams::{Fault, Faulty, Narrow};
@@ -211,7 +212,7 @@ impl Gate for Open {
 }
 
 // A session that reads by this and writes by that.
-fn session<R: Read + Drop, W: Write + Drop>(
+fn session<R: Read + Drop, W: ReplyWriter + Drop>(
     role: Role,
     reader: R,
     writer: W,
@@ -225,7 +226,7 @@ fn session<R: Read + Drop, W: Write + Drop>(
 }
 
 // Two sessions.
-fn both<R: Read + Drop, W: Write + Drop>(
+fn both<R: Read + Drop, W: ReplyWriter + Drop>(
     rt: &impl Abort,
     alloc: Global,
     first: Session<R, W, Fixed>,
@@ -241,7 +242,7 @@ fn both<R: Read + Drop, W: Write + Drop>(
 fn closed_by<
     H: Helpers + Drop + Send,
     R: Read + Drop + Send,
-    W: Write + Drop + Send,
+    W: ReplyWriter + Drop + Send,
     G: Gate + Sync,
     Rt: Threads + Wait + Abort + Sync,
 >(
@@ -258,7 +259,7 @@ fn closed_by<
 }
 
 // How the session of this place ended, and its calls.
-fn end_at<R: Read + Drop, W: Write + Drop>(
+fn end_at<R: Read + Drop, W: ReplyWriter + Drop>(
     rt: &impl Abort,
     ended: &[EndedSession<R, W, Fixed>],
     place: usize,
@@ -361,6 +362,12 @@ impl Write for Telling {
     fn flush(&mut self) -> io::Result<()> {
         Ok(())
     }
+}
+
+impl ReplyWriter for Telling {
+    ghost tells = { λ _ _. Unit {0} };
+
+    fn announce(&mut self, _number: u64) {}
 }
 
 /// Holds the first calls of two sessions until both are there, and that of session 1 until session

@@ -9,8 +9,8 @@ use Rattle.acdm_displays.proofs.browsing.follow_events.Goals as goal
 pub returns-clause-sent : goal.returns-clause-sent
 returns-clause-sent g c =
     let same : c.deref.result.now ≡ arc_value c.args.entries.now.row.now = search rules in
-    took _ _ _ _ c.shown_of.result c.send_on.new.seen.watch c.in_ok-seen.seen.receipt
-    c.send_on.new.seen.receipt c.send_on.new.writer c.shown_of.ensures.watch c.shown_of.ensures.receipt
+    took _ _ _ _ c.shown_of.result c.send_on.new.seen.watch c.in_ok-seen.seen.extent
+    c.send_on.new.seen.extent c.send_on.new.writer c.shown_of.ensures.watch c.shown_of.ensures.extent
     c.shown_of.ensures.writer (search rules) c.shown_of.ensures.legal
     (subst (λ b. SaysEvents (length (arc_value c.args.entries.now.row.now).cells) c.args.last
     c.send_on.new.seen.watch.seen b c.send_on.new.writer.log) c.in_ok-answer.ensures.answered

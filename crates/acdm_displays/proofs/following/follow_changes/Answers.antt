@@ -9,8 +9,8 @@ use Rattle.acdm_displays.proofs.following.follow_changes.Goals as goal
 pub returns-clause-sent : goal.returns-clause-sent
 returns-clause-sent g c =
     let same : c.deref.result.now ≡ arc_value c.args.entries.now.row.now = search rules in
-    took _ _ _ c.args.writer.log c.shown_of.result c.send_on.new.seen.watch c.in_ok-seen.seen.receipt
-    c.send_on.new.seen.receipt c.send_on.new.writer c.shown_of.ensures.watch c.shown_of.ensures.receipt
+    took _ _ _ c.args.writer.log c.shown_of.result c.send_on.new.seen.watch c.in_ok-seen.seen.extent
+    c.send_on.new.seen.extent c.send_on.new.writer c.shown_of.ensures.watch c.shown_of.ensures.extent
     c.shown_of.ensures.writer (search rules) c.shown_of.ensures.legal
     (subst (λ n. SaysFeed n c.args.start c.send_on.new.seen.watch.seen c.args.writer.log c.send_on.new.writer.log)
     (c.len.ensures ∙ ap (λ (r : RowView). length r.cells) same)

@@ -8,6 +8,6 @@ invariant-loop g l = record {
   row : l.seen.watch.row ≡ l.fn.seen.watch.row;
   sent : Follows g.T.Telling.tells l.fn.teller l.teller l.fn.seen.watch.seen l.seen.watch.seen
       l.fn.writer.log l.writer.log;
-  within : IsWithin l.seen.receipt l.seen.watch.seen;
-  kept : IsNoLess l.fn.seen.receipt l.seen.receipt;
+  within : IsWithin l.seen.extent l.seen.watch.seen;
+  kept : IsNoLess l.fn.seen.extent l.seen.extent;
 }

@@ -1,4 +1,4 @@
-use Rattle.std.proofs.Common.{rules, arith, ◌≡◌, ◌+◌, ◌-◌, ◌≤◌, ◌∙◌, ap, ℕ, length, ◌++◌, append_assoc}
+use Rattle.std.proofs.Common.{rules}
 use Rattle.acdm_keeping.proofs.Copied.{copied_more}
 use Rattle.acdm_keeping.proofs.copying.copy_bytes.Goals as goal
 

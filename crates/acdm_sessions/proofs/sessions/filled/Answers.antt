@@ -8,12 +8,12 @@ use Rattle.acdm_sessions.proofs.sessions.filled.Goals as goal
 
 pub add-requires-send-B : goal.add-requires-send-B
 add-requires-send-B g c κs within = let k = c.type_bounds in
-    param_send 0 _ (arg_send _ no _ (work_send _ _ _ _ _ _ _ _ _ _ _ _ _ k.send-R k.send-W k.send-C
+    param_send 0 _ (arg_send _ no _ (work_send _ _ _ _ _ _ _ _ _ _ _ _ _ _ k.send-R k.send-W k.send-C
     k.send-H k.sync-G k.sync-Rt))
 
 pub add-requires-send-T : goal.add-requires-send-T
 add-requires-send-T g c κs within = let k = c.type_bounds in
-    param_send 1 _ (arg_send _ no _ (served_send _ _ _ _ _ _ _ _ k.send-R k.send-W k.send-C))
+    param_send 1 _ (arg_send _ no _ (served_send _ _ _ _ _ _ _ _ _ k.send-R k.send-W k.send-C))
 
 pub loop-seat-preserved : goal.loop-seat-preserved
 loop-seat-preserved g c =

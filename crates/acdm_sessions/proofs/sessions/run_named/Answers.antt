@@ -15,21 +15,21 @@ use Rattle.acdm_sessions.proofs.sessions.run_named.Goals as goal
 
 pub new-requires-send-B : goal.new-requires-send-B
 new-requires-send-B g c κs within = let k = c.type_bounds in
-    param_send 0 _ (arg_send _ no _ (work_send _ _ _ _ _ _ _ _ _ _ _ _ _ k.send-R k.send-W k.send-C
+    param_send 0 _ (arg_send _ no _ (work_send _ _ _ _ _ _ _ _ _ _ _ _ _ _ k.send-R k.send-W k.send-C
     k.send-H k.sync-G k.sync-Rt))
 
 pub run-served-requires-send-B : goal.run-served-requires-send-B
 run-served-requires-send-B g c κs within = let k = c.type_bounds in
-    param_send 0 _ (arg_send _ no _ (work_send _ _ _ _ _ _ _ _ _ _ _ _ _ k.send-R k.send-W k.send-C
+    param_send 0 _ (arg_send _ no _ (work_send _ _ _ _ _ _ _ _ _ _ _ _ _ _ k.send-R k.send-W k.send-C
     k.send-H k.sync-G k.sync-Rt))
 
 pub new-requires-send-T : goal.new-requires-send-T
 new-requires-send-T g c κs within = let k = c.type_bounds in
-    param_send 1 _ (arg_send _ no _ (served_send _ _ _ _ _ _ _ _ k.send-R k.send-W k.send-C))
+    param_send 1 _ (arg_send _ no _ (served_send _ _ _ _ _ _ _ _ _ k.send-R k.send-W k.send-C))
 
 pub run-served-requires-send-T : goal.run-served-requires-send-T
 run-served-requires-send-T g c κs within = let k = c.type_bounds in
-    param_send 1 _ (arg_send _ no _ (served_send _ _ _ _ _ _ _ _ k.send-R k.send-W k.send-C))
+    param_send 1 _ (arg_send _ no _ (served_send _ _ _ _ _ _ _ _ _ k.send-R k.send-W k.send-C))
 
 pub returns-clause-serves : goal.returns-clause-serves
 returns-clause-serves g c =

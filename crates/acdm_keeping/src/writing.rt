@@ -1,36 +1,14 @@
-//! The writing of entries for many who wait, and what it is told by.
-ghost use Rattle.std.specs.Prelude.{◌≡◌, List, [], true, false, length, IfErr, IfOk, IsErr, OnErr, OnOk};
+//! The writing of entries for many who wait.
+ghost use Rattle.std.specs.Prelude.{◌≡◌, List, [], true, false, length, IfErr, IfOk, OnErr, OnOk};
 ghost use Rattle.acdm_failures.specs.declared.failure.Failure.TheVariants.{Save};
-ghost use Rattle.acdm_keeping.specs.Kept.{Keeps};
+ghost use Rattle.acdm_keeping.specs.Kept.{AtAnyMoment, Keeps};
 ghost use Rattle.acdm_row.specs.Views.{RowView};
 ghost use Rattle.acdm_step.specs.declared.entry.Entry.{Entry};
 
-use crate::keeper::Keeper;
+use crate::keeper::{Keeper, Receipt};
 use acdm_failures::Failure;
 use std::io::Write;
 use std::marker::{Brand, Model, PhantomData};
-
-/// That so many entries are kept: the first of a row. Only who keeps them makes one, and only then.
-#[derive(Clone, Copy, Debug, PartialEq, Eq)]
-pub struct Receipt {
-    count: usize,
-}
-
-impl Receipt {
-    /// The receipt that was given for so many, once more.
-    pub(crate) fn again(count: usize) -> Receipt
-        ensures { result.count ≡ count }
-    {
-        Receipt { count }
-    }
-
-    /// How many entries are kept.
-    pub fn count(self) -> usize
-        ensures { result ≡ self.count }
-    {
-        self.count
-    }
-}
 
 /// What is kept: the entries of a row, of which these were kept when a keeper was handed over.
 pub trait Opening {
@@ -45,34 +23,24 @@ impl Opening for Brand {
     ghost opening = { [] };
 }
 
-// The receipt for what a keeper has seen.
-fn receipt_for<F: Write + Drop>(keeper: &Keeper<F>) -> Receipt
-    ensures { result.count ≡ length keeper.now.seen }
-{
-    Receipt {
-        count: keeper.len(),
-    }
-}
-
 /// A keeper that was handed over. What it wrote since is the text of the entries that it saw since,
 /// as long as nothing has failed.
 #[derive(Drop)]
 pub(crate) struct Writing<F: Write + Drop, J: Opening> {
     keeper: Keeper<F>,
-    has_failed: bool,
     of: PhantomData<J>,
 }
 
 impl<F: Write + Drop, J: Opening> Model for Writing<F, J> {
     ghost use Rattle.std.specs.Prelude.{◌≡◌, [], false};
-    ghost use Rattle.acdm_keeping.specs.Kept.{Keeps, WritingView};
+    ghost use Rattle.acdm_keeping.specs.Kept.{Keeps, KeeperView};
 
-    ghost Value = { WritingView F };
+    ghost Value = { KeeperView F };
 
-    ghost view = { λ w. record { keeper = w.keeper; has_failed = w.has_failed } };
+    ghost view = { λ w. w.keeper };
 
     ghost invariant = { λ w. (w.keeper.row ≡ J.desk_row)
-        × (w.has_failed ≡ false → Keeps J.opening w.keeper.seen [] w.keeper.writer.log) };
+        × (w.keeper.has_failed ≡ false → Keeps J.opening w.keeper.seen [] w.keeper.writer.log) };
 }
 
 impl<F: Write + Drop, J: Opening> Writing<F, J> {
@@ -81,52 +49,44 @@ impl<F: Write + Drop, J: Opening> Writing<F, J> {
         requires row { keeper.row ≡ J.desk_row }
         requires first { keeper.seen ≡ J.opening }
         requires fresh { keeper.writer.log ≡ [] }
-        ensures { result ≡ record { keeper = keeper; has_failed = false } }
+        ensures { result ≡ keeper }
     {
         Writing {
             keeper,
-            has_failed: false,
             of: PhantomData,
         }
     }
 
     /// A receipt for what is kept before anything is written. `Save` where keeping has failed.
     pub(crate) fn begun(&self) -> Result<Receipt, Failure>
-        ensures count { IfOk result (λ r. r.count ≡ length self.now.keeper.seen) }
+        ensures count { IfOk result (λ r. r.count ≡ length self.now.seen) }
         ensures works { OnOk result (self.now.has_failed ≡ false) }
-        ensures kept { OnOk result (Keeps J.opening self.now.keeper.seen [] self.now.keeper.writer.log) }
+        ensures kept { OnOk result (Keeps J.opening self.now.seen [] self.now.writer.log) }
         ensures failed { IfErr result (λ e. e ≡ Save) }
         ensures why { OnErr result (self.now.has_failed ≡ true) }
     {
-        if self.has_failed {
-            return Err(Failure::Save);
-        }
-        Ok(receipt_for(&self.keeper))
+        let receipt = self.keeper.kept()?;
+        Ok(receipt)
     }
 
     /// Writes all entries in sight that were not written yet, and flushes them. `Save` where that
     /// fails, and from then on.
     pub(crate) fn write_on(&mut self) -> Result<Receipt, Failure>
-        ensures row { self.new.keeper.row ≡ J.desk_row }
-        ensures count { IfOk result (λ r. r.count ≡ length self.new.keeper.seen) }
+        ensures row { self.new.row ≡ J.desk_row }
+        ensures count { IfOk result (λ r. r.count ≡ length self.new.seen) }
         ensures works { OnOk result (self.new.has_failed ≡ false) }
-        ensures kept { OnOk result (Keeps J.opening self.new.keeper.seen [] self.new.keeper.writer.log) }
-        ensures flushed { OnOk result (self.new.keeper.writer.waits ≡ false) }
+        ensures kept { OnOk result (Keeps J.opening self.new.seen [] self.new.writer.log) }
+        ensures flushed { OnOk result (self.new.writer.waits ≡ false) }
         ensures failed { IfErr result (λ e. e ≡ Save) }
         ensures why { OnErr result (self.new.has_failed ≡ true) }
-        ensures stays { self.old.has_failed ≡ true → IsErr result }
+        ensures stays { OnOk result (self.old.has_failed ≡ false) }
+        ensures any_moment { AtAnyMoment self.old.seen self.new.seen self.old.writer.log self.new.writer.log }
+        ensures still { self.old.has_failed ≡ true → self.new ≡ self.old }
     {
-        if self.has_failed {
+        let Ok(receipt) = self.keeper.keep() else {
             return Err(Failure::Save);
-        }
-        self.has_failed = true;
-        match self.keeper.keep() {
-            Ok(()) => {
-                self.has_failed = false;
-                Ok(receipt_for(&self.keeper))
-            }
-            Err(_) => Err(Failure::Save),
-        }
+        };
+        Ok(receipt)
     }
 
     /// The keeper, once all entries in sight are written, and the receipt for them. `Save` where that fails,
