@@ -82,7 +82,10 @@ def owner_of(line):
     head = line.removeprefix("impl")
     head = (behind_brackets(head) if head.startswith("<") else head).split("{")[0].split(" where ")[0].strip()
     trait, _, of = head.rpartition(" for ")
-    named = NAME.match(of)[1]
+    # (a trait of &'a mut Keeper<F> stands at RefMutKeeper and its name)
+    borrowed = re.match(r"&(?:'\w+ )?(mut )?", of)
+    named = ("RefMut" if borrowed[1] else "Ref") if borrowed else ""
+    named += NAME.match(of)[1]
     if not trait and not line.startswith("impl<") and "<" in of:
         # (the methods of Numbered<TcpStream> alone stand at Numbered+TcpStream)
         # (a lifetime is not part of a name: the methods of Entries<'_> stand at Entries)
