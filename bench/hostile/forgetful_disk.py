@@ -17,12 +17,10 @@ import shutil
 import subprocess
 import sys
 import tempfile
-import threading
-import time
 
 from cases import Cases, text, words
 from keep import legal, numbers_of, whole_of
-from keep_serving import ROLES, Board, lines_of, talk
+from keep_serving import killed_once
 
 HERE = pathlib.Path(__file__).resolve().parent
 
@@ -52,25 +50,6 @@ class ForgetfulDisk:
         return size - left
 
 
-def killed_once(program, disk, chance):
-    """Serves partners until the power is cut at a moment by chance; answers what each read until then."""
-    board = Board(program, disk.file, ["--sync"], env=disk.words)
-    streams = board.connect()
-    replies = [[] for _ in streams]
-    is_first = not (disk.file.exists() and whole_of(disk.file))
-    talks = [threading.Thread(target=talk, args=(it, lines_of(role, is_first), got)) for it, role, got in zip(streams, ROLES, replies)]
-    for it in talks:
-        it.start()
-    time.sleep(chance.uniform(0.0, 0.08))
-    board.ran.kill()
-    board.ran.communicate()
-    for it in talks:
-        it.join()
-    for it in streams:
-        it.close()
-    return replies
-
-
 def main():
     parser = words(__doc__)
     parser.add_argument("--kills", type=int, default=200, help="how often the power is cut")
@@ -86,7 +65,7 @@ def main():
         told_ever = lost_ever = 0
         for turn in range(given.kills):
             before = len(whole_of(disk.file)) if disk.file.exists() else 0
-            replies = killed_once(given.program, disk, chance)
+            replies = killed_once(given.program, disk.file, chance, ["--sync"], env=disk.words)
             lost_ever += disk.forget(chance)
             told = sorted(it for read in replies for it in numbers_of(text(read)))
             after = len(whole_of(disk.file)) if disk.file.exists() else 0

@@ -81,9 +81,9 @@ def lines_of(role, is_first):
     return [PLAN if role == "NM" else TARGET] * 3000
 
 
-def killed_once(program, file, chance, more):
+def killed_once(program, file, chance, more, **how):
     """Serves partners until the program is killed at a moment by chance; answers what each read until then."""
-    board = Board(program, file, more)
+    board = Board(program, file, more, **how)
     streams = board.connect()
     replies = [[] for _ in streams]
     is_first = not whole_of(file)

@@ -153,6 +153,7 @@ def alone(program, cases, room):
 
 def silent_terminal(program, cases):
     board = Board(program, ["--again", "--control", "PORT"], is_heard=False)
+    begun = time.monotonic()
     partner = board.connect()
     first = asked(partner, TICK)
     for _ in range(2_000):
@@ -166,7 +167,9 @@ def silent_terminal(program, cases):
     cases.expect("nor the control address", "entries 62 of" in board.ask("status"))
     cases.expect("and the board closes", board.close() == 0)
     said = board.process.stderr.read().decode().splitlines()
-    cases.expect("not all connections are told", sum(line.startswith("here ") for line in said) <= 31, len(said))
+    # (30 of a minute, and on a busy machine this may take some)
+    most = 31 * (int(time.monotonic() - begun) // 60 + 2)
+    cases.expect("not all connections are told", sum(line.startswith("here ") for line in said) <= most, len(said))
     partner.close()
 
 
