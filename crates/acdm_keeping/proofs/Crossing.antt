@@ -13,14 +13,14 @@ use Rattle.acdm_watch.specs.contracts.sight.Sight as sight
 use Rattle.acdm_keeping.specs.declared.writing.Opening as opening
 use Rattle.acdm_keeping.proofs.progress.Progress.TheSendSync as progress
 use Rattle.acdm_keeping.proofs.reach.Reach.TheSendSync as reach
-use Rattle.acdm_keeping.proofs.held.Held.TheSendSync as held
+use Rattle.acdm_keeping.proofs.held.HeldReplies.TheSendSync as held
 use Rattle.acdm_keeping.proofs.keeper.Receipt.TheSendSync as receipt
 use Rattle.acdm_keeping.specs.contracts.keeper.Keeper as keeper
 use Rattle.acdm_keeping.specs.contracts.keeper.Keeper.TheInside as keeper_inside
 use Rattle.acdm_keeping.specs.contracts.writing.Writing as writing
 use Rattle.acdm_keeping.specs.contracts.writing.Writing.TheInside as writing_inside
 use Rattle.acdm_keeping.specs.contracts.shared.SharedKeeper as shared
-use Rattle.acdm_keeping.specs.contracts.shared.Waiting as waiting
+use Rattle.acdm_keeping.specs.contracts.shared.Waiter as waiting
 use Rattle.acdm_keeping.specs.contracts.replies.Replies as replies
 
 keeper_parts : (F : RattleType) (o : write.Ghosts F.Denot) → IsSend F → IsSend (keeper_inside.the_row F o)

@@ -6,7 +6,7 @@ use std::marker::Model;
 
 /// The bytes of replies that were taken and not yet handed on. Clauses see these.
 #[derive(Drop)]
-pub(crate) struct Held {
+pub(crate) struct HeldReplies {
     bytes: Vec<u8>,
     // How many of the first were handed on.
     gone: usize,
@@ -14,7 +14,7 @@ pub(crate) struct Held {
     room: usize,
 }
 
-impl Model for Held {
+impl Model for HeldReplies {
     ghost use Rattle.std.specs.Prelude.{ℕ, List, ◌≤◌, drop, length};
 
     ghost Value = { List ℕ };
@@ -24,12 +24,12 @@ impl Model for Held {
     ghost invariant = { λ h. h.gone ≤ length h.bytes.items };
 }
 
-impl Held {
+impl HeldReplies {
     /// None, and room for so many. `Err` only where memory was refused.
-    pub(crate) fn new(alloc: Global, room: usize) -> Result<Held, AllocError>
+    pub(crate) fn new(alloc: Global, room: usize) -> Result<HeldReplies, AllocError>
         ensures { IfOk result (λ held. held ≡ []) }
     {
-        Ok(Held {
+        Ok(HeldReplies {
             bytes: Vec::with_capacity(alloc, room)?,
             gone: 0,
             room,

@@ -24,6 +24,6 @@ pub use named::{Found, Named, Paths};
 pub use reach::{Extent, Reach};
 pub use replacement::{Replacement, is_same, is_special, leads_to, sync_folder};
 pub use replies::{EntryKeeper, Replies};
-pub use shared::{SharedKeeper, Waiting};
+pub use shared::{SharedKeeper, Waiter};
 pub use synced::Synced;
 pub use writing::Opening;

@@ -6,7 +6,7 @@ ghost use Rattle.acdm_failures.specs.declared.failure.Failure.TheVariants.{Save}
 ghost use Rattle.acdm_keeping.specs.Behind.{HandsBehind, HandsOn, IsBacked, IsTold, TakesSome, handed};
 ghost use Rattle.acdm_keeping.specs.Kept.{CutsShort};
 
-use crate::held::Held;
+use crate::held::HeldReplies;
 use crate::keeper::{Keeper, Receipt};
 use acdm_failures::Failure;
 use acdm_lines::{ReplyWriter, Sink};
@@ -67,7 +67,7 @@ impl<'a, F: Write + Drop> EntryKeeper for &'a mut Keeper<F> {
 pub struct Replies<K: EntryKeeper + Drop, W: Write + Drop> {
     keeper: K,
     writer: Sink<W>,
-    held: Held,
+    held: HeldReplies,
     // The greatest number of an entry that was announced.
     last: Option<u64>,
     // The latest receipt.
@@ -91,7 +91,7 @@ impl<K: EntryKeeper + Drop, W: Write + Drop> Replies<K, W> {
         Ok(Replies {
             keeper,
             writer: Sink::new(writer),
-            held: Held::new(alloc, room)?,
+            held: HeldReplies::new(alloc, room)?,
             last: None,
             receipt: None,
         })
@@ -116,7 +116,7 @@ impl<K: EntryKeeper + Drop, W: Write + Drop> Replies<K, W> {
 }
 
 // Hands on bytes that were held back. A write that a signal interrupts is made once more.
-fn hand_on<W: Write>(writer: &mut Sink<W>, held: &mut Held) -> io::Result<()>
+fn hand_on<W: Write>(writer: &mut Sink<W>, held: &mut HeldReplies) -> io::Result<()>
     ensures all { HandsOn (handed writer.old.log held.old) (handed writer.new.log held.new) }
     ensures empty { OnOk result (held.new ≡ []) }
 {

@@ -133,21 +133,21 @@ impl<F: Write + Drop, J: Opening> SharedKeeper<F, J> {
 /// A keeper that is shared, if there is one, for a session on a thread of its own. Where there is none, nothing is kept
 /// and nobody waits.
 #[derive(Drop)]
-pub struct Waiting<'r, F: Write + Drop, J: Opening, Rt> {
+pub struct Waiter<'r, F: Write + Drop, J: Opening, Rt> {
     rt: &'r Rt,
     keeper: Option<&'r SharedKeeper<F, J>>,
 }
 
-impl<'r, F: Write + Drop, J: Opening, Rt> Waiting<'r, F, J, Rt> {
+impl<'r, F: Write + Drop, J: Opening, Rt> Waiter<'r, F, J, Rt> {
     /// For this keeper, if there is one.
-    pub fn new(rt: &'r Rt, keeper: Option<&'r SharedKeeper<F, J>>) -> Waiting<'r, F, J, Rt>
+    pub fn new(rt: &'r Rt, keeper: Option<&'r SharedKeeper<F, J>>) -> Waiter<'r, F, J, Rt>
         ensures { result.keeper ≡ keeper.entry }
     {
-        Waiting { rt, keeper }
+        Waiter { rt, keeper }
     }
 }
 
-impl<'r, F: Write + Drop, J: Opening, Rt: Wait> EntryKeeper for Waiting<'r, F, J, Rt> {
+impl<'r, F: Write + Drop, J: Opening, Rt: Wait> EntryKeeper for Waiter<'r, F, J, Rt> {
     ghost use Rattle.std.specs.Prelude.{is_some};
 
     ghost keeps = { λ w. is_some w.keeper };

@@ -23,7 +23,7 @@ use Rattle.acdm_keeping.proofs.named.Named.TheSendSync as named
 use Rattle.acdm_keeping.proofs.synced.Synced.TheSendSync as synced
 use Rattle.acdm_keeping.specs.contracts.synced.Synced as of_synced
 use Rattle.acdm_keeping.specs.contracts.replies.Replies as behind
-use Rattle.acdm_keeping.specs.contracts.shared.Waiting as waiting
+use Rattle.acdm_keeping.specs.contracts.shared.Waiter as waiting
 use Rattle.acdm_keeping.specs.declared.writing.Opening as opening
 use Rattle.acdm_serving.specs.contracts.reconnecting.Answering as answering
 use Rattle.acdm_serving.specs.contracts.reconnecting.Reading as either

@@ -14,7 +14,7 @@ use crate::ticks::{Ticks, Timer};
 use acdm_board::Desk;
 use acdm_failures::ServeError;
 use acdm_headline::serve_sessions;
-use acdm_keeping::{Named, Opening, Paths, Replies, SharedKeeper, Synced, Waiting};
+use acdm_keeping::{Named, Opening, Paths, Replies, SharedKeeper, Synced, Waiter};
 use acdm_milestones::Role;
 use acdm_partners::{
     Acceptor, Arriving, Connection, Control, Door, LineOutcome, LineQueue, PartnerPlace,
@@ -78,7 +78,7 @@ impl<'r, Rt: Wait + SystemClock> Write for Answering<'r, Rt> {
 pub type FileKeeper<J, Rt> = SharedKeeper<Synced<Rt>, J>;
 
 /// What its replies go to, once their entries are kept, where the journal is.
-pub type KeptReplyWriter<'r, J, Rt> = Replies<Waiting<'r, Synced<Rt>, J, Rt>, Answering<'r, Rt>>;
+pub type KeptReplyWriter<'r, J, Rt> = Replies<Waiter<'r, Synced<Rt>, J, Rt>, Answering<'r, Rt>>;
 
 /// Partners at listeners, in the order of their sessions, and behind these the session of the board's own ticks, if
 /// it gives any.
@@ -313,7 +313,7 @@ fn session_of<'r, J: Opening, Rt: Host, C: Clock + Drop>(
     ensures fails { IfErr result IsOfAccepting }
 {
     let (reading, answering) = ends;
-    let Ok(writer) = Replies::new(alloc, Waiting::new(rt, keeper), answering, REPLIES_HELD) else {
+    let Ok(writer) = Replies::new(alloc, Waiter::new(rt, keeper), answering, REPLIES_HELD) else {
         return Err(ServeError::Memory);
     };
     Ok(Session {

@@ -4,7 +4,7 @@ ghost use Rattle.acdm_board.specs.Desk.{row_of};
 
 use acdm_board::Desk;
 use acdm_journal::audit;
-use acdm_keeping::{Keeper, Opening, Replies, SharedKeeper, Waiting};
+use acdm_keeping::{Keeper, Opening, Replies, SharedKeeper, Waiter};
 use acdm_milestones::Role;
 use acdm_row::Row;
 use acdm_sessions::{Clock, Closed, Gate, ReplyWriter, Session, Sink, Source, run_sessions};
@@ -171,7 +171,7 @@ impl Write for Reader {
     }
 }
 
-type Answered<'r, J, Rt> = Replies<Waiting<'r, Paper, J, Rt>, Reader>;
+type Answered<'r, J, Rt> = Replies<Waiter<'r, Paper, J, Rt>, Reader>;
 
 type Opened<'r, J, Rt> = Session<Cursor<Vec<u8>>, Answered<'r, J, Rt>, Fixed>;
 
@@ -197,7 +197,7 @@ fn opened<'r, J: Opening, Rt: Wait + Abort>(
         words: 0,
         number: 0,
     };
-    let waiting = Waiting::new(rt, Some(keeper));
+    let waiting = Waiter::new(rt, Some(keeper));
     let replies = Replies::new(alloc, waiting, reader, HELD).expect(rt, "room for replies");
     Session {
         role: Role::AirportOperator,

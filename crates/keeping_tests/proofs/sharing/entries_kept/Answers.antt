@@ -22,5 +22,5 @@ pub entries_after-requires-send-W : goal.entries_after-requires-send-W
 entries_after-requires-send-W g c κs within =
     let k = c.type_bounds in
     let waiting = waiting_send (record { mir = named 2; lft = κs.1.1.0 }) paper.the_row (param 0 g.row.J)
-        (param 2 g.row.Rt) kept.ghosts g.J.Opening paper_send k.sync-Rt in
+    (param 2 g.row.Rt) kept.ghosts g.J.Opening paper_send k.sync-Rt in
     param_send 1 _ (arg_send _ no _ (replies_send _ reader.the_row taking.ghosts waiting reader_send))
