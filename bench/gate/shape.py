@@ -4,19 +4,24 @@
     python3 bench/gate/shape.py [--all]
 
 Of all crates but those of tests it says: how many functions have more than six parameters beside `self`; which names of types are
-declared in more than one crate; how many definitions have another name in a line `ghost use .. as ..`; and how many functions
-begin with `serve`. With --all each is named with its file. It fails nothing.
+declared in more than one crate; how many definitions have another name in a line `ghost use .. as ..`; how many functions
+begin with `serve`; and how many types a session is over its life, by their fields, its reader and its writer. With --all each is
+named with its file. The exit status is 1 where a function has more than six parameters, a name two meanings, or a session more
+than four types.
 """
 
 import argparse
 import collections
 import pathlib
 import re
+import sys
 
 TOP = pathlib.Path(__file__).resolve().parents[2]
 MOST = 6
+MOST_OF_SESSION = 4
 FUNCTION = re.compile(r"^ *(?:pub(?:\([a-z]+\))? )?(?:const )?(?:unsafe )?fn (\w+)", re.M)
 TYPE = re.compile(r"^(?:pub(?:\([a-z]+\))? )?(?:struct|enum|trait|type) (\w+)", re.M)
+SESSION = re.compile(r"^(?:pub(?:\([a-z]+\))? )?struct (\w+)[^{]*\{(?=[^}]*\breader: Source<)(?=[^}]*\bwriter: Sink<)", re.M)
 ALIAS = re.compile(r"^ *ghost use [^;]*?\bas (\w+)", re.M)
 
 
@@ -52,7 +57,7 @@ def main():
     words = argparse.ArgumentParser(description="Counts what makes the sources hard to live in.")
     words.add_argument("--all", action="store_true", help="name each with its file")
     asked = words.parse_args()
-    many, serving, aliases, types = [], [], [], collections.defaultdict(set)
+    many, serving, aliases, lives, types = [], [], [], [], collections.defaultdict(set)
     for file in sorted(TOP.glob("crates/*/src/**/*.rt")):
         crate = file.relative_to(TOP).parts[1]
         if crate.endswith("_tests") or crate == "faulty_streams":
@@ -67,6 +72,8 @@ def main():
                 serving.append((0, f"{where}: {found[1]}"))
         for found in TYPE.finditer(text):
             types[found[1]].add(crate)
+        if crate == "acdm_sessions":
+            lives += [(0, f"{where}: {it}") for it in SESSION.findall(text)]
         aliases += [(0, f"{where}: {it}") for it in ALIAS.findall(text)]
     twice = [(len(it), f"{name}: {', '.join(sorted(it))}") for name, it in types.items() if len(it) > 1]
     for found, what in (
@@ -74,11 +81,13 @@ def main():
         (twice, "names of types that are declared in more than one crate"),
         (aliases, "other names of definitions in lines of ghost use"),
         (serving, "functions whose name begins with serve"),
+        (lives, "types that a session is over its life"),
     ):
         print(f"{len(found)} {what}")
         for count, name in sorted(found, key=lambda it: (-it[0], it[1])) if asked.all else []:
             print(f"    {f'{count} ' if count else ''}{name}")
+    return 1 if many or twice or len(lives) > MOST_OF_SESSION else 0
 
 
 if __name__ == "__main__":
-    main()
+    sys.exit(main())

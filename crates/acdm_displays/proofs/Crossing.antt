@@ -9,7 +9,7 @@ use Rattle.acdm_displays.proofs.places.Shared.TheSendSync as shared
 use Rattle.acdm_displays.proofs.displays.DisplayKind.TheSendSync as kind
 use Rattle.acdm_displays.specs.contracts.displays.Admission as admission
 use Rattle.acdm_displays.specs.contracts.displays.Showing as showing
-use Rattle.acdm_displays.specs.contracts.places.Place as place
+use Rattle.acdm_displays.specs.contracts.places.DisplayPlace as place
 
 place_send : IsSend place.the_row
 place_send =

@@ -8,7 +8,7 @@ use crate::browsing::{answer, follow_events};
 use crate::entries::Entries;
 use crate::following::{MOST_REFUSALS, Shown, follow, follow_changes};
 use crate::leaving::has_left;
-use crate::places::{Place, Shared};
+use crate::places::{DisplayPlace, Shared};
 use acdm_failures::Failure;
 use acdm_keeping::Reach;
 use acdm_lines::{Sink, Source};
@@ -80,7 +80,7 @@ struct Showing {
     row: Arc<Row>,
     reach: Option<Reach>,
     kind: DisplayKind,
-    place: Place,
+    place: DisplayPlace,
     stream: TcpStream,
 }
 
@@ -342,7 +342,7 @@ impl<K: SystemClock + Threads + Drop> Admission<K> {
 
     // Starts a thread for a display, where a place is left.
     fn admit_one(&self, stream: TcpStream) -> Result<(), Failure> {
-        let Some(place) = Place::take(&self.shared)? else {
+        let Some(place) = DisplayPlace::take(&self.shared)? else {
             if self.kind == DisplayKind::Web {
                 let _writer = refuse_browser(self.alloc, self.shared.date(), stream)?;
             }

@@ -80,25 +80,25 @@ impl TimeLimit for Limit<'_> {
 }
 
 /// A place that is taken. It is given back where it is let go, however its display has ended.
-pub(crate) struct Place {
+pub(crate) struct DisplayPlace {
     pub(crate) shared: Arc<Shared>,
 }
 
-impl Place {
+impl DisplayPlace {
     /// Takes a place, if one is left. One thread alone takes places.
-    pub(crate) fn take(shared: &Arc<Shared>) -> Result<Option<Place>, AllocError> {
+    pub(crate) fn take(shared: &Arc<Shared>) -> Result<Option<DisplayPlace>, AllocError> {
         let shared = Arc::try_clone(shared)?;
         if shared.taken.load(Ordering::SeqCst) >= MOST_DISPLAYS {
             return Ok(None);
         }
         shared.taken.fetch_add(1, Ordering::SeqCst);
-        Ok(Some(Place { shared }))
+        Ok(Some(DisplayPlace { shared }))
     }
 }
 
-impl Drop for Place {
+impl Drop for DisplayPlace {
     fn drop(self) {
         self.shared.taken.fetch_sub(1, Ordering::SeqCst);
-        let Place { shared: _ } = self;
+        let DisplayPlace { shared: _ } = self;
     }
 }

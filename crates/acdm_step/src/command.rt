@@ -23,6 +23,17 @@ pub struct FlightPlan {
     pub destination: Text<4>,
 }
 
+/// How long the stages of a turn-round take, in minutes.
+#[derive(Clone, Copy, Debug, PartialEq, Eq)]
+pub struct Durations {
+    /// MTTT, at most `MINUTES_OF_DAY`.
+    pub mttt: u16,
+    /// EXIT.
+    pub exit: u8,
+    /// EXOT, at most `MINUTES_OF_DAY`.
+    pub exot: u16,
+}
+
 /// Creates a flight, or sets what is scheduled of one.
 ///
 /// The flight is at least 1, SOBT is a minute since 1970-01-01T00:00Z and at least 1, MTTT and EXOT
@@ -62,25 +73,24 @@ impl Schedule {
         flight: u64,
         plan: FlightPlan,
         sobt: u32,
-        mttt: u16,
-        exit: u8,
-        exot: u16,
+        durations: Durations,
         stand: u16,
     ) -> Schedule
         requires flight_given { 1 ≤ flight }
         requires sobt_given { 1 ≤ sobt }
-        requires mttt_in_range { mttt ≤ MINUTES_OF_DAY }
-        requires exot_in_range { exot ≤ MINUTES_OF_DAY }
+        requires mttt_in_range { durations.mttt ≤ MINUTES_OF_DAY }
+        requires exot_in_range { durations.exot ≤ MINUTES_OF_DAY }
         ensures { result ≡ record {
           flight = flight;
           plan = plan;
           sobt = sobt;
-          mttt = mttt;
-          exit = exit;
-          exot = exot;
+          mttt = durations.mttt;
+          exit = durations.exit;
+          exot = durations.exot;
           stand = stand;
         } }
     {
+        let Durations { mttt, exit, exot } = durations;
         Schedule {
             flight: FlightNumber::new(flight),
             plan,

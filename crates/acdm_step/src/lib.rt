@@ -15,7 +15,8 @@ mod state;
 mod verdicts;
 
 pub use command::{
-    Command, Deice, FlightNumber, FlightPlan, Load, MINUTES_OF_DAY, Report, Schedule, Unload,
+    Command, Deice, Durations, FlightNumber, FlightPlan, Load, MINUTES_OF_DAY, Report, Schedule,
+    Unload,
 };
 pub use entry::{Answers, Entry, Verdict};
 pub use outcome::{AlertList, Alerted, Outcome, UnloadedList};

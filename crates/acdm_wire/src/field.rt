@@ -21,7 +21,7 @@ use acdm_milestones::{DeicingTime, Milestone};
 use acdm_record::Text;
 use acdm_slots::{Kind, ProgramBytes};
 use acdm_step::{
-    Command, Deice, FlightNumber, FlightPlan, MINUTES_OF_DAY, Report, Schedule, Unload,
+    Command, Deice, Durations, FlightNumber, FlightPlan, MINUTES_OF_DAY, Report, Schedule, Unload,
 };
 use bpf_regstate::Length;
 use hex::FromHexError;
@@ -154,9 +154,11 @@ fn schedule_in(value: &LineJson<'_, '_>) -> Result<Command, RequestFault>
         flight,
         plan,
         sobt,
-        mttt as u16,
-        exit as u8,
-        exot as u16,
+        Durations {
+            mttt: mttt as u16,
+            exit: exit as u8,
+            exot: exot as u16,
+        },
         stand as u16,
     )))
 }

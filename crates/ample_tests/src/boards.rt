@@ -4,7 +4,7 @@
 use acdm_board::Desk;
 use acdm_milestones::Role;
 use acdm_record::Text;
-use acdm_step::{Alerted, Command, FlightPlan, Outcome, Schedule};
+use acdm_step::{Alerted, Command, Durations, FlightPlan, Outcome, Schedule};
 use bpf_helpers::{Bank, Helpers};
 use std::alloc::Global;
 use std::process::Abort;
@@ -12,6 +12,13 @@ use std::process::Abort;
 const SEVEN: u32 = 29_000_580;
 
 const TEN: u32 = 29_000_760;
+
+// The minutes of a turn-round.
+const DURATIONS: Durations = Durations {
+    mttt: 40,
+    exit: 5,
+    exot: 10,
+};
 
 fn text<const N: usize>(rt: &impl Abort, letters: &str) -> Text<N> {
     Text::from_bytes(letters.as_bytes()).expect(rt, "a text")
@@ -26,7 +33,7 @@ fn scheduled(rt: &impl Abort, flight: u64) -> Command {
         registration: text(rt, "DAIBC"),
         destination: text(rt, "EDDM"),
     };
-    let schedule = Schedule::new(flight, plan, TEN, 40, 5, 10, 12);
+    let schedule = Schedule::new(flight, plan, TEN, DURATIONS, 12);
     Command::Schedule(schedule)
 }
 

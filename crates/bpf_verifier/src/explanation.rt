@@ -29,7 +29,6 @@ pub struct Explanation {
 
 /// The first fault of these slots with its slot, and what waited at each slot when its turn came.
 fn walk(
-    alloc: Global,
     ops: &[Op],
     sigs: &Sigs,
     record_length: usize,
@@ -49,7 +48,7 @@ fn walk(
     one_pass_is_enough();
     for slot in 0..ops.len() {
         known.push(waiting.copy(slot)?)?;
-        if let Some(fault) = pass_slot(alloc, waiting, ops, sigs, record_length, slot)? {
+        if let Some(fault) = pass_slot(waiting, ops, sigs, record_length, slot)? {
             return Ok(Some((fault, slot)));
         }
     }
@@ -70,6 +69,6 @@ pub fn explain(
     let bytes = record_length.bytes();
     let mut waiting = Waiting::new(alloc, record_length, ops.len())?;
     let mut states = Vec::new(alloc);
-    let fault = walk(alloc, ops, sigs, bytes, &mut waiting, &mut states)?;
+    let fault = walk(ops, sigs, bytes, &mut waiting, &mut states)?;
     Ok(Explanation { states, fault })
 }

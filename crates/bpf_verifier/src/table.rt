@@ -17,7 +17,7 @@ use crate::waiting::Waiting;
 use bpf_decode::{Condition, Op, Operand, Register, Width};
 use bpf_helpers::Sigs;
 use bpf_regstate::State;
-use std::alloc::{AllocError, Global};
+use std::alloc::AllocError;
 
 /// Puts an edge that there may not be: a jump may have no target, or no words that lead there.
 fn put_edge(waiting: &mut Waiting, to: Option<usize>, state: Option<Box<State>>)
@@ -50,58 +50,58 @@ fn along(
     }
 }
 
-/// Sends the edges of a slot without a fault, by what is known there. What is known moves on to the
-/// end of the edge; only the target of a conditional jump gets a copy.
-fn send(
-    alloc: Global,
-    waiting: &mut Waiting,
-    ops: &[Op],
-    sigs: &Sigs,
-    record_length: usize,
-    slot: usize,
-    op: &Op,
-    state: Box<State>,
-) -> Result<(), AllocError>
-    requires short { record_length < 2 ^ 16 }
-    requires same { length waiting.old ≡ length ops.now }
-    requires few { slot < 2 ^ 32 }
-    requires jumps { jumps_badly ops.now slot op.now ≡ false }
-    requires falls { op.now ≢ Op.Tail → falls_off ops.now slot op.now ≡ false }
-    ensures { OnOk result
-        (waiting.new ≡ sent waiting.old (edges record_length sigs.now slot op.now state.value)) }
-{
-    match op {
-        Op::Ja { offset } => put_edge(waiting, target(slot, *offset as i32), Some(state)),
-        Op::Ja32 { offset } => put_edge(waiting, target(slot, *offset), Some(state)),
-        Op::Jump {
-            width,
-            condition,
-            dst,
-            operand,
-            offset,
-        } => {
-            let copy = Box::new(alloc, state.copy()?)?;
-            let taken = along(copy, *width, *condition, *dst, *operand, true);
-            let other = along(state, *width, *condition, *dst, *operand, false);
-            put_edge(waiting, target(slot, *offset as i32), taken);
-            put_edge(waiting, Some(slot + 1), other);
+impl Waiting {
+    // Sends the edges of a slot without a fault, by what is known there. What is known moves on to the
+    // end of the edge; only the target of a conditional jump gets a copy.
+    fn send(
+        &mut self,
+        ops: &[Op],
+        sigs: &Sigs,
+        record_length: usize,
+        slot: usize,
+        op: &Op,
+        state: Box<State>,
+    ) -> Result<(), AllocError>
+        requires short { record_length < 2 ^ 16 }
+        requires same { length self.old ≡ length ops.now }
+        requires few { slot < 2 ^ 32 }
+        requires jumps { jumps_badly ops.now slot op.now ≡ false }
+        requires falls { op.now ≢ Op.Tail → falls_off ops.now slot op.now ≡ false }
+        ensures { OnOk result
+            (self.new ≡ sent self.old (edges record_length sigs.now slot op.now state.value)) }
+    {
+        match op {
+            Op::Ja { offset } => put_edge(self, target(slot, *offset as i32), Some(state)),
+            Op::Ja32 { offset } => put_edge(self, target(slot, *offset), Some(state)),
+            Op::Jump {
+                width,
+                condition,
+                dst,
+                operand,
+                offset,
+            } => {
+                let copy = Box::new(*Box::allocator(&state), state.copy()?)?;
+                let taken = along(copy, *width, *condition, *dst, *operand, true);
+                let other = along(state, *width, *condition, *dst, *operand, false);
+                put_edge(self, target(slot, *offset as i32), taken);
+                put_edge(self, Some(slot + 1), other);
+            }
+            Op::Exit => {}
+            Op::Tail => {}
+            _ => {
+                let mut after = state;
+                after.advance(record_length, *op, sigs)?;
+                self.put(next_slot(slot, *op), after);
+            }
         }
-        Op::Exit => {}
-        Op::Tail => {}
-        _ => {
-            let mut after = state;
-            after.advance(record_length, *op, sigs)?;
-            waiting.put(next_slot(slot, *op), after);
-        }
+        Ok(())
     }
-    Ok(())
 }
 
 /// The fault of a slot, by what the edges of earlier slots have brought to it; where it has none,
 /// its own edges are sent. What was known at the slot is given up. `Err` only where there is no
 /// memory.
 pub fn pass_slot(
-    alloc: Global,
     waiting: &mut Waiting,
     ops: &[Op],
     sigs: &Sigs,
@@ -121,7 +121,7 @@ pub fn pass_slot(
         return Ok(Some(fault));
     }
     if let Some(state) = state {
-        send(alloc, waiting, ops, sigs, record_length, slot, op, state)?;
+        waiting.send(ops, sigs, record_length, slot, op, state)?;
     }
     Ok(None)
 }

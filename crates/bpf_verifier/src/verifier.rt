@@ -21,7 +21,6 @@ use std::alloc::{AllocError, Global};
 /// The first fault of these slots with its slot, found in one pass forward from where the start
 /// alone waits. `Err` only where there is no memory.
 fn first_fault(
-    alloc: Global,
     ops: &[Op],
     sigs: &Sigs,
     record_length: usize,
@@ -36,7 +35,7 @@ fn first_fault(
 {
     one_pass_is_enough();
     for slot in 0..ops.len() {
-        if let Some(fault) = pass_slot(alloc, waiting, ops, sigs, record_length, slot)? {
+        if let Some(fault) = pass_slot(waiting, ops, sigs, record_length, slot)? {
             return Ok(Some((fault, slot)));
         }
     }
@@ -69,7 +68,7 @@ pub fn verify(
 {
     let bytes = record_length.bytes();
     let mut waiting = Waiting::new(alloc, record_length, program.slot_count())?;
-    if let Some((fault, slot)) = first_fault(alloc, program.ops(), sigs, bytes, &mut waiting)? {
+    if let Some((fault, slot)) = first_fault(program.ops(), sigs, bytes, &mut waiting)? {
         return Err(VerifyError::Refused { fault, slot });
     }
     let sigs = sigs.copy()?;

@@ -3,12 +3,19 @@
 //! Minute 29000580 is 2025-02-20T07:00Z, and 29000760 is 10:00Z of that day.
 use acdm_milestones::{DeicingTime, Milestone};
 use acdm_record::Text;
-use acdm_step::{Command, Deice, FlightNumber, FlightPlan, Report, Schedule};
+use acdm_step::{Command, Deice, Durations, FlightNumber, FlightPlan, Report, Schedule};
 use std::process::Abort;
 
 pub(crate) const SEVEN: u32 = 29_000_580;
 
 pub(crate) const TEN: u32 = 29_000_760;
+
+// The minutes of a turn-round.
+const DURATIONS: Durations = Durations {
+    mttt: 40,
+    exit: 5,
+    exot: 10,
+};
 
 pub(crate) fn same_number(rt: &impl Abort, found: u64, wanted: u64) {
     assert_eq!(rt; found, wanted);
@@ -28,7 +35,7 @@ pub(crate) fn plan(rt: &impl Abort) -> FlightPlan {
 }
 
 pub(crate) fn scheduled(rt: &impl Abort) -> Command {
-    let schedule = Schedule::new(7, plan(rt), TEN, 40, 5, 10, 12);
+    let schedule = Schedule::new(7, plan(rt), TEN, DURATIONS, 12);
     Command::Schedule(schedule)
 }
 

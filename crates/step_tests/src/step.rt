@@ -4,8 +4,8 @@ use acdm_milestones::{Milestone, Role};
 use acdm_record::{Field, Record, Text};
 use acdm_slots::Kind;
 use acdm_step::{
-    AlertList, Alerted, Answers, Command, Core, Entry, FlightNumber, FlightPlan, Load, Outcome,
-    Report, Schedule, Unload, Verdict,
+    AlertList, Alerted, Answers, Command, Core, Durations, Entry, FlightNumber, FlightPlan, Load,
+    Outcome, Report, Schedule, Unload, Verdict,
 };
 use bpf_helpers::{Logged, Sigs};
 use std::alloc::Global;
@@ -19,6 +19,13 @@ const NINE: u32 = 29_000_700;
 
 const TEN: u32 = 29_000_760;
 
+// The minutes of a turn-round.
+pub(crate) const DURATIONS: Durations = Durations {
+    mttt: 40,
+    exit: 5,
+    exot: 10,
+};
+
 pub(crate) fn plan(rt: &impl Abort) -> FlightPlan {
     FlightPlan {
         callsign: Text::from_bytes(b"DLH7").expect(rt, "a callsign"),
@@ -30,7 +37,7 @@ pub(crate) fn plan(rt: &impl Abort) -> FlightPlan {
 
 // Flight 7, at 2025-02-20T10:00Z.
 fn scheduled(rt: &impl Abort) -> Command {
-    let schedule = Schedule::new(7, plan(rt), TEN, 40, 5, 10, 12);
+    let schedule = Schedule::new(7, plan(rt), TEN, DURATIONS, 12);
     Command::Schedule(schedule)
 }
 

@@ -3,7 +3,7 @@
 ghost use Rattle.std.specs.Prelude.{◌≤◌};
 
 use crate::fixture::{same_at, same_number};
-use crate::step::{done, empty_board, listed, plan, show, verdict_on};
+use crate::step::{DURATIONS, done, empty_board, listed, plan, show, verdict_on};
 use acdm_alerts::{AlertSet, builtin};
 use acdm_milestones::{
     Action, DeicingTime, Milestone, Refusal, Role, admit, has_reached, mark_reached, owns, set_time,
@@ -57,7 +57,7 @@ fn scheduled_at(rt: &impl Abort, flight: u64, stand: u16) -> Command {
     if flight == 0 {
         panic!(rt; "no flight");
     }
-    let schedule = Schedule::new(flight, plan(rt), TEN, 40, 5, 10, stand);
+    let schedule = Schedule::new(flight, plan(rt), TEN, DURATIONS, stand);
     Command::Schedule(schedule)
 }
 
