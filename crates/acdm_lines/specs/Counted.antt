@@ -1,7 +1,7 @@
 -- What callers see of a reader and of a writer that count their faults and keep a log.
 use Rattle.std.specs.Prelude.{ℕ, ◌+◌, ◌-◌, ◌^◌, Bool, true, false, ◌&&◌, ◌||◌, ◌==◌, nat_lt}
 use Rattle.std.specs.Prelude.{if◌then◌else◌}
-use Rattle.std.specs.Prelude.{List, [], length, take, Option, Result, Ok, Err}
+use Rattle.std.specs.Prelude.{List, [], length, take, Option, Some, None, Result, Ok, Err}
 
 -- a reader: itself, what was known at first of what it would give, how often it failed, all bytes that
 -- its reads gave since then, and whether its last read told the end
@@ -13,13 +13,15 @@ pub record SourceView (R : Type 0) : Type 0 where
   pub ended : Bool
 
 -- a writer: itself, what was known at first of what it held, how often it failed, whether bytes that it
--- took wait for a flush, and all bytes that its writes took since then
+-- took wait for a flush, all bytes that its writes took since then, and the numbers of the entries that it
+-- was told of
 pub record SinkView (W : Type 0) : Type 0 where
   pub inner : W
   pub first : Option (List ℕ)
   pub faults : ℕ
   pub waits : Bool
   pub log : List ℕ
+  pub told : List ℕ
 
 -- the count's greatest value, at which it stops
 abbrev pub most_faults : ℕ
@@ -53,3 +55,8 @@ moved (Ok n) buf = take n buf
 abbrev pub tells_end : {E : Type 0} → Result ℕ E → List ℕ → Bool
 tells_end (Err e) buf = false
 tells_end (Ok n) buf = n == 0 && nat_lt 0 (length buf)
+
+-- bytes that are known, or none
+abbrev pub known_bytes : Option (List ℕ) → List ℕ
+known_bytes None = []
+known_bytes (Some bytes) = bytes

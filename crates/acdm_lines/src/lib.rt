@@ -1,6 +1,7 @@
 //! Readers and writers that count their faults and keep a log for proofs, and the lines of a reader.
 #![tactic(auto)]
 
+mod announced;
 mod faults;
 mod kept_line;
 mod lines;

@@ -1,9 +1,10 @@
 //! A writer with a count of its faults, and a log of its bytes for proofs.
-ghost use Rattle.std.specs.Prelude.{◌≡◌, [], false, Some, is_err};
+ghost use Rattle.std.specs.Prelude.{◌≡◌, ◌++◌, ◌∷◌, [], false, Some, is_err};
 ghost use Rattle.std.specs.Io.{WritesAtMost};
 ghost use Rattle.std.specs.Io.KnownBytes.{Appends, Keeps, WriteAppends};
 ghost use Rattle.acdm_lines.specs.Counted.{faults_after, waits_after, waits_flushed, write_failed};
 
+use crate::announced::Announced;
 use crate::faults::count_fault;
 use crate::log::Log;
 use crate::reply_writer::ReplyWriter;
@@ -14,14 +15,15 @@ use std::marker::Model;
 /// any error, and a write that takes none of some bytes.
 ///
 /// Clauses also know its `log`, all bytes that its writes took since it was made, whatever writer it
-/// is; and `first`, the bytes that it held where they were known when it was made, as those of a
-/// `Vec` are.
+/// is; `first`, the bytes that it held where they were known when it was made, as those of a
+/// `Vec` are; and `told`, the numbers of the entries that it was told of, in order.
 #[derive(Drop)]
 pub struct Sink<W: Write> {
     inner: W,
     faults: u64,
     waits: bool,
     log: Log,
+    told: Announced,
 }
 
 impl<W: Write> Model for Sink<W> {
@@ -36,6 +38,7 @@ impl<W: Write> Model for Sink<W> {
       faults = s.faults;
       waits = s.waits;
       log = s.log.bytes;
+      told = s.told;
     } };
 
     ghost invariant = { λ s. Appends s.log.first (W.contents s.inner) s.log.bytes };
@@ -50,6 +53,7 @@ impl<W: Write> Sink<W> {
           faults = 0;
           waits = false;
           log = [];
+          told = [];
         } }
     {
         let log = Log::of(&inner);
@@ -58,6 +62,7 @@ impl<W: Write> Sink<W> {
             faults: 0,
             waits: false,
             log,
+            told: Announced::none(),
         }
     }
 
@@ -90,10 +95,14 @@ impl<W: ReplyWriter> Sink<W> {
     /// What is written from now on may tell of the entry of this number, and of those before it.
     pub fn announce(&mut self, number: u64)
         ensures announced { W.tells self.new.inner number }
-        ensures same { self.new ≡ record self.old { inner = self.new.inner } }
+        ensures told { self.new ≡ record self.old {
+          inner = self.new.inner;
+          told = self.old.told ++ number ∷ [];
+        } }
     {
         self.inner.announce(number);
         self.log.note(&[], false);
+        self.told = self.told.with(number);
     }
 }
 
@@ -107,6 +116,7 @@ impl<W: Write> Write for Sink<W> {
         ensures known { WriteAppends (W.contents self.old.inner) (W.contents self.new.inner)
             result buf.now }
         ensures first { self.new.first ≡ self.old.first }
+        ensures told { self.new.told ≡ self.old.told }
         ensures faults { self.new.faults ≡
             faults_after (write_failed result buf.now) self.old.faults }
         ensures waits { self.new.waits ≡ waits_after result self.old.waits }
@@ -133,6 +143,7 @@ impl<W: Write> Write for Sink<W> {
         ensures bytes { Keeps (Some self.old.log) (Some self.new.log) }
         ensures known { Keeps (W.contents self.old.inner) (W.contents self.new.inner) }
         ensures first { self.new.first ≡ self.old.first }
+        ensures told { self.new.told ≡ self.old.told }
         ensures faults { self.new.faults ≡ faults_after (is_err result) self.old.faults }
         ensures waits { self.new.waits ≡ waits_flushed result self.old.waits }
     {

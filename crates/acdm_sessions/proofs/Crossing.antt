@@ -26,7 +26,7 @@ use Rattle.acdm_sessions.specs.contracts.locked.Locked as locked
 use Rattle.acdm_sessions.specs.contracts.session.Caller as caller
 use Rattle.acdm_sessions.specs.contracts.session.Seat as seat
 use Rattle.acdm_sessions.specs.contracts.session.Served as served
-use Rattle.acdm_sessions.specs.contracts.sessions.Work as work
+use Rattle.acdm_sessions.specs.contracts.at_desk.Work as work
 
 locked_send : (H L : RattleType) (g : helpers.Ghosts H.Denot) (n : naming.Ghosts L.Denot)
     (l : ledger.Ghosts L.Denot) → IsSend H → IsSend (locked.the_row H L g n l)

@@ -1,3 +1,4 @@
+pub mod Announcing
 pub mod Answering
 pub mod Calling
 pub mod Completing

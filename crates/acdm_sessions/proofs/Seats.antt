@@ -11,8 +11,10 @@ use Rattle.acdm_lines.specs.declared.run_error.RunError.{RunError}
 use Rattle.acdm_lines.specs.declared.run_error.RunError.TheVariants.{Memory, Read, Write}
 use Rattle.acdm_sessions.specs.Sessions.{SessionEnd, numbered, HaveEnded, EndsAs}
 use Rattle.acdm_sessions.specs.Sessions.{HasServed, ServesAs, SessionAnswers, end_for, new_pass}
-use Rattle.acdm_sessions.specs.Sessions.{session_left, session_start}
+use Rattle.acdm_sessions.specs.Sessions.{session_end, session_left, session_start}
+use Rattle.acdm_sessions.specs.Announced.{TellsMade}
 use Rattle.acdm_sessions.specs.Stream.{AnswersLines, EndsSo, serving_by}
+use Rattle.acdm_sessions.proofs.Announcing.{tells_all}
 
 pub map_map : {X Y Z : Type 0} (g : Y → Z) (f : X → Y) (xs : List X)
     → map (λ x. g (f x)) xs ≡ map g (map f xs)
@@ -202,7 +204,19 @@ module _ {R W T : Type 0} (row : RowView) (number : ℕ) (role : Role) (gives : 
   pub has_served : (result : Result T RunError)
       → AnswersLines (serving_by (SessionAnswers gives row.sigs)) r r' w w' (new_pass row number role)
       p' result
+      → (made : List ℕ) → made ≡ [] → TellsMade made p'.numbers w.told w'.told
       → HasServed row number (session_start role r w gives)
       (session_left (end_for result) r' w' p')
-  has_served result h =
-      (serves_as result h.ends, λ i. (h.same_reader i, h.same_writer i))
+  has_served result h made none told = record {
+    served = serves_as result h.ends;
+    known = λ i. (h.same_reader i, h.same_writer i);
+    told = tells_all none told;
+  }
+
+-- a session whose lines were answered was started
+pub ends_as : {T : Type 0} (number : ℕ) (role : Role) (calls : ℕ) (result : Result T RunError)
+    → EndsAs number role (session_end number role calls (end_for result))
+ends_as number role calls (Ok x) = record { same_number = refl; same_role = refl; not_started = λ same. cc }
+ends_as number role calls (Err Read) = record { same_number = refl; same_role = refl; not_started = λ same. cc }
+ends_as number role calls (Err Write) = record { same_number = refl; same_role = refl; not_started = λ same. cc }
+ends_as number role calls (Err Memory) = record { same_number = refl; same_role = refl; not_started = λ same. cc }

@@ -1,3 +1,4 @@
+pub mod Announced
 pub mod Orders
 pub mod Output
 pub mod Passes

@@ -122,13 +122,14 @@ pub record EndsAs (number : ℕ) (role : Role) (t : SessionEnd) : Type 0 where
 -- ---- what was read and written
 
 -- What a session is opened with: its role, all bytes that its reader gave so far and how often it
--- failed, all that its writer took and how often it failed, and the minutes that its clock may
--- give. With them stands what was known of both at first.
+-- failed, all that its writer took, the entries that it was told of, and how often it failed, and the
+-- minutes that its clock may give. With them stands what was known of both at first.
 pub record SessionStart : Type 0 where
   pub role : Role
   pub read : List ℕ
   pub faults : ℕ
   pub written : List ℕ
+  pub told : List ℕ
   pub write_faults : ℕ
   pub known : Option (List ℕ) × Option (List ℕ)
   pub gives : ℕ → Bool
@@ -141,6 +142,7 @@ session_start role reader writer gives =
       read = reader.log;
       faults = reader.faults;
       written = writer.log;
+      told = writer.told;
       write_faults = writer.faults;
       known = (reader.first, writer.first);
       gives = gives;
@@ -154,6 +156,7 @@ new_session role gives =
       read = [];
       faults = 0;
       written = [];
+      told = [];
       write_faults = 0;
       known = (None, None);
       gives = gives;
@@ -167,6 +170,7 @@ pub record SessionLeft : Type 0 where
   pub ended : Bool
   pub faults : ℕ
   pub written : List ℕ
+  pub told : List ℕ
   pub waits : Bool
   pub write_faults : ℕ
   pub known : Option (List ℕ) × Option (List ℕ)
@@ -180,6 +184,7 @@ session_left end reader writer pass =
       ended = reader.ended;
       faults = reader.faults;
       written = writer.log;
+      told = writer.told;
       waits = writer.waits;
       write_faults = writer.faults;
       known = (reader.first, writer.first);
@@ -224,9 +229,12 @@ ServesAs row number s t ends.Torn = ⊥
 ServesAs row number s t _ =
     (t.read ≡ s.read) × (t.written ≡ s.written) × (t.pass ≡ new_pass row number s.role)
 
--- A session served so. What was known of its reader and writer at first stays as it was.
-abbrev pub HasServed : RowView → ℕ → SessionStart → SessionLeft → Type 0
-HasServed row number s t = ServesAs row number s t t.end × (t.known ≡ s.known)
+-- A session served so. What was known of its reader and writer at first stays as it was. Its writer was told of the
+-- entries that its calls made, of each before it took the reply, and of no others.
+pub record HasServed (row : RowView) (number : ℕ) (s : SessionStart) (t : SessionLeft) : Type 0 where
+  pub served : ServesAs row number s t t.end
+  pub known : t.known ≡ s.known
+  pub told : t.told ≡ s.told ++ t.pass.numbers
 
 -- the same of all sessions, numbered from 1
 abbrev pub HaveServed : RowView → List SessionStart → List SessionLeft → Type 0

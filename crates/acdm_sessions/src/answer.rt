@@ -39,9 +39,13 @@ fn answer_line<H: Helpers + Drop>(alloc: Global, line: &[u8], desk: &mut Desk<H>
 }
 
 impl<H: Helpers + Drop> Answerer for Desk<H> {
+    ghost use Rattle.std.specs.Prelude.{length};
+    ghost use Rattle.acdm_sessions.specs.Announced.{numbers_to};
     ghost use Rattle.acdm_sessions.specs.Output.{Answers};
 
     ghost may = { λ before after line answer. Answers before after line answer };
+
+    ghost made = { λ desk. numbers_to (length desk.history) };
 
     fn answer(&mut self, alloc: Global, line: &[u8]) -> Answer {
         answer_line(alloc, line, self)

@@ -1,6 +1,7 @@
 //! One session, from its first line to its last reply.
 ghost use Rattle.std.specs.Prelude.{◌≡◌, ◌-◌, ◌≤◌, ◌<◌, ◌^◌, false, Err, IfOk};
 ghost use Rattle.acdm_board.specs.Desk.{is_foreign};
+ghost use Rattle.acdm_sessions.specs.Announced.{TellsMade};
 ghost use Rattle.acdm_sessions.specs.Orders.{Orders};
 ghost use Rattle.acdm_sessions.specs.Sessions.{CallAnswers, EndsAs, HasServed, SessionAnswers};
 ghost use Rattle.acdm_sessions.specs.Sessions.{end_for, session_end, session_left, session_start};
@@ -15,6 +16,7 @@ use crate::order::{Order, order_in};
 use crate::session::{Caller, End, Seat, Served};
 use crate::stream::serve_lines;
 use acdm_board::DeskError;
+use acdm_jobs::Job;
 use acdm_lines::{ReplyWriter, RunError, Sink, Source};
 use acdm_wire::Bad;
 use bpf_helpers::Helpers;
@@ -90,6 +92,8 @@ impl<'s, C: Clock + Drop, H: Helpers + Drop, J: Naming, G: Gate, Rt: Wait> Answe
         × StaysItself (C.gives before.caller.clock) (C.gives after.caller.clock)
         before.caller.number after.caller.number before.caller.role after.caller.role };
 
+    ghost made = { λ session. session.caller.pass.numbers };
+
     fn answer(&mut self, alloc: Global, line: &[u8]) -> Answer {
         self.called = false;
         let answer = match self.caller.order(alloc, line) {
@@ -112,34 +116,6 @@ impl<'s, C: Clock + Drop, H: Helpers + Drop, J: Naming, G: Gate, Rt: Wait> Answe
     }
 }
 
-// Answers each line of a session, at once, until its input ends.
-fn answer_all<
-    's,
-    R: Read,
-    W: ReplyWriter,
-    C: Clock + Drop,
-    H: Helpers + Drop,
-    J: Naming,
-    G: Gate,
-    Rt: Wait,
->(
-    alloc: Global,
-    reader: &mut Source<R>,
-    writer: &mut Sink<W>,
-    who: &mut AtDesk<'s, C, H, J, G, Rt>,
-) -> Result<(), RunError>
-    requires reads { reader.old.faults < 2 ^ 64 - 1 }
-    requires writes { writer.old.faults < 2 ^ 64 - 1 }
-    ensures lines { AnswersLines (serving_by (SessionAnswers (C.gives who.old.caller.clock)
-        J.desk_row.sigs)) reader.old reader.new writer.old writer.new who.old.caller.pass
-        who.new.caller.pass result }
-    ensures number { who.new.caller.number ≡ who.old.caller.number }
-    ensures role { who.new.caller.role ≡ who.old.caller.role }
-    ensures memory { result ≡ Err RunError.Memory → who.new ≡ who.old }
-{
-    serve_lines::<R, W, AtDesk<'s, C, H, J, G, Rt>, Aloud>(alloc, reader, writer, who)
-}
-
 // How a session ends whose lines were answered so.
 fn end_of(answered: Result<(), RunError>) -> End
     ensures { result ≡ end_for answered }
@@ -152,64 +128,94 @@ fn end_of(answered: Result<(), RunError>) -> End
     }
 }
 
-// A session from its beginning to its end. With no leave to begin it ends at once.
-pub(crate) fn serve<
+// A session that waits for its thread, and what it is served with.
+#[derive(Drop)]
+pub(crate) struct Work<
+    's,
     R: Read + Drop,
     W: ReplyWriter + Drop,
-    C: Clock + Drop,
+    C: Drop,
     H: Helpers + Drop,
     J: Naming,
-    G: Gate,
-    Rt: Wait,
->(
-    rt: &Rt,
-    alloc: Global,
-    shared: &Mutex<Locked<H, J>>,
-    gate: &G,
-    seat: Seat<R, W, C, J>,
-    begins: bool,
-) -> Served<R, W, C, J>
-    ensures end { EndsAs seat.number seat.role
-        (session_end result.number result.role result.caller.calls result.end) }
-    ensures served { HasServed J.desk_row seat.number
-        (session_start seat.role seat.reader seat.writer (C.gives seat.caller.clock))
-        (session_left result.end result.reader result.writer result.caller.pass) }
-{
-    let Seat {
-        number,
-        role,
-        caller,
-        mut reader,
-        mut writer,
-    } = seat;
-    if !begins {
+    G,
+    Rt,
+> {
+    pub(crate) rt: &'s Rt,
+    pub(crate) alloc: Global,
+    pub(crate) shared: &'s Mutex<Locked<H, J>>,
+    pub(crate) gate: &'s G,
+    pub(crate) seat: Seat<R, W, C, J>,
+}
+
+impl<
+    's,
+    R: Read + Drop + Send,
+    W: ReplyWriter + Drop + Send,
+    C: Clock + Drop + Send,
+    H: Helpers + Drop + Send,
+    J: Naming + Send + Sync,
+    G: Gate + Sync,
+    Rt: Wait + Sync,
+> Job<Served<R, W, C, J>> for Work<'s, R, W, C, H, J, G, Rt> {
+    ghost use Rattle.acdm_sessions.specs.Sessions.{EndsAs, HasServed, session_end, session_left};
+    ghost use Rattle.acdm_sessions.specs.Sessions.{session_start};
+
+    ghost gives = { λ work served. EndsAs work.seat.number work.seat.role
+        (session_end served.number served.role served.caller.calls served.end)
+        × HasServed J.desk_row work.seat.number
+        (session_start work.seat.role work.seat.reader work.seat.writer (C.gives work.seat.caller.clock))
+        (session_left served.end served.reader served.writer served.caller.pass) };
+
+    // From its first line to its last reply. With no leave to begin it ends at once.
+    fn run(self, begins: bool) -> Served<R, W, C, J> {
+        let Work {
+            rt,
+            alloc,
+            shared,
+            gate,
+            seat,
+        } = self;
+        let Seat {
+            number,
+            role,
+            caller,
+            mut reader,
+            mut writer,
+        } = seat;
+        if !begins {
+            gate.ended(number);
+            return Served {
+                number,
+                role,
+                caller,
+                reader,
+                writer,
+                end: End::Start,
+            };
+        }
+        let mut who = AtDesk {
+            rt,
+            shared,
+            gate,
+            caller,
+            turn: 0,
+            called: false,
+        };
+        let answered = serve_lines::<R, W, AtDesk<'s, C, H, J, G, Rt>, Aloud>(
+            alloc,
+            &mut reader,
+            &mut writer,
+            &mut who,
+        );
+        let AtDesk { caller, .. } = who;
         gate.ended(number);
-        return Served {
+        Served {
             number,
             role,
             caller,
             reader,
             writer,
-            end: End::Start,
-        };
-    }
-    let mut at_desk = AtDesk {
-        rt,
-        shared,
-        gate,
-        caller,
-        turn: 0,
-        called: false,
-    };
-    let end = end_of(answer_all(alloc, &mut reader, &mut writer, &mut at_desk));
-    let AtDesk { caller, .. } = at_desk;
-    gate.ended(number);
-    Served {
-        number,
-        role,
-        caller,
-        reader,
-        writer,
-        end,
+            end: end_of(answered),
+        }
     }
 }

@@ -47,6 +47,7 @@ fn hold_full<H: Helpers + Drop>(desk: &mut Desk<H>, pass: &mut Pass)
     if !desk.holds(pass) {
         unreachable!();
     }
+    // (its contract says that the journal is legal: `full`)
     let _core = desk.core();
 }
 
@@ -92,6 +93,7 @@ impl<H: Helpers + Drop, J: Naming> Locked<H, J> {
         };
         book.add(mine, 1);
         book.audit(mine);
+        // (its contract counts the journal, for the invariant)
         let _count = desk.len();
         Ok(reply)
     }

@@ -64,6 +64,7 @@ pub(crate) fn next_line<R: Read, W: Write>(
     ensures quiet_fault { result ≡ Err RunError.Read → writer.new.waits ≡ false }
     ensures log { writer.new.log ≡ writer.old.log }
     ensures first { writer.new.first ≡ writer.old.first }
+    ensures told { writer.new.told ≡ writer.old.told }
     ensures well { OnOk result (writer.new.faults ≡ writer.old.faults) }
 
     ensures read { result ≡ Err RunError.Read →

@@ -2,6 +2,7 @@
 ghost use Rattle.std.specs.Prelude.{◌≡◌, true, false, Err, IfErr, OnOk};
 ghost use Rattle.acdm_lines.specs.Counted.{faults_after};
 ghost use Rattle.acdm_wire.specs.Writes.{Writes};
+ghost use Rattle.acdm_sessions.specs.Announced.{once_told};
 ghost use Rattle.acdm_sessions.specs.declared.answer.Answer.TheVariants.{Entered};
 ghost use Rattle.acdm_sessions.specs.Output.{reply_text};
 
@@ -17,7 +18,7 @@ pub(crate) fn write_reply<W: Write, N: Announcer<W>>(
     writer: &mut Sink<W>,
     answer: &Answer,
 ) -> Result<(), RunError>
-    ensures { Writes writer.old writer.new (reply_text answer.now) result }
+    ensures { Writes (once_told N.is_told writer.old answer.now) writer.new (reply_text answer.now) result }
 {
     match answer {
         Answer::Entered(reply) => {
@@ -43,6 +44,7 @@ fn write_announced<W: Write, N: Announcer<W>>(
 pub(crate) fn let_go<W: Write>(writer: &mut Sink<W>) -> Result<(), RunError>
     ensures log { writer.new.log ≡ writer.old.log }
     ensures first { writer.new.first ≡ writer.old.first }
+    ensures told { writer.new.told ≡ writer.old.told }
     ensures gone { OnOk result (writer.new.waits ≡ false) }
     ensures well { OnOk result (writer.new.faults ≡ writer.old.faults) }
     ensures kind { IfErr result (λ e. e ≡ RunError.Write) }

@@ -8,12 +8,12 @@ ghost use Rattle.acdm_sessions.specs.Passes.{IsShown};
 ghost use Rattle.acdm_sessions.specs.Sessions.{ServesSessions, numbered, session_end, session_left};
 ghost use Rattle.acdm_sessions.specs.Sessions.{session_start, session_told};
 
-use crate::at_desk::serve;
+use crate::at_desk::Work;
 use crate::clock::{Clock, Gate};
 use crate::locked::{Locked, Naming};
 use crate::session::{Caller, Closed, EndedSession, Seat, Served, Session};
 use acdm_board::Desk;
-use acdm_jobs::{Crew, Job};
+use acdm_jobs::Crew;
 use acdm_lines::ReplyWriter;
 use acdm_milestones::Role;
 use acdm_row::Pass;
@@ -24,56 +24,6 @@ use std::marker::Brand;
 use std::sync::ledger::{Blank, Share};
 use std::sync::{Mutex, Wait};
 use std::thread::Threads;
-
-// A session, and what it is served with.
-#[derive(Drop)]
-struct Work<
-    's,
-    R: Read + Drop,
-    W: ReplyWriter + Drop,
-    C: Drop,
-    H: Helpers + Drop,
-    J: Naming,
-    G,
-    Rt,
-> {
-    rt: &'s Rt,
-    alloc: Global,
-    shared: &'s Mutex<Locked<H, J>>,
-    gate: &'s G,
-    seat: Seat<R, W, C, J>,
-}
-
-impl<
-    's,
-    R: Read + Drop + Send,
-    W: ReplyWriter + Drop + Send,
-    C: Clock + Drop + Send,
-    H: Helpers + Drop + Send,
-    J: Naming + Send + Sync,
-    G: Gate + Sync,
-    Rt: Wait + Sync,
-> Job<Served<R, W, C, J>> for Work<'s, R, W, C, H, J, G, Rt> {
-    ghost use Rattle.acdm_sessions.specs.Sessions.{EndsAs, HasServed, session_end, session_left};
-    ghost use Rattle.acdm_sessions.specs.Sessions.{session_start};
-
-    ghost gives = { λ work served. EndsAs work.seat.number work.seat.role
-        (session_end served.number served.role served.caller.calls served.end)
-        × HasServed J.desk_row work.seat.number
-        (session_start work.seat.role work.seat.reader work.seat.writer (C.gives work.seat.caller.clock))
-        (session_left served.end served.reader served.writer served.caller.pass) };
-
-    fn run(self, begins: bool) -> Served<R, W, C, J> {
-        let Work {
-            rt,
-            alloc,
-            shared,
-            gate,
-            seat,
-        } = self;
-        serve(rt, alloc, shared, gate, seat, begins)
-    }
-}
 
 // Work for each seat, in order.
 fn filled<
@@ -241,6 +191,7 @@ fn left_by<R: Read + Drop, W: ReplyWriter + Drop, C: Drop, H: Helpers + Drop, J:
     } = caller;
     all.merge(share);
     let torn = !desk.holds(&mut pass);
+    // (its contract says which its own entries are: `shown`)
     let _own = pass.own_len();
     EndedSession {
         number,

@@ -1,5 +1,6 @@
 //! From a reader to a writer.
-ghost use Rattle.std.specs.Prelude.{◌-◌, ◌^◌, ◌<◌};
+ghost use Rattle.std.specs.Prelude.{◌≡◌, ◌-◌, ◌^◌, ◌<◌, true, length};
+ghost use Rattle.acdm_sessions.specs.Announced.{TellsMade, numbers_to};
 ghost use Rattle.acdm_sessions.specs.Run.{serving_desk};
 ghost use Rattle.acdm_sessions.specs.Stream.{AnswersLine, AnswersLines, serving_by};
 
@@ -21,7 +22,11 @@ pub(crate) const MOST_KEPT: usize = LONGEST_REQUEST + 1;
 struct Silent;
 
 impl<W: Write> Announcer<W> for Silent {
+    ghost use Rattle.std.specs.Prelude.{false};
+
     ghost tells = { λ _ _. Unit {0} };
+
+    ghost is_told = { false };
 
     fn announce(_writer: &mut Sink<W>, _number: u64) {}
 }
@@ -33,7 +38,9 @@ fn serve_line<W: Write, A: Answerer, N: Announcer<W>>(
     writer: &mut Sink<W>,
     who: &mut A,
 ) -> Result<(), RunError>
-    ensures { AnswersLine A.may writer.old writer.new who.old who.new line.now result }
+    ensures line { AnswersLine A.may writer.old writer.new who.old who.new line.now result }
+    ensures told { N.is_told ≡ true →
+        TellsMade (A.made who.old) (A.made who.new) writer.old.told writer.new.told }
 {
     let answer = who.answer(alloc, line);
     write_reply::<W, N>(writer, &answer)?;
@@ -51,8 +58,10 @@ pub(crate) fn serve_lines<R: Read, W: Write, A: Answerer, N: Announcer<W>>(
 ) -> Result<(), RunError>
     requires reads { reader.old.faults < 2 ^ 64 - 1 }
     requires writes { writer.old.faults < 2 ^ 64 - 1 }
-    ensures { AnswersLines (serving_by A.may) reader.old reader.new writer.old writer.new who.old who.new
+    ensures lines { AnswersLines (serving_by A.may) reader.old reader.new writer.old writer.new who.old who.new
         result }
+    ensures told { N.is_told ≡ true →
+        TellsMade (A.made who.old) (A.made who.new) writer.old.told writer.new.told }
 {
     let Ok(mut lines) = Lines::<MOST_KEPT>::new(alloc) else {
         return Err(RunError::Memory);
@@ -105,8 +114,12 @@ pub fn run_announced<R: Read, W: ReplyWriter, H: Helpers + Drop>(
 ) -> Result<(), RunError>
     requires reads { reader.old.faults < 2 ^ 64 - 1 }
     requires writes { writer.old.faults < 2 ^ 64 - 1 }
-    ensures { AnswersLines serving_desk reader.old reader.new writer.old writer.new desk.old desk.new
+    ensures lines { AnswersLines serving_desk reader.old reader.new writer.old writer.new desk.old desk.new
         result }
+
+    // The writer was told of each entry that was made, in order, before it took the reply.
+    ensures told { TellsMade (numbers_to (length desk.old.history)) (numbers_to (length desk.new.history))
+        writer.old.told writer.new.told }
 {
     serve_lines::<R, W, Desk<H>, Aloud>(alloc, reader, writer, desk)
 }

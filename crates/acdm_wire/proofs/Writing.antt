@@ -57,6 +57,7 @@ module _ {W : Type 0} (old mid new : SinkView W) where
     wrote = log-both old.log mid.log new.log bs cs
         p.wrote q.wrote;
     same = q.same ∙ p.same;
+    told = q.told ∙ p.told;
     well = q.well ∙ p.well;
   }
 
@@ -67,6 +68,7 @@ module _ {W : Type 0} (old mid new : SinkView W) where
     wrote = part-back old.log mid.log new.log bs cs
         p.wrote q.wrote;
     same = q.same ∙ p.same;
+    told = q.told ∙ p.told;
     fault = q.fault ∙ ap (faults_after true) p.well;
     kind = q.kind;
   }
@@ -84,6 +86,7 @@ pub wrote-front : {W : Type 0} (old new : SinkView W)
 wrote-front old new bs cs e p = record {
   wrote = part-front old.log new.log bs cs p.wrote;
   same = p.same;
+  told = p.told;
   fault = p.fault;
   kind = p.kind;
 }

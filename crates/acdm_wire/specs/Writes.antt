@@ -12,6 +12,7 @@ AppendsPart old new bs = (n : ℕ) × (new ≡ old ++ take n bs)
 pub record Wrote {W : Type 0} (old new : SinkView W) (text : List ℕ) : Type 0 where
   pub wrote : new.log ≡ old.log ++ text
   pub same : new.first ≡ old.first
+  pub told : new.told ≡ old.told
   pub well : new.faults ≡ old.faults
 
 -- the writer failed once more, after some of the first bytes of a text, at most all
@@ -19,6 +20,7 @@ pub record WroteInPart {W : Type 0} (old new : SinkView W) (text : List ℕ) (er
     : Type 0 where
   pub wrote : AppendsPart old.log new.log text
   pub same : new.first ≡ old.first
+  pub told : new.told ≡ old.told
   pub fault : new.faults ≡ faults_after true old.faults
   pub kind : error ≡ errors.Write
 

@@ -1,6 +1,7 @@
 use Rattle.std.proofs.Common.{◌<◌, ◌≢◌, length, true, Ok, Err, refl, sym, ap, ◌∙◌, arith, inl, inr}
 use Rattle.std.proofs.lemmas.Bool.{eqb-true, eqb-false}
 use Rattle.std.proofs.lemmas.Result.{err_from_is_err_and}
+use Rattle.acdm_sessions.proofs.Announcing.{tells_none, tells_on, tells_same}
 use Rattle.acdm_sessions.proofs.Running.{sofar-begins, sofar-line, sofar-ends, sofar-rest}
 use Rattle.acdm_sessions.proofs.Running.{sofar-part, sofar-same}
 use Rattle.acdm_sessions.proofs.Running.{part-line, part-rest, flush-same, flush-last}
@@ -18,12 +19,13 @@ loop-lines-init g c = record {
   same_writer = refl;
   read_well = refl;
   wrote_well = refl;
+  told = λ is. tells_none;
 }
 
 pub loop-lines-preserved : goal.loop-lines-preserved
 loop-lines-preserved g c =
     let t = rw c.in-LineFeed.is at c.in_ok-next_line.ensures.takes in
-    let answered = rw c.as_slice.ensures at c.in_ok-serve_line.ensures in
+    let answered = rw c.as_slice.ensures at c.in_ok-serve_line.ensures.line in
     let so_far = sofar-same g.A.Answerer.may _ _ _ _ _ _ _ _ _ c.next_line.ensures.log
     c.loop-lines.invariant.sofar in
     record {
@@ -36,10 +38,12 @@ loop-lines-preserved g c =
       read_well = t.well ∙ c.loop-lines.invariant.read_well;
       wrote_well = answered.well ∙ c.in_ok-next_line.ensures.well
           ∙ c.loop-lines.invariant.wrote_well;
+      told = λ is. tells_on (tells_same (c.loop-lines.invariant.told is) c.next_line.ensures.told)
+          (c.serve_line.ensures.told is);
     }
 
-pub returns-in_err-next_line : goal.returns-in_err-next_line
-returns-in_err-next_line g c =
+pub returns-in_err-next_line-clause-lines : goal.returns-in_err-next_line-clause-lines
+returns-in_err-next_line-clause-lines g c =
     let before = c.loop-lines.invariant in
     let next = c.in_err-next_line.ensures in
     let so_far = sofar-same g.A.Answerer.may _ _ _ _ _ _ _ _ _ c.next_line.ensures.log before.sofar in
@@ -70,11 +74,11 @@ returns-in_err-next_line g c =
       },
     )))
 
-pub returns-in_err-serve_line : goal.returns-in_err-serve_line
-returns-in_err-serve_line g c =
+pub returns-in_err-serve_line-clause-lines : goal.returns-in_err-serve_line-clause-lines
+returns-in_err-serve_line-clause-lines g c =
     let before = c.loop-lines.invariant in
     let t = rw c.in-LineFeed.is at c.in_ok-next_line.ensures.takes in
-    let failed = rw c.as_slice.ensures at c.in_err-serve_line.ensures in
+    let failed = rw c.as_slice.ensures at c.in_err-serve_line.ensures.line in
     let so_far = sofar-same g.A.Answerer.may _ _ _ _ _ _ _ _ _ c.next_line.ensures.log before.sofar in
     let failure = c.from_residual-in_err-serve_line in
     let p = err_from_is_err_and failure.result failure.ensures.1 in
@@ -93,8 +97,8 @@ returns-in_err-serve_line g c =
           c.next_line.new.writer c.serve_line.new.writer _ _ _ so_far _ _ t failed);
     }))
 
-pub returns-then-is_empty : goal.returns-then-is_empty
-returns-then-is_empty g c =
+pub returns-then-is_empty-clause-lines : goal.returns-then-is_empty-clause-lines
+returns-then-is_empty-clause-lines g c =
     let before = c.loop-lines.invariant in
     let ended = input-from_not_line_feed _ c.in_default-2.not-LineFeed in
     let t = rw ended at c.in_ok-next_line.ensures.takes in
@@ -114,8 +118,8 @@ returns-then-is_empty g c =
       };
     }
 
-pub returns-in_err-serve_line-2 : goal.returns-in_err-serve_line-2
-returns-in_err-serve_line-2 g c =
+pub returns-in_err-serve_line-2-clause-lines : goal.returns-in_err-serve_line-2-clause-lines
+returns-in_err-serve_line-2-clause-lines g c =
     let before = c.loop-lines.invariant in
     let ended = input-from_not_line_feed _ c.in_default-2.not-LineFeed in
     let t = rw ended at c.in_ok-next_line.ensures.takes in
@@ -123,7 +127,7 @@ returns-in_err-serve_line-2 g c =
     λ none. eqb-false (length c.as_slice-2.result.now) 0
     (sym c.is_empty.ensures ∙ c.if-is_empty.false) (ap length c.as_slice-2.ensures ∙ none) in
     let some : 0 < length c.next_line.new.lines.line = omega arith in
-    let failed = rw c.as_slice-3.ensures at c.in_err-serve_line-2.ensures in
+    let failed = rw c.as_slice-3.ensures at c.in_err-serve_line-2.ensures.line in
     let so_far = sofar-same g.A.Answerer.may _ _ _ _ _ _ _ _ _ c.next_line.ensures.log before.sofar in
     let failure = c.from_residual-in_err-serve_line-2 in
     let p = err_from_is_err_and failure.result failure.ensures.1 in
@@ -142,8 +146,8 @@ returns-in_err-serve_line-2 g c =
           c.next_line.new.writer c.serve_line-2.new.writer _ _ _ so_far _ _ t some failed);
     }))
 
-pub returns-in_err-let_go : goal.returns-in_err-let_go
-returns-in_err-let_go g c =
+pub returns-in_err-let_go-clause-lines : goal.returns-in_err-let_go-clause-lines
+returns-in_err-let_go-clause-lines g c =
     let before = c.loop-lines.invariant in
     let ended = input-from_not_line_feed _ c.in_default-2.not-LineFeed in
     let t = rw ended at c.in_ok-next_line.ensures.takes in
@@ -151,7 +155,7 @@ returns-in_err-let_go g c =
     λ none. eqb-false (length c.as_slice-2.result.now) 0
     (sym c.is_empty.ensures ∙ c.if-is_empty.false) (ap length c.as_slice-2.ensures ∙ none) in
     let some : 0 < length c.next_line.new.lines.line = omega arith in
-    let answered = rw c.as_slice-3.ensures at c.in_ok-serve_line-2.ensures in
+    let answered = rw c.as_slice-3.ensures at c.in_ok-serve_line-2.ensures.line in
     let so_far = sofar-same g.A.Answerer.may _ _ _ _ _ _ _ _ _ c.next_line.ensures.log before.sofar in
     let all = sofar-rest g.A.Answerer.may c.args.reader.now c.loop-lines.reader
     c.next_line.new.reader c.loop-lines.lines c.next_line.new.lines
@@ -175,8 +179,8 @@ returns-in_err-let_go g c =
           (inr (flush-last g.A.Answerer.may _ _ _ _ _ _ _ all));
     }))
 
-pub returns : goal.returns
-returns g c =
+pub returns-clause-lines : goal.returns-clause-lines
+returns-clause-lines g c =
     let before = c.loop-lines.invariant in
     let ended = input-from_not_line_feed _ c.in_default-2.not-LineFeed in
     let t = rw ended at c.in_ok-next_line.ensures.takes in
@@ -184,7 +188,7 @@ returns g c =
     λ none. eqb-false (length c.as_slice-2.result.now) 0
     (sym c.is_empty.ensures ∙ c.if-is_empty.false) (ap length c.as_slice-2.ensures ∙ none) in
     let some : 0 < length c.next_line.new.lines.line = omega arith in
-    let answered = rw c.as_slice-3.ensures at c.in_ok-serve_line-2.ensures in
+    let answered = rw c.as_slice-3.ensures at c.in_ok-serve_line-2.ensures.line in
     let so_far = sofar-same g.A.Answerer.may _ _ _ _ _ _ _ _ _ c.next_line.ensures.log before.sofar in
     record {
       same_reader = t.same ∙ before.same_reader;
@@ -201,3 +205,31 @@ returns g c =
         flushed = c.in_ok-let_go.ensures.gone;
       };
     }
+
+-- ---- of which entries the writer was told
+
+pub returns-in_err-next_line-clause-told : goal.returns-in_err-next_line-clause-told
+returns-in_err-next_line-clause-told g c = λ is.
+    tells_same (c.loop-lines.invariant.told is) c.next_line.ensures.told
+
+pub returns-in_err-serve_line-clause-told : goal.returns-in_err-serve_line-clause-told
+returns-in_err-serve_line-clause-told g c = λ is.
+    tells_on (tells_same (c.loop-lines.invariant.told is) c.next_line.ensures.told) (c.serve_line.ensures.told is)
+
+pub returns-then-is_empty-clause-told : goal.returns-then-is_empty-clause-told
+returns-then-is_empty-clause-told g c = λ is.
+    tells_same (c.loop-lines.invariant.told is) c.next_line.ensures.told
+
+pub returns-in_err-serve_line-2-clause-told : goal.returns-in_err-serve_line-2-clause-told
+returns-in_err-serve_line-2-clause-told g c = λ is.
+    tells_on (tells_same (c.loop-lines.invariant.told is) c.next_line.ensures.told) (c.serve_line-2.ensures.told is)
+
+pub returns-in_err-let_go-clause-told : goal.returns-in_err-let_go-clause-told
+returns-in_err-let_go-clause-told g c = λ is.
+    tells_same (tells_on (tells_same (c.loop-lines.invariant.told is) c.next_line.ensures.told)
+    (c.serve_line-2.ensures.told is)) c.let_go.ensures.told
+
+pub returns-clause-told : goal.returns-clause-told
+returns-clause-told g c = λ is.
+    tells_same (tells_on (tells_same (c.loop-lines.invariant.told is) c.next_line.ensures.told)
+    (c.serve_line-2.ensures.told is)) c.let_go.ensures.told

@@ -12,6 +12,7 @@ returns-in-Err-clause-writes g c =
         log-whole _ _ _ c.args.bytes.now written.wrote c.in-Err.ensures.bytes,
       );
       same = c.in-Err.ensures.first ∙ written.same;
+      told = c.in-Err.ensures.told ∙ written.told;
       fault = c.in-Err.ensures.faults ∙ ap (faults_after true) written.well;
       kind = refl;
     }

@@ -16,6 +16,7 @@ loop-at-preserved g c =
             c.loop-at.invariant.wrote.wrote
             (rw (take_rest bytes c.loop-at.at) at c.in-Ok.ensures.bytes);
         same = c.in-Ok.ensures.first ∙ c.loop-at.invariant.wrote.same;
+        told = c.in-Ok.ensures.told ∙ c.loop-at.invariant.wrote.told;
         well = grind arith;
       };
     }
