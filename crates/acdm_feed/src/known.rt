@@ -117,16 +117,16 @@ impl Known {
         }
     }
 
-    // Reads all alert words from a board with the same flights.
+    // Reads all alert words from a board with the same flights, into the memory that they have.
     fn read_all(&mut self, board: &Core) -> Result<(), AllocError>
         ensures knows { OnOk result ((sigs : List (ℕ × Promise)) (K : History)
             → board.now ≡ replay sigs K → self.old.flights.items ≡ flights K
             → KnowsFlights K self.new) }
         ensures name { self.new.name ≡ self.old.name }
     {
-        let alloc = *self.flights.allocator();
-        let words = words_on(alloc, self.flights.as_slice(), board)?;
-        self.words = words;
+        let Known { flights, words, .. } = self;
+        words.clear();
+        put_words(words, flights.as_slice(), board)?;
         Ok(())
     }
 
@@ -191,19 +191,23 @@ fn put_word(words: &mut IndexMap<u64, u64>, flight: u64, word: u64) -> Result<()
     }
 }
 
-// The alert words of these flights.
-fn words_on(alloc: Global, flights: &[u64], board: &Core) -> Result<IndexMap<u64, u64>, AllocError>
-    ensures { IfOk result (λ words. (sigs : List (ℕ × Promise)) (K : History)
-        → board.now ≡ replay sigs K → (f : ℕ) → get nat_eq words f
+// Puts the alert words of these flights where there are none.
+fn put_words(
+    words: &mut IndexMap<u64, u64>,
+    flights: &[u64],
+    board: &Core,
+) -> Result<(), AllocError>
+    requires none { (f : ℕ) → get nat_eq words.old f ≡ None }
+    ensures { OnOk result ((sigs : List (ℕ × Promise)) (K : History)
+        → board.now ≡ replay sigs K → (f : ℕ) → get nat_eq words.new f
         ≡ (if list_any (λ g. g == f) flights.now then word_of K f else None)) }
 {
-    let mut words = IndexMap::new(alloc);
     let mut rest = flights;
     while let Some((flight, more)) = rest.split_first() {
         if let Some(word) = word_on(board, *flight) {
-            put_word(&mut words, *flight, word)?;
+            put_word(words, *flight, word)?;
         }
         rest = more;
     }
-    Ok(words)
+    Ok(())
 }

@@ -22,6 +22,9 @@ use acdm_step::{Command, Core, Entry};
 use json::Writer;
 use std::alloc::AllocError;
 
+/// How many bytes the line of an entry has room for at first: more than that of one record takes.
+const LINE: usize = 1_536;
+
 // Adds a record that was found.
 fn push_found(line: &mut Writer, found: Option<&Record>) -> Result<(), AllocError>
     ensures before { line.new.before ≡ line.old.before }
@@ -238,7 +241,7 @@ pub fn push_line(
         → board.now ≡ replay sigs (entry.now ∷ J) → Knows J known.now
         → text.new.items ≡ text.old.items ++ told J entry.now) }
 {
-    let mut line = Writer::new(Vec::new(*text.allocator()));
+    let mut line = Writer::new(Vec::with_capacity(*text.allocator(), LINE)?);
     push_object(&mut line, known, board, entry)?;
     let mut bytes = line.into_inner();
     bytes.push(b'\n')?;

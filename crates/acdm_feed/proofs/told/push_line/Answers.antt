@@ -6,7 +6,7 @@ use Rattle.acdm_feed.proofs.told.push_line.Goals as goal
 pub returns : goal.returns
 returns c =
     let none : c.push_object.new.line.before ≡ [] =
-    c.push_object.ensures.before ∙ c.new-line.ensures.before ∙ c.new.ensures.items in
+    c.push_object.ensures.before ∙ c.new-line.ensures.before ∙ c.in_ok-with_capacity.ensures.items in
     record {
       told = λ sigs J eq k.
           line_pieces J c.args.entry.now _ _ _ _ _ _ none

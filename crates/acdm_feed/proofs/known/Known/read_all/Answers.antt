@@ -6,6 +6,6 @@ use Rattle.acdm_feed.proofs.known.Known.read_all.Goals as goal
 
 pub returns-clause-knows : goal.returns-clause-knows
 returns-clause-knows c sigs K eq same =
-    knows_all K record { name = c.args.self.now.name; flights = c.args.self.now.flights; words = c.in_ok-words.words } same
-    (λ f. c.in_ok-words.ensures sigs K eq f
+    knows_all K record { name = c.args.self.now.name; flights = c.args.self.now.flights; words = c.put_words.new.words } same
+    (λ f. c.in_ok-put_words.ensures sigs K eq f
     ∙ ap (λ fs. cond (list_any (λ g. g == f) fs) (word_of K f) None) c.as_slice.ensures.value)

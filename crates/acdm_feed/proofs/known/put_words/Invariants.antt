@@ -5,7 +5,7 @@ use Rattle.bpf_helpers.specs.Promise.{Promise}
 use Rattle.acdm_step.specs.Commands.{History}
 use Rattle.acdm_step.specs.History.{replay}
 use Rattle.acdm_feed.specs.Knowing.{word_of}
-use Rattle.acdm_feed.proofs.known.words_on.Given as goal
+use Rattle.acdm_feed.proofs.known.put_words.Given as goal
 
 abbrev pub invariant-loop-flight : goal.invariant-loop-flight
 invariant-loop-flight l = record {

@@ -2,7 +2,7 @@ use Rattle.std.proofs.Common.{◌≡◌, ap, sym, ◌∙◌, ◌++◌, ◌∷◌
 use Rattle.std.specs.List.{list_any}
 use Rattle.acdm_feed.specs.Knowing.{word_of}
 use Rattle.acdm_feed.proofs.Following.{one_put, none_put, none_left}
-use Rattle.acdm_feed.proofs.known.words_on.Goals as goal
+use Rattle.acdm_feed.proofs.known.put_words.Goals as goal
 
 pub loop-flight-preserved-in_ok-put_word : goal.loop-flight-preserved-in_ok-put_word
 loop-flight-preserved-in_ok-put_word c = record {
