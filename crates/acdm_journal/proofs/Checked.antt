@@ -1,5 +1,5 @@
 -- The programs in the slots of a history whose entries fit their types are programs.
-use Rattle.std.proofs.Common.{◌≡◌, List, [], ◌∷◌, Some}
+use Rattle.std.proofs.Common.{◌≡◌, [], ◌∷◌, Some}
 use Rattle.std.specs.List.{AllByRecursion}
 use Rattle.bpf_decode.specs.Encoding.{IsProgram}
 use Rattle.bpf_verifier.specs.Verdict.{Verified}

@@ -1,6 +1,6 @@
 -- The entry that a line adds to a legal history, or the clause that it breaks.
 use Rattle.std.proofs.Common.{◌≡◌, ◌≢◌, ℕ, ◌≤◌, false, List, length, Result, Ok, Err, refl, sym, ap}
-use Rattle.std.proofs.Common.{subst, ◌∙◌}
+use Rattle.std.proofs.Common.{subst, ◌∙◌, IfOk}
 use Rattle.bpf_helpers.specs.Promise.{Promise}
 use Rattle.acdm_step.specs.declared.command.Command.{Command}
 use Rattle.acdm_step.specs.declared.command.Command.TheVariants as commands
@@ -8,7 +8,8 @@ use Rattle.acdm_step.specs.declared.entry.Entry.{Entry}
 use Rattle.acdm_step.specs.declared.entry.Verdict.{Verdict}
 use Rattle.acdm_step.specs.Commands.{History, is_load}
 use Rattle.acdm_step.specs.Verdicts.{verdict_of}
-use Rattle.acdm_step.specs.History.{Board, IsLegal, IsChecked}
+use Rattle.acdm_step.specs.History.{Board, IsLegal, IsChecked, replay}
+use Rattle.acdm_step.specs.Prepared.{Fits}
 use Rattle.acdm_journal.specs.declared.stated.Stated.{Stated}
 use Rattle.acdm_journal.specs.declared.stated.StatedCommand.{StatedCommand}
 use Rattle.acdm_journal.specs.declared.stated.StatedCommand.TheVariants.{Plain, Load}
@@ -18,7 +19,9 @@ use Rattle.acdm_journal.specs.declared.judge.AuditError.TheVariants.{Memory, Fau
 use Rattle.acdm_journal.specs.Text.{line_of, stated_in, asked_in, outcome_code}
 use Rattle.acdm_journal.specs.Ranges.{IsStated, IsAsked}
 use Rattle.acdm_journal.specs.Audit.{IsCommandOf, States, StatesNext, Continues, Breaks, Judges}
-use Rattle.acdm_journal.specs.Audit.{Commands, Enters, JudgesCommand}
+use Rattle.acdm_journal.specs.Audit.{Commands, Enters, JudgesCommand, PlansLine}
+use Rattle.acdm_journal.specs.declared.judge.PlannedEntry.{PlannedEntry}
+use Rattle.acdm_journal.specs.Uses.{PlansNext}
 use Rattle.acdm_journal.specs.declared.reading.TheConstants.{LONGEST_ENTRY}
 
 plain_is : (c : Command) → is_load c ≡ false → asked_in c ≡ Plain c
@@ -142,3 +145,24 @@ module _ (sigs : List (ℕ × Promise)) (J : History) (line : List ℕ) (s : Sta
       judged (Err (Faulty clauses.Program)) h = absurd h
       judged (Err (Faulty clauses.Answers)) h = (s, c, next_states, is, h)
       judged (Err (Faulty clauses.Outcome)) h = (s, c, next_states, is, h.0, h.1)
+
+-- the next line, judged by the board of a legal history
+pub planned_next : (sigs sigs' : List (ℕ × Promise)) (J : History) (line : List ℕ) (core : Board) (number : ℕ)
+    (r : Result PlannedEntry AuditError) → sigs' ≡ core.slots.sigs → core ≡ replay sigs J
+    → IsLegal sigs J → length J ≡ number
+    → ((K : History) → IsLegal sigs' K → length K ≡ number → core ≡ replay sigs' K
+    → PlansLine sigs' K line core r)
+    → IfOk r (λ n. Fits core n.plan.change) → PlansNext sigs J line r
+planned_next sigs sigs' J line core number r sigs_are replays legal count plans fits =
+    let same : sigs' ≡ sigs = sigs_are ∙ ap (λ (b : Board). b.slots.sigs) replays in
+    let p = plans J (subst (λ s. IsLegal s J) (sym same) legal) count
+    (replays ∙ ap (λ s. replay s J) (sym same)) in
+    by_board r (subst (λ s. PlansLine s J line (replay sigs J) r) same
+    (subst (λ b. PlansLine sigs' J line b r) replays p))
+    (subst (λ b. IfOk r (λ n. Fits b n.plan.change)) replays fits)
+  where
+    by_board : (r : Result PlannedEntry AuditError) → PlansLine sigs J line (replay sigs J) r
+        → IfOk r (λ n. Fits (replay sigs J) n.plan.change) → PlansNext sigs J line r
+    by_board (Ok n) p f = record { continues = p.0; entry_is = p.1; fits = f }
+    by_board (Err (Faulty clause)) p f = p
+    by_board (Err Memory) p f = tt

@@ -1,6 +1,6 @@
--- What an audit knows at any time of the text that it reads.
+-- What the reader of journals knows at any time of the text that it reads.
 use Rattle.std.proofs.Common.{◌≡◌, ◌≢◌, ℕ, ◌+◌, ◌-◌, ◌^◌, ◌<◌, ◌≤◌, ◌⊎◌, true, false, nat_le}
-use Rattle.std.proofs.Common.{List, [], ◌∷◌, ◌++◌}
+use Rattle.std.proofs.Common.{Bool, List, [], ◌∷◌, ◌++◌}
 use Rattle.std.proofs.Common.{length, Err, refl, sym, ap, subst, ◌∙◌, arith}
 use Rattle.std.proofs.Common.{append_assoc}
 use Rattle.std.proofs.Common.{length-append, append-nil, inl, inr, leb-true, leb-false}
@@ -13,22 +13,20 @@ use Rattle.acdm_lines.specs.Lines.{IsLine, kept, most_held}
 use Rattle.acdm_lines.proofs.Feeds.{IsLine-append, NoneOrFirst, none_or_first}
 use Rattle.acdm_lines.specs.NextLine.{TakesLine, TakesNone, TakesPart, FailsOrEndless, ReadsSoon}
 use Rattle.acdm_lines.proofs.Reading.{kept-empty, kept-some, faults-more, logged-more, gave-more}
-use Rattle.acdm_step.specs.declared.entry.Entry.{Entry}
 use Rattle.acdm_step.specs.Commands.{History}
-use Rattle.acdm_step.specs.History.{Board, IsLegal, replay}
+use Rattle.acdm_step.specs.History.{Board, IsLegal}
 use Rattle.acdm_journal.specs.declared.stated.Stated.{Stated}
 use Rattle.acdm_journal.specs.declared.judge.Clause.{Clause}
 use Rattle.acdm_journal.specs.declared.judge.Clause.TheVariants as clauses
+use Rattle.acdm_journal.specs.declared.journal_reader.JournalEnd.{JournalEnd}
+use Rattle.acdm_journal.specs.declared.journal_reader.JournalEnd.TheVariants as ends
 use Rattle.acdm_journal.specs.Text.{line_of, stated_in, history_text}
 use Rattle.acdm_journal.specs.Ranges.{IsStated}
 use Rattle.acdm_journal.specs.Audit.{States, StatesNext, Continues, Breaks}
-use Rattle.acdm_journal.specs.Whole.{AreReadable, BreaksNext, at_line, at_end}
-use Rattle.acdm_journal.specs.Whole.{FirstFault, FoundFaulty, FoundUnended}
-use Rattle.acdm_journal.specs.Whole.{GaveLegal, GaveFaulty, GaveUnended, Audits, JudgesEntry}
-use Rattle.acdm_journal.specs.declared.auditing.Fault.{Fault}
-use Rattle.acdm_journal.specs.declared.auditing.Fault.TheVariants as faults
+use Rattle.acdm_journal.specs.Whole.{AreReadable, BreaksNext, at_line, at_end, FirstFault, GaveLegal}
+use Rattle.acdm_journal.specs.Uses.{FindsFault, ReadsJournal, UsesLine}
 use Rattle.acdm_journal.specs.declared.reading.TheConstants.{LONGEST_ENTRY}
-use Rattle.acdm_journal.specs.declared.auditing.TheConstants.{MOST_KEPT}
+use Rattle.acdm_journal.specs.declared.journal_reader.TheConstants.{MOST_KEPT}
 
 -- ---- a line, and what is kept of it
 
@@ -101,10 +99,10 @@ module _ (sigs : List (ℕ × Promise)) (J : History) (part later : List ℕ) (l
 
 -- ---- what was judged so far, and one line more
 
--- The reader gave the text of a legal history of so many entries and what is held, the board is its
--- replay, and each read so far gave something.
-pub record Sofar (sigs : List (ℕ × Promise)) (start log held : List ℕ)
-    (reads : ℕ) (entry : ℕ) (board : Board) : Type 0 where
+-- The reader gave the text of a legal history of so many entries, which a use has, and what is held, and
+-- each read so far gave something.
+pub record Sofar (sigs : List (ℕ × Promise)) (has : History → Type 0) (start log held : List ℕ)
+    (reads : ℕ) (entry : ℕ) : Type 0 where
   pub text : List ℕ
   pub front : History
   pub logged : log ≡ start ++ text
@@ -113,25 +111,26 @@ pub record Sofar (sigs : List (ℕ × Promise)) (start log held : List ℕ)
   pub legal : IsLegal sigs front
   pub readable : AreReadable sigs front
   pub count : length front ≡ entry
-  pub replays : board ≡ replay sigs front
+  pub taken : has front
 
-pub sofar-begins : (sigs : List (ℕ × Promise)) (log : List ℕ) (board : Board)
-    → board ≡ replay sigs [] → Sofar sigs log log [] 1099511627776 0 board
-sofar-begins sigs log board same = record {
+pub sofar-begins : (sigs : List (ℕ × Promise)) (has : History → Type 0) (log held : List ℕ) (reads : ℕ)
+    → held ≡ [] → reads ≡ 1099511627776 → has [] → Sofar sigs has log log held reads 0
+sofar-begins sigs has log held reads none all taken = record {
   text = [];
   front = [];
   logged = sym (append-nil log);
-  gave = omega arith;
-  split = refl;
+  gave = omega (arith, all);
+  split = sym none;
   legal = tt;
   readable = tt;
   count = refl;
-  replays = same;
+  taken = taken;
 }
 
-module _ {R : Type 0} (sigs : List (ℕ × Promise)) (r0 r1 r2 : SourceView R)
-    (l1 l2 : Lines MOST_KEPT) (entry : ℕ) (board : Board)
-    (so_far : Sofar sigs r0.log r1.log l1.window l1.reads_left entry board)
+module _ {R : Type 0} (sigs : List (ℕ × Promise)) (bounded : Bool) (has : History → Type 0)
+    (r0 r1 r2 : SourceView R) (l1 l2 : Lines MOST_KEPT) (entry : ℕ)
+    (so_far : Sofar sigs has r0.log r1.log l1.window l1.reads_left entry) (before : r1.faults ≡ r0.faults)
+    (is_soon : bounded ≡ true → ReadsSoon MOST_KEPT r1 r2 l1)
   where
     -- the text of the entries so far
     judged : List ℕ
@@ -151,47 +150,15 @@ module _ {R : Type 0} (sigs : List (ℕ × Promise)) (r0 r1 r2 : SourceView R)
         gave-more so_far.text (history_text so_far.front) l1.window more (2 ^ 40) l1.reads_left
         left so_far.gave so_far.split g
 
-    -- an entry more, which is this one
-    pub sofar-entry : (after : Board) (e : Entry) (line : List ℕ) → TakesLine MOST_KEPT r1 r2 l1 l2
-        → line ≡ l2.line → (k : Continues sigs so_far.front line after) × (k.entry ≡ e)
-        → (s : Sofar sigs r0.log r2.log l2.window l2.reads_left (entry + 1) after)
-        × (s.front ≡ e ∷ so_far.front)
-    unfolding judged continues-line
-    sofar-entry after e line t is h =
-        let k = subst
-        (λ l. (k : Continues sigs so_far.front l after) × (k.entry ≡ e)) (is ∙ t.bytes_are) h in
-        let n = continues-line sigs so_far.front t.line after k.0 in
-        let text : List ℕ = line_of (stated_in n.entry) in
-        let count : length so_far.front ≡ entry = so_far.count in (
-          record {
-            text = history_text so_far.front ++ (l1.window ++ t.text);
-            front = n.entry ∷ so_far.front;
-            logged = logged_with t.text t.gave;
-            gave = gave_with t.text l2.reads_left t.each_gave;
-            split = ap (λ l. history_text so_far.front ++ l)
-                (t.split ∙ ap (λ l. l ++ 10 ∷ l2.window) n.line_is
-                ∙ sym (append_assoc text (10 ∷ []) l2.window))
-                ∙ sym (append_assoc (history_text so_far.front) (text ++ 10 ∷ []) l2.window);
-            legal = n.legal;
-            readable = (
-              so_far.readable,
-              record {
-                stated = n.is;
-                command = n.command;
-                short = subst (λ l. length l ≤ LONGEST_ENTRY) n.line_is n.short;
-              },
-            );
-            count = omega arith;
-            replays = n.replays;
-          },
-          ap (λ x. x ∷ so_far.front) k.1,
-        )
-
-    -- an entry more
-    pub sofar-line : (after : Board) (line : List ℕ) → TakesLine MOST_KEPT r1 r2 l1 l2
-        → line ≡ l2.line → Continues sigs so_far.front line after
-        → Sofar sigs r0.log r2.log l2.window l2.reads_left (entry + 1) after
-    sofar-line after line t is h = (sofar-entry after h.entry line t is (h, refl)).0
+    -- no more was read behind the entries than is kept of a line and one read gives
+    few : (more : List ℕ) → r2.log ≡ r1.log ++ more → bounded ≡ true
+        → length (l1.window ++ more) ≤ MOST_KEPT + most_held
+    few more e is =
+        let read : length r2.log ≡ length r1.log + length more =
+        ap length e ∙ length-append r1.log more in
+        let sum : length (l1.window ++ more) ≡ length l1.window + length more =
+        length-append l1.window more in
+        omega (arith, is_soon is)
 
     fault_in : (text rest : List ℕ) (clause : Clause) → text ≡ judged ++ rest
         → BreaksNext sigs so_far.front rest clause → FirstFault sigs text entry clause
@@ -206,28 +173,52 @@ module _ {R : Type 0} (sigs : List (ℕ × Promise)) (r0 r1 r2 : SourceView R)
       breaks = breaks;
     }
 
-    -- no more was read behind the entries than is kept of a line and one read gives
-    few : ReadsSoon MOST_KEPT r1 r2 l1 → (more : List ℕ) → r2.log ≡ r1.log ++ more
-        → length (l1.window ++ more) ≤ MOST_KEPT + most_held
-    few soon more e =
-        let read : length r2.log ≡ length r1.log + length more =
-        ap length e ∙ length-append r1.log more in
-        let sum : length (l1.window ++ more) ≡ length l1.window + length more =
-        length-append l1.window more in
-        omega (arith, soon)
+    -- an entry more
+    pub sofar-entry : (has' : History → Type 0) (line : List ℕ) → TakesLine MOST_KEPT r1 r2 l1 l2
+        → line ≡ l2.line
+        → ((board : Board) × (k : Continues sigs so_far.front line board) × has' (k.entry ∷ so_far.front))
+        → Sofar sigs has' r0.log r2.log l2.window l2.reads_left (entry + 1)
+    unfolding judged continues-line
+    sofar-entry has' line t is h =
+        let k = subst (λ l. (board : Board) × (k : Continues sigs so_far.front l board)
+        × has' (k.entry ∷ so_far.front)) (is ∙ t.bytes_are) h in
+        let n = continues-line sigs so_far.front t.line k.0 k.1 in
+        let text : List ℕ = line_of (stated_in n.entry) in
+        let count : length so_far.front ≡ entry = so_far.count in
+        record {
+          text = history_text so_far.front ++ (l1.window ++ t.text);
+          front = n.entry ∷ so_far.front;
+          logged = logged_with t.text t.gave;
+          gave = gave_with t.text l2.reads_left t.each_gave;
+          split = ap (λ l. history_text so_far.front ++ l)
+              (t.split ∙ ap (λ l. l ++ 10 ∷ l2.window) n.line_is
+              ∙ sym (append_assoc text (10 ∷ []) l2.window))
+              ∙ sym (append_assoc (history_text so_far.front) (text ++ 10 ∷ []) l2.window);
+          legal = n.legal;
+          readable = (
+            so_far.readable,
+            record {
+              stated = n.is;
+              command = n.command;
+              short = subst (λ l. length l ≤ LONGEST_ENTRY) n.line_is n.short;
+            },
+          );
+          count = omega arith;
+          taken = k.2;
+        }
 
     -- the line breaks a clause
-    pub faulty-line : (clause : Clause) → (t : TakesLine MOST_KEPT r1 r2 l1 l2)
-        → Breaks sigs so_far.front l2.line clause
-        → (g : GaveFaulty sigs r0.log r2.log r2.ended entry clause)
-        × (g.first.rest ≡ l1.window ++ t.text)
+    faulty-line : (has' : History → Type 0) (clause : Clause) → TakesLine MOST_KEPT r1 r2 l1 l2
+        → Breaks sigs so_far.front l2.line clause → has' so_far.front
+        → FindsFault sigs bounded has' r0 r2 entry clause
     unfolding fault_in
-    faulty-line clause t h =
+    faulty-line has' clause t h taken =
         let breaks : Breaks sigs so_far.front t.line clause =
         breaks-line sigs so_far.front t.line clause
         (subst (λ l. Breaks sigs so_far.front l clause) t.bytes_are h) in
-        let text : List ℕ = judged ++ (l1.window ++ t.text) in (
-          record {
+        let text : List ℕ = judged ++ (l1.window ++ t.text) in
+        record {
+          gave = record {
             text = text;
             gave = logged_with t.text t.gave;
             first = fault_in text (l1.window ++ t.text) clause refl
@@ -238,44 +229,58 @@ module _ {R : Type 0} (sigs : List (ℕ × Promise)) (r0 r1 r2 : SourceView R)
                 (at_line t.line (l2.window ++ later) t.is_line
                 (ap (λ l. l ++ later) t.split ∙ append_assoc t.line (10 ∷ l2.window) later)
                 breaks));
-          },
-          refl,
-        )
+          };
+          taken = taken;
+          soon = few t.text t.gave;
+          well = t.well ∙ before;
+        }
 
-    -- the line is not taken
-    pub faulty : (after : Board) (e : Fault) (line : List ℕ)
-        → TakesLine MOST_KEPT r1 r2 l1 l2 → ReadsSoon MOST_KEPT r1 r2 l1 → r2.faults ≡ r0.faults
-        → line ≡ l2.line → JudgesEntry {T = Unit {0}} sigs so_far.front entry line after (Err e)
-        → Audits sigs r0 r2 (Err e)
-    faulty after (faults.Faulty number clause) line t soon well is h =
-        let breaks : Breaks sigs so_far.front l2.line clause =
-        subst (λ l. Breaks sigs so_far.front l clause) is h.1 in
-        let gave = faulty-line clause t breaks in
-        let bound : length gave.0.first.rest ≤ MOST_KEPT + most_held =
-        subst (λ l. length l ≤ MOST_KEPT + most_held) (sym gave.1) (few soon t.text t.gave) in (
-          subst (λ n. FoundFaulty sigs r0.log r2.log r2.ended n clause) (sym h.0) (gave.0, bound),
-          well,
-        )
-    faulty after faults.Read line t soon well is h = absurd h
-    faulty after faults.Memory line t soon well is h = well
+    -- the line ends the reading
+    pub not-taken : {S : Type 0} (has' : History → Type 0) (stops : History → S → Type 0) (line : List ℕ)
+        (end : JournalEnd S) → TakesLine MOST_KEPT r1 r2 l1 l2 → line ≡ l2.line
+        → UsesLine {T = Unit {0}} sigs has' stops so_far.front line (Err end)
+        → ReadsJournal sigs bounded has' stops r0 r2 end
+    unfolding judged
+    not-taken has' stops line (ends.Faulty number clause) t is h =
+        subst (λ n. FindsFault sigs bounded has' r0 r2 n clause) (sym (h.0 ∙ so_far.count))
+        (faulty-line has' clause t (subst (λ l. Breaks sigs so_far.front l clause) is h.1) h.2)
+    not-taken has' stops line ends.Memory t is h =
+        (so_far.front, so_far.legal, h, t.well ∙ before)
+    not-taken has' stops line (ends.Stopped s) t is h =
+        let some : length (l1.window ++ t.text) ≡ length t.line + length (10 ∷ l2.window) =
+        ap length t.split ∙ length-append t.line (10 ∷ l2.window) in
+        record {
+          history = so_far.front;
+          rest = l1.window ++ t.text;
+          why = h;
+          gave = logged_with t.text t.gave;
+          more = omega (arith, some);
+          well = t.well ∙ before;
+        }
+    not-taken has' stops line (ends.Whole n) t is h = absurd h
+    not-taken has' stops line (ends.Rest n) t is h = absurd h
+    not-taken has' stops line ends.Read t is h = absurd h
 
     -- the text has ended
-    pub ends : TakesNone MOST_KEPT r1 r2 l1 l2 → length l2.line ≡ 0
-        → GaveLegal sigs r0.log r2.log r2.ended entry
+    pub ends-whole : TakesNone MOST_KEPT r1 r2 l1 l2 → length l2.line ≡ 0
+        → (g : GaveLegal sigs r0.log r2.log r2.ended entry) × has g.history × (r2.faults ≡ r0.faults)
     unfolding judged
-    ends t empty =
+    ends-whole t empty =
         let none : l1.window ++ t.text ≡ [] =
-        kept-empty LONGEST_ENTRY (l1.window ++ t.text) (ap length (sym t.bytes_are) ∙ empty) in
-        record {
-          text = history_text so_far.front;
-          history = so_far.front;
-          gave = logged_with t.text t.gave
-              ∙ ap (λ l. r0.log ++ l) (ap (λ l. history_text so_far.front ++ l) none
-              ∙ append-nil (history_text so_far.front));
-          at_end = ended_where t.why none;
-          is = record { legal = so_far.legal; readable = so_far.readable; text_is = refl };
-          count_is = so_far.count;
-        }
+        kept-empty LONGEST_ENTRY (l1.window ++ t.text) (ap length (sym t.bytes_are) ∙ empty) in (
+          record {
+            text = history_text so_far.front;
+            history = so_far.front;
+            gave = logged_with t.text t.gave
+                ∙ ap (λ l. r0.log ++ l) (ap (λ l. history_text so_far.front ++ l) none
+                ∙ append-nil (history_text so_far.front));
+            at_end = ended_where t.why none;
+            is = record { legal = so_far.legal; readable = so_far.readable; text_is = refl };
+            count_is = so_far.count;
+          },
+          so_far.taken,
+          t.well ∙ before,
+        )
       where
         ended_where : {rest : List ℕ} → (r2.ended ≡ true) ⊎ (MOST_KEPT ≤ length rest) → rest ≡ []
             → r2.ended ≡ true
@@ -285,21 +290,26 @@ module _ {R : Type 0} (sigs : List (ℕ × Promise)) (r0 r1 r2 : SourceView R)
             absurd (omega (arith, long))
 
     -- the text has ended with the rest of a line, or a line is too long
-    pub faulty-rest : TakesNone MOST_KEPT r1 r2 l1 l2 → ReadsSoon MOST_KEPT r1 r2 l1
-        → 0 < length l2.line → FoundFaulty sigs r0.log r2.log r2.ended entry clauses.Unreadable
+    pub ends-rest : TakesNone MOST_KEPT r1 r2 l1 l2 → 0 < length l2.line
+        → (f : FindsFault sigs bounded has r0 r2 entry clauses.Unreadable) × IsLine f.gave.first.rest
     unfolding fault_in
-    faulty-rest t soon some =
+    ends-rest t some =
         let rest : List ℕ = l1.window ++ t.text in
         let there : 0 < length rest =
         kept-some LONGEST_ENTRY rest (subst (λ l. 0 < length l) t.bytes_are some) in (
           record {
-            text = judged ++ rest;
-            gave = logged_with t.text t.gave;
-            first = fault_in (judged ++ rest) rest clauses.Unreadable refl
-                (at_end t.is_line there refl);
-            stays = stays t.why;
+            gave = record {
+              text = judged ++ rest;
+              gave = logged_with t.text t.gave;
+              first = fault_in (judged ++ rest) rest clauses.Unreadable refl
+                  (at_end t.is_line there refl);
+              stays = stays t.why;
+            };
+            taken = so_far.taken;
+            soon = few t.text t.gave;
+            well = t.well ∙ before;
           },
-          few soon t.text t.gave,
+          t.is_line,
         )
       where
         stays : (r2.ended ≡ true) ⊎ (MOST_KEPT ≤ length (l1.window ++ t.text)) → (r2.ended ≡ true)
@@ -313,34 +323,31 @@ module _ {R : Type 0} (sigs : List (ℕ × Promise)) (r0 r1 r2 : SourceView R)
             (breaks-long sigs so_far.front (l1.window ++ t.text) later t.is_line long
             (none_or_first later)))
 
-    -- no line more could be read, however much of it was
-    pub unended : (error : RunError) → TakesPart MOST_KEPT r1 r2 l1 l2 error
-        → r1.faults ≡ r0.faults → r0.faults < 2 ^ 64 - 1
-        → GaveUnended sigs r0.log r2.log r0.faults r2.faults
+    -- no line more could be read
+    pub unended : {S : Type 0} (stops : History → S → Type 0) (error : RunError)
+        → TakesPart MOST_KEPT r1 r2 l1 l2 error → r0.faults < 2 ^ 64 - 1
+        → ReadsJournal sigs bounded has stops r0 r2 ends.Read
     unfolding judged
-    unended error t well room = record {
-      front = so_far.front;
-      part = l1.window ++ t.text;
-      legal = so_far.legal;
-      readable = so_far.readable;
-      is_part = t.is_line;
-      gave = logged_with t.text t.gave;
-      why = why t.why;
-    }
+    unended stops error t room = (
+      record {
+        front = so_far.front;
+        part = l1.window ++ t.text;
+        legal = so_far.legal;
+        readable = so_far.readable;
+        is_part = t.is_line;
+        gave = logged_with t.text t.gave;
+        why = why t.why;
+      },
+      so_far.taken,
+      few t.text t.gave,
+    )
       where
         why : (r2.faults ≡ faults_after true r1.faults)
             ⊎ ((r2.faults ≡ r1.faults) × (l1.reads_left ≤ length t.text))
             → FailsOrEndless r0.faults r2.faults
             (history_text so_far.front ++ (l1.window ++ t.text))
-        why (inl e) = inl (e ∙ ap (faults_after true) well ∙ faults-more r0.faults room)
+        why (inl e) = inl (e ∙ ap (faults_after true) before ∙ faults-more r0.faults room)
         why (inr few) =
             let most : l1.reads_left ≤ length t.text = few.1 in
             let all = gave_with t.text 0 (omega arith) in
-            inr (few.0 ∙ well, omega (arith, all))
-
-    -- no line more could be read, and not much of it was
-    pub soon-unended : (error : RunError) → TakesPart MOST_KEPT r1 r2 l1 l2 error
-        → ReadsSoon MOST_KEPT r1 r2 l1 → r1.faults ≡ r0.faults → r0.faults < 2 ^ 64 - 1
-        → FoundUnended sigs r0.log r2.log r0.faults r2.faults
-    unfolding unended
-    soon-unended error t soon well room = (unended error t well room, few soon t.text t.gave)
+            inr (few.0 ∙ before, omega (arith, all))

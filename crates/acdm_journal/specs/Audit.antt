@@ -1,5 +1,5 @@
 -- What an audit says of the lines of a journal (this project's profile).
-use Rattle.std.specs.Prelude.{ℕ, ◌≡◌, ◌≢◌, ◌≤◌, List, [], ◌∷◌, length, Some}
+use Rattle.std.specs.Prelude.{ℕ, ◌≡◌, ◌≢◌, ◌≤◌, List, ◌∷◌, length}
 use Rattle.std.specs.Prelude.{Result, Ok, Err}
 use Rattle.bpf_decode.specs.declared.op.Op.{Op}
 use Rattle.bpf_decode.specs.Encoding.{Encodes}

@@ -5,5 +5,6 @@ pub mod Reading
 pub mod Audit
 pub mod Memory
 pub mod Whole
+pub mod Uses
 pub mod Appended
 pub mod Crash

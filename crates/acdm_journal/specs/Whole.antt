@@ -1,26 +1,23 @@
 -- What an audit says of a whole text (this project's profile).
 use Rattle.std.specs.Prelude.{ℕ, ◌+◌, ◌<◌, ◌≤◌, ◌≡◌, ◌⊎◌, List, [], ◌∷◌, ◌++◌, length, Bool, true}
-use Rattle.std.specs.Prelude.{false}
 use Rattle.std.specs.Prelude.{Result, Ok, Err}
 use Rattle.std.specs.List.{AllByRecursion}
 use Rattle.bpf_helpers.specs.Promise.{Promise}
 use Rattle.acdm_lines.specs.Counted.{SourceView}
 use Rattle.acdm_lines.specs.Lines.{IsLine, most_held}
-use Rattle.acdm_lines.specs.declared.lines.Lines.{Lines}
-use Rattle.acdm_lines.specs.declared.run_error.RunError.TheVariants.{Read}
-use Rattle.acdm_lines.specs.NextLine.{TakesLine, TakesNone, TakesPart, FailsOrEndless}
+use Rattle.acdm_lines.specs.NextLine.{FailsOrEndless}
 use Rattle.acdm_step.specs.declared.entry.Entry.{Entry}
 use Rattle.acdm_step.specs.Commands.{History}
-use Rattle.acdm_step.specs.History.{Board, IsLegal}
+use Rattle.acdm_step.specs.History.{IsLegal}
 use Rattle.acdm_journal.specs.declared.judge.Clause.{Clause}
 use Rattle.acdm_journal.specs.declared.judge.Clause.TheVariants as clauses
 use Rattle.acdm_journal.specs.declared.auditing.Fault.{Fault}
 use Rattle.acdm_journal.specs.declared.auditing.Fault.TheVariants as faults
 use Rattle.acdm_journal.specs.Text.{line_of, stated_in, asked_in, history_text}
 use Rattle.acdm_journal.specs.Ranges.{IsStated, FitsTypes}
-use Rattle.acdm_journal.specs.Audit.{IsCommandOf, Breaks, Continues}
+use Rattle.acdm_journal.specs.Audit.{IsCommandOf, Breaks}
 use Rattle.acdm_journal.specs.declared.reading.TheConstants.{LONGEST_ENTRY}
-use Rattle.acdm_journal.specs.declared.auditing.TheConstants.{MOST_KEPT}
+use Rattle.acdm_journal.specs.declared.journal_reader.TheConstants.{MOST_KEPT}
 
 -- The line of an entry is one that may be read: its parts are in their ranges, a program that it
 -- loads is one, accepted under these signatures, and the line has at most 200,000 bytes.
@@ -132,22 +129,3 @@ pub record GaveOf (bytes log log_after : List ℕ) (ended : Bool) : Type 0 where
   pub rest : List ℕ
   pub split : log ++ bytes ≡ log_after ++ rest
   pub whole : ended ≡ true → rest ≡ []
-
--- ---- parts
-
--- what comes of looking for the next line
-abbrev pub TakesNext : {R : Type 0} → SourceView R → SourceView R → Lines MOST_KEPT
-    → Lines MOST_KEPT → Result Bool Fault → Type 0
-TakesNext old new before after (Ok true) = TakesLine MOST_KEPT old new before after
-TakesNext old new before after (Ok false) = TakesNone MOST_KEPT old new before after
-TakesNext old new before after (Err e) =
-    TakesPart MOST_KEPT old new before after Read × (e ≡ faults.Read)
-
--- what comes of judging the line of an entry after a legal history, and the board then
-abbrev pub JudgesEntry : {T : Type 0} → List (ℕ × Promise) → History → ℕ → List ℕ → Board
-    → Result T Fault → Type 0
-JudgesEntry sigs J entry line board (Ok x) = Continues sigs J line board
-JudgesEntry sigs J entry line board (Err (faults.Faulty number clause)) =
-    (number ≡ entry) × Breaks sigs J line clause
-JudgesEntry sigs J entry line board (Err faults.Read) = ⊥
-JudgesEntry sigs J entry line board (Err faults.Memory) = Unit {0}

@@ -1,23 +1,16 @@
-//! The audit of a whole journal, line by line.
-ghost use Rattle.std.specs.Prelude.{◌≡◌, ◌<◌, ◌-◌, ◌^◌, true, [], length, Ok};
-ghost use Rattle.acdm_lines.specs.Lines.{weight};
-ghost use Rattle.acdm_lines.specs.NextLine.{ReadsSoon};
-ghost use Rattle.acdm_step.specs.Commands.{History};
-ghost use Rattle.acdm_step.specs.History.{IsLegal, replay};
-ghost use Rattle.acdm_journal.specs.Whole.{Audits, JudgesEntry, TakesNext};
+//! The audit of a whole journal.
+ghost use Rattle.std.specs.Prelude.{◌≡◌, ◌<◌, ◌-◌, ◌^◌};
+ghost use Rattle.acdm_journal.specs.Whole.{Audits};
 
-use crate::judge::{AuditError, Clause, judge_line};
-use crate::reading::LONGEST_ENTRY;
-use acdm_lines::{Lines, Source};
+use crate::journal_reader::{JournalEnd, read_journal};
+use crate::journal_use::JournalUse;
+use crate::judge::{Clause, PlannedEntry};
+use acdm_lines::Source;
 use acdm_step::Core;
 use bpf_helpers::Sigs;
 use std::alloc::Global;
 use std::io::Read;
 use thiserror::Error;
-
-/// How many bytes are kept of a line: one more than the longest line has, so that a longer one is
-/// told by what is kept of it.
-pub const MOST_KEPT: usize = LONGEST_ENTRY + 1;
 
 /// Why a journal was not found to be legal.
 #[derive(Clone, Copy, Debug, PartialEq, Eq, Error)]
@@ -33,68 +26,30 @@ pub enum Fault {
     Memory,
 }
 
-// Takes the next line, and says whether a line feed ended it.
-fn next_line<R: Read>(lines: &mut Lines<MOST_KEPT>, reader: &mut Source<R>) -> Result<bool, Fault>
-    ensures takes { TakesNext reader.old reader.new lines.old lines.new result }
-    ensures progress { result ≡ Ok true →
-        weight lines.new.reads_left lines.new.window
-        < weight lines.old.reads_left lines.old.window }
-    ensures soon { ReadsSoon MOST_KEPT reader.old reader.new lines.old }
-{
-    match lines.next_within(reader) {
-        Ok(is_line) => Ok(is_line),
-        Err(_) => Err(Fault::Read),
-    }
-}
+// Of the entries nothing is made but their board.
+#[derive(Drop)]
+struct Judging;
 
-// Judges the line of the entry of this number.
-fn judge_entry(
-    alloc: Global,
-    core: &mut Core,
-    sigs: &Sigs,
-    entry: u64,
-    line: &[u8],
-) -> Result<(), Fault>
-    requires { core.old.slots.sigs ≡ sigs.now }
-    ensures judges { (J : History) → IsLegal sigs.now J → length J ≡ entry →
-        core.old ≡ replay sigs.now J → JudgesEntry sigs.now J entry line.now core.new result }
-    ensures sigs { core.new.slots.sigs ≡ core.old.slots.sigs }
-{
-    match judge_line(alloc, core, sigs, entry, line) {
-        Ok(()) => Ok(()),
-        Err(AuditError::Memory) => Err(Fault::Memory),
-        Err(AuditError::Faulty(clause)) => Err(Fault::Faulty { entry, clause }),
-    }
-}
+impl JournalUse<Core> for Judging {
+    ghost use Rattle.std.specs.Prelude.{◌≡◌};
+    ghost use Rattle.acdm_step.specs.History.{replay};
 
-// Judges the rest of a journal, line by line, from the board and the lines that an audit begins
-// with.
-fn audit_lines<R: Read>(
-    alloc: Global,
-    reader: &mut Source<R>,
-    sigs: &Sigs,
-    core: &mut Core,
-    lines: &mut Lines<MOST_KEPT>,
-) -> Result<u64, Fault>
-    requires reads { reader.old.faults < 2 ^ 64 - 1 }
-    requires board { core.old ≡ replay sigs.now [] }
-    requires window { lines.old.window ≡ [] }
-    requires left { lines.old.reads_left ≡ 1099511627776 }
-    ensures audits { Audits sigs.now reader.old reader.new result }
-    ensures first { reader.new.first ≡ reader.old.first }
-{
-    let mut entry = 0;
-    while next_line(lines, reader)? {
-        judge_entry(alloc, core, sigs, entry, lines.line.as_slice())?;
-        entry += 1;
+    type Stop = ();
+
+    ghost sigs = { λ _ core. core.slots.sigs };
+
+    ghost has = { λ _ first _ core J. core ≡ replay first.slots.sigs J };
+
+    ghost stops = { λ _ _ _ _ _ _. ⊥ };
+
+    fn board<'a>(&'a self, core: &'a Core) -> &'a Core {
+        core
     }
-    if lines.line.as_slice().is_empty() {
-        return Ok(entry);
+
+    fn take(&mut self, core: &mut Core, _line: &[u8], next: PlannedEntry) -> Result<(), ()> {
+        core.commit(next.plan);
+        Ok(())
     }
-    Err(Fault::Faulty {
-        entry,
-        clause: Clause::Unreadable,
-    })
 }
 
 /// Judges a journal, which is the text of its entries one after the other, against these
@@ -118,8 +73,14 @@ pub fn audit<R: Read>(alloc: Global, reader: &mut Source<R>, sigs: &Sigs) -> Res
     let Ok(mut core) = Core::new(alloc, same) else {
         return Err(Fault::Memory);
     };
-    let Ok(mut lines) = Lines::new(alloc) else {
-        return Err(Fault::Memory);
-    };
-    audit_lines(alloc, reader, sigs, &mut core, &mut lines)
+    match read_journal(alloc, reader, true, &mut core, &mut Judging) {
+        JournalEnd::Whole(entries) => Ok(entries),
+        JournalEnd::Rest(entry) => Err(Fault::Faulty {
+            entry,
+            clause: Clause::Unreadable,
+        }),
+        JournalEnd::Faulty { entry, clause } => Err(Fault::Faulty { entry, clause }),
+        JournalEnd::Read => Err(Fault::Read),
+        JournalEnd::Memory | JournalEnd::Stopped(()) => Err(Fault::Memory),
+    }
 }

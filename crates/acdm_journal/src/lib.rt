@@ -5,6 +5,8 @@
 mod appended;
 mod auditing;
 mod entry_text;
+mod journal_reader;
+mod journal_use;
 mod judge;
 pub mod law;
 mod reading;
@@ -12,8 +14,10 @@ mod stated;
 mod words;
 
 pub use acdm_slots::ProgramBytes;
-pub use auditing::{Fault, MOST_KEPT, audit};
+pub use auditing::{Fault, audit};
 pub use entry_text::{push_entry, write_entry, write_entry_by};
+pub use journal_reader::{JournalEnd, MOST_KEPT, read_journal};
+pub use journal_use::JournalUse;
 pub use judge::{AuditError, Clause, PlannedEntry, judge_line, plan_line};
 pub use reading::read_line;
 pub use stated::{LoadLine, ReadError, Stated, StatedCommand};

@@ -23,7 +23,8 @@ use acdm_milestones::{DeicingTime, Milestone, Role};
 use acdm_record::Text;
 use acdm_slots::{Kind, ProgramBytes};
 use acdm_step::{
-    Answers, Command, Deice, FlightNumber, FlightPlan, MINUTES_OF_DAY, Report, Schedule, Unload,
+    Answers, Command, Deice, Durations, FlightNumber, FlightPlan, MINUTES_OF_DAY, Report, Schedule,
+    Unload,
 };
 use bpf_regstate::Length;
 use hex::FromHexError;
@@ -188,9 +189,11 @@ fn schedule_in(words: &mut Words<'_>) -> Result<StatedCommand, ReadError>
         flight,
         plan,
         sobt as u32,
-        mttt as u16,
-        exit as u8,
-        exot as u16,
+        Durations {
+            mttt: mttt as u16,
+            exit: exit as u8,
+            exot: exot as u16,
+        },
         stand as u16,
     ))))
 }

@@ -1,6 +1,6 @@
 -- What a crash leaves of a journal is the text of its first entries, and a part of one more line.
-use Rattle.std.proofs.Common.{Bool, ◌≡◌, ℕ, zero, suc, ◌+◌, ◌-◌, ◌≤◌, ◌<◌, true, false, ◌⊎◌, inl, inr, List, [], ◌∷◌, ◌++◌}
-use Rattle.std.proofs.Common.{length, take, refl, sym, ap, subst, ◌∙◌, arith, append_assoc, append-nil, length-append}
+use Rattle.std.proofs.Common.{Bool, ◌≡◌, ℕ, zero, suc, ◌-◌, ◌≤◌, ◌<◌, false, ◌⊎◌, inl, inr, List, [], ◌∷◌, ◌++◌}
+use Rattle.std.proofs.Common.{length, take, refl, sym, ap, subst, ◌∙◌, arith, append-nil, length-append}
 use Rattle.bpf_helpers.specs.Promise.{Promise}
 use Rattle.acdm_lines.specs.Lines.{is_line_feed, IsLine, IsWhole}
 use Rattle.acdm_lines.proofs.Whole.{IsWhole-line, IsWhole-append}
@@ -8,7 +8,7 @@ use Rattle.acdm_step.specs.declared.entry.Entry.{Entry}
 use Rattle.acdm_step.specs.Commands.{History}
 use Rattle.acdm_step.specs.History.{IsLegal}
 use Rattle.acdm_journal.specs.Text.{history_text, entry_text, line_of, stated_in}
-use Rattle.acdm_journal.specs.Whole.{AreReadable, IsTextOf}
+use Rattle.acdm_journal.specs.Whole.{AreReadable}
 use Rattle.acdm_journal.proofs.PlainWords.{line_is_line}
 use Rattle.acdm_journal.proofs.OneText.{one_history}
 use Rattle.acdm_journal.specs.Crash.{CrashLeaves}

@@ -1,3 +1,1 @@
 mod Crash
-mod Next
-mod Sofar

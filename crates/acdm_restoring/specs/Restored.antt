@@ -1,23 +1,12 @@
 -- What a desk has of a saved journal (this project's profile).
-use Rattle.std.specs.Prelude.{ℕ, ◌+◌, ◌^◌, ◌<◌, ◌≤◌, ◌≡◌, ◌⊎◌, true, Bool, List, ◌++◌, length}
-use Rattle.std.specs.Prelude.{Result, Ok, Err}
+use Rattle.std.specs.Prelude.{ℕ, ◌^◌, ◌<◌, ◌≤◌, ◌≡◌, ◌⊎◌, true, Bool, List, ◌++◌, length}
+use Rattle.std.specs.Prelude.{Option, Some, None, Result, Ok, Err}
 use Rattle.bpf_helpers.specs.Promise.{Promise}
 use Rattle.acdm_lines.specs.Counted.{SourceView}
 use Rattle.acdm_lines.specs.Lines.{IsLine}
-use Rattle.acdm_lines.specs.declared.lines.Ending.{Ending}
-use Rattle.acdm_lines.specs.declared.lines.Ending.TheVariants.{LineFeed, Input}
-use Rattle.acdm_lines.specs.declared.lines.Lines.{Lines}
-use Rattle.acdm_lines.specs.declared.run_error.RunError.TheVariants.{Read}
-use Rattle.acdm_lines.specs.NextLine.{TakesLine, TakesRest, TakesPart}
-use Rattle.acdm_step.specs.declared.entry.Entry.{Entry}
 use Rattle.acdm_step.specs.Commands.{History}
-use Rattle.acdm_step.specs.History.{replay}
-use Rattle.acdm_step.specs.Prepared.{Fits, after_change}
-use Rattle.acdm_board.specs.Desk.{DeskView, with_entry}
-use Rattle.acdm_journal.specs.declared.judge.PlannedEntry.{PlannedEntry}
-use Rattle.acdm_journal.specs.declared.auditing.TheConstants.{MOST_KEPT}
+use Rattle.acdm_board.specs.Desk.{DeskView}
 use Rattle.acdm_journal.specs.Text.{history_text}
-use Rattle.acdm_journal.specs.Audit.{Breaks, Continues}
 use Rattle.acdm_journal.specs.Whole.{AreReadable, GaveFaulty, GaveUnended}
 use Rattle.acdm_restoring.specs.declared.restoring.RestoreError.{RestoreError}
 use Rattle.acdm_restoring.specs.declared.restoring.RestoreError.TheVariants as errors
@@ -58,47 +47,20 @@ Restores before after old new (Err errors.Memory) = new.faults ≡ old.faults
 
 -- ---- parts
 
--- what comes of looking for the next line
-abbrev pub TakesNext : {R : Type 0} → SourceView R → SourceView R → Lines MOST_KEPT
-    → Lines MOST_KEPT → Result Ending RestoreError → Type 0
-TakesNext old new before after (Ok LineFeed) = TakesLine MOST_KEPT old new before after
-TakesNext old new before after (Ok Input) = TakesRest MOST_KEPT old new before after
-TakesNext old new before after (Err e) =
-    TakesPart MOST_KEPT old new before after Read × (e ≡ errors.Read)
+-- a count of bytes, or none where they are too many
+abbrev pub IsCount : Option ℕ → ℕ → Type 0
+IsCount (Some n) bytes = n ≡ bytes
+IsCount None bytes = 2 ^ 64 ≤ bytes
 
--- the entry that a line adds to the journal of a desk, and a plan of it on the desk's core
-pub record IsNext (d : DeskView) (line : List ℕ) (n : PlannedEntry) : Type 0 where
-  pub continues : Continues d.sigs d.history line
-      (after_change (replay d.sigs d.history) n.plan.change)
-  pub entry_is : continues.entry ≡ n.entry
-  pub fits : Fits (replay d.sigs d.history) n.plan.change
+-- a desk has these entries, and nothing else has changed of it; their bytes were counted
+pub record HasEntries (first desk : DeskView) (bytes : Option ℕ) (J : History) : Type 0 where
+  pub desk_is : desk ≡ record first { history = J }
+  pub counted : IsCount bytes (length (history_text J))
 
--- what comes of judging the next line of a desk's journal
-abbrev pub Plans : DeskView → List ℕ → Result PlannedEntry RestoreError → Type 0
-Plans d line (Ok n) = IsNext d line n
-Plans d line (Err (errors.Faulty entry clause)) =
-    (entry ≡ length d.history) × Breaks d.sigs d.history line clause
-Plans d line (Err errors.Memory) = Unit {0}
-Plans d line (Err _) = ⊥
-
--- the desk has an entry more, that of this line
-pub record TakesEntry (old new : DeskView) (line : List ℕ) : Type 0 where
-  pub entry : Entry
-  pub continues : Continues old.sigs old.history line
-      (replay new.sigs new.history)
-  pub entry_is : continues.entry ≡ entry
-  pub new_is : new ≡ with_entry old entry
-
--- what comes of a line
-abbrev pub RestoresLine : {T : Type 0} → DeskView → DeskView → List ℕ → Result T RestoreError → Type 0
-RestoresLine old new line (Ok x) = TakesEntry old new line
-RestoresLine old new line (Err (errors.Faulty entry clause)) =
-    ((entry ≡ length old.history) × Breaks old.sigs old.history line clause) × (new ≡ old)
-RestoresLine old new line (Err errors.Full) = (length old.history ≡ old.capacity) × (new ≡ old)
-RestoresLine old new line (Err errors.Memory) = new ≡ old
-RestoresLine old new line (Err errors.Read) = ⊥
-
--- what comes of counting the bytes of a line more
-abbrev pub Counts : ℕ → List ℕ → Result ℕ RestoreError → Type 0
-Counts bytes line (Ok n) = n ≡ bytes + (length line + 1)
-Counts bytes line (Err e) = (2 ^ 64 ≤ bytes + (length line + 1)) × (e ≡ errors.Full)
+-- why a desk that has these entries takes no more
+abbrev pub StopsAt : DeskView → DeskView → History → RestoreError → Type 0
+StopsAt first desk J errors.Full =
+    (desk ≡ record first { history = J })
+    × ((length J ≡ first.capacity) ⊎ (2 ^ 64 ≤ length (history_text J)))
+StopsAt first desk J errors.Memory = Unit {0}
+StopsAt first desk J error = ⊥

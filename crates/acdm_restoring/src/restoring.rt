@@ -1,12 +1,12 @@
 //! The reading of a saved journal into a desk, entry by entry.
-ghost use Rattle.std.specs.Prelude.{◌≡◌, ◌<◌, ◌-◌, ◌^◌, [], Ok, OnOk};
-ghost use Rattle.acdm_lines.specs.Lines.{weight};
+ghost use Rattle.std.specs.Prelude.{◌≡◌, ◌+◌, ◌<◌, ◌-◌, ◌^◌, [], length, OnOk};
 ghost use Rattle.acdm_restoring.specs.Crash.{GoesOnFrom};
-ghost use Rattle.acdm_restoring.specs.Restored.{Counts, Plans, Restores, RestoresLine, TakesNext};
+ghost use Rattle.acdm_restoring.specs.Restored.{IsCount, Restores};
 
 use acdm_board::Desk;
-use acdm_journal::{AuditError, Clause, MOST_KEPT, PlannedEntry, plan_line};
-use acdm_lines::{Ending, Lines, Source};
+use acdm_journal::{Clause, JournalEnd, JournalUse, PlannedEntry, read_journal};
+use acdm_lines::Source;
+use acdm_step::Core;
 use bpf_helpers::Helpers;
 use std::alloc::Global;
 use std::io::Read;
@@ -30,89 +30,81 @@ pub enum RestoreError {
     Memory,
 }
 
-// Takes the next line.
-fn next_line<R: Read>(
-    lines: &mut Lines<MOST_KEPT>,
-    reader: &mut Source<R>,
-) -> Result<Ending, RestoreError>
-    ensures takes { TakesNext reader.old reader.new lines.old lines.new result }
-    ensures progress { result ≡ Ok Ending.LineFeed →
-        weight lines.new.reads_left lines.new.window
-        < weight lines.old.reads_left lines.old.window }
-{
-    match lines.next(reader) {
-        Ok(ending) => Ok(ending),
-        Err(_) => Err(RestoreError::Read),
-    }
+// How many bytes the text of the entries has that a desk took, where there are fewer than 2^64.
+#[derive(Drop)]
+struct Restoring {
+    bytes: Option<u64>,
 }
 
-// The entry of a line that comes next, and what it does to the board of a desk.
-fn planned<H: Helpers + Drop>(
-    alloc: Global,
-    desk: &Desk<H>,
-    line: &[u8],
-) -> Result<PlannedEntry, RestoreError>
-    ensures { Plans desk.now line.now result }
-{
-    let entry = desk.len();
-    match plan_line(alloc, desk.core(), desk.sigs(), entry, line) {
-        Ok(planned) => Ok(planned),
-        Err(AuditError::Memory) => Err(RestoreError::Memory),
-        Err(AuditError::Faulty(clause)) => Err(RestoreError::Faulty { entry, clause }),
-    }
-}
+impl<H: Helpers + Drop> JournalUse<Desk<H>> for Restoring {
+    ghost use Rattle.acdm_restoring.specs.Restored.{HasEntries, StopsAt};
 
-// Puts the entry of a line behind the others.
-fn restore_line<H: Helpers + Drop>(
-    alloc: Global,
-    desk: &mut Desk<H>,
-    line: &[u8],
-) -> Result<(), RestoreError>
-    ensures { RestoresLine desk.old desk.new line.now result }
-{
-    if desk.len() >= desk.capacity() as u64 {
-        return Err(RestoreError::Full);
+    type Stop = RestoreError;
+
+    ghost sigs = { λ _ desk. desk.sigs };
+
+    ghost has = { λ _ first restoring desk J. HasEntries first desk restoring.bytes J };
+
+    ghost stops = { λ _ first _ desk J error. StopsAt first desk J error };
+
+    fn board<'a>(&'a self, desk: &'a Desk<H>) -> &'a Core {
+        desk.core()
     }
-    let PlannedEntry { entry, plan } = match planned(alloc, desk, line) {
-        Ok(planned) => planned,
-        Err(error) => return Err(error),
-    };
-    match desk.restore(entry, plan) {
-        Ok(()) => Ok(()),
-        Err(_) => Err(RestoreError::Memory),
+
+    // Puts the entry behind the others, where there is room for it.
+    fn take(
+        &mut self,
+        desk: &mut Desk<H>,
+        line: &[u8],
+        next: PlannedEntry,
+    ) -> Result<(), RestoreError> {
+        let Some(bytes) = self.bytes else {
+            return Err(RestoreError::Full);
+        };
+        if desk.len() >= desk.capacity() as u64 {
+            return Err(RestoreError::Full);
+        }
+        let PlannedEntry { entry, plan } = next;
+        match desk.restore(entry, plan) {
+            Ok(()) => {}
+            Err(_) => return Err(RestoreError::Memory),
+        }
+        self.bytes = longer(bytes, line);
+        Ok(())
     }
 }
 
 // How many bytes there are with a line more, and its line feed.
-fn longer(bytes: u64, line: &[u8]) -> Result<u64, RestoreError>
-    ensures { Counts bytes line.now result }
+fn longer(bytes: u64, line: &[u8]) -> Option<u64>
+    ensures { IsCount result (bytes + (length line.now + 1)) }
 {
     match bytes.checked_add(line.len() as u64 + 1) {
-        Some(bytes) => Ok(bytes),
-        None => Err(RestoreError::Full),
+        Some(bytes) => Some(bytes),
+        None => None,
     }
 }
 
-// Puts the entries of a reader's lines behind those of a desk, by the lines that a reading begins
-// with.
-fn restore_lines<R: Read, H: Helpers + Drop>(
+// Puts the entries of a reader's lines behind those of a desk.
+fn restore_entries<R: Read, H: Helpers + Drop>(
     alloc: Global,
     reader: &mut Source<R>,
     desk: &mut Desk<H>,
-    lines: &mut Lines<MOST_KEPT>,
 ) -> Result<u64, RestoreError>
     requires reads { reader.old.faults < 2 ^ 64 - 1 }
     requires empty { desk.old.history ≡ [] }
-    requires window { lines.old.window ≡ [] }
-    requires left { lines.old.reads_left ≡ 1099511627776 }
     ensures restores { Restores desk.old desk.new reader.old reader.new result }
 {
-    let mut bytes = 0;
-    while let Ending::LineFeed = next_line(lines, reader)? {
-        restore_line(alloc, desk, lines.line.as_slice())?;
-        bytes = longer(bytes, lines.line.as_slice())?;
+    let mut restoring = Restoring { bytes: Some(0) };
+    match read_journal(alloc, reader, false, desk, &mut restoring) {
+        JournalEnd::Whole(_) | JournalEnd::Rest(_) => match restoring.bytes {
+            Some(bytes) => Ok(bytes),
+            None => Err(RestoreError::Full),
+        },
+        JournalEnd::Faulty { entry, clause } => Err(RestoreError::Faulty { entry, clause }),
+        JournalEnd::Read => Err(RestoreError::Read),
+        JournalEnd::Memory => Err(RestoreError::Memory),
+        JournalEnd::Stopped(error) => Err(error),
     }
-    Ok(bytes)
 }
 
 /// Puts the entries of a saved journal, which a reader gives as text, into a desk that has none. The
@@ -137,10 +129,7 @@ pub fn restore<R: Read, H: Helpers + Drop>(
     ensures restores { Restores desk.old desk.new reader.old reader.new result }
     ensures crash { OnOk result (GoesOnFrom desk.old.sigs reader.old.log reader.new.log desk.new.history) }
 {
-    let Ok(mut lines) = Lines::new(alloc) else {
-        return Err(RestoreError::Memory);
-    };
-    let restored = restore_lines(alloc, reader, desk, &mut lines)?;
+    let restored = restore_entries(alloc, reader, desk)?;
     // (it says that the journal is legal)
     let _core = desk.core();
     Ok(restored)

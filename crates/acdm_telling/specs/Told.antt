@@ -1,17 +1,12 @@
 -- What is told of a saved journal (this project's profile).
-use Rattle.std.specs.Prelude.{ℕ, ◌≡◌, ◌⊎◌, Bool, true, false, List, [], ◌∷◌, ◌++◌, length, Option, Some, None}
+use Rattle.std.specs.Prelude.{ℕ, ◌≡◌, ◌⊎◌, false, List, [], ◌++◌, length, Option, Some, None}
 use Rattle.std.specs.Prelude.{Result, Ok, Err}
 use Rattle.bpf_helpers.specs.Promise.{Promise}
 use Rattle.acdm_lines.specs.Counted.{SinkView, SourceView}
-use Rattle.acdm_lines.specs.declared.lines.Lines.{Lines}
 use Rattle.acdm_lines.specs.declared.run_error.RunError.{RunError}
 use Rattle.acdm_lines.specs.declared.run_error.RunError.TheVariants as errors
-use Rattle.acdm_lines.specs.NextLine.{TakesLine, TakesNone, TakesPart}
 use Rattle.acdm_step.specs.Commands.{History}
 use Rattle.acdm_step.specs.History.{IsLegal}
-use Rattle.acdm_journal.specs.declared.auditing.TheConstants.{MOST_KEPT}
-use Rattle.acdm_journal.specs.declared.judge.Clause.{Clause}
-use Rattle.acdm_journal.specs.Audit.{Breaks}
 use Rattle.acdm_journal.specs.Text.{history_text}
 use Rattle.acdm_journal.specs.Whole.{AreReadable}
 use Rattle.acdm_wire.specs.Writes.{AppendsPart, Wrote, WroteInPart}
@@ -21,10 +16,6 @@ use Rattle.acdm_judging.specs.declared.auditing.Finding.TheVariants.{Legal, Faul
 use Rattle.acdm_failures.specs.declared.failure.Failure.{Failure}
 use Rattle.acdm_failures.specs.declared.failure.Failure.TheVariants.{Read, Write, Memory}
 use Rattle.acdm_feed.specs.Told.{feed}
-use Rattle.acdm_telling.specs.declared.judged.Judged.{Judged}
-use Rattle.acdm_telling.specs.declared.telling.Stop.{Stop}
-use Rattle.acdm_telling.specs.declared.telling.Stop.TheVariants as stops
-use Rattle.acdm_telling.specs.Telling.{EntryTold}
 
 -- the reader gave the text of these entries, which are legal, and this rest
 pub record Gives {R : Type 0} (sigs : List (ℕ × Promise)) (J : History) (rest : List ℕ)
@@ -123,60 +114,12 @@ pub record Gathered {R W : Type 0} (sigs : List (ℕ × Promise)) (finding : Fin
   pub leaves : LeavesRest finding rest
   pub gathers : Gathers history text written written_after
 
-pub record GatheredUnended {R W : Type 0} (sigs : List (ℕ × Promise)) (text : List ℕ)
-    (read read_after : SourceView R) (written written_after : SinkView W) : Type 0 where
-  pub unended : Finds sigs read read_after (Err Read)
-  pub history : History
-  pub rest : List ℕ
-  pub gives : Gives sigs history rest read read_after
-  pub gathers : Gathers history text written written_after
-
--- what comes of the lines of a journal, where some of what is told was not written yet
-abbrev pub Gathering : {R W : Type 0} → List (ℕ × Promise) → List ℕ → SourceView R → SourceView R
-    → SinkView W → SinkView W → Result Finding Stop → Type 0
-Gathering sigs text read read_after written written_after (Ok finding) =
-    Gathered sigs finding text read read_after written written_after
-Gathering sigs text read read_after written written_after (Err stops.Read) =
-    GatheredUnended sigs text read read_after written written_after
-Gathering sigs text read read_after written written_after (Err stops.Write) =
-    FailsToTell sigs written written_after
-Gathering sigs text read read_after written written_after (Err stops.Memory) =
-    TellsPart sigs written written_after
-
 -- what was gathered was written where it is much
 abbrev pub WritesMany : {W T : Type 0} → SinkView W → SinkView W → List ℕ → List ℕ → Result T RunError
     → Type 0
 WritesMany old new text text_after (Ok x) =
     ((new ≡ old) × (text_after ≡ text)) ⊎ (Wrote old new text × (text_after ≡ []))
 WritesMany old new text text_after (Err e) = WroteInPart old new text errors.Write
-
--- the entry of a line was told, and its line gathered with those before it
-pub record GathersEntry {W : Type 0} (sigs : List (ℕ × Promise)) (J : History) (line : List ℕ)
-    (before after : Judged) (text_after : List ℕ) (written written_after : SinkView W) : Type 0 where
-  pub told : EntryTold sigs J line before after
-  pub gathers : Gathers (told.entry ∷ J) text_after written written_after
-
--- a line breaks this clause, and what was gathered is as it was
-pub record FindsFault {W : Type 0} (sigs : List (ℕ × Promise)) (J : History) (line : List ℕ)
-    (before : Judged) (finding : Finding) (text_after : List ℕ) (written written_after : SinkView W)
-    : Type 0 where
-  pub clause : Clause
-  pub finding_is : finding ≡ Faulty before.entries clause
-  pub breaks : Breaks sigs J line clause
-  pub gathers : Gathers J text_after written written_after
-
--- what comes of a line after a legal history, whose lines were gathered
-abbrev pub GathersLine : {W : Type 0} → List (ℕ × Promise) → History → List ℕ → Judged → Judged
-    → List ℕ → SinkView W → SinkView W → Result (Option Finding) Stop → Type 0
-GathersLine sigs J line before after text_after written written_after (Ok None) =
-    GathersEntry sigs J line before after text_after written written_after
-GathersLine sigs J line before after text_after written written_after (Ok (Some finding)) =
-    FindsFault sigs J line before finding text_after written written_after
-GathersLine sigs J line before after text_after written written_after (Err stops.Write) =
-    FailsToTell sigs written written_after
-GathersLine sigs J line before after text_after written written_after (Err stops.Memory) =
-    TellsPart sigs written written_after
-GathersLine sigs J line before after text_after written written_after (Err stops.Read) = ⊥
 
 -- the rest of the lines was written, and what was found, or the writer failed
 abbrev pub TellsFound : {W : Type 0} → Finding → List ℕ → SinkView W → SinkView W → Result ℕ Failure
@@ -185,17 +128,3 @@ TellsFound finding text old new (Ok status) =
     Wrote old new (text ++ told_of finding) × (new.waits ≡ false) × (status ≡ status_of finding)
 TellsFound finding text old new (Err failure) =
     WroteInPart old new (text ++ told_of finding) errors.Write × (failure ≡ Write)
-
--- the rest of the lines was written where no more could be read, or the writer failed
-abbrev pub TellsRest : {W : Type 0} → List ℕ → SinkView W → SinkView W → Failure → Type 0
-TellsRest text old new Read = Wrote old new text
-TellsRest text old new Write = WroteInPart old new text errors.Write
-TellsRest text old new failure = ⊥
-
--- what comes of looking for the next line
-abbrev pub TakesNext : {R : Type 0} → SourceView R → SourceView R → Lines MOST_KEPT
-    → Lines MOST_KEPT → Result Bool Stop → Type 0
-TakesNext old new before after (Ok true) = TakesLine MOST_KEPT old new before after
-TakesNext old new before after (Ok false) = TakesNone MOST_KEPT old new before after
-TakesNext old new before after (Err e) =
-    TakesPart MOST_KEPT old new before after errors.Read × (e ≡ stops.Read)

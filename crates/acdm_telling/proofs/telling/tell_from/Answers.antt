@@ -1,15 +1,41 @@
+use Rattle.std.proofs.Common.{refl}
+use Rattle.acdm_judging.specs.declared.auditing.Finding.TheVariants.{Faulty, Legal}
+use Rattle.acdm_journal.specs.declared.judge.Clause.TheVariants.{Unreadable}
+use Rattle.acdm_telling.proofs.Gathered.{failed, gathered_fault, gathered_whole, in_part, in_write}
 use Rattle.acdm_telling.proofs.Gathered.{told_found, told_rest}
 use Rattle.acdm_telling.proofs.telling.tell_from.Goals as goal
 
+pub returns-in-Whole : goal.returns-in-Whole
+returns-in-Whole g c =
+    let r = c.in-Whole.ensures.reads in
+    told_found _ _ _ _ _ _ _ (Legal c.in-Whole.entries) _ (gathered_whole _ _ _ _ _ _ _ r.0 r.1)
+    (rw c.as_slice-text.ensures.value at c.tell_found.ensures)
+
+pub returns-in-Rest : goal.returns-in-Rest
+returns-in-Rest g c =
+    told_found _ _ _ _ _ _ _ (Faulty c.in-Rest.entry Unreadable) _
+    (gathered_fault _ _ _ _ _ _ _ _ c.in-Rest.ensures.reads.0)
+    (rw c.as_slice-text.ensures.value at c.tell_found-in-Rest.ensures)
+
+pub returns-in-Faulty : goal.returns-in-Faulty
+returns-in-Faulty g c =
+    told_found _ _ _ _ _ _ _ (Faulty c.in-Faulty.entry c.in-Faulty.clause) _
+    (gathered_fault _ _ _ _ _ _ _ _ c.in-Faulty.ensures.reads)
+    (rw c.as_slice-text.ensures.value at c.tell_found-in-Faulty.ensures)
+
 pub returns-in-Ok : goal.returns-in-Ok
 returns-in-Ok g c =
-    told_found c.args.sigs.now c.as_slice.result.now c.args.reader.now c.gather.new.reader
-    c.args.writer.now c.gather.new.writer c.tell_found.new.writer c.in-Ok.finding c.tell_found.result
-    (rw c.as_slice.ensures.value c.in-Ok.ensures) c.tell_found.ensures
+    let r = c.in-Read.ensures.reads in
+    told_rest _ _ _ _ _ _ _ (r.0, r.2 refl) r.1
+    (rw c.as_slice-text.ensures.value at c.in-Ok.ensures.writes)
 
-pub returns-in-Err-Read : goal.returns-in-Err-Read
-returns-in-Err-Read g c =
-    told_rest c.args.sigs.now c.gather.new.text.items c.args.reader.now c.gather.new.reader
-    c.args.writer.now c.gather.new.writer c.tell_rest.new.writer c.tell_rest.result
-    (rw c.in-Err-Read.field-0-is at c.in-Err-Read.ensures)
-    (rw c.as_slice-in-Err-Read.ensures.value at c.tell_rest.ensures)
+pub returns-in-Err : goal.returns-in-Err
+returns-in-Err g c =
+    let r = c.in-Read.ensures.reads in
+    failed _ _ _ _ r.1.gathers _ _ r.0.legal
+    (in_write _ _ _ _ (rw c.as_slice-text.ensures.value at c.in-Err.ensures.writes))
+
+pub returns-in-Memory : goal.returns-in-Memory
+returns-in-Memory g c =
+    let r = c.in-Memory.ensures.reads in
+    in_part _ _ _ _ r.2.gathers _ r.1
