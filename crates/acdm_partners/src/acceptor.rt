@@ -1,11 +1,10 @@
 //! The thread that accepts partners, and answers at the control address.
 use crate::control::{BoardState, Control, Standing};
 use crate::doors::Door;
-use crate::levels::Levels;
 use crate::reporter::Reporter;
-use crate::times::{LAST_PAUSES, PAUSE};
+use crate::times::PAUSE;
+use acdm_place::Level;
 use std::alloc::AllocError;
-use std::net::Shutdown;
 use std::sync::atomic::{AtomicBool, Ordering};
 use std::sync::{Arc, Wait};
 use std::thread::{self, JoinHandle, Threads};
@@ -22,7 +21,7 @@ pub struct Acceptor<K: Drop, S: Drop> {
     doors: Vec<Door>,
     control: Option<Control>,
     standing: S,
-    levels: Levels,
+    levels: [Level; 2],
     looks: u64,
     // Whether it was asked at the control address that the board closes.
     is_asked: bool,
@@ -46,7 +45,7 @@ impl<K: Wait + Clock + Drop, S: Standing + Drop> Acceptor<K, S> {
             doors,
             control,
             standing,
-            levels: Levels::new(),
+            levels: [Level::new(80), Level::new(95)],
             looks: 0,
             is_asked: false,
             closing,
@@ -87,7 +86,7 @@ impl<K: Wait + Clock + Drop, S: Standing + Drop> Acceptor<K, S> {
         for door in self.doors.as_mut_slice() {
             door.look(&self.reporter);
         }
-        self.levels.look(&self.reporter, &self.standing);
+        self.look_at_room();
         // Where the clock tells no time nobody is too late.
         let now = self.reporter.passed().unwrap_or(0);
         if let Some(control) = &mut self.control {
@@ -104,6 +103,17 @@ impl<K: Wait + Clock + Drop, S: Standing + Drop> Acceptor<K, S> {
         }
         self.reporter.look_after_log();
         self.look_after_file();
+    }
+
+    // Tells each level of the room of the journal that was reached since the last look.
+    fn look_at_room(&mut self) {
+        let used = self.standing.used();
+        let room = self.standing.room();
+        for level in self.levels.as_mut_slice() {
+            if level.look(used, room) {
+                self.reporter.tell_room(level.percent(), used, room);
+            }
+        }
     }
 
     fn close_board(&self) {
@@ -123,9 +133,9 @@ impl<K: Wait + Clock + Drop, S: Standing + Drop> Acceptor<K, S> {
     fn close(&mut self) {
         for door in self.doors.as_mut_slice() {
             door.shut();
-            door.place().stop(&self.reporter.rt, Shutdown::Read);
+            door.place().close(&self.reporter.rt);
         }
-        for pause in 0..u64::MAX {
+        for _ in 0..u64::MAX {
             // What tells the end is read before the last look.
             let is_last = self.is_done();
             for door in self.doors.as_mut_slice() {
@@ -134,16 +144,14 @@ impl<K: Wait + Clock + Drop, S: Standing + Drop> Acceptor<K, S> {
             if is_last {
                 return;
             }
-            if pause >= LAST_PAUSES {
-                self.cut_off();
-            }
             self.pause();
+            self.tell_passed();
         }
     }
 
     // Tells what is left to be told.
     fn finish(&mut self) {
-        self.levels.look(&self.reporter, &self.standing);
+        self.look_at_room();
         if self.reporter.has_log() {
             self.log_end();
         }
@@ -171,9 +179,10 @@ impl<K: Wait + Clock + Drop, S: Standing + Drop> Acceptor<K, S> {
         self.reporter.log_close(by, self.standing.used());
     }
 
-    fn cut_off(&self) {
+    // Tells each place that a pause has passed.
+    fn tell_passed(&self) {
         for door in self.doors.as_slice() {
-            door.place().stop(&self.reporter.rt, Shutdown::Both);
+            door.place().wait(&self.reporter.rt);
         }
     }
 }

@@ -1,9 +1,10 @@
 //! The connections of a place, one after the other.
 use crate::arrivals::Arrivals;
 use crate::connection::Connection;
-use crate::pace::{Pace, Stopwatch};
 use crate::places::PartnerPlace;
+use crate::stopwatch::Stopwatch;
 use crate::times::PAUSE;
+use acdm_place::Pace;
 use std::sync::{Arc, Wait};
 use std::thread;
 use std::time::{Clock, Duration};
@@ -13,6 +14,8 @@ use std::time::{Clock, Duration};
 pub struct Arriving<'r, Rt> {
     rt: &'r Rt,
     place: Arc<PartnerPlace>,
+    // The number of the connection whose lines are heard, or 0.
+    heard: u64,
     // How many lines are taken in a minute, if that is bounded, and what that is measured by.
     pace: Option<Pace>,
     stopwatch: Stopwatch,
@@ -26,6 +29,7 @@ impl<'r, Rt: Wait + Clock> Arriving<'r, Rt> {
         Arriving {
             rt,
             place,
+            heard: 0,
             pace,
             stopwatch,
         }
@@ -41,10 +45,11 @@ impl<'r, Rt: Wait + Clock> Arriving<'r, Rt> {
     }
 
     // The next connection, if one waits.
-    fn arrived(&self) -> Option<Connection> {
-        let arrived = self.place.take(self.rt)?;
+    fn arrived(&mut self) -> Option<Connection<'r, Rt>> {
+        let (number, arrived) = self.place.next(self.rt)?;
+        self.heard = number;
         let place = Arc::try_clone(&self.place).ok()?;
-        Some(Connection::new(place, arrived))
+        Some(Connection::new(self.rt, place, number, arrived))
     }
 
     fn pause(&self) {
@@ -52,33 +57,31 @@ impl<'r, Rt: Wait + Clock> Arriving<'r, Rt> {
     }
 }
 
-impl<'r, Rt: Wait + Clock> Arrivals<Connection> for Arriving<'r, Rt> {
+impl<'r, Rt: Wait + Clock> Arrivals<Connection<'r, Rt>> for Arriving<'r, Rt> {
+    fn answered(&mut self) {
+        self.place.answered(self.rt);
+    }
+
     fn admits(&mut self) -> bool {
         for _ in 0..u64::MAX {
             if self.place.is_closing() {
                 return false;
             }
             if self.is_in_pace() {
-                return true;
+                return self.place.admits(self.rt, self.heard);
             }
             self.pause();
         }
         false
     }
 
-    fn next(&mut self) -> Option<Connection> {
-        if self.place.served() > 0 {
-            self.place.end(self.rt);
-            if !self.place.terms.again {
-                return None;
-            }
-        }
+    fn next(&mut self) -> Option<Connection<'r, Rt>> {
         for _ in 0..u64::MAX {
-            if self.place.is_closing() {
-                return None;
-            }
             if let Some(connection) = self.arrived() {
                 return Some(connection);
+            }
+            if self.place.is_over(self.rt) {
+                return None;
             }
             self.pause();
         }

@@ -1,16 +1,18 @@
 //! One connection of a place, as a reader.
 ghost use Rattle.std.specs.Prelude.{◌≤◌, length};
 
-use crate::places::{Arrived, PartnerPlace};
+use crate::held_place::Arrived;
+use crate::places::PartnerPlace;
 use std::io::{self, ErrorKind, Read};
 use std::net::TcpStream;
-use std::sync::Arc;
+use std::sync::{Arc, Wait};
 
 /// One connection of a place, from its first line on. It ends where its partner ends it, where a newer one is there, and where the
 /// board closes. Where its session serves no further one, a last line that lacks its line feed is given
 /// one.
 #[derive(Drop)]
-pub struct Connection {
+pub struct Connection<'r, Rt> {
+    rt: &'r Rt,
     place: Arc<PartnerPlace>,
     stream: TcpStream,
     number: u64,
@@ -26,15 +28,17 @@ pub(crate) fn is_passing(error: &io::Error) -> bool {
     error.kind() == ErrorKind::WouldBlock || error.kind() == ErrorKind::Interrupted
 }
 
-impl Connection {
-    /// A connection that took a place.
-    pub(crate) fn new(place: Arc<PartnerPlace>, arrived: Arrived) -> Connection {
-        let Arrived {
-            stream,
-            text,
-            number,
-        } = arrived;
+impl<'r, Rt: Wait> Connection<'r, Rt> {
+    /// The connection of this number at a place.
+    pub(crate) fn new(
+        rt: &'r Rt,
+        place: Arc<PartnerPlace>,
+        number: u64,
+        arrived: Arrived,
+    ) -> Connection<'r, Rt> {
+        let Arrived { stream, text } = arrived;
         Connection {
+            rt,
             place,
             stream,
             number,
@@ -80,10 +84,10 @@ impl Connection {
     }
 }
 
-impl Read for Connection {
+impl<Rt: Wait> Read for Connection<'_, Rt> {
     fn read(&mut self, buf: &mut [u8]) -> io::Result<usize> {
         for _ in 0..u64::MAX {
-            if self.place.is_past(self.number) {
+            if self.place.is_past(self.rt, self.number) {
                 return Ok(0);
             }
             let first = self.give_first(buf);

@@ -25,9 +25,6 @@ pub trait Standing {
     /// How many entries it has.
     fn used(&self) -> usize;
 
-    /// Whether it has as many as these.
-    fn has(&self, count: usize) -> bool;
-
     /// For how many it has room.
     fn room(&self) -> usize;
 

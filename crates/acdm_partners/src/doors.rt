@@ -1,9 +1,11 @@
 //! The addresses where partners connect.
+use crate::first_line::FirstLine;
+use crate::held_place::{Arrived, ServedPartner};
 use crate::newcomers::{Newcomer, Newcomers};
-use crate::pace::Pace;
 use crate::places::PartnerPlace;
 use crate::reporter::{Reporter, SessionName};
 use crate::stamp::{moment_text, seconds_now};
+use acdm_place::Pace;
 use std::alloc::{AllocError, Global};
 use std::net::{SocketAddr, TcpListener, TcpStream};
 use std::sync::{Arc, Wait};
@@ -35,6 +37,8 @@ pub struct Door {
     // How many bytes of a first line are waited for at most.
     longest: usize,
     newcomers: Newcomers,
+    // How many first lines were judged: the number of the connection whose line was judged last.
+    judged: u64,
     here: Option<Here>,
     // How often it is told who comes, and of how many it was not.
     telling: Pace,
@@ -67,6 +71,7 @@ impl Door {
             listener: Some(listener),
             longest,
             newcomers,
+            judged: 0,
             here: None,
             telling: Pace::new(MOST_TOLD, 0),
             untold: 0,
@@ -106,14 +111,31 @@ impl Door {
         self.listener.as_ref()?.accept().ok()
     }
 
-    // Has those served whose first line is there, each in place of the one before.
+    // Judges those whose first line is there, and who have gone.
     fn serve_ready<K: Wait + Clock + Drop>(&mut self, reporter: &Reporter<K>) {
         for _ in 0..MOST_ACCEPTED {
             let again = self.place.terms.again;
-            let Some(newcomer) = self.newcomers.next(self.longest, again) else {
+            let Some((newcomer, judged)) = self.newcomers.next(self.longest, again) else {
                 return;
             };
-            self.greet(reporter, newcomer);
+            self.judged = self.judged.saturating_add(1);
+            match judged {
+                Some(FirstLine::Command) => self.greet(reporter, newcomer),
+                Some(_) => self.refuse(reporter, newcomer, true),
+                None => self.refuse(reporter, newcomer, false),
+            }
+        }
+    }
+
+    // Refuses a connection whose first line is no command, or that has gone before its first line was whole.
+    fn refuse<K: Wait + Clock + Drop>(
+        &self,
+        reporter: &Reporter<K>,
+        newcomer: Newcomer,
+        is_whole: bool,
+    ) {
+        if self.place.refuses(&reporter.rt, self.judged, is_whole) {
+            newcomer.refuse(is_whole);
         }
     }
 
@@ -125,11 +147,17 @@ impl Door {
             text,
             ..
         } = newcomer;
-        if self.place.is_over() || !self.place.prepare(&stream) {
+        if !self.place.prepare(&stream) {
+            return;
+        }
+        let number = self.judged;
+        let Some(served) = ServedPartner::new(number, Arrived { stream, text }) else {
+            return;
+        };
+        if !self.place.arrive(&reporter.rt, served) {
             return;
         }
         self.tell_gone(reporter);
-        let number = self.place.arrive(&reporter.rt, stream, text);
         let is_told = self.tell_here(reporter, address);
         self.here = Some(Here {
             number,
@@ -148,7 +176,7 @@ impl Door {
             self.log_bad(reporter);
         }
         if let Some(here) = self.here {
-            if self.place.has_ended(here.number) {
+            if !self.place.is_here(&reporter.rt, here.number) {
                 self.tell_gone(reporter);
             }
         }

@@ -73,9 +73,11 @@ impl Newcomer {
         }
     }
 
-    // Tells it that its line is no command, and closes it.
-    fn refuse(mut self) {
-        let _ = self.stream.write(b"bad 101\n");
+    /// Tells it that its line is no command, where it has a whole one, and closes it.
+    pub(crate) fn refuse(mut self, is_whole: bool) {
+        if is_whole {
+            let _ = self.stream.write(b"bad 101\n");
+        }
         let _ = self.stream.shutdown(Shutdown::Both);
     }
 }
@@ -104,9 +106,13 @@ impl Newcomers {
         let _ = self.waiting.push(newcomer);
     }
 
-    /// The next who is to be served, by its first line, if there is one. Who has gone is closed, and who is
-    /// no partner is told so before.
-    pub(crate) fn next(&mut self, most: usize, again: bool) -> Option<Newcomer> {
+    /// The next whose first line is there, or who has gone, if there is one; and what its first line says of it, where
+    /// it has one.
+    pub(crate) fn next(
+        &mut self,
+        most: usize,
+        again: bool,
+    ) -> Option<(Newcomer, Option<FirstLine>)> {
         let mut at = 0;
         for _ in 0..MOST_NEWCOMERS {
             if at >= self.waiting.len() {
@@ -117,12 +123,7 @@ impl Newcomers {
                 at += 1;
                 continue;
             }
-            let newcomer = self.waiting.remove(at);
-            match judged {
-                Some(FirstLine::Command) => return Some(newcomer),
-                Some(FirstLine::Foreign) => newcomer.refuse(),
-                _ => {}
-            }
+            return Some((self.waiting.remove(at), judged));
         }
         None
     }

@@ -1,9 +1,11 @@
 //! The places where partners connect, and what the threads share of them.
 use crate::counts::{LineOutcome, SessionCounts};
-use crate::times::{LONGEST_READ, PATIENCE};
+use crate::held_place::{Arrived, HeldPlace, ServedPartner};
+use crate::times::{LONGEST_READ, PATIENCE, PAUSE};
+use acdm_place::Event;
 use std::alloc::{AllocError, Global};
-use std::net::{Shutdown, TcpStream};
-use std::sync::atomic::{AtomicBool, AtomicU64, Ordering};
+use std::net::TcpStream;
+use std::sync::atomic::{AtomicBool, Ordering};
 use std::sync::{Arc, Mutex, Wait};
 use std::time::Duration;
 
@@ -16,36 +18,15 @@ pub struct Terms {
     pub pace: Option<u32>,
 }
 
-/// A connection that takes a place: what was read of it already, and its number there, from 1.
-#[derive(Drop)]
-pub(crate) struct Arrived {
-    pub(crate) stream: TcpStream,
-    pub(crate) text: Vec<u8>,
-    pub(crate) number: u64,
-}
-
-// The connections of a place: the newest, which its session has not taken yet; and the one that the session
-// serves, as what it is cut off by and as what its replies go to.
-#[derive(Drop)]
-struct Held {
-    arrived: Option<Arrived>,
-    open: Option<TcpStream>,
-    replies: Option<TcpStream>,
-}
-
-/// Where the partner of one session connects.
+/// Where the partner of one session connects. Each thread takes its lock, has one event happen, and does what it is
+/// told. Where the board closes that happens before.
 #[derive(Drop)]
 pub struct PartnerPlace {
     closing: Arc<AtomicBool>,
     pub(crate) terms: Terms,
-    held: Mutex<Held>,
+    held: Mutex<HeldPlace>,
     // What came of the lines of its session, whoever was here.
     counts: Mutex<SessionCounts>,
-    // The numbers of the newest connection, of the one that is served, and of the last that has ended.
-    newest: AtomicU64,
-    served: AtomicU64,
-    ended: AtomicU64,
-    is_over: AtomicBool,
 }
 
 impl PartnerPlace {
@@ -58,16 +39,8 @@ impl PartnerPlace {
         let place = PartnerPlace {
             closing: Arc::try_clone(closing)?,
             terms,
-            held: Mutex::new(Held {
-                arrived: None,
-                open: None,
-                replies: None,
-            }),
+            held: Mutex::new(HeldPlace::new(terms.again)),
             counts: Mutex::new(SessionCounts::new(alloc)?),
-            newest: AtomicU64::new(0),
-            served: AtomicU64::new(0),
-            ended: AtomicU64::new(0),
-            is_over: AtomicBool::new(false),
         };
         Ok(Arc::new(alloc, place)?)
     }
@@ -77,25 +50,33 @@ impl PartnerPlace {
         self.closing.load(Ordering::SeqCst)
     }
 
-    /// Whether its session has ended.
-    pub(crate) fn is_over(&self) -> bool {
-        self.is_over.load(Ordering::SeqCst)
+    // Has the board close there, where the word says so.
+    fn hear(&self, held: &mut HeldPlace) {
+        if self.is_closing() && !held.place().is_closing() {
+            held.close();
+        }
+    }
+
+    /// Whether its session is to end, or has.
+    pub(crate) fn is_over<Rt: Wait>(&self, rt: &Rt) -> bool {
+        let mut held = self.held.lock(rt);
+        self.hear(&mut held);
+        held.place().is_over()
     }
 
     /// Whether no further byte is to be read of the connection of this number: a newer one is there, or the
     /// board closes.
-    pub(crate) fn is_past(&self, number: u64) -> bool {
-        self.is_closing() || self.newest.load(Ordering::SeqCst) != number
+    pub(crate) fn is_past<Rt: Wait>(&self, rt: &Rt, number: u64) -> bool {
+        let mut held = self.held.lock(rt);
+        self.hear(&mut held);
+        held.place().is_past(number)
     }
 
-    /// Whether the connection of this number, or a later one, has ended.
-    pub(crate) fn has_ended(&self, number: u64) -> bool {
-        self.ended.load(Ordering::SeqCst) >= number
-    }
-
-    /// The number of the connection that is served.
-    pub(crate) fn served(&self) -> u64 {
-        self.served.load(Ordering::SeqCst)
+    /// Whether the connection of this number is served, or its lines are heard.
+    pub(crate) fn is_here<Rt: Wait>(&self, rt: &Rt, number: u64) -> bool {
+        let mut held = self.held.lock(rt);
+        self.hear(&mut held);
+        held.place().is_here(number)
     }
 
     /// Sets for how long a connection is waited for. Says whether it could be set.
@@ -109,52 +90,76 @@ impl PartnerPlace {
             && stream.set_write_timeout(write).is_ok()
     }
 
-    /// Has a connection, of which this was read already, take the place of the one that is here. It is told
-    /// its number. Only one thread calls it.
-    pub(crate) fn arrive<Rt: Wait>(&self, rt: &Rt, stream: TcpStream, text: Vec<u8>) -> u64 {
-        let number = self.newest.load(Ordering::SeqCst).saturating_add(1);
+    /// The first line of a connection is there, and may be a command: it takes the place of the one that is here. Says
+    /// whether it does; it is closed else.
+    pub(crate) fn arrive<Rt: Wait>(&self, rt: &Rt, newcomer: ServedPartner) -> bool {
         let mut held = self.held.lock(rt);
-        held.arrived = Some(Arrived {
-            stream,
-            text,
-            number,
-        });
-        self.newest.store(number, Ordering::SeqCst);
-        if let Some(open) = &held.open {
-            let _ = open.shutdown(Shutdown::Both);
-        }
-        number
+        self.hear(&mut held);
+        held.arrive(newcomer)
     }
 
-    /// Takes the newest connection, where there is one that was not taken, and serves it from now on.
-    pub(crate) fn take<Rt: Wait>(&self, rt: &Rt) -> Option<Arrived> {
+    /// The first line of the connection of this number is none that may be a command. Says whether it is refused.
+    pub(crate) fn refuses<Rt: Wait>(&self, rt: &Rt, number: u64, is_whole: bool) -> bool {
         let mut held = self.held.lock(rt);
-        let arrived = held.arrived.take()?;
-        held.open = arrived.stream.try_clone().ok();
-        held.replies = arrived.stream.try_clone().ok();
-        if held.open.is_none() || held.replies.is_none() {
-            held.open = None;
-            self.ended.store(arrived.number, Ordering::SeqCst);
-            return None;
-        }
-        self.served.store(arrived.number, Ordering::SeqCst);
-        Some(arrived)
+        self.hear(&mut held);
+        let actions = held.step(Event::FirstLine(number, is_whole, false));
+        actions.refuse.is_some()
     }
 
-    /// What the replies to the connection that is served go to; nothing where they were asked for before.
-    pub(crate) fn take_replies<Rt: Wait>(&self, rt: &Rt) -> Option<TcpStream> {
+    /// Its session comes for the next connection: its number, and itself, if there is one.
+    pub(crate) fn next<Rt: Wait>(&self, rt: &Rt) -> Option<(u64, Arrived)> {
         let mut held = self.held.lock(rt);
-        held.replies.take()
+        self.hear(&mut held);
+        held.next()
     }
 
-    /// The connection that is served, if there is one, has ended: it is closed.
-    pub(crate) fn end<Rt: Wait>(&self, rt: &Rt) {
+    /// Whether its session may take a whole line of the connection of this number.
+    pub(crate) fn admits<Rt: Wait>(&self, rt: &Rt, number: u64) -> bool {
         let mut held = self.held.lock(rt);
-        held.replies = None;
-        if let Some(open) = held.open.take() {
-            let _ = open.shutdown(Shutdown::Both);
-        }
-        self.ended.store(self.served(), Ordering::SeqCst);
+        self.hear(&mut held);
+        held.step(Event::LineTaken(number)).admits
+    }
+
+    /// All replies to the line that its session took last were written, or dropped.
+    pub(crate) fn answered<Rt: Wait>(&self, rt: &Rt) {
+        let mut held = self.held.lock(rt);
+        self.hear(&mut held);
+        let _ = held.step(Event::LineAnswered);
+    }
+
+    /// Its session has a reply: the number of the connection that it goes to, and what it goes to there, where that was
+    /// not asked for before. `None` where it goes nowhere.
+    pub(crate) fn reply<Rt: Wait>(&self, rt: &Rt) -> Option<(u64, Option<TcpStream>)> {
+        let mut held = self.held.lock(rt);
+        self.hear(&mut held);
+        held.reply()
+    }
+
+    /// The connection of this number takes no reply any more.
+    pub(crate) fn fail<Rt: Wait>(&self, rt: &Rt, number: u64) {
+        let mut held = self.held.lock(rt);
+        self.hear(&mut held);
+        let _ = held.step(Event::WriteFailed(number));
+    }
+
+    /// The board closes, where the word says so.
+    pub(crate) fn close<Rt: Wait>(&self, rt: &Rt) {
+        let mut held = self.held.lock(rt);
+        self.hear(&mut held);
+    }
+
+    /// A pause has passed. Where the board closes, who has not taken its last reply after 5 seconds is cut off.
+    pub(crate) fn wait<Rt: Wait>(&self, rt: &Rt) {
+        let mut held = self.held.lock(rt);
+        self.hear(&mut held);
+        let _ = held.step(Event::Tick(PAUSE));
+    }
+
+    /// Its session has ended: nobody is served here any more.
+    pub fn finish<Rt: Wait>(&self, rt: &Rt) {
+        let mut held = self.held.lock(rt);
+        self.hear(&mut held);
+        let _ = held.step(Event::SessionEnded);
     }
 
     /// Counts a line of its session, of which this came.
@@ -179,23 +184,5 @@ impl PartnerPlace {
     /// Adds the code and the first bytes of its last bad line, as two members of an object of JSON.
     pub(crate) fn add_bad<Rt: Wait>(&self, rt: &Rt, text: &mut String) -> Result<(), AllocError> {
         self.counts.lock(rt).add_bad(text)
-    }
-
-    /// Its session has ended: nobody is served here any more.
-    pub fn finish<Rt: Wait>(&self, rt: &Rt) {
-        self.is_over.store(true, Ordering::SeqCst);
-        self.end(rt);
-        let mut held = self.held.lock(rt);
-        held.arrived = None;
-        self.ended
-            .store(self.newest.load(Ordering::SeqCst), Ordering::SeqCst);
-    }
-
-    /// Has nothing more read of the connection that is served, or cuts it off.
-    pub(crate) fn stop<Rt: Wait>(&self, rt: &Rt, how: Shutdown) {
-        let held = self.held.lock(rt);
-        if let Some(open) = &held.open {
-            let _ = open.shutdown(how);
-        }
     }
 }

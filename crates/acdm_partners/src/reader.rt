@@ -95,8 +95,11 @@ impl<A: Arrivals<R> + Drop, R: Read + Drop, const MOST: usize> WholeLines<A, R, 
         ensures goes { GoesOn MOST self.old self.new [] }
         ensures taken { result ≡ true → self.new.in_line ≡ true }
     {
-        if !self.in_hand && !self.take_line() {
-            return false;
+        if !self.in_hand {
+            self.arrivals.answered();
+            if !self.take_line() {
+                return false;
+            }
         }
         if !self.is_admitted {
             self.is_admitted = self.arrivals.admits();

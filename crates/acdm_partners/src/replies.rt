@@ -7,7 +7,7 @@ ghost use Rattle.acdm_partners.specs.Sending as sending;
 use crate::outlet::Outlet;
 use crate::places::PartnerPlace;
 use std::io::{self, ErrorKind, Write};
-use std::net::{Shutdown, TcpStream};
+use std::net::TcpStream;
 use std::sync::{Arc, Wait};
 
 /// Where the replies of a session go: to the connection whose lines they answer. A connection that
@@ -32,13 +32,12 @@ impl<'r, Rt: Wait> PartnerReplies<'r, Rt> {
         }
     }
 
-    // Cuts the connection off. What was to go to it is dropped, or the writer fails.
-    fn cut_off(&mut self, dropped: usize) -> io::Result<usize>
+    // Nothing goes to the connection any more. What was to go to it is dropped, or the writer fails.
+    fn drop_rest(&mut self, dropped: usize) -> io::Result<usize>
         ensures all { IfOk result (λ n. n ≡ dropped) }
         ensures cut { sending.IsCut self.new.outlet }
     {
         self.outlet.cut();
-        self.place.stop(self.rt, Shutdown::Both);
         if self.place.terms.again || self.place.is_closing() {
             Ok(dropped)
         } else {
@@ -56,14 +55,18 @@ impl<'r, Rt: Wait> Write for PartnerReplies<'r, Rt> {
         if buf.is_empty() {
             return Ok(0);
         }
-        let served = self.place.served();
-        if self.outlet.number() != served {
-            let stream = self.place.take_replies(self.rt);
-            self.outlet.turn_to(served, stream);
+        let Some((number, stream)) = self.place.reply(self.rt) else {
+            return self.drop_rest(buf.len());
+        };
+        if self.outlet.number() != number {
+            self.outlet.turn_to(number, stream);
         }
-        match self.outlet.send(served, buf) {
+        match self.outlet.send(number, buf) {
             Some(taken) => Ok(taken),
-            None => self.cut_off(buf.len()),
+            None => {
+                self.place.fail(self.rt, number);
+                self.drop_rest(buf.len())
+            }
         }
     }
 

@@ -1,9 +1,9 @@
 //! What is told of partners and of the journal, and when: on standard error, and in the log of an operator.
 use crate::counts::add_json;
 use crate::line_queue::LineQueue;
-use crate::pace::Stopwatch;
 use crate::places::PartnerPlace;
 use crate::stamp::now_text;
+use crate::stopwatch::Stopwatch;
 use std::alloc::{AllocError, Global};
 use std::io;
 use std::net::SocketAddr;

@@ -9,7 +9,3 @@ pub const PATIENCE: u64 = 250;
 
 /// After how many milliseconds a read that waits looks whether the board closes, at most.
 pub(crate) const LONGEST_READ: u64 = 1_000;
-
-/// For how many pauses sessions are waited for when the board closes, until their partners are cut off:
-/// 5 seconds.
-pub(crate) const LAST_PAUSES: u64 = 200;

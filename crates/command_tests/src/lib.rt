@@ -9,6 +9,8 @@ mod commands;
 #[cfg(test)]
 mod partners;
 #[cfg(test)]
+mod place;
+#[cfg(test)]
 mod settings;
 #[cfg(test)]
 mod ticks;

@@ -6,22 +6,29 @@ use acdm_partners::{
 use std::alloc::Global;
 use std::io::Read;
 
-// Connections that give these texts, one after the other, until no line is admitted any more.
+// Connections that give these texts, one after the other, until no line is admitted any more. None is before the one
+// before it was answered.
 #[derive(Drop)]
 struct Visits {
     texts: [&'static [u8]; 4],
     next: usize,
     admitted: u32,
+    is_answered: bool,
 }
 
 impl Arrivals<&'static [u8]> for Visits {
+    fn answered(&mut self) {
+        self.is_answered = true;
+    }
+
     fn admits(&mut self) -> bool {
         match self.admitted.checked_sub(1) {
-            Some(left) => {
+            Some(left) if self.is_answered => {
                 self.admitted = left;
+                self.is_answered = false;
                 true
             }
-            None => false,
+            _ => false,
         }
     }
 
@@ -41,6 +48,7 @@ fn whole_lines<const MOST: usize>(alloc: Global, size: usize, admitted: u32) -> 
         texts: TEXTS,
         next: 0,
         admitted,
+        is_answered: false,
     };
     let mut reader = WholeLines::<Visits, &'static [u8], MOST>::new(alloc, arrivals).ok()?;
     let mut buf = [0u8; 16];

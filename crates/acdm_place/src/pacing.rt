@@ -1,8 +1,6 @@
 //! How many lines are taken in a minute.
-ghost use Rattle.std.specs.Prelude.{◌≡◌, ◌*◌, ◌≤◌, max};
-ghost use Rattle.acdm_partners.specs.Paced.{admits, grown, spent, whole};
-
-use std::time::{Clock, Instant};
+ghost use Rattle.std.specs.Prelude.{◌≡◌, ◌*◌, ◌≤◌};
+ghost use Rattle.acdm_place.specs.Paced.{admits, grown, latest, spent, whole};
 
 /// What a line costs of the credit: the milliseconds of a minute.
 const COST: u64 = 60_000;
@@ -10,7 +8,7 @@ const COST: u64 = 60_000;
 /// How many lines are taken in a minute at most. The credit grows by as much as so many lines cost in each
 /// minute, and no further: so after a silence so many lines are taken at once.
 #[derive(Clone, Copy)]
-pub(crate) struct Pace {
+pub struct Pace {
     most: u32,
     credit: u64,
     counted: u64,
@@ -19,7 +17,7 @@ pub(crate) struct Pace {
 
 impl Pace {
     /// With the whole credit at this moment, in milliseconds.
-    pub(crate) fn new(most: u32, now: u64) -> Pace
+    pub fn new(most: u32, now: u64) -> Pace
         ensures most { result.most ≡ most }
         ensures credit { result.credit ≡ whole most }
         ensures counted { result.counted ≡ now }
@@ -32,9 +30,9 @@ impl Pace {
     }
 
     /// Whether a line may be taken at this moment, in milliseconds. It takes its cost then.
-    pub(crate) fn admits(&mut self, now: u64) -> bool
+    pub fn admits(&mut self, now: u64) -> bool
         ensures most { self.new.most ≡ self.old.most }
-        ensures counted { self.new.counted ≡ max self.old.counted now }
+        ensures counted { self.new.counted ≡ latest self.old.counted now }
         ensures admitted { result ≡ admits (grown self.old.most self.old.credit self.old.counted now) }
         ensures credit { self.new.credit ≡ spent (grown self.old.most self.old.credit self.old.counted now) }
     {
@@ -49,7 +47,7 @@ impl Pace {
     // Adds what has grown since it was counted last. A clock that goes back adds nothing.
     fn grow(&mut self, now: u64)
         ensures most { self.new.most ≡ self.old.most }
-        ensures counted { self.new.counted ≡ max self.old.counted now }
+        ensures counted { self.new.counted ≡ latest self.old.counted now }
         ensures credit { self.new.credit ≡ grown self.old.most self.old.credit self.old.counted now }
     {
         let passed = now.saturating_sub(self.counted).min(COST);
@@ -57,27 +55,5 @@ impl Pace {
         let credit = self.credit + passed * most;
         self.credit = credit.min(most * COST);
         self.counted = self.counted.max(now);
-    }
-}
-
-/// Milliseconds since a clock was first read.
-#[derive(Drop)]
-pub(crate) struct Stopwatch {
-    begun: Option<Instant>,
-}
-
-impl Stopwatch {
-    /// From now on.
-    pub(crate) fn begin<Rt: Clock>(rt: &Rt) -> Stopwatch {
-        Stopwatch {
-            begun: Instant::now(rt).ok(),
-        }
-    }
-
-    /// The milliseconds that have passed, where the clock tells time.
-    pub(crate) fn passed<Rt: Clock>(&self, rt: &Rt) -> Option<u64> {
-        let now = Instant::now(rt).ok()?;
-        let passed = now.saturating_duration_since(self.begun?).as_millis();
-        u64::try_from(passed).ok()
     }
 }

@@ -1,0 +1,7 @@
+mod Counting
+mod Ends
+mod Filling
+mod Hearing
+mod Lines
+mod Taking
+mod Turning
