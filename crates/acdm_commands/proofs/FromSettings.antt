@@ -1,5 +1,5 @@
 -- What comes of a file of settings.
-use Rattle.std.proofs.Common.{◌≡◌, ◌⊎◌, ℕ, List, [], Option, Some, None, Err, inl, inr, map, subst, string_bytes, Vec, String, Global}
+use Rattle.std.proofs.Common.{◌≡◌, ◌⊎◌, ℕ, List, [], Option, Some, Err, inl, inr, map, subst, string_bytes, Vec, String, Global}
 use Rattle.acdm_failures.specs.Failures.{Complains, failure_text}
 use Rattle.acdm_failures.specs.declared.failure.Failure.TheVariants.{Memory}
 use Rattle.acdm_judging.specs.Gave.{GaveBytes}

@@ -1,5 +1,5 @@
 -- What comes of a file that tables are read of.
-use Rattle.std.proofs.Common.{◌≡◌, ◌⊎◌, ◌↔◌, ℕ, Bool, true, false, IsTrue, List, [], Option, Some, None, Err, IfSome, IfNone, inl, inr, sym, subst}
+use Rattle.std.proofs.Common.{◌≡◌, ◌⊎◌, ◌↔◌, ℕ, Bool, false, IsTrue, List, [], Option, Some, None, Err, IfSome, IfNone, inl, inr, sym, subst}
 use Rattle.acdm_failures.specs.Failures.{Complains, failure_text}
 use Rattle.acdm_failures.specs.declared.failure.Failure.TheVariants.{Memory}
 use Rattle.acdm_judging.specs.Gave.{GaveBytes}

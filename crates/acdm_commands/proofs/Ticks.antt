@@ -1,7 +1,7 @@
 -- The board's own ticks, behind the partners that words name.
-use Rattle.std.proofs.Common.{◌≡◌, ℕ, ◌+◌, ◌≤◌, Bool, true, false, List, [], ◌++◌, length, map, Option, Some, None, option_map, is_some, arith, length-append, append-nil, sym, subst, refl}
+use Rattle.std.proofs.Common.{◌≡◌, ℕ, ◌+◌, ◌≤◌, Bool, false, List, length, map, Option, Some, None, option_map, is_some, arith, length-append, append-nil, sym, subst, refl}
 use Rattle.std.proofs.lemmas.List.{length-map}
-use Rattle.acdm_sessions.specs.Sessions.{SessionStart, new_session}
+use Rattle.acdm_sessions.specs.Sessions.{new_session}
 use Rattle.acdm_serving.specs.Partners.{starts_of, tick_starts}
 use Rattle.acdm_serving.specs.declared.partners.Listener.{Listener}
 use Rattle.acdm_commands.specs.Minutes.{is_minute}

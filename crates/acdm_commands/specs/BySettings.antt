@@ -1,5 +1,5 @@
 -- The words of a command line, with those of a file of settings in their place (this project's profile).
-use Rattle.std.specs.Prelude.{ℕ, ◌≡◌, ◌⊎◌, ⊤, List, [], ◌∷◌, ◌++◌, codes, Option, Some, None, Ok, Err, map}
+use Rattle.std.specs.Prelude.{ℕ, ◌≡◌, ◌⊎◌, ⊤, List, ◌++◌, codes, Option, Some, None, Ok, Err, map}
 use Rattle.std.specs.Prelude.{string_bytes}
 use Rattle.std.specs.Fmt.{decimal}
 use Rattle.acdm_judging.specs.Explained.{TellsUnread}

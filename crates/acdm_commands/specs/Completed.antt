@@ -37,6 +37,7 @@ written_to file = record {
   faults = file.faults;
   waits = file.waits;
   log = file.log;
+  told = file.told;
 }
 
 -- a file that nothing was read of

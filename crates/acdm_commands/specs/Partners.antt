@@ -4,7 +4,6 @@ use Rattle.std.specs.Prelude.{if◌then◌else◌, List, []}
 use Rattle.std.specs.Prelude.{◌∷◌, ◌++◌, length, map, Option, Some, None, Result, Ok, Err}
 use Rattle.std.specs.Prelude.{IsSome, is_some, true, false}
 use Rattle.std.specs.List.{AllByRecursion, after_first, before_first, flat_map, position_or_len}
-use Rattle.bpf_helpers.specs.Promise.{Promise}
 use Rattle.acdm_milestones.specs.Names.{role_named}
 use Rattle.acdm_milestones.specs.declared.role.Role.{Role}
 use Rattle.acdm_milestones.specs.declared.role.Role.TheVariants.{AirportOperator}

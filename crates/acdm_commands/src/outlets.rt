@@ -1,5 +1,5 @@
 //! The addresses of displays, at which the command `serve` listens beside its partners.
-ghost use Rattle.std.specs.Prelude.{◌≡◌, IfErr, is_some};
+ghost use Rattle.std.specs.Prelude.{◌≡◌, IfErr, is_some, option_map};
 ghost use Rattle.acdm_commands.specs.Partners.{FailsToShow, has_outlet};
 
 use crate::addresses::socket_at;
@@ -39,7 +39,14 @@ impl<'a> OutletAddresses<'a> {
     }
 
     // That of a kind of displays.
-    fn of(&self, kind: DisplayKind) -> Option<&'a str> {
+    fn of(&self, kind: DisplayKind) -> Option<&'a str>
+        ensures journal { kind ≡ DisplayKind.Journal → option_map (λ a. a.now) result
+            ≡ option_map (λ a. a.now) self.now.journal }
+        ensures changes { kind ≡ DisplayKind.Changes → option_map (λ a. a.now) result
+            ≡ option_map (λ a. a.now) self.now.changes }
+        ensures web { kind ≡ DisplayKind.Web → option_map (λ a. a.now) result
+            ≡ option_map (λ a. a.now) self.now.web }
+    {
         match kind {
             DisplayKind::Journal => self.journal,
             DisplayKind::Changes => self.changes,

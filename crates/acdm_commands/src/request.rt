@@ -1,5 +1,5 @@
 //! What the words of `run` and of `serve` ask for.
-ghost use Rattle.std.specs.Prelude.{◌≡◌, is_some, option_map};
+ghost use Rattle.std.specs.Prelude.{◌≡◌, IfSome, is_some, option_map};
 
 use crate::outlets::OutletAddresses;
 use crate::serve_options::ServeOptions;
@@ -45,6 +45,8 @@ impl<'a> JournalFiles<'a> {
     ) -> JournalFiles<'a>
         ensures save { option_map (λ s. s.now) result.save ≡ option_map (λ s. s.now) save.entry }
         ensures keep { is_some result.keep ≡ is_some keep.entry }
+        ensures path { option_map (λ k. k.path.now) result.keep ≡ option_map (λ p. p.now) keep.entry }
+        ensures synced { IfSome result.keep (λ k. k.is_synced ≡ is_synced) }
     {
         let keep = match keep {
             Some(path) => Some(KeepIn {
@@ -58,7 +60,9 @@ impl<'a> JournalFiles<'a> {
     }
 
     /// The path of the file that it is kept in.
-    pub(crate) fn kept_path(&self) -> Option<&'a str> {
+    pub(crate) fn kept_path(&self) -> Option<&'a str>
+        ensures { option_map (λ p. p.now) result ≡ option_map (λ k. k.path.now) self.now.keep }
+    {
         match self.keep {
             Some(keep) => Some(keep.path),
             None => None,

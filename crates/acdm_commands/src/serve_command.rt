@@ -23,10 +23,13 @@ use crate::system_clock::SystemMinutes;
 use acdm_board::Desk;
 use acdm_failures::{Failure, ended};
 use acdm_judging::Finding;
-use acdm_keeping::{Keeper, Named, Opening, Paths, Reach, SharedKeeper, Synced};
+use acdm_keeping::{
+    Keeper, KeptCount, LastingReceipt, Named, Opening, Paths, Reach, SharedKeeper, Synced,
+};
 use acdm_row::Row;
 use acdm_serving::{
-    FileKeeper, Host, Operation, Partners, ServedPartners, serve_partners, serve_reconnecting,
+    FileKeeper, Host, Operation, Partners, ServedPartners, latest_receipt, serve_partners,
+    serve_reconnecting,
 };
 use acdm_sessions::{Clock, RunError, Sink};
 use acdm_tables::KnownHelpers;
@@ -44,6 +47,8 @@ struct BoardStart<Rt: Paths + Drop, H: Helpers + Drop> {
     desk: Desk<H>,
     keeper: Option<Keeper<Synced<Rt>>>,
     named: Option<Named>,
+    // What receipts of the keeper are compared by.
+    count: KeptCount,
 }
 
 /// Why no partner is served.
@@ -100,6 +105,9 @@ fn begin<Rt: Host + Files<File = File>>(
 {
     let Setup { tables, capacity } = setup;
     let helpers = KnownHelpers::new(context.alloc, tables);
+    let Ok(count) = KeptCount::new(context.alloc) else {
+        return Err(BeginError::Failed(Failure::Memory));
+    };
     let Ok(mut desk) = Desk::new(context.alloc, helpers, capacity) else {
         return Err(BeginError::Failed(Failure::Memory));
     };
@@ -108,6 +116,7 @@ fn begin<Rt: Host + Files<File = File>>(
             desk,
             keeper: None,
             named: None,
+            count,
         });
     };
     let KeptFile { writer, named } = match resume(context, keep, &mut desk) {
@@ -120,6 +129,7 @@ fn begin<Rt: Host + Files<File = File>>(
             desk,
             keeper: Some(keeper),
             named: Some(named),
+            count,
         }),
         Err(failure) => Err(BeginError::Failed(failure)),
     }
@@ -157,6 +167,7 @@ fn serve_desk<
 ) -> Result<u8, Failure>
     requires desk { row_of begun.desk ≡ J.desk_row }
     requires opening { seen_by begun.keeper ≡ J.opening }
+    requires table { begun.count ≡ J.table }
     requires new { IfSome begun.keeper (IsNewKeeper begun.desk) }
     ensures { ServesWordsTo (is_some begun.keeper) begun.desk (named_of request.now) output.old output.new saved.old
         saved.new result }
@@ -166,6 +177,7 @@ fn serve_desk<
         desk,
         keeper,
         named,
+        count,
     } = begun;
     let Ok(mut buffer) = buffer_for(alloc, saved) else {
         return Err(Failure::Memory);
@@ -180,7 +192,9 @@ fn serve_desk<
         Ok(operator) => operator,
         Err(failure) => return Err(failure),
     };
-    let shared: Option<FileKeeper<J, Rt>> = match share(alloc, keeper, &desk, &closing) {
+    let shared: Option<FileKeeper<J, Rt>> = match share(
+        context.rt, alloc, keeper, count, &desk, &closing,
+    ) {
         Ok(shared) => shared,
         Err(_) => return Err(Failure::Memory),
     };
@@ -200,15 +214,16 @@ fn serve_desk<
         keeper: shared.as_ref(),
     };
     let served = serve_opened(context.rt, alloc, partners, desk, operation, output);
-    let kept = keep_rest(shared);
-    let (mut desk, told) = match served {
+    let (mut desk, told, latest) = match served {
         Ok(served) => served,
         Err(failure) => {
+            let _ = keep_rest(context.rt, shared, None);
             close_all(context.rt, outlets);
             note_kept(context, request.files.keep, &same);
             return Err(failure);
         }
     };
+    let kept = keep_rest(context.rt, shared, latest);
     match kept {
         Ok(()) => {}
         Err(_) => {
@@ -245,19 +260,22 @@ fn note_kept<Rt>(context: &Context<'_, Rt>, keep: Option<KeepIn<'_>>, named: &Op
 
 // Shares the keeper of a desk, if there is one.
 fn share<J: Opening, Rt: Host, H: Helpers + Drop>(
+    rt: &Rt,
     alloc: Global,
     keeper: Option<Keeper<Synced<Rt>>>,
+    count: KeptCount,
     desk: &Desk<H>,
     closing: &Arc<AtomicBool>,
 ) -> Result<Option<FileKeeper<J, Rt>>, Failure>
     requires desk { row_of desk.now ≡ J.desk_row }
     requires opening { seen_by keeper ≡ J.opening }
+    requires table { count ≡ J.table }
     requires new { IfSome keeper (IsNewKeeper desk.now) }
     ensures shared { IfOk result (λ s. is_some s ≡ is_some keeper) }
     ensures fails { IfErr result (λ failure. failure ≡ Memory) }
 {
     match keeper {
-        Some(keeper) => match SharedKeeper::new(alloc, keeper, closing) {
+        Some(keeper) => match SharedKeeper::new(rt, alloc, keeper, count, closing) {
             Ok(shared) => Ok(Some(shared)),
             Err(_) => Err(Failure::Memory),
         },
@@ -275,15 +293,20 @@ fn reach_of<J: Opening, Rt: Host>(
     }
 }
 
-// Keeps what is left, where the journal is kept.
-fn keep_rest<J: Opening, Rt: Host>(shared: Option<FileKeeper<J, Rt>>) -> Result<(), Failure>
+// Keeps what is left, where the journal is kept. Whether that fails or not, what the latest receipt is for, behind which
+// replies were handed on, stands in the file.
+fn keep_rest<J: Opening, Rt: Host>(
+    rt: &Rt,
+    shared: Option<FileKeeper<J, Rt>>,
+    latest: Option<LastingReceipt<J>>,
+) -> Result<(), Failure>
     ensures { OnErr result (is_some shared ≡ true) }
 {
     match shared {
-        Some(keeper) => match keeper.into_keeper() {
-            Ok(_keeper) => Ok(()),
-            Err(failure) => Err(failure),
-        },
+        Some(keeper) => {
+            let (_keeper, kept) = keeper.end(rt, latest);
+            kept
+        }
         None => Ok(()),
     }
 }
@@ -322,7 +345,8 @@ fn is_served_once<J: Opening, Rt: Host, C: Drop>(
     partners.ticks.is_none() && operation.is_plain()
 }
 
-// Serves the partners. Answers the desk once they are gone, and how it went to tell how they ended.
+// Serves the partners. Answers the desk once they are gone, how it went to tell how they ended, and the latest receipt
+// behind which replies were handed on, if the journal is kept.
 fn serve_opened<
     'r,
     J: Opening + Send + Sync + 'r,
@@ -337,7 +361,7 @@ fn serve_opened<
     desk: Desk<H>,
     operation: Operation<'r, J, Rt>,
     output: &mut Sink<W>,
-) -> Result<(Desk<H>, Result<(), RunError>), Failure>
+) -> Result<(Desk<H>, Result<(), RunError>, Option<LastingReceipt<J>>), Failure>
     requires few { length (starts_of C.gives partners.listeners.items
         (option_map (λ t. t.clock) partners.ticks)) ≤ 64 }
     ensures serves { IfOk result (λ after. ServesPartners desk (map (λ p. p.role) partners.listeners.items)
@@ -357,7 +381,7 @@ fn serve_opened<
             told,
         } = served;
         drop(sessions);
-        return Ok((desk, told));
+        return Ok((desk, told, None));
     }
     let served = match serve_reconnecting(rt, alloc, partners, operation, desk, output) {
         Ok(served) => served,
@@ -368,6 +392,6 @@ fn serve_opened<
         sessions,
         told,
     } = served;
-    drop(sessions);
-    Ok((desk, told))
+    let latest = latest_receipt(sessions);
+    Ok((desk, told, latest))
 }

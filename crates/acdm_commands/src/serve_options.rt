@@ -31,7 +31,9 @@ pub(crate) struct ServeOptions<'a> {
 
 impl ServeOptions<'_> {
     /// By which terms partners are served.
-    pub(crate) fn terms(&self) -> Terms {
+    pub(crate) fn terms(&self) -> Terms
+        ensures { result ≡ record { again = self.now.again; pace = self.now.pace } }
+    {
         Terms {
             again: self.again,
             pace: self.pace,

@@ -1,3 +1,5 @@
 mod Behind
 mod Copied
 pub mod Crossing
+mod Knowing
+mod Standing

@@ -1,5 +1,5 @@
 -- What is kept of a journal.
-use Rattle.std.specs.Prelude.{◌≡◌, Bool, ℕ, [], ◌++◌, List, length, reverse}
+use Rattle.std.specs.Prelude.{◌≡◌, ◌≤◌, Bool, ℕ, [], ◌++◌, List, length, reverse, Option, MatchOption}
 use Rattle.acdm_failures.specs.declared.failure.Failure.{Failure}
 use Rattle.acdm_failures.specs.declared.failure.Failure.TheVariants.{Memory, Save}
 use Rattle.acdm_journal.specs.Crash.{CrashLeaves}
@@ -64,3 +64,28 @@ pub record AtAnyMoment (seen later : List Entry) (old new : List ℕ) : Type 0 w
   pub crash : (before left : List ℕ) → Saves (reverse seen) [] (before ++ old)
       → LeavesDuring (before ++ old) (before ++ (new ++ rest)) left
       → CrashLeaves (history_text (reverse taken)) (length (history_text (reverse seen))) left
+
+-- ---- a keeper that is shared
+
+-- the keeper, and how many entries it has told to be kept
+pub record SharedView (W : Type 0) : Type 0 where
+  pub keeper : KeeperView W
+  pub kept : ℕ
+
+-- Of the entries that were seen, the text of the first ones, so many, stands in front of all that a writer has taken,
+-- behind the opening ones, whatever it has taken since.
+pub record Stands (opening seen : List Entry) (kept : ℕ) (log : List ℕ) : Type 0 where
+  pub taken : List Entry
+  pub count : length taken ≡ kept
+  pub behind : SeesOn opening taken
+  pub within : SeesOn taken seen
+  pub front : List ℕ
+  pub first : GrowsFrom front log
+  pub keeps : Keeps opening taken [] front
+
+-- The text of all entries that the latest receipt is for, if there is one, stands in front of all that a writer has
+-- taken, behind the opening ones, whatever it has taken since.
+pub record StandsFor (opening : List Entry) (latest : Option ℕ) (seen : List Entry) (log : List ℕ) : Type 0 where
+  pub kept : ℕ
+  pub covered : MatchOption latest (Unit {0}) (λ count. count ≤ kept)
+  pub stands : Stands opening seen kept log

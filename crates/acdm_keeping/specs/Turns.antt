@@ -6,12 +6,12 @@ use Rattle.acdm_keeping.specs.declared.progress.Turn.TheVariants.{Kept, Failed, 
 
 -- They are kept where so many are, and nothing has failed; else it is for him to keep them. Once keeping has
 -- failed, nothing is told to be kept.
-abbrev pub Turns : Progress → ℕ → Turn → Type 0
-Turns p count (Kept r) = (p.has_failed ≡ false) × (r ≡ p.receipt) × (count ≤ r.count)
+abbrev pub Turns : {J : Type 0} → Progress J → ℕ → Turn J → Type 0
+Turns p count (Kept r) = (p.has_failed ≡ false) × (r ≡ p.receipt) × (count ≤ r)
 Turns p count Failed = p.has_failed ≡ true
-Turns p count Mine = (p.has_failed ≡ false) × (p.receipt.count < count)
+Turns p count Mine = (p.has_failed ≡ false) × (p.receipt < count)
 
 -- where entries are told to be kept, so many are
-abbrev pub TellsKept : ℕ → Turn → Type 0
-TellsKept count (Kept r) = count ≤ r.count
+abbrev pub TellsKept : {J : Type 0} → ℕ → Turn J → Type 0
+TellsKept count (Kept r) = count ≤ r
 TellsKept count _ = Unit {0}

@@ -1,11 +1,14 @@
 //! A journal that is kept in a file as it grows.
 #![tactic(auto)]
 
+mod backed;
 mod copying;
 mod disk;
 mod file;
 mod held;
 mod keeper;
+mod knowledge;
+mod lasting;
 mod named;
 mod progress;
 mod reach;
@@ -20,6 +23,7 @@ pub use copying::copy_bytes;
 pub use disk::Disk;
 pub use file::{open, renew};
 pub use keeper::{Keeper, Receipt};
+pub use lasting::{KeptCount, LastingReceipt, later};
 pub use named::{Found, Named, Paths};
 pub use reach::{Extent, Reach};
 pub use replacement::{Replacement, is_same, is_special, leads_to, sync_folder};

@@ -3,14 +3,15 @@ ghost use Rattle.std.specs.Prelude.{◌≡◌, ◌<◌, ◌≤◌, true, false, 
 ghost use Rattle.acdm_failures.specs.declared.failure.Failure.TheVariants.{Save};
 ghost use Rattle.acdm_keeping.specs.Turns.{Turns};
 
-use crate::keeper::Receipt;
+use crate::lasting::{LastingReceipt, SharedCount};
+use crate::writing::Opening;
 use acdm_failures::Failure;
 
 /// What somebody does who waits for entries to be kept.
-#[derive(Clone, Copy, Debug, PartialEq, Eq)]
-pub(crate) enum Turn {
+#[derive(Drop)]
+pub(crate) enum Turn<J: Opening> {
     /// They are kept.
-    Kept(Receipt),
+    Kept(LastingReceipt<J>),
     /// Keeping has failed.
     Failed,
     /// It is for him to keep them.
@@ -19,15 +20,15 @@ pub(crate) enum Turn {
 
 /// How far a journal is kept, whether somebody is keeping it, and whether that has failed.
 #[derive(Drop)]
-pub(crate) struct Progress {
-    pub(crate) receipt: Receipt,
+pub(crate) struct Progress<J: Opening> {
+    pub(crate) receipt: LastingReceipt<J>,
     pub(crate) is_busy: bool,
     pub(crate) has_failed: bool,
 }
 
-impl Progress {
+impl<J: Opening> Progress<J> {
     /// So much is kept, and nobody is keeping.
-    pub(crate) fn new(receipt: Receipt) -> Progress
+    pub(crate) fn new(receipt: LastingReceipt<J>) -> Progress<J>
         ensures { (result.receipt ≡ receipt) × (result.has_failed ≡ false) }
     {
         Progress {
@@ -44,7 +45,7 @@ impl Progress {
 
     /// What somebody does who waits for so many entries while nobody is keeping. Where it is for him
     /// to keep them, he is.
-    pub(crate) fn turn(&mut self, count: usize) -> Turn
+    pub(crate) fn turn(&mut self, shared: &SharedCount<J>, count: usize) -> Turn<J>
         ensures turn { Turns self.old count result }
         ensures receipt { self.new.receipt ≡ self.old.receipt }
         ensures failed { self.new.has_failed ≡ self.old.has_failed }
@@ -53,7 +54,7 @@ impl Progress {
             return Turn::Failed;
         }
         if count <= self.receipt.count() {
-            return Turn::Kept(self.receipt);
+            return Turn::Kept(shared.copy(&mut self.receipt));
         }
         self.is_busy = true;
         Turn::Mine
@@ -63,10 +64,11 @@ impl Progress {
     /// many entries are kept, and to all who wait from then on.
     pub(crate) fn end(
         &mut self,
-        written: Result<Receipt, Failure>,
+        shared: &SharedCount<J>,
+        written: Result<LastingReceipt<J>, Failure>,
         count: usize,
-    ) -> Result<Receipt, Failure>
-        ensures kept { IfOk result (λ r. (count ≤ r.count) × (self.new.receipt ≡ r)) }
+    ) -> Result<LastingReceipt<J>, Failure>
+        ensures kept { IfOk result (λ r. (count ≤ r) × (self.new.receipt ≡ r)) }
         ensures written { OnErr written ((e : Failure) × (result ≡ Err e)) }
         ensures stays { OnOk result (self.new.has_failed ≡ self.old.has_failed) }
         ensures failed { IfErr result (λ e. e ≡ Save) }
@@ -76,7 +78,7 @@ impl Progress {
         match written {
             Ok(receipt) if count <= receipt.count() => {
                 self.receipt = receipt;
-                Ok(receipt)
+                Ok(shared.copy(&mut self.receipt))
             }
             _ => {
                 self.has_failed = true;

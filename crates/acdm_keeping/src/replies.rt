@@ -1,11 +1,12 @@
 //! Replies behind the keeping of the entries that they tell of.
-ghost use Rattle.std.specs.Prelude.{◌≡◌, ◌<◌, Bool, ℕ, None, [], IfErr, IfOk, IfSome, OnOk};
+ghost use Rattle.std.specs.Prelude.{◌≡◌, ◌<◌, Bool, ℕ, None, [], IfErr, IfOk, IfSome, MatchOption, OnErr, OnOk};
 ghost use Rattle.std.specs.Io.{WritesAtMost};
 ghost use Rattle.std.specs.Io.KnownBytes.{WriteAppends};
 ghost use Rattle.acdm_failures.specs.declared.failure.Failure.TheVariants.{Save};
 ghost use Rattle.acdm_keeping.specs.Behind.{HandsBehind, HandsOn, IsBacked, IsTold, TakesSome, handed};
 ghost use Rattle.acdm_keeping.specs.Kept.{CutsShort};
 
+use crate::backed::Backed;
 use crate::held::HeldReplies;
 use crate::keeper::{Keeper, Receipt};
 use acdm_failures::Failure;
@@ -18,11 +19,16 @@ pub trait EntryKeeper {
     /// Whether it keeps any. Where it does not, nobody waits for it.
     ghost keeps: { Self → Bool };
 
+    /// By a receipt that it holds the entry of this number is kept, and all before it, if it keeps any.
+    ghost covers: { Self → ℕ → Type 0 };
+
     /// Returns once the entry of this number is kept, if there is one, and all before it, with the receipt for that.
     ///
     /// `Save` where the writer failed, now or before, or where the entry is not in sight, `Memory` where it was refused.
     fn keep_to(&mut self, last: Option<u64>) -> Result<Option<Receipt>, Failure>
         ensures kept { IfOk result (IsBacked (keeps self.old) last) }
+        ensures covered { OnOk result (MatchOption last (Unit {0}) (covers self.new)) }
+        ensures holds { OnErr result ((n : ℕ) → covers self.old n → covers self.new n) }
         ensures same { keeps self.new ≡ keeps self.old }
         ensures failed { IfErr result CutsShort };
 }
@@ -46,6 +52,8 @@ impl<'a, F: Write + Drop> EntryKeeper for &'a mut Keeper<F> {
 
     ghost keeps = { λ _. true };
 
+    ghost covers = { λ _ _. Unit {0} };
+
     fn keep_to(&mut self, last: Option<u64>) -> Result<Option<Receipt>, Failure> {
         let count = entries_to(last)?;
         let receipt = self.kept()?;
@@ -65,7 +73,7 @@ impl<'a, F: Write + Drop> EntryKeeper for &'a mut Keeper<F> {
 /// kept, nothing is handed on any more.
 #[derive(Drop)]
 pub struct Replies<K: EntryKeeper + Drop, W: Write + Drop> {
-    keeper: K,
+    backed: Backed<K>,
     writer: Sink<W>,
     held: HeldReplies,
     // The greatest number of an entry that was announced.
@@ -83,13 +91,13 @@ impl<K: EntryKeeper + Drop, W: Write + Drop> Replies<K, W> {
         writer: W,
         room: usize,
     ) -> Result<Replies<K, W>, AllocError>
-        ensures keeper { IfOk result (λ r. r.keeper ≡ keeper) }
+        ensures keeper { IfOk result (λ r. (r.backed.keeper ≡ keeper) × (r.backed.handed ≡ None)) }
         ensures writer { IfOk result (λ r. (r.writer.inner ≡ writer) × (r.writer.log ≡ [])) }
         ensures held { IfOk result (λ r. r.held ≡ []) }
         ensures last { IfOk result (λ r. r.last ≡ None) }
     {
         Ok(Replies {
-            keeper,
+            backed: Backed::new(keeper),
             writer: Sink::new(writer),
             held: HeldReplies::new(alloc, room)?,
             last: None,
@@ -102,16 +110,27 @@ impl<K: EntryKeeper + Drop, W: Write + Drop> Replies<K, W> {
         ensures all { HandsOn (handed self.old.writer.log self.old.held)
             (handed self.new.writer.log self.new.held) }
         ensures empty { OnOk result (self.new.held ≡ []) }
-        ensures behind { HandsBehind (K.keeps self.old.keeper) self.old.last self.new.receipt
-            self.old.writer.log self.new.writer.log }
-        ensures keeper { K.keeps self.new.keeper ≡ K.keeps self.old.keeper }
+        ensures behind { HandsBehind (K.keeps self.old.backed.keeper) self.old.last self.new.receipt
+            self.new.backed.handed self.old.writer.log self.new.writer.log }
+        ensures keeper { K.keeps self.new.backed.keeper ≡ K.keeps self.old.backed.keeper }
         ensures last { self.new.last ≡ self.old.last }
     {
-        match self.keeper.keep_to(self.last) {
+        match self.backed.keep_to(self.last) {
             Ok(receipt) => self.receipt = receipt,
             Err(_) => return Err(io::Error::from(ErrorKind::Other)),
         }
         hand_on(&mut self.writer, &mut self.held)
+    }
+
+    /// Who keeps the entries, and the greatest number of one that had been announced when bytes were handed on last:
+    /// it covers that one, and all before it.
+    pub fn into_keeper(self) -> (K, Option<u64>)
+        ensures keeper { result.0 ≡ self.backed.keeper }
+        ensures handed { result.1 ≡ self.backed.handed }
+        ensures covered { MatchOption result.1 (Unit {0}) (K.covers result.0) }
+    {
+        let Replies { backed, .. } = self;
+        backed.into_parts()
     }
 }
 
@@ -140,9 +159,9 @@ impl<K: EntryKeeper + Drop, W: Write + Drop> Write for Replies<K, W> {
         ensures bytes { WriteAppends None None result buf.now }
         ensures takes { TakesSome (handed self.old.writer.log self.old.held)
             (handed self.new.writer.log self.new.held) result buf.now }
-        ensures behind { HandsBehind (K.keeps self.old.keeper) self.old.last self.new.receipt
-            self.old.writer.log self.new.writer.log }
-        ensures keeper { K.keeps self.new.keeper ≡ K.keeps self.old.keeper }
+        ensures behind { HandsBehind (K.keeps self.old.backed.keeper) self.old.last self.new.receipt
+            self.new.backed.handed self.old.writer.log self.new.writer.log }
+        ensures keeper { K.keeps self.new.backed.keeper ≡ K.keeps self.old.backed.keeper }
         ensures last { self.new.last ≡ self.old.last }
     {
         if self.held.is_full() {
@@ -155,9 +174,9 @@ impl<K: EntryKeeper + Drop, W: Write + Drop> Write for Replies<K, W> {
         ensures all { HandsOn (handed self.old.writer.log self.old.held)
             (handed self.new.writer.log self.new.held) }
         ensures empty { OnOk result (self.new.held ≡ []) }
-        ensures behind { HandsBehind (K.keeps self.old.keeper) self.old.last self.new.receipt
-            self.old.writer.log self.new.writer.log }
-        ensures keeper { K.keeps self.new.keeper ≡ K.keeps self.old.keeper }
+        ensures behind { HandsBehind (K.keeps self.old.backed.keeper) self.old.last self.new.receipt
+            self.new.backed.handed self.old.writer.log self.new.writer.log }
+        ensures keeper { K.keeps self.new.backed.keeper ≡ K.keeps self.old.backed.keeper }
         ensures last { self.new.last ≡ self.old.last }
     {
         self.send()?;
@@ -174,7 +193,7 @@ impl<K: EntryKeeper + Drop, W: Write + Drop> ReplyWriter for Replies<K, W> {
         ensures told { IsTold self.new.last number }
         ensures before { (n : ℕ) → IsTold self.old.last n → IsTold self.new.last n }
         ensures same { (self.new.writer ≡ self.old.writer) × (self.new.held ≡ self.old.held)
-            × (self.new.keeper ≡ self.old.keeper) }
+            × (self.new.backed ≡ self.old.backed) }
     {
         self.last = match self.last {
             Some(last) if number <= last => Some(last),

@@ -1,11 +1,12 @@
 //! A keeper that many sessions share.
-ghost use Rattle.std.specs.Prelude.{◌≡◌, ◌≤◌, ◌⊎◌, [], true, false, IfErr, IfOk};
+ghost use Rattle.std.specs.Prelude.{◌≡◌, ◌≤◌, ◌⊎◌, [], true, false, None, IfErr, IfOk, OnOk};
 ghost use Rattle.std.specs.Arc.{arc_value};
 ghost use Rattle.acdm_failures.specs.declared.failure.Failure.TheVariants.{Memory, Save};
-ghost use Rattle.acdm_keeping.specs.Kept.{Keeps};
+ghost use Rattle.acdm_keeping.specs.Kept.{Keeps, StandsFor};
 ghost use Rattle.acdm_keeping.specs.Turns.{TellsKept};
 
 use crate::keeper::{Keeper, Receipt};
+use crate::lasting::{KeptCount, LastingReceipt, SharedCount};
 use crate::progress::{Progress, Turn};
 use crate::reach::Reach;
 use crate::replies::{EntryKeeper, entries_to};
@@ -25,7 +26,8 @@ use std::sync::{Arc, Condvar, Mutex, Wait};
 #[derive(Drop)]
 pub struct SharedKeeper<F: Write + Drop, J: Opening> {
     reach: Reach,
-    progress: Mutex<Progress>,
+    shared: SharedCount<J>,
+    progress: Mutex<Progress<J>>,
     changed: Condvar,
     writing: Mutex<Writing<F, J>>,
     failed: Arc<AtomicBool>,
@@ -35,21 +37,25 @@ impl<F: Write + Drop, J: Opening> SharedKeeper<F, J> {
     /// Shares a keeper, of which all that it has seen is kept already, and that has
     /// written nothing. The word is set once keeping has failed. `Memory` where that was refused, `Save` only where
     /// the keeper's writer has failed.
-    pub fn new(
+    pub fn new<Rt: Wait>(
+        rt: &Rt,
         alloc: Global,
         keeper: Keeper<F>,
+        count: KeptCount,
         failed: &Arc<AtomicBool>,
     ) -> Result<SharedKeeper<F, J>, Failure>
         requires row { keeper.row ≡ J.desk_row }
         requires opening { keeper.seen ≡ J.opening }
         requires fresh { keeper.writer.log ≡ [] }
+        requires table { count ≡ J.table }
         ensures failed { IfErr result (λ e. (e ≡ Memory) ⊎ ((e ≡ Save) × (keeper.has_failed ≡ true))) }
     {
         let failed = Arc::try_clone(failed)?;
-        let writing = Writing::new(keeper);
-        let receipt = writing.begun()?;
+        let (shared, pass) = count.share();
+        let (writing, receipt) = Writing::begin(rt, &shared, keeper, pass)?;
         Ok(SharedKeeper {
-            reach: Reach::new(alloc, receipt)?,
+            reach: Reach::new(alloc, receipt.receipt())?,
+            shared,
             progress: Mutex::new(Progress::new(receipt)),
             changed: Condvar::new(),
             writing: Mutex::new(writing),
@@ -57,11 +63,11 @@ impl<F: Write + Drop, J: Opening> SharedKeeper<F, J> {
         })
     }
 
-    /// Waits until so many entries are kept, and answers how many are.
+    /// Waits until so many entries are kept, and gives a receipt for all that are.
     ///
     /// `Save` where keeping has failed, and where fewer are in sight.
-    pub fn wait_for<Rt: Wait>(&self, rt: &Rt, count: usize) -> Result<Receipt, Failure>
-        ensures kept { IfOk result (λ r. count ≤ r.count) }
+    pub fn wait_for<Rt: Wait>(&self, rt: &Rt, count: usize) -> Result<LastingReceipt<J>, Failure>
+        ensures kept { IfOk result (λ r. count ≤ r) }
         ensures failed { IfErr result (λ e. e ≡ Save) }
     {
         match self.take_turn(rt, count) {
@@ -89,35 +95,71 @@ impl<F: Write + Drop, J: Opening> SharedKeeper<F, J> {
         ensures failed { IfErr result (λ e. e ≡ Save) }
     {
         let SharedKeeper { writing, reach, .. } = self;
-        match writing.into_inner().into_keeper() {
-            Ok((keeper, receipt)) => {
+        let mut keeper = writing.into_inner().into_keeper();
+        match keeper.keep() {
+            Ok(receipt) => {
                 reach.renew(receipt);
                 Ok(keeper)
             }
-            Err(failure) => Err(failure),
+            Err(_) => Err(Failure::Save),
+        }
+    }
+
+    /// The keeper, once nobody waits any more, whether keeping has failed or not. All entries in sight are kept first, and
+    /// those who show them are told. The latest receipt that is still held, if there is one, is compared with what was
+    /// told to be kept: the text of the entries that it is for stands in front of all that the writer has taken.
+    ///
+    /// `Save` where keeping fails, or has failed.
+    pub fn end<Rt: Wait>(
+        self,
+        rt: &Rt,
+        latest: Option<LastingReceipt<J>>,
+    ) -> (Keeper<F>, Result<(), Failure>)
+        ensures row { result.0.row ≡ J.desk_row }
+        ensures stands { StandsFor J.opening latest result.0.seen result.0.writer.log }
+        ensures kept { OnOk result.1 (Keeps J.opening result.0.seen [] result.0.writer.log) }
+        ensures flushed { OnOk result.1 (result.0.writer.waits ≡ false) }
+        ensures failed { IfErr result.1 (λ e. e ≡ Save) }
+    {
+        let SharedKeeper {
+            reach,
+            shared,
+            writing,
+            ..
+        } = self;
+        let mut writing = writing.into_inner();
+        let written = writing.write_on(rt, &shared);
+        writing.compare(rt, &shared, latest);
+        let keeper = writing.into_keeper();
+        match written {
+            Ok(receipt) => {
+                reach.renew(receipt.receipt());
+                (keeper, Ok(()))
+            }
+            Err(failure) => (keeper, Err(failure)),
         }
     }
 
     // Waits as long as somebody keeps entries, and fewer are kept; then it is as he finds it.
-    fn take_turn<Rt: Wait>(&self, rt: &Rt, count: usize) -> Turn
+    fn take_turn<Rt: Wait>(&self, rt: &Rt, count: usize) -> Turn<J>
         ensures kept { TellsKept count result }
     {
         let progress = self.progress.lock(rt);
         let mut progress = self
             .changed
             .wait_while(rt, progress, |p| p.has_to_wait(count));
-        progress.turn(count)
+        progress.turn(&self.shared, count)
     }
 
     // Keeps all entries in sight, of which there are to be so many, and has those who wait look again.
-    fn keep_for<Rt: Wait>(&self, rt: &Rt, count: usize) -> Result<Receipt, Failure>
-        ensures kept { IfOk result (λ r. count ≤ r.count) }
+    fn keep_for<Rt: Wait>(&self, rt: &Rt, count: usize) -> Result<LastingReceipt<J>, Failure>
+        ensures kept { IfOk result (λ r. count ≤ r) }
         ensures failed { IfErr result (λ e. e ≡ Save) }
     {
         let written = self.write_on(rt);
-        let ended = self.progress.lock(rt).end(written, count);
-        match ended {
-            Ok(receipt) => self.reach.renew(receipt),
+        let ended = self.progress.lock(rt).end(&self.shared, written, count);
+        match &ended {
+            Ok(receipt) => self.reach.renew(receipt.receipt()),
             Err(_) => self.failed.store(true, Ordering::SeqCst),
         }
         self.changed.notify_all();
@@ -125,32 +167,49 @@ impl<F: Write + Drop, J: Opening> SharedKeeper<F, J> {
     }
 
     // Keeps all entries in sight.
-    fn write_on<Rt: Wait>(&self, rt: &Rt) -> Result<Receipt, Failure> {
-        self.writing.lock(rt).write_on()
+    fn write_on<Rt: Wait>(&self, rt: &Rt) -> Result<LastingReceipt<J>, Failure> {
+        self.writing.lock(rt).write_on(rt, &self.shared)
     }
 }
 
-/// A keeper that is shared, if there is one, for a session on a thread of its own. Where there is none, nothing is kept
-/// and nobody waits.
+/// A keeper that is shared, if there is one, for a session on a thread of its own, and the latest receipt that it gave.
+/// Where there is none, nothing is kept and nobody waits.
 #[derive(Drop)]
 pub struct Waiter<'r, F: Write + Drop, J: Opening, Rt> {
     rt: &'r Rt,
     keeper: Option<&'r SharedKeeper<F, J>>,
+    receipt: Option<LastingReceipt<J>>,
 }
 
 impl<'r, F: Write + Drop, J: Opening, Rt> Waiter<'r, F, J, Rt> {
     /// For this keeper, if there is one.
     pub fn new(rt: &'r Rt, keeper: Option<&'r SharedKeeper<F, J>>) -> Waiter<'r, F, J, Rt>
-        ensures { result.keeper ≡ keeper.entry }
+        ensures keeper { result.keeper ≡ keeper.entry }
+        ensures receipt { result.receipt ≡ None }
     {
-        Waiter { rt, keeper }
+        Waiter {
+            rt,
+            keeper,
+            receipt: None,
+        }
+    }
+
+    /// The latest receipt that it was given, if it was.
+    pub fn into_receipt(self) -> Option<LastingReceipt<J>>
+        ensures { result ≡ self.entry.receipt }
+    {
+        let Waiter { receipt, .. } = self;
+        receipt
     }
 }
 
 impl<'r, F: Write + Drop, J: Opening, Rt: Wait> EntryKeeper for Waiter<'r, F, J, Rt> {
-    ghost use Rattle.std.specs.Prelude.{is_some};
+    ghost use Rattle.std.specs.Prelude.{◌≡◌, is_some, true};
+    ghost use Rattle.acdm_keeping.specs.Behind.{IsWithin};
 
     ghost keeps = { λ w. is_some w.keeper };
+
+    ghost covers = { λ w number. is_some w.keeper ≡ true → IsWithin w.receipt number };
 
     fn keep_to(&mut self, last: Option<u64>) -> Result<Option<Receipt>, Failure> {
         let Some(keeper) = self.keeper else {
@@ -158,7 +217,11 @@ impl<'r, F: Write + Drop, J: Opening, Rt: Wait> EntryKeeper for Waiter<'r, F, J,
         };
         let count = entries_to(last)?;
         match keeper.wait_for(self.rt, count) {
-            Ok(receipt) => Ok(Some(receipt)),
+            Ok(receipt) => {
+                let told = receipt.receipt();
+                self.receipt = Some(receipt);
+                Ok(Some(told))
+            }
             Err(failure) => Err(failure),
         }
     }

@@ -18,12 +18,13 @@ use Rattle.acdm_partners.specs.contracts.connection.Connection as of_connection
 use Rattle.acdm_partners.specs.contracts.reader.WholeLines as reader
 use Rattle.acdm_partners.proofs.Crossing.{reader_send}
 use Rattle.acdm_partners.proofs.replies.PartnerReplies.TheSendSync as replies
-use Rattle.acdm_keeping.proofs.Crossing.{replies_send, waiting_send}
+use Rattle.acdm_keeping.proofs.Crossing.{kept_replies_send}
 use Rattle.acdm_keeping.proofs.named.Named.TheSendSync as named
 use Rattle.acdm_keeping.proofs.synced.Synced.TheSendSync as synced
 use Rattle.acdm_keeping.specs.contracts.synced.Synced as of_synced
 use Rattle.acdm_keeping.specs.contracts.replies.Replies as behind
 use Rattle.acdm_keeping.specs.contracts.shared.Waiter as waiting
+use Rattle.acdm_keeping.specs.contracts.shared.WaiterEntryKeeper.TheImpl as waits
 use Rattle.acdm_keeping.specs.declared.writing.Opening as opening
 use Rattle.acdm_serving.specs.contracts.reconnecting.Answering as answering
 use Rattle.acdm_serving.specs.contracts.reconnecting.Reading as either
@@ -46,15 +47,16 @@ tally_send K k =
       ),
     )
 
-pub connection_send : IsSend of_connection.the_row
-connection_send = search (connection.the_send, sendable, crosses) depth 20
+pub connection_send : (κ : NamedLft) (Q : RattleType) → IsSync Q → IsSend (of_connection.the_row κ Q)
+connection_send κ Q q = search (connection.the_send, q, sendable, crosses) depth 20
 
 pub arriving_send : (κ : NamedLft) (Q : RattleType) → IsSync Q → IsSend (of_arriving.the_row κ Q)
 arriving_send κ Q q = search (arriving.the_send, q, sendable, crosses) depth 20
 
-pub reading_send : (κ : NamedLft) (Q : RattleType) (n : ℕ) (d : read.Ghosts (of_connection.the_row).Denot)
-    → IsSync Q → IsSend (reader.the_row (of_arriving.the_row κ Q) of_connection.the_row (number n) d)
-reading_send κ Q n d q = reader_send _ _ n d (arriving_send κ Q q) connection_send
+pub reading_send : (κ κ' : NamedLft) (Q : RattleType) (n : ℕ)
+    (d : read.Ghosts (of_connection.the_row κ' Q).Denot) → IsSync Q
+    → IsSend (reader.the_row (of_arriving.the_row κ Q) (of_connection.the_row κ' Q) (number n) d)
+reading_send κ κ' Q n d q = reader_send _ _ n d (arriving_send κ Q q) (connection_send κ' Q q)
 
 timer_send : (κ : NamedLft) (Q : RattleType) → IsSync Q → IsSend (timer.the_row κ Q)
 timer_send κ Q q =
@@ -83,7 +85,7 @@ pub either_send : (κ : NamedLft) (Q : RattleType) (w : wait.Ghosts Q.Denot) (c 
     → IsSync Q → IsSend (either.the_row κ Q w c)
 either_send κ Q w c q =
     variants_send (either.enum κ Q w c) (
-      (reading_send κ Q _ _ q, tt),
+      (reading_send κ κ Q _ _ q, tt),
       ((ticks_send (timer.the_row κ Q) _ (timer_send κ Q q), tt), tt),
     )
 
@@ -99,8 +101,10 @@ synced_send : (Q : RattleType) → IsSend Q → IsSend (of_synced.the_row Q)
 synced_send Q q = search (synced.the_send, q, sendable, crosses) depth 20
 
 pub writing_send : (κ κ' : NamedLft) (J Q : RattleType) (o : write.Ghosts (of_synced.the_row Q).Denot)
-    (n : opening.Ghosts J.Denot) (w : write.Ghosts (answering.the_row κ' Q).Denot) → IsSend Q → IsSync Q
-    → IsSend (behind.the_row (waiting.the_row κ (of_synced.the_row Q) J Q o n) (answering.the_row κ' Q) w)
-writing_send κ κ' J Q o n w s q =
-    replies_send (waiting.the_row κ (of_synced.the_row Q) J Q o n) (answering.the_row κ' Q) w
-    (waiting_send κ (of_synced.the_row Q) J Q o n (synced_send Q s) q) (answering_send κ' Q q)
+    (n : opening.Ghosts J.Denot) (t : wait.Ghosts Q.Denot) (w : write.Ghosts (answering.the_row κ' Q).Denot) → IsSend Q
+    → IsSync Q
+    → IsSend (behind.the_row (waiting.the_row κ (of_synced.the_row Q) J Q o n) (answering.the_row κ' Q)
+    (waits.ghosts (of_synced.the_row Q) J Q o waits.no_dict n waits.no_dict t waits.no_dict waits.no_dict) w)
+writing_send κ κ' J Q o n t w s q =
+    kept_replies_send κ (of_synced.the_row Q) J Q (answering.the_row κ' Q) o n t w (synced_send Q s) q
+    (answering_send κ' Q q)

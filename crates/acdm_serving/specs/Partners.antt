@@ -1,5 +1,5 @@
 -- What is told of partners who are served, and how that fails.
-use Rattle.std.specs.Prelude.{ℕ, ◌+◌, ◌≡◌, Bool, true, false, OnOk}
+use Rattle.std.specs.Prelude.{ℕ, ◌+◌, ◌≡◌, Bool, true, false, not, ◌&&◌, is_some, OnOk}
 use Rattle.std.specs.Prelude.{List, [], ◌∷◌, ◌++◌, codes, map, Option, Some, None, Result, Ok, Err}
 use Rattle.std.specs.Fmt.{decimal}
 use Rattle.acdm_milestones.specs.Names.{role_name}
@@ -8,6 +8,7 @@ use Rattle.acdm_milestones.specs.declared.role.Role.TheVariants.{AirportOperator
 use Rattle.acdm_failures.specs.declared.failure.ServeError.{ServeError}
 use Rattle.acdm_failures.specs.declared.failure.ServeError.TheVariants as serve_errors
 use Rattle.acdm_lines.specs.Counted.{SinkView, faults_after}
+use Rattle.acdm_partners.specs.declared.places.Terms.{Terms}
 use Rattle.acdm_lines.specs.declared.run_error.RunError.{RunError}
 use Rattle.acdm_wire.specs.Writes.{Writes, Wrote}
 use Rattle.acdm_sessions.specs.Sessions.{SessionStart, SessionTold, new_session}
@@ -101,3 +102,11 @@ pub record TellsPartners {W : Type 0} (roles : List Role) (sessions : List ℕ) 
   pub wrote : Writes written written_after
       (listens_text 1 listeners ++ (sessions ++ closed_text entries)) told
   pub flushed : OnOk told (written_after.waits ≡ false)
+
+-- ---- how they are served
+
+-- Nothing is asked for beside serving: sessions end with their connections, lines are taken at any pace, there is no
+-- control address, no journal is kept, nobody keeps it, and nothing is logged.
+abbrev pub asks_nothing : Terms → Bool → Bool → Bool → Bool → Bool
+asks_nothing terms control kept keeper log =
+    not terms.again && not (is_some terms.pace) && not control && not kept && not keeper && not log

@@ -3,11 +3,13 @@
 //! a file are.
 #![tactic(auto)]
 
+mod handed;
 mod host;
 mod partners;
 mod reconnecting;
 mod ticks;
 
+pub use handed::{KeptSession, latest_receipt};
 pub use host::Host;
 pub use partners::{Listener, PatientWriter, ServedPartners, serve_on, serve_partners};
 pub use reconnecting::{

@@ -1,8 +1,8 @@
 //! Partners who come and go, and a control address.
 ghost use Rattle.std.specs.Prelude.{◌≡◌, ◌+◌, ◌++◌, ◌≤◌, IfOk, IfErr, OnOk, length, map, option_map};
-ghost use Rattle.std.specs.Prelude.{true, None, vec_len};
+ghost use Rattle.std.specs.Prelude.{true, None, is_some, vec_len};
 ghost use Rattle.std.specs.List.{flat_map};
-ghost use Rattle.acdm_serving.specs.Partners.{Announces, FailsToTell, IsOfAccepting, TellsPartners};
+ghost use Rattle.acdm_serving.specs.Partners.{Announces, FailsToTell, IsOfAccepting, TellsPartners, asks_nothing};
 ghost use Rattle.acdm_serving.specs.Partners.{session_text, starts_of, tick_starts};
 ghost use Rattle.acdm_sessions.specs.Sessions.{ServesSessions, new_session, session_start};
 ghost use Rattle.acdm_sessions.specs.Sessions.{session_told};
@@ -38,7 +38,7 @@ const MOST_KEPT: usize = LONGEST_REQUEST + 1;
 /// What the lines of a session come from: all its connections, or the board's own ticks.
 #[derive(Drop)]
 pub enum Reading<'r, Rt: Wait + SystemClock> {
-    Partner(WholeLines<Arriving<'r, Rt>, Connection, MOST_KEPT>),
+    Partner(WholeLines<Arriving<'r, Rt>, Connection<'r, Rt>, MOST_KEPT>),
     Ticks(Ticks<Timer<'r, Rt>>),
 }
 
@@ -121,6 +121,8 @@ impl<J: Opening, Rt: Host> Operation<'_, J, Rt> {
     /// nothing is kept or logged, and there is no control address. Partners of such a board, where it gives no ticks,
     /// are served by `serve_partners` too.
     pub fn is_plain(&self) -> bool
+        ensures plain { result ≡ asks_nothing self.now.terms (is_some self.now.control) (is_some self.now.kept)
+            (is_some self.now.keeper) (is_some self.now.log) }
         ensures kept { result ≡ true → self.now.kept ≡ None }
         ensures keeper { result ≡ true → self.now.keeper ≡ None }
     {
@@ -257,21 +259,22 @@ impl<K: Paths + Drop> Tally<K> {
 }
 
 impl<K: Paths + Drop> Standing for Tally<K> {
+    // Entries stand one behind the other: of half of those that may be the last, one look tells whether it is there.
     fn used(&self) -> usize {
-        let room = self.row.len();
-        for at in 0..room {
-            if self.moment(at).is_none() {
-                return at;
+        let mut least = 0;
+        let mut most = self.row.len();
+        for _ in 0..usize::BITS {
+            if least >= most {
+                break;
+            }
+            let middle = least + (most - least) / 2;
+            if self.moment(middle).is_some() {
+                least = middle + 1;
+            } else {
+                most = middle;
             }
         }
-        room
-    }
-
-    fn has(&self, count: usize) -> bool {
-        match count.checked_sub(1) {
-            Some(last) => self.moment(last).is_some(),
-            None => true,
-        }
+        least
     }
 
     fn room(&self) -> usize {

@@ -4,7 +4,7 @@ ghost use Rattle.std.specs.Prelude.{◌≡◌, []};
 use crate::following::{TICKS, row_of, tick, ticked};
 use acdm_board::Desk;
 use acdm_displays::{Entries, Shown, follow};
-use acdm_keeping::{Keeper, Opening, Reach, SharedKeeper};
+use acdm_keeping::{Keeper, KeptCount, Opening, Reach, SharedKeeper};
 use acdm_lines::Sink;
 use acdm_row::Row;
 use bpf_helpers::{Bank, Helpers};
@@ -44,13 +44,15 @@ fn shows_what_is_kept<J: Opening, H: Helpers + Drop>(
     desk: &mut Desk<H>,
     row: &Arc<Row>,
     keeper: Keeper<Vec<u8>>,
+    count: KeptCount,
 )
     requires row { keeper.row ≡ J.desk_row }
     requires opening { keeper.seen ≡ J.opening }
     requires fresh { keeper.writer.log ≡ [] }
+    requires table { count ≡ J.table }
 {
     let failed = Arc::new(alloc, AtomicBool::new(false)).expect(rt, "a word");
-    let shared: SharedKeeper<Vec<u8>, J> = SharedKeeper::new(alloc, keeper, &failed)
+    let shared: SharedKeeper<Vec<u8>, J> = SharedKeeper::new(rt, alloc, keeper, count, &failed)
         .ok()
         .expect(rt, "a keeper");
     let reach = shared.reach().expect(rt, "how far it is kept");
@@ -70,7 +72,8 @@ fn shows_of<H: Helpers + Drop>(rt: &(impl Wait + Abort), alloc: Global, helpers:
     let keeper = Keeper::new(alloc, &row, Vec::new(alloc))
         .ok()
         .expect(rt, "a keeper");
-    shows_what_is_kept::<Brand, H>(rt, alloc, &mut desk, &row, keeper);
+    let count = KeptCount::new(alloc).expect(rt, "a count");
+    shows_what_is_kept::<Brand, H>(rt, alloc, &mut desk, &row, keeper, count);
     drop(desk);
 }
 

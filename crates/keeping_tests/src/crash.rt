@@ -68,8 +68,13 @@ fn entries_told(replies: &[u8]) -> u64 {
     told
 }
 
-// How many entries a board has that goes on from a text.
-fn entries_left<H: Helpers + Drop>(rt: &impl Abort, alloc: Global, helpers: H, text: &[u8]) -> u64 {
+/// How many entries a board has that goes on from a text.
+pub(crate) fn entries_left<H: Helpers + Drop>(
+    rt: &impl Abort,
+    alloc: Global,
+    helpers: H,
+    text: &[u8],
+) -> u64 {
     let mut desk = Desk::new(alloc, helpers, 1_000).expect(rt, "a desk");
     assert!(rt; restore(alloc, &mut Source::new(text), &mut desk).is_ok());
     let count = desk.len();

@@ -3,4 +3,8 @@ use Rattle.acdm_commands.specs.Keeping.{seen_by}
 use Rattle.acdm_commands.proofs.serve_command.serve_begun.Given as goal
 
 abbrev pub ghosts-serve_desk : goal.ghosts-serve_desk
-ghosts-serve_desk g a = record { desk_row = row_of a.begun.desk; opening = seen_by a.begun.keeper }
+ghosts-serve_desk g a = record {
+  desk_row = row_of a.begun.desk;
+  opening = seen_by a.begun.keeper;
+  table = a.begun.count;
+}
