@@ -21,6 +21,8 @@ PUBLIC = re.compile(r" *pub (?:const )?fn (\w+)")
 # The crates of which each public function has a clause and an edit, but for these, of which bench/gate/README.md says why.
 WHOLE = {
     "acdm_keeping": {
+        "KeptCount::new",
+        "LastingReceipt::receipt",
         "Named::failure",
         "Named::stands",
         "Reach::copy",

@@ -93,6 +93,7 @@ impl<H: Helpers + Drop> Desk<H> {
         ensures value { result ≡ self.now.capacity }
         ensures fits { length self.now.history ≤ result }
     {
+        // (its contract says that they are no more than there is room for: `fits`)
         let _count = self.book.len();
         self.book.capacity()
     }

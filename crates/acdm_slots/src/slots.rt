@@ -157,6 +157,7 @@ impl Slots {
         requires same { program.sigs ≡ self.old.sigs }
         ensures { self.new ≡ with_program self.old milestone kind (Some program) }
     {
+        // (its contract says that the program may run with them: the invariant)
         let _own = program.sigs();
         self.programs[place_of(milestone, kind)] = Some(program);
     }

@@ -41,6 +41,7 @@ impl Sigs {
     pub fn push(&mut self, number: u32, signature: Signature) -> Result<(), NoMemory>
         ensures added { OnOk result (self.new ≡ self.old ++ (number, signature) ∷ []) }
     {
+        // (its contract says that the signature is well formed, for the invariant)
         let _ = signature.answer();
         self.entries.push((number, signature))?;
         Ok(())
@@ -50,6 +51,7 @@ impl Sigs {
     pub fn keep_their_form(&self)
         ensures { IsTrue (are_well_formed self.now) }
     {
+        // (what the invariant says of the entries is said by naming them)
         let _ = &self.entries;
     }
 
