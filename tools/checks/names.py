@@ -56,6 +56,8 @@ VARIANT = re.compile(r"::([A-Z]\w*)")
 # What pages name though no source has it, and why.
 ELSEWHERE = {
     "http_server": "a crate of the kit that is not used",
+    "logbook": "a crate of the kit that is not used",
+    "RuledSeqCell": "a type of the kit's crossbeam_utils",
     "sights_of": "a lemma that was left out, as bench/gate/README.md tells",
     "OpDisplay::fmt": "a function of the compiler's own, as bench/gate/README.md tells",
     "OpDebug": "a derive that was left out, as bench/gate/README.md tells",

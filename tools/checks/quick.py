@@ -78,6 +78,7 @@ CHECKS = (
     ),
     Check("the archive runs a day without the kit", "tools/checks/packaged.py{program}"),
     Check("edits stand on a line of the sources", "{python} bench/gate/stands.py"),
+    Check("parameters, names of types, types of a session", "{python} bench/gate/shape.py"),
     Check("tests of the model: the board", "{python} bench/model/test_board.py"),
     Check("tests of the model: programs", "{python} bench/model/test_programs.py"),
     Check("tests of the model: journals", "{python} bench/model/test_journal.py"),
