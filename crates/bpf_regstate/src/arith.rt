@@ -210,6 +210,7 @@ fn shift_right(width: Width, a: Range, b: Range) -> Range
 }
 
 /// The range of the results of an operation on words of the width, by the operation alone.
+#[inline(always)]
 fn results_of_ranges(code: Code, width: Width, a: Range, b: Range) -> Range
     requires first { a.lo ≤ a.hi }
     requires second { b.lo ≤ b.hi }
@@ -248,6 +249,7 @@ fn results_of_ranges(code: Code, width: Width, a: Range, b: Range) -> Range
 }
 
 /// The range of the results of an operation on whole words.
+#[inline(always)]
 fn results(code: Code, width: Width, a: Range, b: Range) -> Range
     requires first { a.lo ≤ a.hi }
     requires second { b.lo ≤ b.hi }
@@ -261,6 +263,7 @@ fn results(code: Code, width: Width, a: Range, b: Range) -> Range
 
 /// The range of the results of an operation on the words of a destination and an operand; MOV reads
 /// the operand alone.
+#[inline(always)]
 pub fn operate_on_ranges(code: Code, width: Width, a: Range, b: Range) -> Range
     requires first { IsRange a }
     requires second { IsRange b }

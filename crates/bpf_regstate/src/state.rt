@@ -328,6 +328,7 @@ impl State {
 
     /// Goes on to what is known after an instruction, as `transfer` has it, in place. `Err` only
     /// where there is no memory.
+    #[inline(always)]
     pub fn advance(&mut self, record_length: usize, op: Op, sigs: &Sigs) -> Result<(), AllocError>
         requires { record_length < 2 ^ 16 }
         ensures { OnOk result (self.new ≡ after_op record_length sigs.now op self.old) }

@@ -10,7 +10,7 @@ use bpf_decode::{Op, Register};
 use bpf_helpers::Sigs;
 
 /// Whether an instruction begins at a slot.
-fn is_entry_at(ops: &[Op], slot: usize) -> bool
+pub fn is_entry_at(ops: &[Op], slot: usize) -> bool
     ensures { result ≡ is_entry (slice_get ops.now slot) }
 {
     if slot < ops.len() {
@@ -90,7 +90,7 @@ pub fn calls_unknown(sigs: &Sigs, op: Op) -> bool
 }
 
 /// Whether this is r10, the end of the stack.
-fn is_end(register: Register) -> bool
+pub fn is_end(register: Register) -> bool
     ensures { result ≡ (register == 10) }
 {
     register.index() == 10

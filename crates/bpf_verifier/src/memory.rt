@@ -1,11 +1,11 @@
 //! Faults of loads and stores: where they may go, and what they may find there.
 
-ghost use Rattle.std.specs.Prelude.{◌≡◌, ◌<◌, ◌≤◌, ◌^◌, ◌+◌, ◌-◌};
+ghost use Rattle.std.specs.Prelude.{◌≡◌, ◌<◌, ◌≤◌, ◌^◌, ◌+◌, ◌-◌, Some, false};
 ghost use Rattle.bpf_semantics.specs.Places.{PlaceIs};
 ghost use Rattle.bpf_regstate.specs.Shape.{known};
 ghost use Rattle.bpf_regstate.specs.Effect.{access, range_of};
 ghost use Rattle.bpf_regstate.specs.Faults.{access_of, is_nowhere, is_unmarked, loads_unmarked};
-ghost use Rattle.bpf_regstate.specs.Faults.{stores_in_record};
+ghost use Rattle.bpf_regstate.specs.Faults.{is_in_record, stores_in_record};
 
 use crate::reads::range_of;
 use bpf_decode::{Op, Register};
@@ -28,69 +28,100 @@ fn place_at(
     place_of_access(record_length, range_of(state, base), offset, count)
 }
 
-/// Whether some address of the slot's load or store lies in no region, or not in that of the
-/// others.
-pub fn misses_memory(record_length: usize, state: &State, op: Op) -> bool
-    requires { record_length < 2 ^ 16 }
-    ensures { result ≡ is_nowhere (access_of record_length state.now op) }
-{
-    match op {
-        Op::Load {
-            size,
-            base,
-            offset,
-            ..
-        } => place_at(record_length, state, base, offset as i32, byte_count(size))
-            == MemoryPlace::Nowhere,
-        Op::LoadSigned {
-            part,
-            base,
-            offset,
-            ..
-        } => place_at(
-            record_length,
-            state,
-            base,
-            offset as i32,
-            part_byte_count(part),
-        ) == MemoryPlace::Nowhere,
-        Op::Store {
-            size,
-            base,
-            offset,
-            ..
-        } => place_at(record_length, state, base, offset as i32, byte_count(size))
-            == MemoryPlace::Nowhere,
-        _ => false,
-    }
+/// The faults of a slot's load or store.
+#[derive(Clone, Copy)]
+pub(crate) struct AccessFaults {
+    /// Some address lies in no region, or not in that of the others.
+    pub(crate) misses: bool,
+    /// A byte of the stack is loaded that may be uninitialised.
+    pub(crate) unmarked: bool,
+    /// A store goes to the record.
+    pub(crate) in_record: bool,
 }
 
-/// Whether a load of so many bytes may read a byte of the stack that is not marked.
-fn is_unmarked(
+/// The faults of a load of so many bytes.
+#[inline(always)]
+fn load_faults(
     record_length: usize,
     state: &State,
     base: Register,
     offset: i32,
     count: usize,
-) -> bool
+) -> AccessFaults
     requires short { record_length < 2 ^ 16 }
     requires few { count ≤ 8 }
-    ensures { let range = range_of (known state.now base) in
-        result ≡ is_unmarked state.now range count (access record_length range offset count) }
+    ensures misses { result.misses
+        ≡ is_nowhere (Some (access record_length (range_of (known state.now base)) offset count)) }
+    ensures unmarked { let range = range_of (known state.now base) in
+        result.unmarked ≡ is_unmarked state.now range count (access record_length range offset count) }
+    ensures in_record { result.in_record ≡ false }
 {
     match place_at(record_length, state, base, offset, count) {
         MemoryPlace::Stack(at) => {
             let range = range_of(state, base);
-            !state.all_marked(at, (range.hi - range.lo) as usize + count)
+            AccessFaults {
+                misses: false,
+                unmarked: !state.all_marked(at, (range.hi - range.lo) as usize + count),
+                in_record: false,
+            }
         }
-        _ => false,
+        MemoryPlace::Record(_) => AccessFaults {
+            misses: false,
+            unmarked: false,
+            in_record: false,
+        },
+        MemoryPlace::Nowhere => AccessFaults {
+            misses: true,
+            unmarked: false,
+            in_record: false,
+        },
     }
 }
 
-/// Whether the slot loads a byte of the stack that may be uninitialised.
-pub fn loads_unmarked(record_length: usize, state: &State, op: Op) -> bool
+/// The faults of a store of so many bytes.
+#[inline(always)]
+fn store_faults(
+    record_length: usize,
+    state: &State,
+    base: Register,
+    offset: i32,
+    count: usize,
+) -> AccessFaults
+    requires short { record_length < 2 ^ 16 }
+    requires few { count ≤ 8 }
+    ensures misses { result.misses
+        ≡ is_nowhere (Some (access record_length (range_of (known state.now base)) offset count)) }
+    ensures unmarked { result.unmarked ≡ false }
+    ensures in_record { result.in_record
+        ≡ is_in_record (access record_length (range_of (known state.now base)) offset count) }
+{
+    match place_at(record_length, state, base, offset, count) {
+        MemoryPlace::Stack(_) => AccessFaults {
+            misses: false,
+            unmarked: false,
+            in_record: false,
+        },
+        MemoryPlace::Record(_) => AccessFaults {
+            misses: false,
+            unmarked: false,
+            in_record: true,
+        },
+        MemoryPlace::Nowhere => AccessFaults {
+            misses: true,
+            unmarked: false,
+            in_record: false,
+        },
+    }
+}
+
+/// Of a slot's load or store: whether some address lies in no region, or not in that of the others, whether it loads a byte of
+/// the stack that may be uninitialised, and whether it stores to the record. Where it goes is found once for all three.
+#[inline(always)]
+pub(crate) fn access_faults(record_length: usize, state: &State, op: Op) -> AccessFaults
     requires { record_length < 2 ^ 16 }
-    ensures { result ≡ loads_unmarked record_length state.now op }
+    ensures misses { result.misses ≡ is_nowhere (access_of record_length state.now op) }
+    ensures unmarked { result.unmarked ≡ loads_unmarked record_length state.now op }
+    ensures in_record { result.in_record ≡ stores_in_record record_length state.now op }
 {
     match op {
         Op::Load {
@@ -98,38 +129,29 @@ pub fn loads_unmarked(record_length: usize, state: &State, op: Op) -> bool
             base,
             offset,
             ..
-        } => is_unmarked(record_length, state, base, offset as i32, byte_count(size)),
+        } => load_faults(record_length, state, base, offset as i32, byte_count(size)),
         Op::LoadSigned {
             part,
             base,
             offset,
             ..
-        } => is_unmarked(
+        } => load_faults(
             record_length,
             state,
             base,
             offset as i32,
             part_byte_count(part),
         ),
-        _ => false,
-    }
-}
-
-/// Whether the slot stores to the record.
-pub fn stores_in_record(record_length: usize, state: &State, op: Op) -> bool
-    requires { record_length < 2 ^ 16 }
-    ensures { result ≡ stores_in_record record_length state.now op }
-{
-    match op {
         Op::Store {
             size,
             base,
             offset,
             ..
-        } => matches!(
-            place_at(record_length, state, base, offset as i32, byte_count(size)),
-            MemoryPlace::Record(_)
-        ),
-        _ => false,
+        } => store_faults(record_length, state, base, offset as i32, byte_count(size)),
+        _ => AccessFaults {
+            misses: false,
+            unmarked: false,
+            in_record: false,
+        },
     }
 }

@@ -24,7 +24,7 @@ fn is_uninit(state: &State, register: Register) -> bool
 }
 
 /// Whether a second operand may be uninitialised.
-fn operand_uninit(state: &State, operand: Operand) -> bool
+pub fn operand_uninit(state: &State, operand: Operand) -> bool
     ensures { result ≡ operand_uninit state.now operand }
 {
     match operand {
@@ -34,7 +34,7 @@ fn operand_uninit(state: &State, operand: Operand) -> bool
 }
 
 /// Whether an operation reads its destination and that may be uninitialised; MOV does not read it.
-fn destination_uninit(code: Code, state: &State, dst: Register) -> bool
+pub fn destination_uninit(code: Code, state: &State, dst: Register) -> bool
     ensures { result ≡ destination_uninit code state.now dst }
 {
     match code {

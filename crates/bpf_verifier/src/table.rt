@@ -53,6 +53,7 @@ fn along(
 impl Waiting {
     // Sends the edges of a slot without a fault, by what is known there. What is known moves on to the
     // end of the edge; only the target of a conditional jump gets a copy.
+    #[inline(always)]
     fn send(
         &mut self,
         ops: &[Op],
@@ -101,6 +102,7 @@ impl Waiting {
 /// The fault of a slot, by what the edges of earlier slots have brought to it; where it has none,
 /// its own edges are sent. What was known at the slot is given up. `Err` only where there is no
 /// memory.
+#[inline(always)]
 pub fn pass_slot(
     waiting: &mut Waiting,
     ops: &[Op],
