@@ -8,41 +8,41 @@ use Rattle.acdm_step.specs.declared.command.Command.{Command}
 use Rattle.acdm_step.specs.declared.command.Command.TheVariants as commands
 use Rattle.bpf_verifier.specs.declared.reading.ProgramError.{ProgramError}
 use Rattle.bpf_verifier.specs.declared.reading.ProgramError.TheVariants.{Memory, Refused}
-use Rattle.acdm_wire.specs.declared.request.LoadRequest.{LoadRequest}
-use Rattle.acdm_wire.specs.declared.request.Asked.{Asked}
-use Rattle.acdm_wire.specs.declared.request.Asked.TheVariants.{Plain, Load}
+use Rattle.acdm_step.specs.declared.stated.LoadRequest.{LoadRequest}
+use Rattle.acdm_step.specs.declared.stated.StatedCommand.{StatedCommand}
+use Rattle.acdm_step.specs.declared.stated.StatedCommand.TheVariants.{Plain, Load}
 use Rattle.bpf_verifier.specs.Reading.{GivesReading}
 use Rattle.acdm_sessions.specs.Output.{Completes}
 
-pub completes_plain : (sigs : List (ℕ × Promise)) (asked : Asked) (c : Command)
+pub completes_plain : (sigs : List (ℕ × Promise)) (asked : StatedCommand) (c : Command)
     → asked ≡ Plain c → Completes sigs asked (Ok c)
 completes_plain sigs asked c e =
     subst (λ a. Completes sigs a (Ok c)) (sym e)
     (record { reading = Err (0, 0); right = tt; command_is = refl })
 
-module _ (sigs : List (ℕ × Promise)) (asked : Asked) (l : LoadRequest) (bytes : List ℕ)
+module _ (sigs : List (ℕ × Promise)) (asked : StatedCommand) (l : LoadRequest) (bytes : List ℕ)
     (is : asked ≡ Load l) (same : bytes ≡ l.program) where
   loaded : Verified → Command
   loaded v = commands.Load record { milestone = l.milestone; kind = l.kind; program = v }
 
-  pub completes_load : (v : Verified) → GivesReading sigs l.length bytes (Ok v)
+  pub completes_load : (v : Verified) → GivesReading sigs l.record_length bytes (Ok v)
       → Completes sigs asked
       (Ok (commands.Load record { milestone = l.milestone; kind = l.kind; program = v }))
   unfolding loaded
   completes_load v r =
       subst (λ a. Completes sigs a (Ok (loaded v))) (sym is) (record {
         reading = Ok v;
-        right = subst (λ bs. GivesReading sigs l.length bs (Ok v)) same r;
+        right = subst (λ bs. GivesReading sigs l.record_length bs (Ok v)) same r;
         command_is = refl;
       })
 
-  pub completes_refused : (e : ProgramError) → GivesReading sigs l.length bytes (Err e)
+  pub completes_refused : (e : ProgramError) → GivesReading sigs l.record_length bytes (Err e)
       → Completes sigs asked (Err e)
   completes_refused Memory r = tt
   completes_refused (Refused code slot) r =
       subst (λ a. Completes sigs a (Err (Refused code slot))) (sym is) (record {
         reading = Err (code, slot);
-        right = subst (λ bs. GivesReading sigs l.length bs (Err (Refused code slot))) same r;
+        right = subst (λ bs. GivesReading sigs l.record_length bs (Err (Refused code slot))) same r;
         command_is = refl;
       })
 

@@ -8,7 +8,7 @@ use Rattle.acdm_wire.specs.declared.fault.RequestFault.{RequestFault}
 use Rattle.acdm_wire.specs.declared.fault.Bad.TheVariants.{Faulty, NoMinute, NoMemory}
 use Rattle.bpf_verifier.specs.declared.reading.ProgramError.{ProgramError}
 use Rattle.bpf_verifier.specs.declared.reading.ProgramError.TheVariants.{Memory, Refused}
-use Rattle.acdm_wire.specs.declared.request.Asked.{Asked}
+use Rattle.acdm_step.specs.declared.stated.StatedCommand.{StatedCommand}
 use Rattle.acdm_wire.specs.declared.request.LineError.{LineError}
 use Rattle.acdm_wire.specs.declared.request.LineError.TheVariants as errors
 use Rattle.acdm_wire.specs.Codes.{bad_of}
@@ -21,8 +21,8 @@ abbrev nothing : OrderFacts
 nothing = record { short = false; minute = None; program = Err (0, 0) }
 
 pub fault_read : (line : List ℕ) (e : LineError) (f : RequestFault) → e ≡ errors.Fault f
-    → Gives {X = Asked} (Err e) (asked_of line) → asked_of line ≡ Err f
-fault_read line e f is g = subst (λ v. Gives {X = Asked} (Err v) (asked_of line)) is g
+    → Gives {X = StatedCommand} (Err e) (asked_of line) → asked_of line ≡ Err f
+fault_read line e f is g = subst (λ v. Gives {X = StatedCommand} (Err v) (asked_of line)) is g
 
 module _ (gives : ℕ → Bool) (sigs : List (ℕ × Promise)) (line : List ℕ) where
   -- memory was refused
@@ -43,7 +43,7 @@ module _ (gives : ℕ → Bool) (sigs : List (ℕ × Promise)) (line : List ℕ)
     is = sym (ap (order_asked None nothing.program) m);
   }
 
-  module _ (asked : Asked) (m : asked_of line ≡ Ok asked) where
+  module _ (asked : StatedCommand) (m : asked_of line ≡ Ok asked) where
     -- the clock gave no minute
     pub orders_no_minute : Orders gives sigs line (Err NoMinute)
     orders_no_minute = record {

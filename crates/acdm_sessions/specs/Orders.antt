@@ -6,7 +6,7 @@ use Rattle.acdm_step.specs.declared.command.Command.{Command}
 use Rattle.acdm_wire.specs.declared.fault.RequestFault.{RequestFault}
 use Rattle.acdm_wire.specs.declared.fault.Bad.{Bad}
 use Rattle.acdm_wire.specs.declared.fault.Bad.TheVariants.{Faulty, NoMinute, NoMemory}
-use Rattle.acdm_wire.specs.declared.request.Asked.{Asked}
+use Rattle.acdm_step.specs.declared.stated.StatedCommand.{StatedCommand}
 use Rattle.acdm_wire.specs.Meant.{asked_of}
 use Rattle.bpf_verifier.specs.Reading.{Reading}
 use Rattle.acdm_sessions.specs.Output.{IsReadingFor, command_with}
@@ -23,7 +23,7 @@ abbrev pub order_at : ℕ → Result Command Bad → Result Order Bad
 order_at minute (Err b) = Err b
 order_at minute (Ok c) = Ok record { moment = minute; command = c }
 
-abbrev pub order_asked : Option ℕ → Reading → Result Asked RequestFault → Result Order Bad
+abbrev pub order_asked : Option ℕ → Reading → Result StatedCommand RequestFault → Result Order Bad
 order_asked minute reading (Err f) = Err (Faulty f)
 order_asked None reading (Ok asked) = Err NoMinute
 order_asked (Some m) reading (Ok asked) = order_at m (command_with reading asked)
@@ -36,7 +36,7 @@ order_of facts line =
     else order_asked facts.minute facts.program (asked_of line)
 
 -- the bytes of a program are read so, where the clock gave a minute
-abbrev pub IsReadingAt : List (ℕ × Promise) → Option ℕ → Result Asked RequestFault → Reading
+abbrev pub IsReadingAt : List (ℕ × Promise) → Option ℕ → Result StatedCommand RequestFault → Reading
     → Type 0
 IsReadingAt sigs None asked reading = Unit {0}
 IsReadingAt sigs (Some m) (Err f) reading = Unit {0}

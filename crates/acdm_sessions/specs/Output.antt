@@ -16,8 +16,8 @@ use Rattle.acdm_sessions.specs.declared.answer.Answer.TheVariants.{Entered, Reje
 use Rattle.bpf_verifier.specs.declared.reading.ProgramError.{ProgramError}
 use Rattle.bpf_verifier.specs.declared.reading.ProgramError.TheVariants as errors
 use Rattle.acdm_wire.specs.declared.request.Request.{Request}
-use Rattle.acdm_wire.specs.declared.request.Asked.{Asked}
-use Rattle.acdm_wire.specs.declared.request.Asked.TheVariants.{Plain, Load}
+use Rattle.acdm_step.specs.declared.stated.StatedCommand.{StatedCommand}
+use Rattle.acdm_step.specs.declared.stated.StatedCommand.TheVariants.{Plain, Load}
 use Rattle.acdm_wire.specs.Replies.{entry_text, bad_text}
 use Rattle.acdm_lines.specs.Lines.{lines_of}
 use Rattle.bpf_verifier.specs.Reading.{Reading, IsReading}
@@ -34,9 +34,9 @@ pub record Supply : Type 0 where
 
 -- the reading is that of the bytes that are to be loaded, where there are any, for records of the
 -- length that the load names
-abbrev pub IsReadingFor : List (ℕ × Promise) → Asked → Reading → Type 0
+abbrev pub IsReadingFor : List (ℕ × Promise) → StatedCommand → Reading → Type 0
 IsReadingFor sigs (Plain c) reading = Unit {0}
-IsReadingFor sigs (Load l) reading = IsReading sigs l.length l.program reading
+IsReadingFor sigs (Load l) reading = IsReading sigs l.record_length l.program reading
 
 abbrev pub IsReadingOf : List (ℕ × Promise) → Result Request RequestFault → Reading → Type 0
 IsReadingOf sigs (Err f) reading = Unit {0}
@@ -49,21 +49,21 @@ IsRight sigs supply line =
     supply.out_of_memory ≡ false → IsReadingOf sigs (meant line) supply.reading
 
 -- the command that is asked for, where the bytes of a program are read so
-abbrev pub command_with : Reading → Asked → Result Command Bad
+abbrev pub command_with : Reading → StatedCommand → Result Command Bad
 command_with reading (Plain c) = Ok c
 command_with (Ok v) (Load l) =
     Ok (commands.Load record { milestone = l.milestone; kind = l.kind; program = v })
 command_with (Err f) (Load l) = Err (Program f.0 f.1)
 
 -- the command that is asked for, or the refusal, by a right reading of its program
-pub record CompletesAs (sigs : List (ℕ × Promise)) (asked : Asked) (command : Result Command Bad)
+pub record CompletesAs (sigs : List (ℕ × Promise)) (asked : StatedCommand) (command : Result Command Bad)
     : Type 0 where
   pub reading : Reading
   pub right : IsReadingFor sigs asked reading
   pub command_is : command_with reading asked ≡ command
 
 -- What a function returned is the command that is asked for, unless memory ran out.
-abbrev pub Completes : List (ℕ × Promise) → Asked → Result Command ProgramError → Type 0
+abbrev pub Completes : List (ℕ × Promise) → StatedCommand → Result Command ProgramError → Type 0
 Completes sigs asked (Err errors.Memory) = Unit {0}
 Completes sigs asked (Err (errors.Refused code slot)) =
     CompletesAs sigs asked (Err (Program code slot))

@@ -16,9 +16,8 @@ mod sessions;
 mod stream;
 
 pub use acdm_lines::{ReplyWriter, RunError, Sink, Source};
-pub use acdm_wire::{
-    Asked, Bad, LineError, LoadRequest, ProgramBytes, Request, RequestFault, request_of,
-};
+pub use acdm_step::{LoadRequest, StatedCommand};
+pub use acdm_wire::{Bad, LineError, ProgramBytes, Request, RequestFault, request_of};
 pub use answer::Answer;
 pub use clock::{Clock, Gate};
 pub use session::{Closed, End, EndedSession, Session};

@@ -12,6 +12,7 @@ mod planning;
 mod prepare;
 mod programs;
 mod state;
+mod stated;
 mod verdicts;
 
 pub use command::{
@@ -23,3 +24,4 @@ pub use outcome::{AlertList, Alerted, Outcome, UnloadedList};
 pub use planning::plan_with;
 pub use prepare::{Change, Plan};
 pub use state::Core;
+pub use stated::{LoadRequest, StatedCommand};

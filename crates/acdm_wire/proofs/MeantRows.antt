@@ -10,7 +10,7 @@ use Rattle.acdm_step.specs.declared.command.Command.TheVariants.{Unload, Migrate
 use Rattle.acdm_step.specs.declared.command.Command.TheVariants.{Schedule, Report, Deice}
 use Rattle.acdm_slots.specs.declared.kind.Kind.TheVariants.{Tobt, Alert}
 use Rattle.bpf_regstate.specs.declared.length.Length.TheVariants.{L128, L160}
-use Rattle.acdm_wire.specs.declared.request.Asked.TheVariants.{Plain, Load}
+use Rattle.acdm_step.specs.declared.stated.StatedCommand.TheVariants.{Plain, Load}
 use Rattle.acdm_wire.specs.declared.fault.RequestFault.TheVariants.{Prefix, NoJson, UnknownCommand, Kind}
 use Rattle.acdm_wire.specs.declared.fault.RequestFault.TheVariants.{Range}
 use Rattle.acdm_wire.specs.Meant.{meant}
@@ -81,7 +81,7 @@ load_line : meant (codes "1 29000700 APT {\"cmd\":\"load\",\"milestone\":7,\"kin
         milestone = InBlock;
         kind = Tobt;
         program = 0xbf ∷ 0x30 ∷ 0 ∷ 0xff ∷ [];
-        length = L128;
+        record_length = L128;
       };
     }
 unfolding lines_on_literals
@@ -94,7 +94,7 @@ empty_program : meant
       session = 1;
       moment = 29000700;
       role = AirportOperator;
-      asked = Load record { milestone = TobtUpdate; kind = Alert; program = []; length = L128 };
+      asked = Load record { milestone = TobtUpdate; kind = Alert; program = []; record_length = L128 };
     }
 unfolding lines_on_literals
 empty_program = refl
@@ -155,7 +155,7 @@ long_records : meant (codes "1 29000580 APT {\"cmd\":\"load\",\"milestone\":7,\"
       session = 1;
       moment = 29000580;
       role = AirportOperator;
-      asked = Load record { milestone = InBlock; kind = Alert; program = 0x95 ∷ []; length = L160 };
+      asked = Load record { milestone = InBlock; kind = Alert; program = 0x95 ∷ []; record_length = L160 };
     }
 unfolding lines_on_literals
 long_records = refl
@@ -165,7 +165,7 @@ short_records : meant (codes "1 29000580 APT {\"cmd\":\"load\",\"milestone\":7,\
       session = 1;
       moment = 29000580;
       role = AirportOperator;
-      asked = Load record { milestone = InBlock; kind = Alert; program = 0x95 ∷ []; length = L128 };
+      asked = Load record { milestone = InBlock; kind = Alert; program = 0x95 ∷ []; record_length = L128 };
     }
 unfolding lines_on_literals
 short_records = refl
@@ -175,7 +175,7 @@ no_length : meant (codes "1 29000580 APT {\"cmd\":\"load\",\"milestone\":7,\"kin
       session = 1;
       moment = 29000580;
       role = AirportOperator;
-      asked = Load record { milestone = InBlock; kind = Alert; program = 0x95 ∷ []; length = L128 };
+      asked = Load record { milestone = InBlock; kind = Alert; program = 0x95 ∷ []; record_length = L128 };
     }
 unfolding lines_on_literals
 no_length = refl

@@ -37,8 +37,8 @@ use Rattle.acdm_wire.specs.declared.fault.RequestFault.TheVariants.{Kind, Range,
 use Rattle.acdm_wire.specs.declared.request.LineError.{LineError}
 use Rattle.acdm_wire.specs.declared.request.LineError.TheVariants as errors
 use Rattle.acdm_wire.specs.declared.request.Request.{Request}
-use Rattle.acdm_wire.specs.declared.request.Asked.{Asked}
-use Rattle.acdm_wire.specs.declared.request.Asked.TheVariants.{Plain, Load}
+use Rattle.acdm_step.specs.declared.stated.StatedCommand.{StatedCommand}
+use Rattle.acdm_step.specs.declared.stated.StatedCommand.TheVariants.{Plain, Load}
 use Rattle.acdm_step.specs.declared.command.TheConstants.{MINUTES_OF_DAY}
 use Rattle.acdm_wire.specs.declared.request.TheConstants.{LONGEST_REQUEST}
 
@@ -273,7 +273,7 @@ unfoldable pub length_field : Data → Result Length RequestFault
 length_field d = length_under (get (codes "length") d)
 
 -- the fields of a load
-unfoldable pub load_field : Data → Result Asked RequestFault
+unfoldable pub load_field : Data → Result StatedCommand RequestFault
 load_field d = do
   slot ← slot_field d
   program ← program_field d
@@ -282,7 +282,7 @@ load_field d = do
     milestone = slot.0;
     kind = slot.1;
     program = program;
-    length = record_length;
+    record_length = record_length;
   })
 
 -- the slot that is to be emptied
@@ -304,17 +304,17 @@ plain_named name d =
     else (if bytes_eq name (codes "alerts") then Ok Alerts else Err UnknownCommand)))))))
 
 -- what the command of this name asks for
-unfoldable pub command_named : List ℕ → Data → Result Asked RequestFault
+unfoldable pub command_named : List ℕ → Data → Result StatedCommand RequestFault
 command_named name d = if bytes_eq name (codes "load") then load_field d else
     plain_named name d >>= λ c. Ok (Plain c)
 
 -- the command under `cmd`; a value that has none is no known command
-unfoldable pub command_of : Data → Result Asked RequestFault
+unfoldable pub command_of : Data → Result StatedCommand RequestFault
 command_of d = or_fault UnknownCommand (option_and_then as_str (get (codes "cmd") d)) >>=
     λ name. command_named name d
 
 -- a command that is asked for as it is, is no load
-abbrev pub is_plain : Asked → Bool
+abbrev pub is_plain : StatedCommand → Bool
 is_plain (Plain c) = not (is_load c)
 is_plain (Load l) = true
 
@@ -324,7 +324,7 @@ json_of bytes = if is_utf8 bytes then or_fault NoJson (read bytes) else Err NoJs
 
 -- what a line of a session asks for, or the first fault in it: the order of tests is 105, 101, 102,
 -- and then the fields
-unfoldable pub asked_of : List ℕ → Result Asked RequestFault
+unfoldable pub asked_of : List ℕ → Result StatedCommand RequestFault
 asked_of line = do
   _ ← demand TooLong (nat_le (length line) LONGEST_REQUEST)
   d ← json_of line

@@ -6,7 +6,8 @@ ghost use Rattle.acdm_wire.specs.Memory.{asked_needs_memory};
 use crate::fault::RequestFault;
 use crate::field::command_in;
 use crate::line_json::json_in;
-use crate::request::{Asked, LONGEST_REQUEST, LineError};
+use crate::request::{LONGEST_REQUEST, LineError};
+use acdm_step::StatedCommand;
 use arrayvec::ArrayVec;
 use std::alloc::Global;
 
@@ -15,7 +16,7 @@ use std::alloc::Global;
 ///
 /// `Memory` comes only where some was asked for: not for a line that is too long, empty or no UTF-8.
 #[tactic(auto, unfolding(crate::specs::Meant::asked_of, crate::specs::Memory::asked_needs_memory))]
-pub fn asked_of(alloc: Global, line: &[u8]) -> Result<Asked, LineError>
+pub fn asked_of(alloc: Global, line: &[u8]) -> Result<StatedCommand, LineError>
     ensures reads { Gives result (asked_of line.now) }
     ensures memory { result ≡ Err LineError.Memory → IsTrue (asked_needs_memory line.now) }
     ensures plain { IfOk result (λ asked. is_plain asked ≡ true) }

@@ -16,12 +16,13 @@ ghost use Rattle.acdm_wire.specs.Memory.{load_needs_memory, command_needs_memory
 
 use crate::fault::RequestFault;
 use crate::line_json::LineJson;
-use crate::request::{Asked, LineError, LoadRequest};
+use crate::request::LineError;
 use acdm_milestones::{DeicingTime, Milestone};
 use acdm_record::Text;
 use acdm_slots::{Kind, ProgramBytes};
 use acdm_step::{
-    Command, Deice, Durations, FlightNumber, FlightPlan, MINUTES_OF_DAY, Report, Schedule, Unload,
+    Command, Deice, Durations, FlightNumber, FlightPlan, LoadRequest, MINUTES_OF_DAY, Report,
+    Schedule, StatedCommand, Unload,
 };
 use bpf_regstate::Length;
 use hex::FromHexError;
@@ -290,7 +291,7 @@ fn length_in(value: &LineJson<'_, '_>) -> Result<Length, RequestFault>
 }
 
 #[tactic(auto, unfolding(crate::specs::Meant::load_field, crate::specs::Memory::load_needs_memory))]
-fn load_in(alloc: Global, value: &LineJson<'_, '_>) -> Result<Asked, LineError>
+fn load_in(alloc: Global, value: &LineJson<'_, '_>) -> Result<StatedCommand, LineError>
     ensures reads { Gives result (load_field (data_of value.now)) }
     ensures memory { result ≡ Err LineError.Memory → IsTrue (load_needs_memory (data_of value.now)) }
     ensures plain { IfOk result (λ asked. is_plain asked ≡ true) }
@@ -300,15 +301,15 @@ fn load_in(alloc: Global, value: &LineJson<'_, '_>) -> Result<Asked, LineError>
         Err(fault) => return Err(LineError::Fault(fault)),
     };
     let program = program_in(alloc, value)?;
-    let length = match length_in(value) {
+    let record_length = match length_in(value) {
         Ok(length) => length,
         Err(fault) => return Err(LineError::Fault(fault)),
     };
-    Ok(Asked::Load(LoadRequest {
+    Ok(StatedCommand::Load(LoadRequest {
         milestone,
         kind,
         program,
-        length,
+        record_length,
     }))
 }
 
@@ -349,7 +350,10 @@ fn plain_in(value: &LineJson<'_, '_>, name: &str) -> Result<Command, RequestFaul
 }
 
 #[tactic(auto, unfolding(crate::specs::Meant::command_of, crate::specs::Meant::command_named, crate::specs::Memory::command_needs_memory))]
-pub(crate) fn command_in(alloc: Global, value: &LineJson<'_, '_>) -> Result<Asked, LineError>
+pub(crate) fn command_in(
+    alloc: Global,
+    value: &LineJson<'_, '_>,
+) -> Result<StatedCommand, LineError>
     ensures reads { Gives result (command_of (data_of value.now)) }
     ensures memory { result ≡ Err LineError.Memory
         → IsTrue (command_needs_memory (data_of value.now)) }
@@ -362,7 +366,7 @@ pub(crate) fn command_in(alloc: Global, value: &LineJson<'_, '_>) -> Result<Aske
         return load_in(alloc, value);
     }
     match plain_in(value, name) {
-        Ok(command) => Ok(Asked::Plain(command)),
+        Ok(command) => Ok(StatedCommand::Plain(command)),
         Err(fault) => Err(LineError::Fault(fault)),
     }
 }

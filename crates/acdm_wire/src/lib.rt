@@ -18,5 +18,5 @@ pub use asked::asked_of;
 pub use fault::{Bad, RequestFault};
 pub use head::request_of;
 pub use reply::{write_entered, write_out, write_rejected, write_whole};
-pub use request::{Asked, LONGEST_REQUEST, LineError, LoadRequest, Request};
+pub use request::{LONGEST_REQUEST, LineError, Request};
 pub use text::TextBuffer;

@@ -1,12 +1,16 @@
 //! What stands in the lists of replies.
 ghost use Rattle.std.specs.Prelude.{◌≡◌, ◌+◌, ◌≤◌, ◌++◌, length};
+ghost use Rattle.std.specs.List.{flat_map};
 ghost use Rattle.acdm_wire.specs.declared.text.TheConstants.{LONGEST_TEXT};
 ghost use Rattle.acdm_wire.specs.Replies.{alerted_text, unloaded_text, next_text};
 
-use crate::text::TextBuffer;
+use crate::text::{LONGEST_TEXT, TextBuffer};
 use acdm_alerts::push_names;
 use acdm_slots::Unloaded;
 use acdm_step::Alerted;
+
+// The most bytes of a text behind which any item has room, with a `;` before it.
+const FULL: usize = LONGEST_TEXT - 239;
 
 /// What stands in a list of a reply.
 pub(crate) trait ListItem {
@@ -61,7 +65,32 @@ impl TextBuffer {
         ensures { self.new ≡ next_text T.item_text item.now }
     {
         self.bytes.clear();
+        self.push_next(item);
+    }
+
+    // Another item of it, behind what stands there.
+    fn push_next<T: ListItem>(&mut self, item: &T)
+        requires { length self.old + 239 ≤ LONGEST_TEXT }
+        ensures { self.new ≡ self.old ++ next_text T.item_text item.now }
+    {
         self.push(b";");
         item.push_to(self);
+    }
+
+    /// The next items of it, as many as surely have room behind what stands there, and answers those left.
+    pub(crate) fn push_more<'a, T: ListItem>(&mut self, items: &'a [T]) -> &'a [T]
+        ensures whole { self.old ++ flat_map (next_text T.item_text) items.now
+            ≡ self.new ++ flat_map (next_text T.item_text) result.now }
+        ensures fewer { length result.now ≤ length items.now }
+    {
+        let mut rest = items;
+        while let Some((item, more)) = rest.split_first() {
+            if self.bytes.len() > FULL {
+                return rest;
+            }
+            self.push_next(item);
+            rest = more;
+        }
+        rest
     }
 }

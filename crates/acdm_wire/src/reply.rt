@@ -43,7 +43,7 @@ pub fn write_out<W: Write>(writer: &mut Sink<W>, bytes: &[u8]) -> Result<(), Run
     }
 }
 
-// Writes items of a list after a first one.
+// Writes items of a list after a first one, as many in one write as have room in a text.
 fn write_more<W: Write, T: ListItem>(writer: &mut Sink<W>, items: &[T]) -> Result<(), RunError>
     ensures { Writes writer.old writer.new (flat_map (next_text T.item_text) items.now) result }
 {
@@ -51,8 +51,8 @@ fn write_more<W: Write, T: ListItem>(writer: &mut Sink<W>, items: &[T]) -> Resul
     let mut rest = items;
     while let Some((item, more)) = rest.split_first() {
         text.put_next(item);
+        rest = text.push_more(more);
         write_whole(writer, text.as_slice())?;
-        rest = more;
     }
     Ok(())
 }

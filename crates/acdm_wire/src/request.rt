@@ -1,9 +1,7 @@
 //! What a line gives.
 use crate::fault::RequestFault;
-use acdm_milestones::{Milestone, Role};
-use acdm_slots::{Kind, ProgramBytes};
-use acdm_step::Command;
-use bpf_regstate::Length;
+use acdm_milestones::Role;
+use acdm_step::StatedCommand;
 use thiserror::Error;
 
 /// How many bytes a line has at most (this project's profile).
@@ -20,25 +18,6 @@ pub enum LineError {
     Fault(RequestFault),
 }
 
-/// To load the program of these bytes into a slot, in place of what stands there, for records of
-/// this length.
-#[derive(Drop)]
-pub struct LoadRequest {
-    pub milestone: Milestone,
-    pub kind: Kind,
-    pub program: ProgramBytes,
-    pub length: Length,
-}
-
-/// What a line asks for, before the bytes of a program are read.
-#[derive(Drop)]
-pub enum Asked {
-    /// This command, which is no load.
-    Plain(Command),
-    /// To load a program.
-    Load(LoadRequest),
-}
-
 /// What a line asks for, and who asks.
 #[derive(Drop)]
 pub struct Request {
@@ -49,5 +28,5 @@ pub struct Request {
     /// The role that asks.
     pub role: Role,
     /// What it asks for.
-    pub asked: Asked,
+    pub asked: StatedCommand,
 }

@@ -8,27 +8,27 @@ use Rattle.acdm_wire.proofs.reply.write_more.Goals as goal
 pub returns-in_err-write_whole : goal.returns-in_err-write_whole
 returns-in_err-write_whole g c =
     let next = next_text g.T.ListItem.item_text in
-    let piece = c.as_slice.ensures ∙ c.put_next.ensures in
-    let left = ap (flat_map next) c.in-Some.ensures.cases.0 in
+    let whole = rw c.put_next.ensures at c.push_more-rest.ensures.whole in
+    let left = ap (flat_map next) c.in-Some.ensures.cases.0 ∙ whole in
     let p = err_from_is_err_and c.from_residual.result c.from_residual.ensures.1 in
     rw (p.1, p.2)
     (piece-part c.args.writer.now c.loop-item.writer c.write_whole.new.writer
     c.loop-item.invariant.done (flat_map next c.loop-item.rest.now)
-    (next c.in-Some.item.now) (flat_map next c.in-Some.more.now)
+    c.push_more-rest.new.self (flat_map next c.push_more-rest.result.now)
     (flat_map next c.args.items.now) _
     c.loop-item.invariant.wrote c.loop-item.invariant.whole left
-    (rw piece at c.in_err-write_whole.ensures))
+    (rw c.as_slice.ensures at c.in_err-write_whole.ensures))
 
 pub loop-item-preserved : goal.loop-item-preserved
 loop-item-preserved g c =
     let next = next_text g.T.ListItem.item_text in
-    let piece = c.as_slice.ensures ∙ c.put_next.ensures in
-    let left = ap (flat_map next) c.in-Some.ensures.cases.0 in
+    let whole = rw c.put_next.ensures at c.push_more-rest.ensures.whole in
+    let left = ap (flat_map next) c.in-Some.ensures.cases.0 ∙ whole in
     record {
-      done = c.loop-item.invariant.done ++ next c.in-Some.item.now;
-      wrote = wrote-both _ _ _ c.loop-item.invariant.done (next c.in-Some.item.now)
-          c.loop-item.invariant.wrote (rw piece at c.in_ok-write_whole.ensures);
+      done = c.loop-item.invariant.done ++ c.push_more-rest.new.self;
+      wrote = wrote-both _ _ _ c.loop-item.invariant.done c.push_more-rest.new.self
+          c.loop-item.invariant.wrote (rw c.as_slice.ensures at c.in_ok-write_whole.ensures);
       whole = piece-whole c.loop-item.invariant.done (flat_map next c.loop-item.rest.now)
-          (next c.in-Some.item.now) (flat_map next c.in-Some.more.now) _
+          c.push_more-rest.new.self (flat_map next c.push_more-rest.result.now) _
           c.loop-item.invariant.whole left;
     }
