@@ -58,7 +58,7 @@ none_from n (e ∷ J) few =
     ∙ ap (λ b. if b then [] else told J e) (lt-ltb (length J) n less)
 
 -- an entry stands in no empty history
-nothing_behind : (later : List Entry) (f : Entry) (F : History) → [] ≡ later ++ f ∷ F → ⊥
+pub nothing_behind : (later : List Entry) (f : Entry) (F : History) → [] ≡ later ++ f ∷ F → ⊥
 nothing_behind [] f F is = absurd (cc)
 nothing_behind (g ∷ later) f F is = absurd (cc)
 

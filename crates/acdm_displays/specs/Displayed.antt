@@ -1,6 +1,7 @@
 -- What a display is sent, and why it may get no more.
 use Rattle.std.specs.Prelude.{ℕ, ◌≡◌, ◌+◌, ◌<◌, ◌≤◌, ◌++◌, ◌∷◌, ◌⊎◌, ⊤, false, if◌then◌else◌, nat_lt}
-use Rattle.std.specs.Prelude.{List, [], Option, Some, None, length, reverse}
+use Rattle.std.specs.Prelude.{List, [], Option, Some, None, length, option_map, reverse, String, string_bytes}
+use Rattle.std.specs.declared.alloc.Global.{Global}
 use Rattle.acdm_step.specs.declared.entry.Entry.{Entry}
 use Rattle.acdm_step.specs.Commands.{History}
 use Rattle.acdm_step.specs.History.{IsLegal}
@@ -10,11 +11,14 @@ use Rattle.acdm_failures.specs.declared.failure.Failure.{Failure}
 use Rattle.acdm_failures.specs.declared.failure.Failure.TheVariants.{Save, Memory}
 use Rattle.acdm_feed.specs.declared.known.Known.{Known}
 use Rattle.acdm_feed.specs.Knowing.{Knows}
+use Rattle.acdm_feed.specs.Naming.{first_entry, name_of}
 use Rattle.acdm_feed.specs.Resumed.{IsFront, board_text, feed_from, journal_line, journal_since, journal_text}
 use Rattle.acdm_feed.specs.Told.{told}
 use Rattle.acdm_web.specs.Answers.{events_head}
 use Rattle.acdm_web.specs.Events.{event_text}
 use Rattle.acdm_displays.specs.declared.following.Shown.{Shown}
+use Rattle.acdm_displays.specs.declared.asked.DisplayRequest.{DisplayRequest}
+use Rattle.acdm_displays.specs.declared.asked.DisplayRequest.TheVariants as asks
 use Rattle.acdm_displays.specs.declared.asked.Start.{Start}
 use Rattle.acdm_displays.specs.declared.asked.Start.TheVariants as starts
 use Rattle.acdm_displays.specs.Within.{IsAsKept, IsWithin}
@@ -127,6 +131,54 @@ WasTold start row = Took (SaysFeed (length row.cells) start) row
 
 abbrev pub WasToldSome : {W X : Type 0} → RowView → Option X → List ℕ → Shown W → Type 0
 WasToldSome row reach before shown = (start : Start) × WasTold start row reach before shown
+
+-- ---- the journal for who has its first entries
+
+-- the name of the journal of what was seen, where there is an entry of it
+abbrev pub IsNameOf : List Entry → Option (String Global) → Type 0
+IsNameOf seen name = option_map string_bytes name ≡ option_map name_of (first_entry (reverse seen))
+
+-- that name stays the one of what is seen later
+abbrev pub StaysNamed : List Entry → List Entry → Type 0
+StaysNamed seen later = (name : String Global) → IsNameOf seen (Some name) → IsNameOf later (Some name)
+
+-- The text of what was seen behind the first entries was written, behind these bytes, and before it the line of the
+-- journal, where there are none of those and it has an entry.
+pub record TextFrom (room : ℕ) (seen : List Entry) (start : Begun) (log : List ℕ) : Type 0 where
+  pub room_is : room ≡ start.room
+  pub behind : History
+  pub split : reverse seen ≡ behind ++ start.front
+  pub saves : Saves behind (start.before
+      ++ journal_since start.front (length start.front) start.room (reverse seen)) log
+
+-- It has begun behind no more entries than so many, and with the line of the journal, if there is one of them.
+pub record BeginsText (room n : ℕ) (seen : List Entry) (before log : List ℕ) : Type 0 where
+  pub few : length seen ≤ n
+  pub text : TextFrom room seen (at_entry room before (reverse seen)) log
+
+-- For one that has so many entries: the line of the journal, as soon as that has an entry, with the number of the entry
+-- that comes next; and the text of the entries from that one on. It is the one behind those that were passed over: so
+-- many, or all that were in sight first, where these were fewer.
+pub record SaysFrom (room n : ℕ) (seen : List Entry) (before log : List ℕ) : Type 0 where
+  pub passed : History
+  pub behind : History
+  pub split : reverse seen ≡ behind ++ passed
+  pub few : length passed ≤ n
+  pub saves : Saves behind (before ++ journal_line (length passed) room (reverse seen)) log
+
+abbrev pub WasSentFrom : {W X : Type 0} → ℕ → RowView → Option X → List ℕ → Shown W → Type 0
+WasSentFrom n row = Took (SaysFrom (length row.cells) n) row
+
+-- as a display has asked: the text of all entries where it has sent nothing, and no text where it has asked for the
+-- board or for nothing
+abbrev pub WasSentAs : {W X : Type 0} → DisplayRequest → RowView → Option X → List ℕ → Shown W → Type 0
+WasSentAs asks.Silence row reach before shown = WasSent row reach before shown
+WasSentAs (asks.For (starts.Entry n)) row reach before shown = WasSentFrom n row reach before shown
+WasSentAs (asks.For starts.Board) row reach before shown = ⊥
+WasSentAs asks.Unknown row reach before shown = ⊥
+
+abbrev pub WasSentSome : {W X : Type 0} → RowView → Option X → List ℕ → Shown W → Type 0
+WasSentSome row reach before shown = (asked : DisplayRequest) × WasSentAs asked row reach before shown
 
 -- ---- events for browsers
 

@@ -1,6 +1,7 @@
 //! What a display asks for first.
-ghost use Rattle.std.specs.Prelude.{◌≡◌, IfSome};
-ghost use Rattle.acdm_displays.specs.Asked.{Names};
+ghost use Rattle.std.specs.Prelude.{◌≡◌, ◌==◌, IfSome, if◌then◌else◌};
+ghost use Rattle.acdm_displays.specs.Asked.{IsAskedBy, Names, feed_start};
+ghost use Rattle.acdm_displays.specs.declared.asked.DisplayRequest.TheVariants.{Silence, Unknown};
 
 use crate::leaving::is_passing;
 use acdm_web::number_in;
@@ -21,6 +22,17 @@ pub enum Start {
     Board,
 }
 
+/// What a display has asked for first.
+#[derive(Clone, Copy, Debug, PartialEq, Eq)]
+pub(crate) enum DisplayRequest {
+    /// It has sent nothing for a quarter of a second, or has ended at once.
+    Silence,
+    /// A line that asks for this was sent.
+    For(Start),
+    /// Something else was sent.
+    Unknown,
+}
+
 /// What a first line asks for, without its line feed: `from N`, of a decimal number below 2^64 with no sign
 /// and no zero before it, or `board`. No other line asks for anything.
 pub fn start_named(line: &[u8]) -> Option<Start>
@@ -37,10 +49,21 @@ pub fn start_named(line: &[u8]) -> Option<Start>
     Some(Start::Entry(number))
 }
 
-/// What a display asks for by its first line. One that sends nothing for a quarter of a second, or ends
-/// at once, asks for all entries. Nothing is asked for by another line, by one that is too long, and by
-/// one that does not end in that time.
-pub(crate) fn first_asked<R: Read>(reader: &mut R) -> Option<Start> {
+/// Where the feed begins for a display that has asked so, if it is sent to that one: with the first entry where
+/// nothing was sent.
+pub(crate) fn feed_start(asked: DisplayRequest) -> Option<Start>
+    ensures { result ≡ feed_start asked }
+{
+    match asked {
+        DisplayRequest::Silence => Some(Start::Entry(0)),
+        DisplayRequest::For(start) => Some(start),
+        DisplayRequest::Unknown => None,
+    }
+}
+
+/// What a display asks for by its first line, as `start_named` says. A line that is too long is unknown, and one that
+/// does not end within a quarter of a second.
+pub(crate) fn first_asked<R: Read>(reader: &mut R) -> DisplayRequest {
     let mut line = [0u8; LONGEST_FIRST];
     let mut count = 0;
     let mut waits = 0u64;
@@ -56,25 +79,37 @@ pub(crate) fn first_asked<R: Read>(reader: &mut R) -> Option<Start> {
                 }
                 continue;
             }
-            Err(_) => return None,
+            Err(_) => return DisplayRequest::Unknown,
         }
         if heard[0] == b'\n' {
-            return start_named(&line[..count]);
+            return by_line(&line[..count]);
         }
         if count >= LONGEST_FIRST {
-            return None;
+            return DisplayRequest::Unknown;
         }
         line[count] = heard[0];
         count += 1;
     }
-    None
+    DisplayRequest::Unknown
+}
+
+// What is asked for by a line.
+fn by_line(line: &[u8]) -> DisplayRequest
+    ensures { IsAskedBy line.now result }
+{
+    match start_named(line) {
+        Some(start) => DisplayRequest::For(start),
+        None => DisplayRequest::Unknown,
+    }
 }
 
 // What is asked for where no line feed came behind so many bytes.
-fn at_rest(count: usize) -> Option<Start> {
+fn at_rest(count: usize) -> DisplayRequest
+    ensures { result ≡ (if count == 0 then Silence else Unknown) }
+{
     if count == 0 {
-        Some(Start::Entry(0))
+        DisplayRequest::Silence
     } else {
-        None
+        DisplayRequest::Unknown
     }
 }

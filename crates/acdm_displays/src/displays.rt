@@ -1,14 +1,15 @@
 //! Displays, which are sent the journal as text while partners are served.
 ghost use Rattle.std.specs.Prelude.{[], IfOk};
 ghost use Rattle.std.specs.Arc.{arc_value};
-ghost use Rattle.acdm_displays.specs.Displayed.{WasSent, WasToldEvents, WasToldSome};
+ghost use Rattle.acdm_displays.specs.Displayed.{WasSentSome, WasToldEvents, WasToldSome};
 
-use crate::asked::first_asked;
+use crate::asked::{feed_start, first_asked};
 use crate::browsing::{answer, follow_events};
 use crate::entries::Entries;
-use crate::following::{MOST_REFUSALS, Shown, follow, follow_changes};
+use crate::following::{MOST_REFUSALS, Shown, follow_changes};
 use crate::leaving::has_left;
 use crate::places::{DisplayPlace, Shared};
+use crate::resuming::follow_asked;
 use acdm_failures::Failure;
 use acdm_keeping::Reach;
 use acdm_lines::{Sink, Source};
@@ -141,16 +142,17 @@ fn reader_of(stream: &TcpStream) -> Result<TcpStream, Failure> {
     Ok(reader)
 }
 
-// Sends a display the journal.
+// Sends a display the journal, as it asked by its first line. One that asked for no text of it is let go.
 fn show_journal(
     alloc: Global,
     entries: &Entries<'_>,
     stream: TcpStream,
 ) -> Result<Shown<TcpStream>, Failure>
-    ensures { IfOk result (WasSent (arc_value entries.now.row.now) entries.now.reach []) }
+    ensures { IfOk result (WasSentSome (arc_value entries.now.row.now) entries.now.reach []) }
 {
     let mut reader = reader_of(&stream)?;
-    let shown = follow(alloc, entries, &mut reader, Sink::new(stream))?;
+    let asked = first_asked(&mut reader);
+    let shown = follow_asked(alloc, entries, asked, &mut reader, Sink::new(stream))?;
     part(&mut reader);
     Ok(shown)
 }
@@ -164,7 +166,7 @@ fn show_changes(
     ensures { IfOk result (WasToldSome (arc_value entries.now.row.now) entries.now.reach []) }
 {
     let mut reader = reader_of(&stream)?;
-    let Some(start) = first_asked(&mut reader) else {
+    let Some(start) = feed_start(first_asked(&mut reader)) else {
         return Err(Failure::Watch);
     };
     let shown = follow_changes(alloc, entries, start, &mut reader, Sink::new(stream))?;

@@ -9,6 +9,7 @@ mod entries;
 mod following;
 mod leaving;
 mod places;
+mod resuming;
 mod telling;
 
 pub use asked::{Start, start_named};
@@ -16,3 +17,4 @@ pub use browsing::{answer, follow_events};
 pub use displays::{DisplayKind, DisplayListener, Displays};
 pub use entries::Entries;
 pub use following::{Shown, follow, follow_changes};
+pub use resuming::follow_from;

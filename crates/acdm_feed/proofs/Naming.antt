@@ -51,6 +51,12 @@ name_told J name is = ap (λ o. unwrap_or o []) is ∙ either (first_entry J)
     either None = refl
     either (Some e) = refl
 
+-- where none is told, there is no entry
+pub unnamed : (J : History) → None ≡ option_map name_of (first_entry J) → J ≡ []
+unnamed [] none = refl
+unnamed (e ∷ J) none =
+    absurd (false_true (ap is_some none ∙ map_some name_of (first_entry (e ∷ J)) ∙ first_is_there e J))
+
 -- ---- the text that is named
 
 pub without_feed : (line old new : List ℕ) (count : ℕ) → old ≡ line ++ 10 ∷ [] → count ≡ length old

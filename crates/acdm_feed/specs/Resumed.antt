@@ -31,10 +31,14 @@ board_text room J = print (board_tokens room J) ++ 10 ∷ []
 abbrev pub journal_tokens : List ℕ → ℕ → ℕ → List Token
 journal_tokens name next room = object_of (head_members name next room)
 
--- the line of a journal with room for so many entries, for one for whom the entry of this number comes next:
--- one object, without space, and a line feed
+-- the line of the journal of this name with room for so many entries, for one for whom the entry of this number
+-- comes next: one object, without space, and a line feed
+unfoldable pub named_line : List ℕ → ℕ → ℕ → List ℕ
+named_line name next room = print (journal_tokens name next room) ++ 10 ∷ []
+
+-- that of a journal with these entries
 unfoldable pub journal_text : ℕ → ℕ → History → List ℕ
-journal_text next room J = print (journal_tokens (journal_name J) next room) ++ 10 ∷ []
+journal_text next room J = named_line (journal_name J) next room
 
 -- that line, as soon as there is an entry
 abbrev pub journal_line : ℕ → ℕ → History → List ℕ

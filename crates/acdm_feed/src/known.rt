@@ -10,7 +10,7 @@ ghost use Rattle.std.specs.List.{list_any};
 ghost use Rattle.acdm_feed.specs.Knowing.{IsNamed, Knows, KnowsFlights, Puts, word_of};
 ghost use Rattle.acdm_feed.specs.Naming.{journal_name};
 
-use crate::name::name_by;
+use crate::name::journal_name;
 use acdm_record::Field;
 use acdm_step::{Command, Core, Entry};
 use indexmap::IndexMap;
@@ -163,7 +163,7 @@ impl Known {
             return Ok(());
         }
         let alloc = *self.flights.allocator();
-        let name = name_by(alloc, entry)?;
+        let name = journal_name(alloc, entry)?;
         self.name = Some(name);
         Ok(())
     }

@@ -12,6 +12,7 @@ mod tokens;
 mod told;
 
 pub use known::Known;
-pub use standing::{push_board, push_journal};
+pub use name::{journal_name, name_of_line};
+pub use standing::{push_board, push_journal, push_journal_named};
 pub use telling::{pass_next, tell_next};
 pub use told::push_line;

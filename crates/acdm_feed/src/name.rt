@@ -13,20 +13,21 @@ use std::alloc::{AllocError, Global};
 /// How many bytes of the digest are in a name.
 const NAMED_BY: usize = 16;
 
-// The first bytes of the digest of a text, as digits.
-fn digits_of(alloc: Global, text: &[u8]) -> Result<String, AllocError>
-    ensures { IfOk result (λ name. string_bytes name ≡ encode_lower (take 16 (sha256 text.now))) }
+/// The name of a journal whose first entry has this line, which stands without its line feed: the first bytes of its
+/// digest, as digits. `Err` only where memory was refused.
+pub fn name_of_line(alloc: Global, line: &[u8]) -> Result<String, AllocError>
+    ensures { IfOk result (λ name. string_bytes name ≡ encode_lower (take 16 (sha256 line.now))) }
 {
-    let digest = Sha256::digest(text);
+    let digest = Sha256::digest(line);
     hex::encode(alloc, &digest[..NAMED_BY])
 }
 
-/// The name of a journal whose first entry is this.
-pub(crate) fn name_by(alloc: Global, entry: &Entry) -> Result<String, AllocError>
+/// The name of a journal whose first entry is this. `Err` only where memory was refused.
+pub fn journal_name(alloc: Global, entry: &Entry) -> Result<String, AllocError>
     ensures { IfOk result (λ name. string_bytes name ≡ name_of entry.now) }
 {
     let mut line = Vec::new(alloc);
     push_entry(&mut line, entry)?;
     let _line_feed = line.pop();
-    digits_of(alloc, line.as_slice())
+    name_of_line(alloc, line.as_slice())
 }

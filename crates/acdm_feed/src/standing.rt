@@ -8,6 +8,7 @@ ghost use Rattle.acdm_step.specs.History.{replay};
 ghost use Rattle.acdm_feed.specs.Knowing.{Knows};
 ghost use Rattle.acdm_feed.specs.Names.{list_member};
 ghost use Rattle.acdm_feed.specs.Resumed.{board_text, board_tokens, head_members, journal_text, journal_tokens};
+ghost use Rattle.acdm_feed.specs.Resumed.{named_line};
 ghost use Rattle.acdm_feed.specs.Told.{flight_tokens};
 
 use crate::known::Known;
@@ -119,9 +120,27 @@ fn push_journal_object(
     Ok(())
 }
 
-/// Adds the line of a journal: one object of JSON, without space, and a line feed, with its name, the
-/// number of the entry that comes next for who is told it, and how many entries there is room for. What is
-/// known is that of its board. `Err` only where memory was refused; nothing was added then.
+/// Adds the line of the journal of a name: one object of JSON, without space, and a line feed, with the name, the
+/// number of the entry that comes next for who is told it, and how many entries there is room for. `Err` only where
+/// memory was refused; nothing was added then.
+pub fn push_journal_named(
+    text: &mut Vec<u8>,
+    name: &str,
+    next: u64,
+    room: u64,
+) -> Result<(), AllocError>
+    ensures { OnOk result (text.new.items ≡ text.old.items ++ named_line name.now next room) }
+{
+    let mut line = Writer::new(Vec::new(*text.allocator()));
+    push_journal_object(&mut line, name, next, room)?;
+    let mut bytes = line.into_inner();
+    bytes.push(b'\n')?;
+    text.extend_from_slice(bytes.as_slice())?;
+    Ok(())
+}
+
+/// Adds the same line, with the name of the journal whose board this is what is known of. `Err` only where memory was
+/// refused; nothing was added then.
 pub fn push_journal(
     text: &mut Vec<u8>,
     known: &Known,
@@ -131,10 +150,6 @@ pub fn push_journal(
     ensures { OnOk result ((J : History) → Knows J known.now
         → text.new.items ≡ text.old.items ++ journal_text next room J) }
 {
-    let mut line = Writer::new(Vec::new(*text.allocator()));
-    push_journal_object(&mut line, known.name(), next, room)?;
-    let mut bytes = line.into_inner();
-    bytes.push(b'\n')?;
-    text.extend_from_slice(bytes.as_slice())?;
+    push_journal_named(text, known.name(), next, room)?;
     Ok(())
 }

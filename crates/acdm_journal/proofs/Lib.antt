@@ -19,3 +19,4 @@ pub mod FewAnswers
 pub mod Readable
 pub mod Taken
 pub mod TextRows
+pub mod FromNone

@@ -11,9 +11,9 @@ use Rattle.acdm_step.specs.declared.command.Command.TheVariants as commands
 use Rattle.acdm_step.specs.Commands.{History, is_load}
 use Rattle.acdm_step.specs.History.{needs_memory}
 use Rattle.acdm_journal.specs.declared.stated.Stated.{Stated}
-use Rattle.acdm_journal.specs.declared.stated.LoadLine.{LoadLine}
-use Rattle.acdm_journal.specs.declared.stated.StatedCommand.{StatedCommand}
-use Rattle.acdm_journal.specs.declared.stated.StatedCommand.TheVariants.{Plain, Load}
+use Rattle.acdm_step.specs.declared.stated.LoadRequest.{LoadRequest}
+use Rattle.acdm_step.specs.declared.stated.StatedCommand.{StatedCommand}
+use Rattle.acdm_step.specs.declared.stated.StatedCommand.TheVariants.{Plain, Load}
 use Rattle.acdm_journal.specs.declared.reading.TheConstants.{LONGEST_ENTRY}
 use Rattle.acdm_journal.specs.Text.{line_words, line_of, asked_words}
 use Rattle.acdm_journal.specs.Ranges.{IsStated, IsAsked}
@@ -48,7 +48,7 @@ some_need k ws a left h e = test_is _ _ _ e ∙ some_need_if k h
 even : (bytes : List ℕ) → (length (encode_lower bytes) % 2 == 0) ≡ true
 even bytes = grind (arith, nat_tests, length-encode_with lower_digits bytes)
 
-asked_load : (l : LoadLine) → asked_needs_memory (asked_words (Load l)) ≡ true
+asked_load : (l : LoadRequest) → asked_needs_memory (asked_words (Load l)) ≡ true
 unfolding asked_needs_memory command_needs_memory load_needs_memory bytes_need_memory
 asked_load l =
     test_is _ _ _ (milestone_at-is l.milestone _) ∙ test_is _ _ _ (kind_at-is l.kind _)

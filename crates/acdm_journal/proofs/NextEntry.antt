@@ -11,8 +11,8 @@ use Rattle.acdm_step.specs.Verdicts.{verdict_of}
 use Rattle.acdm_step.specs.History.{Board, IsLegal, IsChecked, replay}
 use Rattle.acdm_step.specs.Prepared.{Fits}
 use Rattle.acdm_journal.specs.declared.stated.Stated.{Stated}
-use Rattle.acdm_journal.specs.declared.stated.StatedCommand.{StatedCommand}
-use Rattle.acdm_journal.specs.declared.stated.StatedCommand.TheVariants.{Plain, Load}
+use Rattle.acdm_step.specs.declared.stated.StatedCommand.{StatedCommand}
+use Rattle.acdm_step.specs.declared.stated.StatedCommand.TheVariants.{Plain, Load}
 use Rattle.acdm_journal.specs.declared.judge.Clause.TheVariants as clauses
 use Rattle.acdm_journal.specs.declared.judge.AuditError.{AuditError}
 use Rattle.acdm_journal.specs.declared.judge.AuditError.TheVariants.{Memory, Faulty}

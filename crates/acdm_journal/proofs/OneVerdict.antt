@@ -9,8 +9,8 @@ use Rattle.acdm_step.specs.Commands.{History, is_accepted}
 use Rattle.acdm_step.specs.Verdicts.{verdict_of}
 use Rattle.acdm_step.specs.History.{Board, IsAnswered}
 use Rattle.acdm_journal.specs.declared.stated.Stated.{Stated}
-use Rattle.acdm_journal.specs.declared.stated.StatedCommand.{StatedCommand}
-use Rattle.acdm_journal.specs.declared.stated.StatedCommand.TheVariants.{Plain, Load}
+use Rattle.acdm_step.specs.declared.stated.StatedCommand.{StatedCommand}
+use Rattle.acdm_step.specs.declared.stated.StatedCommand.TheVariants.{Plain, Load}
 use Rattle.acdm_journal.specs.declared.judge.Clause.{Clause}
 use Rattle.acdm_journal.specs.declared.judge.Clause.TheVariants as clauses
 use Rattle.acdm_journal.specs.Text.{stated_in, outcome_code}

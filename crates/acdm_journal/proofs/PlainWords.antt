@@ -37,8 +37,8 @@ use Rattle.acdm_step.specs.declared.command.Command.TheVariants.{Schedule, Repor
 use Rattle.acdm_step.specs.Commands.{is_load}
 use Rattle.acdm_journal.specs.declared.reading.TheConstants.{LONGEST_ENTRY}
 use Rattle.acdm_journal.specs.declared.stated.Stated.{Stated}
-use Rattle.acdm_journal.specs.declared.stated.StatedCommand.{StatedCommand}
-use Rattle.acdm_journal.specs.declared.stated.StatedCommand.TheVariants.{Plain, Load}
+use Rattle.acdm_step.specs.declared.stated.StatedCommand.{StatedCommand}
+use Rattle.acdm_step.specs.declared.stated.StatedCommand.TheVariants.{Plain, Load}
 use Rattle.acdm_journal.specs.Text.{plan_words, plan_words_of, time_words, length_words, load_words}
 use Rattle.acdm_journal.specs.Text.{command_words, asked_words, answer_words, head_words, line_words}
 use Rattle.acdm_journal.specs.Text.{line_of}

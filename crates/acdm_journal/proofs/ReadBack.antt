@@ -19,9 +19,9 @@ use Rattle.acdm_step.specs.declared.command.Command.TheVariants.{Schedule, Repor
 use Rattle.acdm_step.specs.declared.command.Deice.{Deice as DeiceLine}
 use Rattle.acdm_step.specs.Commands.{is_load}
 use Rattle.acdm_journal.specs.declared.stated.Stated.{Stated}
-use Rattle.acdm_journal.specs.declared.stated.LoadLine.{LoadLine}
-use Rattle.acdm_journal.specs.declared.stated.StatedCommand.{StatedCommand}
-use Rattle.acdm_journal.specs.declared.stated.StatedCommand.TheVariants.{Plain, Load}
+use Rattle.acdm_step.specs.declared.stated.LoadRequest.{LoadRequest}
+use Rattle.acdm_step.specs.declared.stated.StatedCommand.{StatedCommand}
+use Rattle.acdm_step.specs.declared.stated.StatedCommand.TheVariants.{Plain, Load}
 use Rattle.acdm_journal.specs.Text.{plan_words, plan_words_of, schedule_words, report_words}
 use Rattle.acdm_journal.specs.Text.{load_words, command_words, asked_words, answer_words}
 use Rattle.acdm_journal.specs.Text.{line_words, deice_words}
@@ -252,7 +252,7 @@ deice_at-back ws a left h =
       is = (refl, (f.least, omega (arith, f.most), omega (arith, t.most)));
     })
 
-load_at-is : (l : LoadLine) → AllByRecursion IsByte l.program
+load_at-is : (l : LoadRequest) → AllByRecursion IsByte l.program
     → asked_at (load_words l.milestone l.kind l.program l.record_length) ≡ Some (Load l, [])
 unfolding asked_at command_named load_at
 load_at-is l is =

@@ -10,9 +10,10 @@ use Rattle.acdm_lines.specs.declared.lines.Lines.{Lines}
 use Rattle.acdm_lines.specs.declared.run_error.RunError.{RunError}
 use Rattle.acdm_lines.specs.Counted.{SourceView, faults_after}
 use Rattle.acdm_lines.specs.Lines.{IsLine, kept, most_held}
-use Rattle.acdm_lines.proofs.Feeds.{IsLine-append, NoneOrFirst, none_or_first}
+use Rattle.acdm_lines.proofs.Feeds.{IsLine-append, NoneOrFirst}
 use Rattle.acdm_lines.specs.NextLine.{TakesLine, TakesNone, TakesPart, FailsOrEndless, ReadsSoon}
 use Rattle.acdm_lines.proofs.Reading.{kept-empty, kept-some, faults-more, logged-more, gave-more}
+use Rattle.acdm_step.specs.declared.entry.Entry.{Entry}
 use Rattle.acdm_step.specs.Commands.{History}
 use Rattle.acdm_step.specs.History.{Board, IsLegal}
 use Rattle.acdm_journal.specs.declared.stated.Stated.{Stated}
@@ -23,8 +24,9 @@ use Rattle.acdm_journal.specs.declared.journal_reader.JournalEnd.TheVariants as 
 use Rattle.acdm_journal.specs.Text.{line_of, stated_in, history_text}
 use Rattle.acdm_journal.specs.Ranges.{IsStated}
 use Rattle.acdm_journal.specs.Audit.{States, StatesNext, Continues, Breaks}
-use Rattle.acdm_journal.specs.Whole.{AreReadable, BreaksNext, at_line, at_end, FirstFault, GaveLegal}
-use Rattle.acdm_journal.specs.Uses.{FindsFault, ReadsJournal, UsesLine}
+use Rattle.acdm_journal.specs.Whole.{AreReadable, BreaksNext, at_line, at_end}
+use Rattle.acdm_journal.specs.Behind.{AtFault, GaveBehind, ReadsBehind}
+use Rattle.acdm_journal.specs.Uses.{UsesLine}
 use Rattle.acdm_journal.specs.declared.reading.TheConstants.{LONGEST_ENTRY}
 use Rattle.acdm_journal.specs.declared.journal_reader.TheConstants.{MOST_KEPT}
 
@@ -86,7 +88,7 @@ module _ (sigs : List (ℕ × Promise)) (J : History) (line : List ℕ) where
 -- a line that is too long breaks the first clause, whatever stands behind it
 module _ (sigs : List (ℕ × Promise)) (J : History) (part later : List ℕ) (line : IsLine part)
     (long : MOST_KEPT ≤ length part) where
-  breaks-long : NoneOrFirst later → BreaksNext sigs J (part ++ later) clauses.Unreadable
+  pub breaks-long : NoneOrFirst later → BreaksNext sigs J (part ++ later) clauses.Unreadable
   breaks-long (inl none) =
       let sum : length (part ++ later) ≡ length part + length later = length-append part later in
       at_end (IsLine-append part later line none) (omega arith) refl
@@ -99,55 +101,57 @@ module _ (sigs : List (ℕ × Promise)) (J : History) (part later : List ℕ) (l
 
 -- ---- what was judged so far, and one line more
 
--- The reader gave the text of a legal history of so many entries, which a use has, and what is held, and
--- each read so far gave something.
-pub record Sofar (sigs : List (ℕ × Promise)) (has : History → Type 0) (start log held : List ℕ)
+-- The reader gave the text of entries with which a legal history stays legal, which a use has, so many in all, and what
+-- is held, and each read so far gave something.
+pub record Sofar (sigs : List (ℕ × Promise)) (J : History) (has : History → Type 0) (start log held : List ℕ)
     (reads : ℕ) (entry : ℕ) : Type 0 where
   pub text : List ℕ
-  pub front : History
+  pub newer : List Entry
   pub logged : log ≡ start ++ text
   pub gave : 2 ^ 40 ≤ length text + reads
-  pub split : text ≡ history_text front ++ held
-  pub legal : IsLegal sigs front
-  pub readable : AreReadable sigs front
-  pub count : length front ≡ entry
-  pub taken : has front
+  pub split : text ≡ history_text newer ++ held
+  pub legal : IsLegal sigs (newer ++ J)
+  pub readable : AreReadable sigs newer
+  pub count : length (newer ++ J) ≡ entry
+  pub taken : has (newer ++ J)
 
-pub sofar-begins : (sigs : List (ℕ × Promise)) (has : History → Type 0) (log held : List ℕ) (reads : ℕ)
-    → held ≡ [] → reads ≡ 1099511627776 → has [] → Sofar sigs has log log held reads 0
-sofar-begins sigs has log held reads none all taken = record {
+pub sofar-begins : (sigs : List (ℕ × Promise)) (J : History) (has : History → Type 0) (log held : List ℕ)
+    (reads entry : ℕ) → held ≡ [] → reads ≡ 1099511627776 → IsLegal sigs J → length J ≡ entry → has J
+    → Sofar sigs J has log log held reads entry
+sofar-begins sigs J has log held reads entry none all legal count taken = record {
   text = [];
-  front = [];
+  newer = [];
   logged = sym (append-nil log);
   gave = omega (arith, all);
   split = sym none;
-  legal = tt;
+  legal = legal;
   readable = tt;
-  count = refl;
+  count = count;
   taken = taken;
 }
 
-module _ {R : Type 0} (sigs : List (ℕ × Promise)) (bounded : Bool) (has : History → Type 0)
+-- without memory for a line nothing was read
+pub none-read : {R S : Type 0} (sigs : List (ℕ × Promise)) (bounded : Bool) (J : History) (has : History → Type 0)
+    (stops : History → S → Type 0) (r : SourceView R) → IsLegal sigs J → has J
+    → ReadsBehind sigs bounded J has stops r r ends.Memory
+none-read sigs bounded J has stops r legal taken =
+    (record { newer = []; rest = []; legal = legal; readable = tt; gave = sym (append-nil r.log) }, (taken, refl))
+
+module _ {R : Type 0} (sigs : List (ℕ × Promise)) (bounded : Bool) (J : History) (has : History → Type 0)
     (r0 r1 r2 : SourceView R) (l1 l2 : Lines MOST_KEPT) (entry : ℕ)
-    (so_far : Sofar sigs has r0.log r1.log l1.window l1.reads_left entry) (before : r1.faults ≡ r0.faults)
+    (so_far : Sofar sigs J has r0.log r1.log l1.window l1.reads_left entry) (before : r1.faults ≡ r0.faults)
     (is_soon : bounded ≡ true → ReadsSoon MOST_KEPT r1 r2 l1)
   where
-    -- the text of the entries so far
-    judged : List ℕ
-    judged = history_text so_far.front
-
     logged_with : (more : List ℕ) → r2.log ≡ r1.log ++ more
-        → r2.log ≡ r0.log ++ (judged ++ (l1.window ++ more))
-    unfolding judged
+        → r2.log ≡ r0.log ++ (history_text so_far.newer ++ (l1.window ++ more))
     logged_with more e =
-        logged-more r0.log r1.log r2.log so_far.text (history_text so_far.front) l1.window more
+        logged-more r0.log r1.log r2.log so_far.text (history_text so_far.newer) l1.window more
         so_far.logged so_far.split e
 
     gave_with : (more : List ℕ) (left : ℕ) → l1.reads_left ≤ length more + left
-        → 2 ^ 40 ≤ length (judged ++ (l1.window ++ more)) + left
-    unfolding judged
+        → 2 ^ 40 ≤ length (history_text so_far.newer ++ (l1.window ++ more)) + left
     gave_with more left g =
-        gave-more so_far.text (history_text so_far.front) l1.window more (2 ^ 40) l1.reads_left
+        gave-more so_far.text (history_text so_far.newer) l1.window more (2 ^ 40) l1.reads_left
         left so_far.gave so_far.split g
 
     -- no more was read behind the entries than is kept of a line and one read gives
@@ -160,40 +164,38 @@ module _ {R : Type 0} (sigs : List (ℕ × Promise)) (bounded : Bool) (has : His
         length-append l1.window more in
         omega (arith, is_soon is)
 
-    fault_in : (text rest : List ℕ) (clause : Clause) → text ≡ judged ++ rest
-        → BreaksNext sigs so_far.front rest clause → FirstFault sigs text entry clause
-    unfolding judged
-    fault_in text rest clause same breaks = record {
-      front = so_far.front;
-      rest = rest;
+    -- what the reader gave then
+    given : (more : List ℕ) → r2.log ≡ r1.log ++ more → GaveBehind sigs J r0.log r2.log
+    given more e = record {
+      newer = so_far.newer;
+      rest = l1.window ++ more;
       legal = so_far.legal;
       readable = so_far.readable;
-      text_is = same;
-      count = so_far.count;
-      breaks = breaks;
+      gave = logged_with more e;
     }
 
     -- an entry more
     pub sofar-entry : (has' : History → Type 0) (line : List ℕ) → TakesLine MOST_KEPT r1 r2 l1 l2
         → line ≡ l2.line
-        → ((board : Board) × (k : Continues sigs so_far.front line board) × has' (k.entry ∷ so_far.front))
-        → Sofar sigs has' r0.log r2.log l2.window l2.reads_left (entry + 1)
-    unfolding judged continues-line
+        → ((board : Board) × (k : Continues sigs (so_far.newer ++ J) line board)
+        × has' (k.entry ∷ (so_far.newer ++ J)))
+        → Sofar sigs J has' r0.log r2.log l2.window l2.reads_left (entry + 1)
+    unfolding continues-line
     sofar-entry has' line t is h =
-        let k = subst (λ l. (board : Board) × (k : Continues sigs so_far.front l board)
-        × has' (k.entry ∷ so_far.front)) (is ∙ t.bytes_are) h in
-        let n = continues-line sigs so_far.front t.line k.0 k.1 in
+        let k = subst (λ l. (board : Board) × (k : Continues sigs (so_far.newer ++ J) l board)
+        × has' (k.entry ∷ (so_far.newer ++ J))) (is ∙ t.bytes_are) h in
+        let n = continues-line sigs (so_far.newer ++ J) t.line k.0 k.1 in
         let text : List ℕ = line_of (stated_in n.entry) in
-        let count : length so_far.front ≡ entry = so_far.count in
+        let count : length (so_far.newer ++ J) ≡ entry = so_far.count in
         record {
-          text = history_text so_far.front ++ (l1.window ++ t.text);
-          front = n.entry ∷ so_far.front;
+          text = history_text so_far.newer ++ (l1.window ++ t.text);
+          newer = n.entry ∷ so_far.newer;
           logged = logged_with t.text t.gave;
           gave = gave_with t.text l2.reads_left t.each_gave;
-          split = ap (λ l. history_text so_far.front ++ l)
+          split = ap (λ l. history_text so_far.newer ++ l)
               (t.split ∙ ap (λ l. l ++ 10 ∷ l2.window) n.line_is
               ∙ sym (append_assoc text (10 ∷ []) l2.window))
-              ∙ sym (append_assoc (history_text so_far.front) (text ++ 10 ∷ []) l2.window);
+              ∙ sym (append_assoc (history_text so_far.newer) (text ++ 10 ∷ []) l2.window);
           legal = n.legal;
           readable = (
             so_far.readable,
@@ -208,79 +210,51 @@ module _ {R : Type 0} (sigs : List (ℕ × Promise)) (bounded : Bool) (has : His
         }
 
     -- the line breaks a clause
-    faulty-line : (has' : History → Type 0) (clause : Clause) → TakesLine MOST_KEPT r1 r2 l1 l2
-        → Breaks sigs so_far.front l2.line clause → has' so_far.front
-        → FindsFault sigs bounded has' r0 r2 entry clause
-    unfolding fault_in
-    faulty-line has' clause t h taken =
-        let breaks : Breaks sigs so_far.front t.line clause =
-        breaks-line sigs so_far.front t.line clause
-        (subst (λ l. Breaks sigs so_far.front l clause) t.bytes_are h) in
-        let text : List ℕ = judged ++ (l1.window ++ t.text) in
-        record {
-          gave = record {
-            text = text;
-            gave = logged_with t.text t.gave;
-            first = fault_in text (l1.window ++ t.text) clause refl
-                (at_line t.line l2.window t.is_line t.split breaks);
-            stays = inr (λ later.
-                fault_in (text ++ later) ((l1.window ++ t.text) ++ later) clause
-                (append_assoc judged (l1.window ++ t.text) later)
-                (at_line t.line (l2.window ++ later) t.is_line
-                (ap (λ l. l ++ later) t.split ∙ append_assoc t.line (10 ∷ l2.window) later)
-                breaks));
-          };
-          taken = taken;
-          soon = few t.text t.gave;
-          well = t.well ∙ before;
-        }
+    faulty-line : (has' : History → Type 0) (clause : Clause) (t : TakesLine MOST_KEPT r1 r2 l1 l2)
+        → Breaks sigs (so_far.newer ++ J) l2.line clause → has' (so_far.newer ++ J)
+        → AtFault sigs bounded has' r0 r2 (so_far.newer ++ J) (l1.window ++ t.text) entry clause
+    faulty-line has' clause t h taken = record {
+      count = so_far.count;
+      taken = taken;
+      line = t.line;
+      later = l2.window;
+      is_line = t.is_line;
+      split = t.split;
+      breaks = breaks-line sigs (so_far.newer ++ J) t.line clause
+          (subst (λ l. Breaks sigs (so_far.newer ++ J) l clause) t.bytes_are h);
+      soon = few t.text t.gave;
+      well = t.well ∙ before;
+    }
 
     -- the line ends the reading
     pub not-taken : {S : Type 0} (has' : History → Type 0) (stops : History → S → Type 0) (line : List ℕ)
         (end : JournalEnd S) → TakesLine MOST_KEPT r1 r2 l1 l2 → line ≡ l2.line
-        → UsesLine {T = Unit {0}} sigs has' stops so_far.front line (Err end)
-        → ReadsJournal sigs bounded has' stops r0 r2 end
-    unfolding judged
-    not-taken has' stops line (ends.Faulty number clause) t is h =
-        subst (λ n. FindsFault sigs bounded has' r0 r2 n clause) (sym (h.0 ∙ so_far.count))
-        (faulty-line has' clause t (subst (λ l. Breaks sigs so_far.front l clause) is h.1) h.2)
-    not-taken has' stops line ends.Memory t is h =
-        (so_far.front, so_far.legal, h, t.well ∙ before)
+        → UsesLine {T = Unit {0}} sigs has' stops (so_far.newer ++ J) line (Err end)
+        → ReadsBehind sigs bounded J has' stops r0 r2 end
+    unfolding given
+    not-taken has' stops line (ends.Faulty number clause) t is h = (
+      given t.text t.gave,
+      subst (λ n. AtFault sigs bounded has' r0 r2 (so_far.newer ++ J) (l1.window ++ t.text) n clause)
+          (sym (h.0 ∙ so_far.count))
+          (faulty-line has' clause t (subst (λ l. Breaks sigs (so_far.newer ++ J) l clause) is h.1) h.2),
+    )
+    not-taken has' stops line ends.Memory t is h = (given t.text t.gave, (h, t.well ∙ before))
     not-taken has' stops line (ends.Stopped s) t is h =
         let some : length (l1.window ++ t.text) ≡ length t.line + length (10 ∷ l2.window) =
         ap length t.split ∙ length-append t.line (10 ∷ l2.window) in
-        record {
-          history = so_far.front;
-          rest = l1.window ++ t.text;
-          why = h;
-          gave = logged_with t.text t.gave;
-          more = omega (arith, some);
-          well = t.well ∙ before;
-        }
+        (given t.text t.gave, (h, omega (arith, some), t.well ∙ before))
     not-taken has' stops line (ends.Whole n) t is h = absurd h
     not-taken has' stops line (ends.Rest n) t is h = absurd h
     not-taken has' stops line ends.Read t is h = absurd h
 
     -- the text has ended
-    pub ends-whole : TakesNone MOST_KEPT r1 r2 l1 l2 → length l2.line ≡ 0
-        → (g : GaveLegal sigs r0.log r2.log r2.ended entry) × has g.history × (r2.faults ≡ r0.faults)
-    unfolding judged
-    ends-whole t empty =
+    pub ends-whole : {S : Type 0} (stops : History → S → Type 0) → TakesNone MOST_KEPT r1 r2 l1 l2
+        → length l2.line ≡ 0 → ReadsBehind sigs bounded J has stops r0 r2 (ends.Whole entry)
+    unfolding given
+    ends-whole stops t empty =
         let none : l1.window ++ t.text ≡ [] =
-        kept-empty LONGEST_ENTRY (l1.window ++ t.text) (ap length (sym t.bytes_are) ∙ empty) in (
-          record {
-            text = history_text so_far.front;
-            history = so_far.front;
-            gave = logged_with t.text t.gave
-                ∙ ap (λ l. r0.log ++ l) (ap (λ l. history_text so_far.front ++ l) none
-                ∙ append-nil (history_text so_far.front));
-            at_end = ended_where t.why none;
-            is = record { legal = so_far.legal; readable = so_far.readable; text_is = refl };
-            count_is = so_far.count;
-          },
-          so_far.taken,
-          t.well ∙ before,
-        )
+        kept-empty LONGEST_ENTRY (l1.window ++ t.text) (ap length (sym t.bytes_are) ∙ empty) in
+        (given t.text t.gave, (none, ended_where t.why none, so_far.count, so_far.taken, t.well ∙ before))
       where
         ended_where : {rest : List ℕ} → (r2.ended ≡ true) ⊎ (MOST_KEPT ≤ length rest) → rest ≡ []
             → r2.ended ≡ true
@@ -290,62 +264,39 @@ module _ {R : Type 0} (sigs : List (ℕ × Promise)) (bounded : Bool) (has : His
             absurd (omega (arith, long))
 
     -- the text has ended with the rest of a line, or a line is too long
-    pub ends-rest : TakesNone MOST_KEPT r1 r2 l1 l2 → 0 < length l2.line
-        → (f : FindsFault sigs bounded has r0 r2 entry clauses.Unreadable) × IsLine f.gave.first.rest
-    unfolding fault_in
-    ends-rest t some =
+    pub ends-rest : {S : Type 0} (stops : History → S → Type 0) → TakesNone MOST_KEPT r1 r2 l1 l2
+        → 0 < length l2.line → (bounded ≡ false → r2.ended ≡ true)
+        → ReadsBehind sigs bounded J has stops r0 r2 (ends.Rest entry)
+    unfolding given
+    ends-rest stops t some all =
         let rest : List ℕ = l1.window ++ t.text in
         let there : 0 < length rest =
         kept-some LONGEST_ENTRY rest (subst (λ l. 0 < length l) t.bytes_are some) in (
+          given t.text t.gave,
           record {
-            gave = record {
-              text = judged ++ rest;
-              gave = logged_with t.text t.gave;
-              first = fault_in (judged ++ rest) rest clauses.Unreadable refl
-                  (at_end t.is_line there refl);
-              stays = stays t.why;
-            };
+            count_is = so_far.count;
             taken = so_far.taken;
+            is_line = t.is_line;
+            some = there;
+            why = t.why;
+            all = all;
             soon = few t.text t.gave;
             well = t.well ∙ before;
           },
-          t.is_line,
         )
-      where
-        stays : (r2.ended ≡ true) ⊎ (MOST_KEPT ≤ length (l1.window ++ t.text)) → (r2.ended ≡ true)
-            ⊎ ((later : List ℕ)
-            → FirstFault sigs ((judged ++ (l1.window ++ t.text)) ++ later) entry clauses.Unreadable)
-        stays (inl ended) = inl ended
-        stays (inr long) =
-            inr (λ later.
-            fault_in ((judged ++ (l1.window ++ t.text)) ++ later) ((l1.window ++ t.text) ++ later)
-            clauses.Unreadable (append_assoc judged (l1.window ++ t.text) later)
-            (breaks-long sigs so_far.front (l1.window ++ t.text) later t.is_line long
-            (none_or_first later)))
 
     -- no line more could be read
     pub unended : {S : Type 0} (stops : History → S → Type 0) (error : RunError)
         → TakesPart MOST_KEPT r1 r2 l1 l2 error → r0.faults < 2 ^ 64 - 1
-        → ReadsJournal sigs bounded has stops r0 r2 ends.Read
-    unfolding judged
-    unended stops error t room = (
-      record {
-        front = so_far.front;
-        part = l1.window ++ t.text;
-        legal = so_far.legal;
-        readable = so_far.readable;
-        is_part = t.is_line;
-        gave = logged_with t.text t.gave;
-        why = why t.why;
-      },
-      so_far.taken,
-      few t.text t.gave,
-    )
+        → ReadsBehind sigs bounded J has stops r0 r2 ends.Read
+    unfolding given
+    unended stops error t room =
+        (given t.text t.gave, (t.is_line, so_far.taken, why t.why, few t.text t.gave))
       where
         why : (r2.faults ≡ faults_after true r1.faults)
             ⊎ ((r2.faults ≡ r1.faults) × (l1.reads_left ≤ length t.text))
             → FailsOrEndless r0.faults r2.faults
-            (history_text so_far.front ++ (l1.window ++ t.text))
+            (history_text so_far.newer ++ (l1.window ++ t.text))
         why (inl e) = inl (e ∙ ap (faults_after true) before ∙ faults-more r0.faults room)
         why (inr few) =
             let most : l1.reads_left ≤ length t.text = few.1 in

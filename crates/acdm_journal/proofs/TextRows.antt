@@ -23,7 +23,7 @@ use Rattle.acdm_step.specs.declared.command.Command.TheVariants.{Schedule, Repor
 use Rattle.acdm_step.specs.declared.entry.Verdict.{Verdict}
 use Rattle.acdm_step.specs.declared.entry.Verdict.TheVariants.{Accepted, Refused}
 use Rattle.acdm_step.specs.declared.entry.Entry.{Entry}
-use Rattle.acdm_journal.specs.declared.stated.StatedCommand.TheVariants.{Plain, Load}
+use Rattle.acdm_step.specs.declared.stated.StatedCommand.TheVariants.{Plain, Load}
 use Rattle.acdm_journal.specs.Text.{entry_text, history_text}
 use Rattle.acdm_journal.specs.Reading.{stated_of, stated_at, asked_at, answers_at, command_named}
 use Rattle.acdm_journal.specs.Reading.{schedule_at, report_at, load_at, unload_at, show_at, plan_at}

@@ -19,8 +19,8 @@ use Rattle.acdm_step.specs.declared.prepare.Plan.{Plan}
 use Rattle.acdm_step.specs.History.{Board, IsLegal, replay, after}
 use Rattle.acdm_step.specs.Planning.{UsesAnswers}
 use Rattle.acdm_journal.specs.declared.stated.Stated.{Stated}
-use Rattle.acdm_journal.specs.declared.stated.StatedCommand.{StatedCommand}
-use Rattle.acdm_journal.specs.declared.stated.StatedCommand.TheVariants.{Plain, Load}
+use Rattle.acdm_step.specs.declared.stated.StatedCommand.{StatedCommand}
+use Rattle.acdm_step.specs.declared.stated.StatedCommand.TheVariants.{Plain, Load}
 use Rattle.acdm_journal.specs.declared.judge.PlannedEntry.{PlannedEntry}
 use Rattle.acdm_journal.specs.declared.judge.Clause.{Clause}
 use Rattle.acdm_journal.specs.declared.judge.Clause.TheVariants as clauses

@@ -8,3 +8,4 @@ pub mod Whole
 pub mod Uses
 pub mod Appended
 pub mod Crash
+pub mod Behind

@@ -6,8 +6,8 @@ use Rattle.std.specs.Str.{bytes_eq}
 use Rattle.acdm_step.specs.declared.command.Command.TheVariants.{Alerts, Migrate}
 use Rattle.acdm_step.specs.Commands.{History}
 use Rattle.acdm_journal.specs.declared.stated.Stated.{Stated}
-use Rattle.acdm_journal.specs.declared.stated.StatedCommand.{StatedCommand}
-use Rattle.acdm_journal.specs.declared.stated.StatedCommand.TheVariants.{Plain, Load}
+use Rattle.acdm_step.specs.declared.stated.StatedCommand.{StatedCommand}
+use Rattle.acdm_step.specs.declared.stated.StatedCommand.TheVariants.{Plain, Load}
 use Rattle.acdm_journal.specs.declared.reading.TheConstants.{LONGEST_ENTRY}
 use Rattle.acdm_journal.specs.Reading.{Words, word_at, words_of, number_at, role_at, kind_at}
 use Rattle.acdm_journal.specs.Reading.{milestone_at, answers_at, most_word, most_minute}

@@ -25,8 +25,8 @@ use Rattle.acdm_step.specs.declared.command.FlightPlan.{FlightPlan}
 use Rattle.acdm_step.specs.declared.command.Command.TheVariants as commands
 use Rattle.acdm_step.specs.declared.command.Command.TheVariants.{Schedule, Report, Deice}
 use Rattle.acdm_journal.specs.declared.stated.Stated.{Stated}
-use Rattle.acdm_journal.specs.declared.stated.StatedCommand.{StatedCommand}
-use Rattle.acdm_journal.specs.declared.stated.StatedCommand.TheVariants.{Plain, Load}
+use Rattle.acdm_step.specs.declared.stated.StatedCommand.{StatedCommand}
+use Rattle.acdm_step.specs.declared.stated.StatedCommand.TheVariants.{Plain, Load}
 use Rattle.acdm_journal.specs.declared.stated.ReadError.{ReadError}
 use Rattle.acdm_journal.specs.declared.stated.ReadError.TheVariants.{Memory, Unreadable}
 use Rattle.acdm_step.specs.declared.command.TheConstants.{MINUTES_OF_DAY}

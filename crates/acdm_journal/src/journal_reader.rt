@@ -4,6 +4,7 @@ ghost use Rattle.acdm_lines.specs.Lines.{weight};
 ghost use Rattle.acdm_lines.specs.NextLine.{ReadsSoon, TakesWithin};
 ghost use Rattle.acdm_step.specs.Commands.{History};
 ghost use Rattle.acdm_step.specs.History.{IsLegal};
+ghost use Rattle.acdm_journal.specs.Behind.{ReadsBehind};
 ghost use Rattle.acdm_journal.specs.Uses.{PlansNext, ReadsJournal, UsesLine};
 
 use crate::journal_use::JournalUse;
@@ -120,10 +121,34 @@ pub fn read_journal<R: Read, P, U: JournalUse<P>>(
         reader.old reader.new result }
     ensures first { reader.new.first ≡ reader.old.first }
 {
+    read_behind(alloc, reader, is_bounded, 0, place, to)
+}
+
+/// Reads what stands behind a legal history in a journal, as `read_journal` reads all of it, for a use that has that
+/// history already, of so many entries, fewer than 2^63. All numbers of entries are those in the whole journal.
+pub fn read_behind<R: Read, P, U: JournalUse<P>>(
+    alloc: Global,
+    reader: &mut Source<R>,
+    is_bounded: bool,
+    number: u64,
+    place: &mut P,
+    to: &mut U,
+) -> JournalEnd<U::Stop>
+    ghost before: { History }
+    requires reads { reader.old.faults < 2 ^ 64 - 1 }
+    requires begins { U.has to.old place.old to.old place.old before }
+    requires legal { IsLegal (U.sigs to.old place.old) before }
+    requires count { length before ≡ number }
+    requires few { number < 2 ^ 63 }
+    ensures reads { ReadsBehind (U.sigs to.old place.old) is_bounded before
+        (U.has to.old place.old to.new place.new) (U.stops to.old place.old to.new place.new)
+        reader.old reader.new result }
+    ensures first { reader.new.first ≡ reader.old.first }
+{
     let Ok(mut lines) = Lines::<MOST_KEPT>::new(alloc) else {
         return JournalEnd::Memory;
     };
-    let mut entry = 0;
+    let mut entry = number;
     loop {
         let is_line = match next_line(&mut lines, reader, is_bounded) {
             Ok(is_line) => is_line,

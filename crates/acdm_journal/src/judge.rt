@@ -11,9 +11,9 @@ ghost use Rattle.acdm_journal.specs.Memory.{JudgingNeedsMemory, is_load_line};
 
 use crate::entry_text::code_of;
 use crate::reading::read_line;
-use crate::stated::{LoadLine, ReadError, StatedCommand};
+use crate::stated::ReadError;
 use acdm_milestones::Role;
-use acdm_step::{Command, Core, Entry, Load, Plan, plan_with};
+use acdm_step::{Command, Core, Entry, Load, LoadRequest, Plan, StatedCommand, plan_with};
 use bpf_helpers::Sigs;
 use bpf_verifier::{Checked, ProgramError, read_program};
 use std::alloc::Global;
@@ -67,7 +67,7 @@ pub enum AuditError {
 }
 
 // The program that the bytes of a load encode.
-fn program_of(alloc: Global, load: &LoadLine, sigs: &Sigs) -> Result<Checked, AuditError>
+fn program_of(alloc: Global, load: &LoadRequest, sigs: &Sigs) -> Result<Checked, AuditError>
     ensures { GivesProgram sigs.now load.now.program load.now.record_length result }
 {
     match read_program(alloc, load.program.as_slice(), sigs, load.record_length) {

@@ -17,14 +17,14 @@ ghost use Rattle.acdm_journal.specs.declared.stated.Stated.{Stated};
 ghost use Rattle.acdm_journal.specs.Text.{line_of};
 ghost use Rattle.acdm_journal.specs.Ranges.{IsStated};
 
-use crate::stated::{LoadLine, ReadError, Stated, StatedCommand};
+use crate::stated::{ReadError, Stated};
 use crate::words::Words;
 use acdm_milestones::{DeicingTime, Milestone, Role};
 use acdm_record::Text;
 use acdm_slots::{Kind, ProgramBytes};
 use acdm_step::{
-    Answers, Command, Deice, Durations, FlightNumber, FlightPlan, MINUTES_OF_DAY, Report, Schedule,
-    Unload,
+    Answers, Command, Deice, Durations, FlightNumber, FlightPlan, LoadRequest, MINUTES_OF_DAY,
+    Report, Schedule, StatedCommand, Unload,
 };
 use bpf_regstate::Length;
 use hex::FromHexError;
@@ -268,7 +268,7 @@ fn load_in(alloc: Global, words: &mut Words<'_>) -> Result<StatedCommand, ReadEr
     let kind = kind_in(words)?;
     let program = bytes_in(alloc, words)?;
     let record_length = length_in(words)?;
-    Ok(StatedCommand::Load(LoadLine {
+    Ok(StatedCommand::Load(LoadRequest {
         milestone,
         kind,
         program,

@@ -1,28 +1,7 @@
 //! What a line of a journal states.
-use acdm_milestones::{Milestone, Role};
-use acdm_slots::{Kind, ProgramBytes};
-use acdm_step::{Answers, Command};
-use bpf_regstate::Length;
+use acdm_milestones::Role;
+use acdm_step::{Answers, StatedCommand};
 use thiserror::Error;
-
-/// To load the program of these bytes into a slot, in place of what stands there.
-#[derive(Drop)]
-pub struct LoadLine {
-    pub milestone: Milestone,
-    pub kind: Kind,
-    pub program: ProgramBytes,
-    /// How long the records are beside which it was checked.
-    pub record_length: Length,
-}
-
-/// What a line asks for, before the bytes of a program are read.
-#[derive(Drop)]
-pub enum StatedCommand {
-    /// This command, which is no load.
-    Plain(Command),
-    /// To load a program.
-    Load(LoadLine),
-}
 
 /// What a line states of an entry, before it is judged.
 #[derive(Drop)]

@@ -3,4 +3,4 @@
 
 mod restoring;
 
-pub use restoring::{RestoreError, restore};
+pub use restoring::{RestoreError, restore, restore_behind};

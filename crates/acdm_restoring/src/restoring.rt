@@ -1,16 +1,19 @@
 //! The reading of a saved journal into a desk, entry by entry.
 ghost use Rattle.std.specs.Prelude.{◌≡◌, ◌+◌, ◌<◌, ◌-◌, ◌^◌, [], length, OnOk};
 ghost use Rattle.acdm_restoring.specs.Crash.{GoesOnFrom};
-ghost use Rattle.acdm_restoring.specs.Restored.{IsCount, Restores};
+ghost use Rattle.acdm_restoring.specs.Restored.{IsCount, Restores, RestoresBehind, answer_of};
 
 use acdm_board::Desk;
-use acdm_journal::{Clause, JournalEnd, JournalUse, PlannedEntry, read_journal};
+use acdm_journal::{Clause, JournalEnd, JournalUse, PlannedEntry, read_behind};
 use acdm_lines::Source;
 use acdm_step::Core;
 use bpf_helpers::Helpers;
 use std::alloc::Global;
 use std::io::Read;
 use thiserror::Error;
+
+/// Behind how many entries no more are put.
+const MOST_BEFORE: u64 = 1 << 63;
 
 /// Why a desk does not go on from a saved journal.
 #[derive(Clone, Copy, Debug, PartialEq, Eq, Error)]
@@ -30,7 +33,7 @@ pub enum RestoreError {
     Memory,
 }
 
-// How many bytes the text of the entries has that a desk took, where there are fewer than 2^64.
+// How many bytes the text of the entries has that a desk took since, where there are fewer than 2^64.
 #[derive(Drop)]
 struct Restoring {
     bytes: Option<u64>,
@@ -84,19 +87,41 @@ fn longer(bytes: u64, line: &[u8]) -> Option<u64>
     }
 }
 
-// Puts the entries of a reader's lines behind those of a desk.
-fn restore_entries<R: Read, H: Helpers + Drop>(
+/// Puts the entries of a reader's lines behind those that a desk has, one after the other, each once its line was
+/// judged behind those before it. The core is then their replay, and the next entry is numbered behind them. A rest
+/// behind the last line feed is left out.
+///
+/// Answers how many bytes the text of the entries has that it put there. `Faulty` with the number of the first entry
+/// that is none, in the whole journal, and the first clause that it breaks, as an audit tells it; `Full` where there
+/// are more entries than the desk has room for; `Read` where the reader failed, or where 2^40 reads did not reach its
+/// end; `Memory` where there was no room for a line, or for what an entry asks for, or where the desk has 2^63
+/// entries. After an error the desk has the entries before.
+pub fn restore_behind<R: Read, H: Helpers + Drop>(
     alloc: Global,
     reader: &mut Source<R>,
     desk: &mut Desk<H>,
 ) -> Result<u64, RestoreError>
     requires reads { reader.old.faults < 2 ^ 64 - 1 }
-    requires empty { desk.old.history ≡ [] }
-    ensures restores { Restores desk.old desk.new reader.old reader.new result }
+    ensures restores { RestoresBehind desk.old desk.new reader.old reader.new result }
+    ensures first { reader.new.first ≡ reader.old.first }
 {
+    // (it says that the journal is legal)
+    let _core = desk.core();
+    let number = desk.len();
+    if number >= MOST_BEFORE {
+        return Err(RestoreError::Memory);
+    }
     let mut restoring = Restoring { bytes: Some(0) };
-    match read_journal(alloc, reader, false, desk, &mut restoring) {
-        JournalEnd::Whole(_) | JournalEnd::Rest(_) => match restoring.bytes {
+    let end = read_behind(alloc, reader, false, number, desk, &mut restoring);
+    answer_of(end, restoring.bytes)
+}
+
+// What is answered where reading has ended so, and the text of the entries has so many bytes.
+fn answer_of(end: JournalEnd<RestoreError>, bytes: Option<u64>) -> Result<u64, RestoreError>
+    ensures { result ≡ answer_of end bytes }
+{
+    match end {
+        JournalEnd::Whole(_) | JournalEnd::Rest(_) => match bytes {
             Some(bytes) => Ok(bytes),
             None => Err(RestoreError::Full),
         },
@@ -129,8 +154,8 @@ pub fn restore<R: Read, H: Helpers + Drop>(
     ensures restores { Restores desk.old desk.new reader.old reader.new result }
     ensures crash { OnOk result (GoesOnFrom desk.old.sigs reader.old.log reader.new.log desk.new.history) }
 {
-    let restored = restore_entries(alloc, reader, desk)?;
-    // (it says that the journal is legal)
-    let _core = desk.core();
-    Ok(restored)
+    match restore_behind(alloc, reader, desk) {
+        Ok(bytes) => Ok(bytes),
+        Err(error) => Err(error),
+    }
 }

@@ -1,10 +1,11 @@
 //! Displays over connections of this machine with itself.
+use crate::feeding::{NAMED, NAMED_BEHIND_ONE};
 use crate::following::{TICKS, tick, ticked};
 use acdm_displays::{DisplayKind, DisplayListener, Displays};
 use bpf_helpers::{Bank, Helpers};
 use std::alloc::Global;
 use std::io::{Read, Write};
-use std::net::{Net, SocketAddr, TcpListener, TcpStream};
+use std::net::{Net, Shutdown, SocketAddr, TcpListener, TcpStream};
 use std::process::Abort;
 use std::sync::Arc;
 use std::sync::atomic::{AtomicBool, Ordering};
@@ -62,10 +63,24 @@ fn connected<Rt: Net<Listener = TcpListener, Stream = TcpStream> + Abort>(
         .expect(rt, "a connection")
 }
 
+// Whether a display is sent this next.
+fn is_sent(stream: &mut TcpStream, wanted: &str) -> bool {
+    let mut heard = [0u8; 128];
+    if wanted.len() > heard.len() {
+        return false;
+    }
+    let heard = &mut heard[..wanted.len()];
+    stream.read_exact(heard).is_ok() && &*heard == wanted.as_bytes()
+}
+
 // Whether a display is sent two ticks first.
 fn is_served(stream: &mut TcpStream) -> bool {
-    let mut heard = [0u8; 38];
-    stream.read_exact(&mut heard).is_ok() && heard.as_slice() == TICKS.as_bytes()
+    is_sent(stream, TICKS)
+}
+
+// Whether a display that asks for the first entry is sent the line of the journal and two ticks.
+fn is_served_by_name(stream: &mut TcpStream) -> bool {
+    is_sent(stream, NAMED) && is_served(stream)
 }
 
 // Whether a display is sent nothing more.
@@ -154,15 +169,71 @@ fn who_talks_is_sent_all(rt: HostRuntime) {
     let (displays, address) = shown(&rt, alloc, bank);
     pause(&rt, 5);
     let mut stream = connected(&rt, address);
+    assert!(rt; stream.write_all(b"from 0\n").is_ok());
     assert!(rt; stream.write_all(&[b'x'; 4_096]).is_ok());
     let display = thread::spawn(
         &rt,
-        move || is_served(&mut stream) && has_ended(&mut stream),
+        move || is_served_by_name(&mut stream) && has_ended(&mut stream),
     )
     .ok()
     .expect(&rt, "a thread");
     displays.close(&rt);
     assert!(rt; display.join(&rt));
+}
+
+// What is behind the first entry is sent to one who asks so, and all to one who is silent beside it or has ended.
+#[test]
+fn each_is_sent_what_it_asked_for(rt: HostRuntime) {
+    let alloc = rt.alloc();
+    let bank = Bank::new(alloc).expect(&rt, "a bank");
+    let (displays, address) = shown(&rt, alloc, bank);
+    let mut silent = connected(&rt, address);
+    let mut resuming = connected(&rt, address);
+    let mut gone = connected(&rt, address);
+    assert!(rt; resuming.write_all(b"from 1\n").is_ok());
+    assert!(rt; gone.shutdown(Shutdown::Write).is_ok());
+    assert!(rt; is_sent(&mut resuming, NAMED_BEHIND_ONE));
+    assert!(rt; is_sent(&mut resuming, &TICKS[19..]));
+    assert!(rt; is_served(&mut silent));
+    assert!(rt; is_served(&mut gone));
+    assert!(rt; has_ended(&mut gone));
+    displays.close(&rt);
+    assert!(rt; has_ended(&mut silent));
+    assert!(rt; has_ended(&mut resuming));
+}
+
+// What is sent first by displays that are disconnected.
+static STRANGERS: [&[u8]; 8] = [
+    b"board\n",
+    b"GET / HTTP/1.1\r\nHost: localhost\r\n\r\n",
+    b"from\n",
+    b"from 01\n",
+    b"from 18446744073709551616\n",
+    b"from 1\r\n",
+    b"from 1",
+    &[b'x'; 4_096],
+];
+
+// Whether a display is sent nothing.
+fn is_let_go(stream: &mut TcpStream) -> bool {
+    let mut heard = [0u8; 1];
+    match stream.read(&mut heard) {
+        Ok(count) => count == 0,
+        Err(_) => true,
+    }
+}
+
+#[test]
+fn who_asks_for_nothing_is_let_go(rt: HostRuntime) {
+    let alloc = rt.alloc();
+    let bank = Bank::new(alloc).expect(&rt, "a bank");
+    let (displays, address) = shown(&rt, alloc, bank);
+    for first in &STRANGERS {
+        let mut stream = connected(&rt, address);
+        assert!(rt; stream.write_all(*first).is_ok());
+        assert!(rt; is_let_go(&mut stream));
+    }
+    displays.close(&rt);
 }
 
 // Whether a display was sent all. It stays a while then, and says when it leaves.
@@ -190,7 +261,7 @@ fn displays_are_waited_for(rt: HostRuntime) {
     assert!(rt; display.join(&rt));
 }
 
-// Connects so many displays, and sees that each is served.
+// Connects so many displays, and sees that each is served. (Each is silent for a quarter of a second, all at once.)
 fn fill<Rt: Net<Listener = TcpListener, Stream = TcpStream> + Abort>(
     rt: &Rt,
     alloc: Global,
@@ -198,9 +269,10 @@ fn fill<Rt: Net<Listener = TcpListener, Stream = TcpStream> + Abort>(
 ) -> Vec<TcpStream> {
     let mut streams = Vec::new(alloc);
     for _ in 0..PLACES {
-        let mut stream = connected(rt, address);
-        assert!(rt; is_served(&mut stream));
-        streams.push(stream).expect(rt, "room");
+        streams.push(connected(rt, address)).expect(rt, "room");
+    }
+    for stream in streams.iter_mut() {
+        assert!(rt; is_served(stream));
     }
     streams
 }

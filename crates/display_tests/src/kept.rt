@@ -1,9 +1,11 @@
 //! What displays are shown of a journal that is kept.
 ghost use Rattle.std.specs.Prelude.{◌≡◌, []};
 
+use crate::feeding::{NAMED, NAMED_BEHIND_ONE};
 use crate::following::{TICKS, row_of, tick, ticked};
+use crate::resuming::FIRST;
 use acdm_board::Desk;
-use acdm_displays::{Entries, Shown, follow};
+use acdm_displays::{Entries, Shown, follow, follow_from};
 use acdm_keeping::{Keeper, KeptCount, Opening, Reach, SharedKeeper};
 use acdm_lines::Sink;
 use acdm_row::Row;
@@ -13,9 +15,6 @@ use std::marker::Brand;
 use std::process::Abort;
 use std::sync::atomic::AtomicBool;
 use std::sync::{Arc, Wait};
-
-/// The text of the first of two ticks.
-const FIRST: &str = "0 1 7 APT 0 0 tick\n";
 
 // Whether this is what a display is shown of a row that is kept so far.
 fn is_shown(alloc: Global, row: &Arc<Row>, reach: &Reach, wanted: &str) -> bool {
@@ -31,6 +30,32 @@ fn is_shown(alloc: Global, row: &Arc<Row>, reach: &Reach, wanted: &str) -> bool 
         &mut "".as_bytes(),
         Sink::new(Vec::new(alloc)),
     ) else {
+        return false;
+    };
+    let Shown { writer, .. } = shown;
+    writer.into_inner().as_slice() == wanted.as_bytes()
+}
+
+// Whether these two texts, one behind the other, are what a display that has so many entries is sent of such a row.
+fn is_sent_from(
+    alloc: Global,
+    row: &Arc<Row>,
+    reach: &Reach,
+    number: u64,
+    first: &str,
+    second: &str,
+) -> bool {
+    let closing = AtomicBool::new(true);
+    let entries = Entries {
+        row,
+        reach: Some(reach),
+        closing: &closing,
+    };
+    let Ok(wanted) = format!(in alloc; "{first}{second}") else {
+        return false;
+    };
+    let writer = Sink::new(Vec::new(alloc));
+    let Ok(shown) = follow_from(alloc, &entries, number, &mut "".as_bytes(), writer) else {
         return false;
     };
     let Shown { writer, .. } = shown;
@@ -57,11 +82,16 @@ fn shows_what_is_kept<J: Opening, H: Helpers + Drop>(
         .expect(rt, "a keeper");
     let reach = shared.reach().expect(rt, "how far it is kept");
     assert!(rt; is_shown(alloc, row, &reach, ""));
+    assert!(rt; is_sent_from(alloc, row, &reach, 1, "", ""));
     assert!(rt; shared.wait_for(rt, 1).is_ok());
     assert!(rt; is_shown(alloc, row, &reach, FIRST));
     assert!(rt; tick(desk, 9));
     assert!(rt; is_shown(alloc, row, &reach, FIRST));
-    assert!(rt; shared.into_keeper().is_ok());
+    assert!(rt; is_sent_from(alloc, row, &reach, 0, NAMED, FIRST));
+    assert!(rt; is_sent_from(alloc, row, &reach, 1, NAMED_BEHIND_ONE, ""));
+    assert!(rt; is_sent_from(alloc, row, &reach, 2, NAMED_BEHIND_ONE, ""));
+    let (_keeper, ended) = shared.end(rt, None);
+    assert!(rt; ended.is_ok());
     assert!(rt; is_shown(alloc, row, &reach, TICKS));
 }
 

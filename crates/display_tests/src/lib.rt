@@ -15,3 +15,5 @@ mod following;
 mod kept;
 #[cfg(test)]
 mod naming;
+#[cfg(test)]
+mod resuming;
