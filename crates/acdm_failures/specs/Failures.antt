@@ -10,7 +10,7 @@ use Rattle.acdm_lines.specs.declared.run_error.RunError.TheVariants as errors
 use Rattle.acdm_wire.specs.Writes.{Wrote, WroteInPart}
 use Rattle.acdm_failures.specs.declared.failure.Failure.{Failure}
 use Rattle.acdm_failures.specs.declared.failure.Failure.TheVariants.{Read, Write, Save, Memory, Accept}
-use Rattle.acdm_failures.specs.declared.failure.Failure.TheVariants.{Role, Address, Watch, Control, Log, Word, Stream}
+use Rattle.acdm_failures.specs.declared.failure.Failure.TheVariants.{Role, Address, Follow, Watch, Control, Log, Word, Stream}
 use Rattle.acdm_failures.specs.declared.failure.Failure.TheVariants.{Keep, InUse, Room, Untold}
 use Rattle.acdm_failures.specs.declared.failure.ServeError.{ServeError}
 use Rattle.acdm_failures.specs.declared.failure.ServeError.TheVariants as serve_errors
@@ -29,6 +29,11 @@ failure_of_serve (serve_errors.Accept number) = Accept number
 failure_of_serve serve_errors.Write = Write
 failure_of_serve serve_errors.Memory = Memory
 
+-- what a command fails by where its journal could not be kept for a reason
+abbrev pub failure_of_keeping : Failure → Failure
+failure_of_keeping Save = Keep
+failure_of_keeping failure = failure
+
 -- the line that tells of a failure; partners are numbered from 1
 abbrev pub failure_text : Failure → List ℕ
 failure_text Read = codes "acdm: read failed" ++ 10 ∷ []
@@ -41,6 +46,7 @@ failure_text (Address number) = codes "acdm: address " ++ decimal number ++ 10 �
 failure_text (Accept number) = codes "acdm: accept " ++ decimal number ++ 10 ∷ []
 failure_text Watch = codes "acdm: watch address" ++ 10 ∷ []
 failure_text Control = codes "acdm: control address" ++ 10 ∷ []
+failure_text Follow = codes "acdm: follow address" ++ 10 ∷ []
 failure_text Log = codes "acdm: log file" ++ 10 ∷ []
 failure_text Word = codes "acdm: a word is not UTF-8" ++ 10 ∷ []
 failure_text Stream = codes "acdm: no null device" ++ 10 ∷ []

@@ -1,7 +1,7 @@
 //! What keeps a command from its work.
 ghost use Rattle.std.specs.Prelude.{◌≡◌, ◌≤◌, ◌++◌, [], ◌∷◌, length};
 ghost use Rattle.std.specs.Fmt.{decimal};
-ghost use Rattle.acdm_failures.specs.Failures.{Complains, Ends, failure_text};
+ghost use Rattle.acdm_failures.specs.Failures.{Complains, Ends, failure_of_keeping, failure_text};
 
 use acdm_lines::{RunError, Sink, WriteError};
 use acdm_wire::{TextBuffer, write_out};
@@ -42,6 +42,9 @@ pub enum Failure {
     /// The control address is none, or can't be listened at.
     #[error("control address")]
     Control,
+    /// The address of the board that is to be followed is none.
+    #[error("follow address")]
+    Follow,
     /// The file for what the operator is told can't be written.
     #[error("log file")]
     Log,
@@ -114,12 +117,24 @@ impl Failure {
             Failure::Accept(number) => numbered(b"acdm: accept ", number),
             Failure::Watch => line(b"acdm: watch address"),
             Failure::Control => line(b"acdm: control address"),
+            Failure::Follow => line(b"acdm: follow address"),
             Failure::Log => line(b"acdm: log file"),
             Failure::Word => line(b"acdm: a word is not UTF-8"),
             Failure::Stream => line(b"acdm: no null device"),
             Failure::Keep => line(b"acdm: keep failed"),
             Failure::InUse => line(b"acdm: the kept journal is in use"),
             Failure::Room => line(b"acdm: the kept journal needs a larger --journal"),
+        }
+    }
+
+    /// What a command fails by where its journal could not be kept for this reason: `Keep` where that is that the text of
+    /// entries could not be saved, else the reason itself.
+    pub fn of_keeping(self) -> Failure
+        ensures { result ≡ failure_of_keeping self }
+    {
+        match self {
+            Failure::Save => Failure::Keep,
+            failure => failure,
         }
     }
 

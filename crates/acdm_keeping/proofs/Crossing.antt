@@ -45,7 +45,7 @@ keeper_parts F o f =
         search (row_send, row_sync, sendable, crosses) depth 20,
         (
           search (sink.the_send, f, sendable) depth 8,
-          (search (sendable, crosses) depth 20, (search sendable depth 8, tt)),
+          (search (sendable, crosses) depth 20, (search sendable depth 8, (search sendable depth 8, tt))),
         ),
       ),
     )

@@ -1,5 +1,5 @@
 -- What is kept of a journal.
-use Rattle.std.specs.Prelude.{◌≡◌, ◌≤◌, Bool, ℕ, [], ◌++◌, List, length, reverse, Option, MatchOption}
+use Rattle.std.specs.Prelude.{◌≡◌, ◌≤◌, ◌<◌, Bool, ℕ, [], ◌++◌, List, length, reverse, Option, MatchOption}
 use Rattle.acdm_failures.specs.declared.failure.Failure.{Failure}
 use Rattle.acdm_failures.specs.declared.failure.Failure.TheVariants.{Memory, Save}
 use Rattle.acdm_journal.specs.Crash.{CrashLeaves}
@@ -27,6 +27,12 @@ abbrev pub CutsShort : Failure → Type 0
 CutsShort Save = Unit {0}
 CutsShort Memory = Unit {0}
 CutsShort _ = ⊥
+
+-- Why it did: it is put down to the writer only where that has failed since it was new, and else to want of memory.
+abbrev pub Blames : {W : Type 0} → SinkView W → Failure → Type 0
+Blames writer Save = 0 < writer.faults
+Blames writer Memory = Unit {0}
+Blames writer _ = ⊥
 
 -- entries were seen behind others
 abbrev pub SeesOn : List Entry → List Entry → Type 0

@@ -2,8 +2,8 @@
 ghost use Rattle.std.specs.Prelude.{◌≡◌, ◌+◌, ◌++◌, ◌∷◌, [], ℕ, List, true, false, length, IfErr, IfOk};
 ghost use Rattle.std.specs.Prelude.{IfSome, OnErr, OnOk, Ok, None};
 ghost use Rattle.std.specs.Arc.{arc_value};
-ghost use Rattle.acdm_failures.specs.declared.failure.Failure.TheVariants.{Save};
-ghost use Rattle.acdm_keeping.specs.Kept.{AtAnyMoment, CutsShort, GrowsFrom, IsWriting, Keeps, SeesOn};
+ghost use Rattle.acdm_failures.specs.declared.failure.Failure.TheVariants.{Memory, Save};
+ghost use Rattle.acdm_keeping.specs.Kept.{AtAnyMoment, Blames, CutsShort, GrowsFrom, IsWriting, Keeps, SeesOn};
 
 use acdm_failures::Failure;
 use acdm_journal::{MOST_KEPT, push_entry};
@@ -48,10 +48,12 @@ pub struct Keeper<W: Write> {
     writer: Sink<W>,
     text: Vec<u8>,
     has_failed: bool,
+    // Whether that was for want of memory.
+    lacks_memory: bool,
 }
 
 impl<W: Write> Model for Keeper<W> {
-    ghost use Rattle.std.specs.Prelude.{◌≡◌, false};
+    ghost use Rattle.std.specs.Prelude.{◌≡◌, ◌<◌, true, false};
     ghost use Rattle.std.specs.Arc.{arc_value};
     ghost use Rattle.acdm_keeping.specs.Kept.{KeeperView};
 
@@ -65,7 +67,8 @@ impl<W: Write> Model for Keeper<W> {
     } };
 
     ghost invariant = { λ k. (arc_value k.row ≡ k.sight.row)
-        × (k.has_failed ≡ false → k.writer.waits ≡ false) };
+        × (k.has_failed ≡ false → k.writer.waits ≡ false)
+        × (k.has_failed ≡ true → k.lacks_memory ≡ false → 0 < k.writer.faults) };
 }
 
 impl<W: Write + Drop> Keeper<W> {
@@ -88,6 +91,7 @@ impl<W: Write + Drop> Keeper<W> {
             writer: Sink::new(writer),
             text,
             has_failed: false,
+            lacks_memory: false,
         })
     }
 
@@ -118,25 +122,37 @@ impl<W: Write + Drop> Keeper<W> {
         pass_over(&mut self.sight, &self.row, count)
     }
 
-    /// The receipt for what it has seen. `Save` where the writer has failed.
+    /// The receipt for what it has seen. `Save` where the writer has failed, `Memory` where that was refused to it.
     pub fn kept(&self) -> Result<Receipt, Failure>
         ensures count { IfOk result (λ r. r.count ≡ length self.now.seen) }
         ensures works { OnOk result (self.now.has_failed ≡ false) }
-        ensures failed { IfErr result (λ e. e ≡ Save) }
+        ensures failed { IfErr result CutsShort }
+        ensures blames { IfErr result (Blames self.now.writer) }
         ensures why { OnErr result (self.now.has_failed ≡ true) }
     {
         if self.has_failed {
-            return Err(Failure::Save);
+            return Err(self.failure());
         }
         Ok(Receipt {
             count: self.sight.len(),
         })
     }
 
+    // Why it keeps nothing more, where it does not.
+    fn failure(&self) -> Failure
+        ensures cut { CutsShort result }
+        ensures blames { self.now.has_failed ≡ true → Blames self.now.writer result }
+    {
+        if self.lacks_memory {
+            return Failure::Memory;
+        }
+        Failure::Save
+    }
+
     /// Writes all entries in sight that were not written yet, and flushes them. After an error it
     /// writes nothing more, and gives no receipt.
     ///
-    /// `Save` where the writer failed, now or before, `Memory` where it was refused.
+    /// `Save` only where the writer failed, now or before, `Memory` where that was refused, now or before.
     pub fn keep(&mut self) -> Result<Receipt, Failure>
         ensures row { self.new.row ≡ self.old.row }
         ensures count { IfOk result (λ r. r.count ≡ length self.new.seen) }
@@ -145,6 +161,7 @@ impl<W: Write + Drop> Keeper<W> {
         ensures flushed { OnOk result (self.new.writer.waits ≡ false) }
         ensures works { OnOk result (self.new.has_failed ≡ false) }
         ensures failed { IfErr result CutsShort }
+        ensures blames { IfErr result (Blames self.new.writer) }
         ensures why { OnErr result (self.new.has_failed ≡ true) }
         ensures stays { OnOk result (self.old.has_failed ≡ false) }
 
@@ -153,14 +170,30 @@ impl<W: Write + Drop> Keeper<W> {
         ensures still { self.old.has_failed ≡ true → self.new ≡ self.old }
     {
         if self.has_failed {
-            return Err(Failure::Save);
+            return Err(self.failure());
         }
-        self.has_failed = true;
         self.text.clear();
-        send_all(&mut self.sight, &self.row, &mut self.text, &mut self.writer)?;
-        self.has_failed = false;
+        let sent = send_all(&mut self.sight, &self.row, &mut self.text, &mut self.writer);
+        match sent {
+            Ok(()) => {}
+            Err(failure) => {
+                self.has_failed = true;
+                self.lacks_memory = is_of_memory(failure);
+                return Err(failure);
+            }
+        }
         let receipt = self.kept()?;
         Ok(receipt)
+    }
+}
+
+// Whether a writer is not to blame for a failure.
+fn is_of_memory(failure: Failure) -> bool
+    ensures { result ≡ false → failure ≡ Save }
+{
+    match failure {
+        Failure::Save => false,
+        _ => true,
     }
 }
 
@@ -202,7 +235,7 @@ fn add_next(sight: &mut Sight, row: &Row, text: &mut Vec<u8>) -> Result<bool, Fa
     ensures row { sight.new.row ≡ sight.old.row }
     ensures added { OnOk result (Keeps sight.old.entries sight.new.entries text.old.items text.new.items) }
     ensures sees { SeesOn sight.old.entries sight.new.entries }
-    ensures failed { IfErr result CutsShort }
+    ensures failed { IfErr result (λ e. e ≡ Memory) }
 {
     let Some(entry) = take_next(sight, row)? else {
         return Ok(false);
@@ -227,6 +260,7 @@ fn send_all<W: Write>(
     ensures part { OnErr result (IsWriting sight.old.entries sight.new.entries writer.old.log writer.new.log) }
     ensures grows { GrowsFrom writer.old.log writer.new.log }
     ensures failed { IfErr result CutsShort }
+    ensures blames { IfErr result (Blames writer.new) }
 {
     gather_all(sight, row, text, writer)?;
     send(writer, text)?;
@@ -250,6 +284,7 @@ fn gather_all<W: Write>(
         (writer.old.log ++ text.old.items) writer.new.log) }
     ensures grows { GrowsFrom writer.old.log writer.new.log }
     ensures failed { IfErr result CutsShort }
+    ensures blames { IfErr result (Blames writer.new) }
 {
     for _ in sight.len()..row.len() {
         if !gather_next(sight, row, text, writer)? {
@@ -276,6 +311,7 @@ fn gather_next<W: Write>(
         (writer.old.log ++ text.old.items) writer.new.log) }
     ensures grows { GrowsFrom writer.old.log writer.new.log }
     ensures failed { IfErr result CutsShort }
+    ensures blames { IfErr result (Blames writer.new) }
 {
     let is_there = add_next(sight, row, text)?;
     if text.len() < BUFFER {
@@ -292,6 +328,7 @@ fn send<W: Write>(writer: &mut Sink<W>, text: &mut Vec<u8>) -> Result<(), Failur
     ensures part { OnErr result ((rest : List ℕ) × (writer.old.log ++ text.old.items ≡ writer.new.log ++ rest)) }
     ensures grows { GrowsFrom writer.old.log writer.new.log }
     ensures failed { IfErr result CutsShort }
+    ensures blames { IfErr result (Blames writer.new) }
 {
     write_whole(writer, text.as_slice(), MOST_REFUSALS)?;
     text.clear();
@@ -303,6 +340,7 @@ fn flush<W: Write>(writer: &mut Sink<W>) -> Result<(), Failure>
     ensures same { writer.new.log ≡ writer.old.log }
     ensures flushed { OnOk result (writer.new.waits ≡ false) }
     ensures failed { IfErr result (λ e. e ≡ Save) }
+    ensures blames { IfErr result (Blames writer.new) }
 {
     match writer.flush() {
         Ok(()) => Ok(()),

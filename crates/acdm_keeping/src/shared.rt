@@ -1,8 +1,8 @@
 //! A keeper that many sessions share.
-ghost use Rattle.std.specs.Prelude.{◌≡◌, ◌≤◌, ◌⊎◌, [], true, false, None, IfErr, IfOk, OnOk};
+ghost use Rattle.std.specs.Prelude.{◌≡◌, ◌≤◌, [], true, false, None, IfErr, IfOk, OnOk};
 ghost use Rattle.std.specs.Arc.{arc_value};
-ghost use Rattle.acdm_failures.specs.declared.failure.Failure.TheVariants.{Memory, Save};
-ghost use Rattle.acdm_keeping.specs.Kept.{Keeps, StandsFor};
+ghost use Rattle.acdm_failures.specs.declared.failure.Failure.TheVariants.{Save};
+ghost use Rattle.acdm_keeping.specs.Kept.{Blames, Keeps, StandsFor};
 ghost use Rattle.acdm_keeping.specs.Turns.{TellsKept};
 
 use crate::keeper::{Keeper, Receipt};
@@ -35,8 +35,8 @@ pub struct SharedKeeper<F: Write + Drop, J: Opening> {
 
 impl<F: Write + Drop, J: Opening> SharedKeeper<F, J> {
     /// Shares a keeper, of which all that it has seen is kept already, and that has
-    /// written nothing. The word is set once keeping has failed. `Memory` where that was refused, `Save` only where
-    /// the keeper's writer has failed.
+    /// written nothing. The word is set once keeping has failed. `Memory` where that was refused, now or to the keeper,
+    /// `Save` only where its writer has failed.
     pub fn new<Rt: Wait>(
         rt: &Rt,
         alloc: Global,
@@ -48,7 +48,7 @@ impl<F: Write + Drop, J: Opening> SharedKeeper<F, J> {
         requires opening { keeper.seen ≡ J.opening }
         requires fresh { keeper.writer.log ≡ [] }
         requires table { count ≡ J.table }
-        ensures failed { IfErr result (λ e. (e ≡ Memory) ⊎ ((e ≡ Save) × (keeper.has_failed ≡ true))) }
+        ensures failed { IfErr result (Blames keeper.writer) }
     {
         let failed = Arc::try_clone(failed)?;
         let (shared, pass) = count.share();
@@ -84,32 +84,11 @@ impl<F: Write + Drop, J: Opening> SharedKeeper<F, J> {
         self.reach.copy()
     }
 
-    /// The keeper, once nobody waits any more, and all entries in sight are kept; those who show them are
-    /// told. What it wrote is the text of the entries behind those that had been kept before.
-    ///
-    /// `Save` where keeping has failed.
-    pub fn into_keeper(self) -> Result<Keeper<F>, Failure>
-        ensures row { IfOk result (λ k. k.row ≡ J.desk_row) }
-        ensures kept { IfOk result (λ k. Keeps J.opening k.seen [] k.writer.log) }
-        ensures flushed { IfOk result (λ k. k.writer.waits ≡ false) }
-        ensures failed { IfErr result (λ e. e ≡ Save) }
-    {
-        let SharedKeeper { writing, reach, .. } = self;
-        let mut keeper = writing.into_inner().into_keeper();
-        match keeper.keep() {
-            Ok(receipt) => {
-                reach.renew(receipt);
-                Ok(keeper)
-            }
-            Err(_) => Err(Failure::Save),
-        }
-    }
-
     /// The keeper, once nobody waits any more, whether keeping has failed or not. All entries in sight are kept first, and
     /// those who show them are told. The latest receipt that is still held, if there is one, is compared with what was
     /// told to be kept: the text of the entries that it is for stands in front of all that the writer has taken.
     ///
-    /// `Save` where keeping fails, or has failed.
+    /// `Save` only where the writer has failed, `Memory` where that was refused, now or before.
     pub fn end<Rt: Wait>(
         self,
         rt: &Rt,
@@ -119,7 +98,7 @@ impl<F: Write + Drop, J: Opening> SharedKeeper<F, J> {
         ensures stands { StandsFor J.opening latest result.0.seen result.0.writer.log }
         ensures kept { OnOk result.1 (Keeps J.opening result.0.seen [] result.0.writer.log) }
         ensures flushed { OnOk result.1 (result.0.writer.waits ≡ false) }
-        ensures failed { IfErr result.1 (λ e. e ≡ Save) }
+        ensures failed { IfErr result.1 (Blames result.0.writer) }
     {
         let SharedKeeper {
             reach,

@@ -1,7 +1,6 @@
 //! The writing of entries for many who wait.
 ghost use Rattle.std.specs.Prelude.{◌≡◌, List, [], true, false, length, IfErr, IfOk, OnErr, OnOk};
-ghost use Rattle.acdm_failures.specs.declared.failure.Failure.TheVariants.{Save};
-ghost use Rattle.acdm_keeping.specs.Kept.{AtAnyMoment, Keeps, StandsFor};
+ghost use Rattle.acdm_keeping.specs.Kept.{AtAnyMoment, Blames, Keeps, StandsFor};
 ghost use Rattle.acdm_row.specs.Views.{RowView};
 ghost use Rattle.acdm_step.specs.declared.entry.Entry.{Entry};
 ghost use Rattle.atomic_table.specs.Seated.{TableId};
@@ -56,7 +55,7 @@ impl<F: Write + Drop, J: Opening> Model for Writing<F, J> {
 }
 
 impl<F: Write + Drop, J: Opening> Writing<F, J> {
-    /// What the keeper has seen is kept already: that is told first. `Save` where keeping has failed.
+    /// What the keeper has seen is kept already: that is told first. `Save` or `Memory` where keeping has failed.
     pub(crate) fn begin<Rt: Wait>(
         rt: &Rt,
         shared: &SharedCount<J>,
@@ -69,7 +68,7 @@ impl<F: Write + Drop, J: Opening> Writing<F, J> {
         requires none { pass ≡ 0 }
         ensures same { IfOk result (λ w. w.0.keeper ≡ keeper) }
         ensures count { IfOk result (λ w. (w.1 ≡ length keeper.seen) × (w.0.kept ≡ w.1)) }
-        ensures failed { IfErr result (λ e. e ≡ Save) }
+        ensures failed { IfErr result (Blames keeper.writer) }
         ensures why { OnErr result (keeper.has_failed ≡ true) }
     {
         let receipt = match keeper.kept() {
@@ -81,8 +80,8 @@ impl<F: Write + Drop, J: Opening> Writing<F, J> {
         Ok((Writing { keeper, pass }, told))
     }
 
-    /// Writes all entries in sight that were not written yet, and flushes them. `Save` where that
-    /// fails, and from then on.
+    /// Writes all entries in sight that were not written yet, and flushes them. `Save` only where the writer has
+    /// failed, `Memory` where that was refused, now or before.
     pub(crate) fn write_on<Rt: Wait>(
         &mut self,
         rt: &Rt,
@@ -93,7 +92,7 @@ impl<F: Write + Drop, J: Opening> Writing<F, J> {
         ensures works { OnOk result (self.new.keeper.has_failed ≡ false) }
         ensures kept { OnOk result (Keeps J.opening self.new.keeper.seen [] self.new.keeper.writer.log) }
         ensures flushed { OnOk result (self.new.keeper.writer.waits ≡ false) }
-        ensures failed { IfErr result (λ e. e ≡ Save) }
+        ensures failed { IfErr result (Blames self.new.keeper.writer) }
         ensures why { OnErr result (self.new.keeper.has_failed ≡ true) }
         ensures left { OnErr result (self.new.kept ≡ self.old.kept) }
         ensures stays { OnOk result (self.old.keeper.has_failed ≡ false) }
@@ -101,8 +100,9 @@ impl<F: Write + Drop, J: Opening> Writing<F, J> {
             self.new.keeper.writer.log }
         ensures still { self.old.keeper.has_failed ≡ true → self.new ≡ self.old }
     {
-        let Ok(receipt) = self.keeper.keep() else {
-            return Err(Failure::Save);
+        let receipt = match self.keeper.keep() {
+            Ok(receipt) => receipt,
+            Err(failure) => return Err(failure),
         };
         Ok(shared.tell(rt, &mut self.pass, receipt))
     }

@@ -20,10 +20,27 @@ const ROUNDS: usize = 50;
 
 /// A file that has room for so many bytes. It knows how many stood there at its last flush.
 #[derive(Drop)]
-struct FullDisk {
+pub(crate) struct FullDisk {
     room: usize,
     settled: usize,
     text: Vec<u8>,
+}
+
+impl FullDisk {
+    /// An empty one.
+    pub(crate) fn new(alloc: Global, room: usize) -> FullDisk {
+        FullDisk {
+            room,
+            settled: 0,
+            text: Vec::new(alloc),
+        }
+    }
+
+    /// What stands there.
+    pub(crate) fn into_text(self) -> Vec<u8> {
+        let FullDisk { text, .. } = self;
+        text
+    }
 }
 
 impl Write for FullDisk {
@@ -92,11 +109,7 @@ fn answered<H: Helpers + Drop>(
     held: usize,
 ) -> (FullDisk, Vec<u8>) {
     let mut desk = Desk::new(alloc, helpers, 1_000).expect(rt, "a desk");
-    let disk = FullDisk {
-        room,
-        settled: 0,
-        text: Vec::new(alloc),
-    };
+    let disk = FullDisk::new(alloc, room);
     let mut keeper = Keeper::new(alloc, desk.row(), disk)
         .ok()
         .expect(rt, "a keeper");

@@ -1,5 +1,5 @@
 //! Sessions on threads of their own, whose replies wait for the keeping of their entries.
-ghost use Rattle.std.specs.Prelude.{◌≡◌, ◌≤◌, [], length, vec_len};
+ghost use Rattle.std.specs.Prelude.{◌≡◌, ◌<◌, ◌≤◌, [], length, vec_len};
 ghost use Rattle.acdm_board.specs.Desk.{row_of};
 
 use crate::crash::entries_left;
@@ -142,6 +142,14 @@ impl Paper {
             _ => true,
         }
     }
+
+    // Takes these bytes, and counts the lines that end among them.
+    fn take(&mut self, bytes: &[u8]) -> io::Result<()> {
+        self.text.extend_from_slice(bytes)?;
+        let lines = bytes.iter().filter(|byte| **byte == b'\n').count() as u64;
+        self.lines = self.lines.saturating_add(lines);
+        Ok(())
+    }
 }
 
 impl Write for Paper {
@@ -152,13 +160,11 @@ impl Write for Paper {
             if count == 0 {
                 return Err(io::Error::from(ErrorKind::StorageFull));
             }
-            self.text.extend_from_slice(&buf[..count])?;
+            self.take(&buf[..count])?;
             return Ok(count);
         };
         self.stop.writes = left;
-        self.text.extend_from_slice(buf)?;
-        let lines = buf.iter().filter(|byte| **byte == b'\n').count() as u64;
-        self.lines = self.lines.saturating_add(lines);
+        self.take(buf)?;
         Ok(buf.len())
     }
 
@@ -181,25 +187,39 @@ impl Write for Paper {
 }
 
 /// Takes replies, and sees of each whether its line was flushed before. The second word of a reply is
-/// the number of its entry, from 0.
+/// the number of its entry, from 0; but `bad` tells of none.
 #[derive(Drop)]
 struct Reader {
     shelf: Arc<Shelf>,
     words: u64,
     number: u64,
+    is_begun: bool,
+    is_bad: bool,
 }
 
 impl Reader {
-    fn take(&mut self, byte: u8) {
-        if byte == b'\n' {
+    // The reply that was taken has ended.
+    fn end(&mut self) {
+        if !self.is_bad {
             self.shelf.replies.fetch_add(1, Ordering::SeqCst);
             let next = self.number.saturating_add(1);
             self.shelf.told.fetch_max(next, Ordering::SeqCst);
             if self.number >= self.shelf.lines() {
                 self.shelf.early.fetch_add(1, Ordering::SeqCst);
             }
-            self.words = 0;
-            self.number = 0;
+        }
+        self.words = 0;
+        self.number = 0;
+        self.is_begun = false;
+    }
+
+    fn take(&mut self, byte: u8) {
+        if !self.is_begun {
+            self.is_begun = true;
+            self.is_bad = byte == b'b';
+        }
+        if byte == b'\n' {
+            self.end();
         } else if byte == b' ' {
             self.words = self.words.saturating_add(1);
         } else if self.words == 1 && byte.is_ascii_digit() {
@@ -226,6 +246,95 @@ type Answered<'r, J, Rt> = Replies<Waiter<'r, Paper, J, Rt>, Reader>;
 
 type Opened<'r, J, Rt> = Session<Cursor<Vec<u8>>, Answered<'r, J, Rt>, Fixed>;
 
+/// What sessions send.
+#[derive(Clone, Copy)]
+enum Sent {
+    /// Each so many ticks, of the airport.
+    Ticks(usize),
+    /// The day of four partners: each what it has to say of so many flights.
+    Day(usize),
+}
+
+// The role of a session that sends its part of a day.
+fn role_of(session: u8) -> Role {
+    match session {
+        0 => Role::AirportOperator,
+        1 => Role::NetworkManager,
+        2 => Role::AirTrafficControl,
+        _ => Role::AircraftOperator,
+    }
+}
+
+// What a session has to say of a flight: each part has a line that is refused, one of another's milestone, and one that
+// says nothing.
+fn add_flight(text: &mut Vec<u8>, session: u8, flight: usize) -> io::Result<()> {
+    match session {
+        0 => {
+            writeln!(
+                text,
+                "{{\"cmd\":\"schedule\",\"flight\":{flight},\"callsign\":\"DLH{flight}\",\"type\":\"A320\",\"reg\":\"DAIBC\",\"dest\":\"EDDM\",\"sobt\":\"2025-02-20T10:00:00Z\",\"mttt\":40,\"exit\":5,\"exot\":10,\"stand\":12}}"
+            )?;
+            writeln!(text, "{{\"cmd\":\"show\",\"flight\":{flight}}}")?;
+            writeln!(text, "{{\"cmd\":\"alerts\"}}")?;
+            writeln!(text, "{{\"cmd\":\"tick\"}}")?;
+            writeln!(text, "{{\"cmd\":\"show\",\"flight\":\"{flight}\"}}")?;
+        }
+        1 => {
+            writeln!(
+                text,
+                "{{\"cmd\":\"report\",\"flight\":{flight},\"milestone\":1,\"time\":\"2025-02-20T10:00:00Z\",\"callsign\":\"DLH{flight}\",\"type\":\"A320\",\"reg\":\"DAIBC\",\"dest\":\"EDDM\"}}"
+            )?;
+            writeln!(text, "{{\"cmd\":\"tick\"}}")?;
+            writeln!(text, "{{\"cmd\":\"show\",\"flight\":{flight}}}")?;
+            writeln!(text, "no command")?;
+            writeln!(text, "{{\"cmd\":\"alerts\"}}")?;
+        }
+        2 => {
+            for milestone in 5..8u8 {
+                writeln!(
+                    text,
+                    "{{\"cmd\":\"report\",\"flight\":{flight},\"milestone\":{milestone},\"time\":\"2025-02-20T07:00:00Z\"}}"
+                )?;
+            }
+            writeln!(text, "{{\"cmd\":\"show\",\"flight\":{flight}}}")?;
+            writeln!(text, "")?;
+        }
+        _ => {
+            writeln!(
+                text,
+                "{{\"cmd\":\"report\",\"flight\":{flight},\"milestone\":9,\"time\":\"2025-02-20T09:40:00Z\"}}"
+            )?;
+            writeln!(
+                text,
+                "{{\"cmd\":\"report\",\"flight\":{flight},\"milestone\":9,\"time\":null}}"
+            )?;
+            writeln!(text, "{{\"cmd\":\"show\",\"flight\":{flight}}}")?;
+            writeln!(text, "{{\"cmd\":\"alerts\"}}")?;
+            writeln!(
+                text,
+                "{{\"cmd\":\"report\",\"flight\":{flight},\"milestone\":17}}"
+            )?;
+        }
+    }
+    Ok(())
+}
+
+// The role of a session, and the lines that it sends.
+fn part_of(rt: &impl Abort, alloc: Global, sent: Sent, session: u8) -> (Role, Vec<u8>) {
+    match sent {
+        Sent::Ticks(count) => (Role::AirportOperator, ticks(rt, alloc, count)),
+        Sent::Day(flights) => {
+            let mut text = Vec::new(alloc);
+            for flight in 1..=flights {
+                add_flight(&mut text, session, flight)
+                    .ok()
+                    .expect(rt, "room");
+            }
+            (role_of(session), text)
+        }
+    }
+}
+
 // So many ticks.
 fn ticks(rt: &impl Abort, alloc: Global, count: usize) -> Vec<u8> {
     let mut text = Vec::new(alloc);
@@ -235,24 +344,28 @@ fn ticks(rt: &impl Abort, alloc: Global, count: usize) -> Vec<u8> {
     text
 }
 
-// A session of the airport that sends so many ticks.
+// A session that sends its part.
 fn opened<'r, J: Opening, Rt: Wait + Abort>(
     rt: &'r Rt,
     alloc: Global,
     keeper: &'r SharedKeeper<Paper, J>,
     shelf: &Arc<Shelf>,
-    count: usize,
+    sent: Sent,
+    session: u8,
 ) -> Opened<'r, J, Rt> {
     let reader = Reader {
         shelf: same(rt, shelf),
         words: 0,
         number: 0,
+        is_begun: false,
+        is_bad: false,
     };
+    let (role, lines) = part_of(rt, alloc, sent, session);
     let waiting = Waiter::new(rt, Some(keeper));
     let replies = Replies::new(alloc, waiting, reader, HELD).expect(rt, "room for replies");
     Session {
-        role: Role::AirportOperator,
-        reader: Source::new(Cursor::new(ticks(rt, alloc, count))),
+        role,
+        reader: Source::new(Cursor::new(lines)),
         writer: Sink::new(replies),
         clock: Fixed,
     }
@@ -265,11 +378,12 @@ fn sessions_of<'r, J: Opening, Rt: Wait + Abort>(
     keeper: &'r SharedKeeper<Paper, J>,
     shelf: &Arc<Shelf>,
     sessions: u8,
-    count: usize,
+    sent: Sent,
 ) -> Vec<Opened<'r, J, Rt>> {
     let mut all = Vec::new(alloc);
-    for _ in 0..sessions {
-        let is_pushed = all.push(opened(rt, alloc, keeper, shelf, count)).is_ok();
+    for number in 0..sessions {
+        let session = opened(rt, alloc, keeper, shelf, sent, number);
+        let is_pushed = all.push(session).is_ok();
         assert!(rt; is_pushed);
     }
     all
@@ -306,8 +420,8 @@ fn latest_of<J: Opening, Rt: Wait>(
     latest
 }
 
-// How many entries there are once so many sessions have sent so many ticks each, and the latest receipt behind which
-// they handed on replies.
+// How many entries there are once so many sessions have sent their parts, and the latest receipt behind which they handed
+// on replies.
 fn entries_kept<
     'r,
     J: Opening + Send + Sync,
@@ -320,9 +434,9 @@ fn entries_kept<
     keeper: &'r SharedKeeper<Paper, J>,
     shelf: &Arc<Shelf>,
     sessions: u8,
-    count: usize,
+    sent: Sent,
 ) -> (u64, Option<LastingReceipt<J>>) {
-    let all = sessions_of(rt, alloc, keeper, shelf, sessions, count);
+    let all = sessions_of(rt, alloc, keeper, shelf, sessions, sent);
     let (entries, ended) = entries_after(rt, alloc, desk, all);
     (entries, latest_of(ended))
 }
@@ -349,7 +463,7 @@ fn served<J: Opening + Send + Sync, H: Helpers + Drop + Send, Rt: Threads + Wait
     kept: KeptCount,
     shelf: &Arc<Shelf>,
     sessions: u8,
-    count: usize,
+    sent: Sent,
 ) -> Outcome
     requires desk { row_of desk ≡ J.desk_row }
     requires row { keeper.row ≡ J.desk_row }
@@ -361,7 +475,7 @@ fn served<J: Opening + Send + Sync, H: Helpers + Drop + Send, Rt: Threads + Wait
     let shared: SharedKeeper<Paper, J> = SharedKeeper::new(rt, alloc, keeper, kept, &failed)
         .ok()
         .expect(rt, "a keeper");
-    let (entries, latest) = entries_kept(rt, alloc, desk, &shared, shelf, sessions, count);
+    let (entries, latest) = entries_kept(rt, alloc, desk, &shared, shelf, sessions, sent);
     let has_failed = failed.load(Ordering::SeqCst);
     let covered = match &latest {
         Some(receipt) => receipt.count() as u64,
@@ -386,7 +500,7 @@ fn outcome_of<H: Helpers + Drop + Send, Rt: Threads + Wait + Abort + Sync>(
     helpers: H,
     shelf: &Arc<Shelf>,
     sessions: u8,
-    count: usize,
+    sent: Sent,
     stop: Stop,
     awaited: usize,
 ) -> Outcome {
@@ -404,7 +518,7 @@ fn outcome_of<H: Helpers + Drop + Send, Rt: Threads + Wait + Abort + Sync>(
         .ok()
         .expect(rt, "a keeper");
     let kept = KeptCount::new(alloc).expect(rt, "a count");
-    served::<Brand, H, Rt>(rt, alloc, desk, keeper, kept, shelf, sessions, count)
+    served::<Brand, H, Rt>(rt, alloc, desk, keeper, kept, shelf, sessions, sent)
 }
 
 // A text is a legal journal of so many entries.
@@ -427,7 +541,7 @@ fn replies_come_behind_their_entries(rt: HostRuntime) {
     let alloc = rt.alloc();
     let bank = Bank::new(alloc).expect(&rt, "a bank");
     let shelf = Shelf::new(&rt, alloc);
-    let outcome = outcome_of(&rt, alloc, bank, &shelf, 8, 60, Stop::NEVER, 0);
+    let outcome = outcome_of(&rt, alloc, bank, &shelf, 8, Sent::Ticks(60), Stop::NEVER, 0);
     assert!(rt; outcome.entries == 480 && !outcome.has_failed);
     assert!(rt; shelf.replies() == 480 && shelf.lines() == 480);
     assert!(rt; outcome.covered > 0 && outcome.covered <= shelf.lines());
@@ -443,7 +557,7 @@ fn one_flush_keeps_the_entries_of_many(rt: HostRuntime) {
     let alloc = rt.alloc();
     let bank = Bank::new(alloc).expect(&rt, "a bank");
     let shelf = Shelf::new(&rt, alloc);
-    let outcome = outcome_of(&rt, alloc, bank, &shelf, 8, 1, Stop::NEVER, 8);
+    let outcome = outcome_of(&rt, alloc, bank, &shelf, 8, Sent::Ticks(1), Stop::NEVER, 8);
     assert!(rt; outcome.entries == 8 && !outcome.has_failed);
     assert!(rt; shelf.replies() == 8 && shelf.lines() == 8);
     assert!(rt; shelf.early.load(Ordering::SeqCst) == 0);
@@ -457,7 +571,16 @@ fn nothing_is_replied_once_keeping_has_failed(rt: HostRuntime) {
     let alloc = rt.alloc();
     let bank = Bank::new(alloc).expect(&rt, "a bank");
     let shelf = Shelf::new(&rt, alloc);
-    let outcome = outcome_of(&rt, alloc, bank, &shelf, 8, 60, Stop::behind(5), 0);
+    let outcome = outcome_of(
+        &rt,
+        alloc,
+        bank,
+        &shelf,
+        8,
+        Sent::Ticks(60),
+        Stop::behind(5),
+        0,
+    );
     assert!(rt; outcome.has_failed && !outcome.is_whole);
     assert!(rt; outcome.entries > shelf.lines());
     assert!(rt; shelf.replies() > 0 && shelf.replies() <= shelf.lines());
@@ -471,24 +594,44 @@ fn a_keeper_that_has_failed_goes_on_failing(rt: HostRuntime) {
     let alloc = rt.alloc();
     let bank = Bank::new(alloc).expect(&rt, "a bank");
     let shelf = Shelf::new(&rt, alloc);
-    let outcome = outcome_of(&rt, alloc, bank, &shelf, 8, 3, Stop::behind(0), 0);
+    let outcome = outcome_of(
+        &rt,
+        alloc,
+        bank,
+        &shelf,
+        8,
+        Sent::Ticks(3),
+        Stop::behind(0),
+        0,
+    );
     assert!(rt; outcome.has_failed && !outcome.is_whole);
     assert!(rt; shelf.replies() == 0 && shelf.lines() == 0 && outcome.covered == 0);
 }
 
 // Four sessions over a file that stops: whatever a crash may leave of it has all entries of which they were told, and
 // those that the receipts are for that they hold.
-fn keeps_what_was_told<Rt: Threads + Wait + Abort + Sync>(rt: &Rt, alloc: Global, stop: Stop) {
+fn keeps_what_was_told<Rt: Threads + Wait + Abort + Sync>(
+    rt: &Rt,
+    alloc: Global,
+    sent: Sent,
+    stop: Stop,
+    step: usize,
+) -> Outcome
+    requires { 0 < step }
+{
     let bank = Bank::new(alloc).expect(rt, "a bank");
     let shelf = Shelf::new(rt, alloc);
-    let outcome = outcome_of(rt, alloc, bank, &shelf, 4, 6, stop, 0);
+    let outcome = outcome_of(rt, alloc, bank, &shelf, 4, sent, stop, 0);
     let told = shelf.told.load(Ordering::SeqCst);
+    assert!(rt; shelf.early.load(Ordering::SeqCst) == 0);
     assert!(rt; told <= outcome.covered && outcome.settled <= outcome.text.len());
-    for cut in outcome.settled..=outcome.text.len() {
+    for cut in (outcome.settled..=outcome.text.len()).step_by(step) {
         let bank = Bank::new(alloc).expect(rt, "a bank");
-        let left = entries_left(rt, alloc, bank, &outcome.text.as_slice()[..cut]);
+        let text = outcome.text.as_slice().get(..cut).expect(rt, "a part");
+        let left = entries_left(rt, alloc, bank, text);
         assert!(rt; left >= outcome.covered);
     }
+    outcome
 }
 
 // A file that stops at each of its writes, with nothing and with a part of it taken.
@@ -502,7 +645,7 @@ fn sessions_resume_behind_each_write(rt: HostRuntime) {
                 part: part * 11,
                 flushes: u64::MAX,
             };
-            keeps_what_was_told(&rt, alloc, stop);
+            let _ = keeps_what_was_told(&rt, alloc, Sent::Ticks(6), stop, 1);
         }
     }
 }
@@ -517,6 +660,51 @@ fn sessions_resume_behind_each_flush(rt: HostRuntime) {
             part: 0,
             flushes,
         };
-        keeps_what_was_told(&rt, alloc, stop);
+        let _ = keeps_what_was_told(&rt, alloc, Sent::Ticks(6), stop, 1);
     }
+}
+
+// A day of 200 lines, of schedules, reports, requests and lines that are refused or bad, over a file that stops at each of
+// its writes and flushes until there are no more of them: 160 of the lines make an entry.
+#[test]
+fn a_day_is_resumed_behind_each_write(rt: HostRuntime) {
+    let alloc = rt.alloc();
+    let mut is_whole = false;
+    for writes in 0..200u64 {
+        let stop = Stop {
+            writes,
+            part: 100,
+            flushes: u64::MAX,
+        };
+        let outcome = keeps_what_was_told(&rt, alloc, Sent::Day(10), stop, 7);
+        assert!(rt; outcome.entries <= 160);
+        if outcome.is_whole {
+            assert!(rt; outcome.entries == 160);
+            let bank = Bank::new(alloc).expect(&rt, "a bank");
+            is_journal(&rt, alloc, bank, outcome.text.as_slice(), 160);
+            is_whole = true;
+            break;
+        }
+    }
+    assert!(rt; is_whole);
+}
+
+#[test]
+fn a_day_is_resumed_behind_each_flush(rt: HostRuntime) {
+    let alloc = rt.alloc();
+    let mut is_whole = false;
+    for flushes in 0..200u64 {
+        let stop = Stop {
+            writes: u64::MAX,
+            part: 0,
+            flushes,
+        };
+        let outcome = keeps_what_was_told(&rt, alloc, Sent::Day(10), stop, 7);
+        if outcome.is_whole {
+            assert!(rt; outcome.entries == 160);
+            is_whole = true;
+            break;
+        }
+    }
+    assert!(rt; is_whole);
 }
