@@ -1,8 +1,9 @@
 #!/usr/bin/env python3
-"""Asks at the control address of `acdm serve --control ADDR`.
+"""Asks at the control address of `acdm serve --control ADDR`, or of `acdm follow`.
 
     clients/control.py [HOST:]PORT status       prints who is here, how many entries there are, and when the last was
     clients/control.py [HOST:]PORT close        closes the board in good order, and waits until the program has ended
+    clients/control.py [HOST:]PORT promote      has a board that follows another one serve partners from then on
 
 The end is that of the process, where the board runs on this machine; of one elsewhere it can't be seen, which is said,
 with status 1. Another address of a board on this machine is told as that, without a connection to it. At an address of
@@ -22,7 +23,9 @@ from listeners import Listener, listener_at, purpose
 ANSWER = 5
 # (at the end partners are given 5 seconds and displays 5; a large journal is saved in less than the rest)
 END = 120
-LINE = re.compile(rb"(session \d+ [A-Z]+ (here|gone|ticks)|entries \d+ of \d+|last )[ -~]*\n")
+# (a line of a session ends with the first 200 bytes of a bad line, each of which may take six)
+LONGEST = 4096
+LINE = re.compile(rb"(following |session \d+ [A-Z]+ (here|gone|ticks)|entries \d+ of \d+|version |last )[ -~]*\n")
 
 
 class Fault(Exception):
@@ -38,7 +41,7 @@ def status(stream: socket.socket, lines: BinaryIO) -> str:
     stream.sendall(b"status\n")
     found = b""
     while not found.rpartition(b"\n")[0].rpartition(b"\n")[2].startswith(b"last "):
-        line = lines.readline(200)
+        line = lines.readline(LONGEST)
         if not LINE.fullmatch(line):
             said = f"answers {shortened(line.decode('ascii', 'replace'))!r}" if line else "closes the connection"
             raise Fault(f"is no control address of a board: it {said}")
@@ -50,11 +53,22 @@ def close(stream: socket.socket, lines: BinaryIO) -> str:
     """Closes the board; its last word."""
     stream.sendall(b"close\n")
     stream.settimeout(END)
-    answer = lines.readline(200)
+    answer = lines.readline(LONGEST)
     if answer != b"closing\n":
         raise Fault("did not say that the board closes")
     while lines.read(1 << 12):
         pass
+    return answer.decode("ascii")
+
+
+def promote(stream: socket.socket, lines: BinaryIO) -> str:
+    """Has the board serve; its answer."""
+    stream.sendall(b"promote\n")
+    answer = lines.readline(LONGEST)
+    if answer == b"serving\n":
+        raise Fault("follows no board: it serves already")
+    if answer != b"promoting\n":
+        raise Fault("did not say that the board serves")
     return answer.decode("ascii")
 
 
@@ -83,6 +97,9 @@ def checked(where: Address) -> Listener | None:
     return listener
 
 
+ASKING = {"close": close, "promote": promote}
+
+
 def ask(where: Address, word: str) -> None:
     """Prints what the board answers; after `close` its program has ended."""
     listener = checked(where)
@@ -90,7 +107,7 @@ def ask(where: Address, word: str) -> None:
     try:
         with socket.create_connection(where, timeout=ANSWER) as stream, stream.makefile("rb") as lines:
             answer = status(stream, lines)
-            print(answer if word == "status" else close(stream, lines), end="", flush=True)
+            print(ASKING[word](stream, lines) if word in ASKING else answer, end="", flush=True)
         if word == "close":
             wait_for_end(listener, handle)
     finally:
@@ -101,7 +118,7 @@ def ask(where: Address, word: str) -> None:
 def main() -> int:
     words = Arguments(description="Asks at the control address of acdm serve.")
     words.add_argument("address", type=parse_address, metavar="[HOST:]PORT")
-    words.add_argument("word", choices=["status", "close"])
+    words.add_argument("word", choices=["status", "close", "promote"])
     given = words.parse_args()
     name = f"{given.address[0]}:{given.address[1]}"
     try:

@@ -31,8 +31,9 @@ class Listener:
     words: list[str]
 
     def is_board(self) -> bool:
-        """Whether it was started as `acdm serve` is, with a partner at least."""
-        return "serve" in self.words[1:] and any(name in ROLES for name, _ in self.ports())
+        """Whether it was started as `acdm serve` or `acdm follow` is, with a partner at least."""
+        serves = any(word in ("serve", "follow") for word in self.words[1:])
+        return serves and any(name in ROLES for name, _ in self.ports())
 
     def ports(self) -> list[tuple[str, str]]:
         """Each option and role with the port that it names; 0 is one that the system chose."""

@@ -92,6 +92,8 @@ def running_at(where: Address) -> Running:
         words = script_above(listener) or listener.words
     except OSError as error:
         raise Stop(f"is of process {listener.process}, of which nothing can be read: {error.strerror}") from None
+    if "follow" in listener.words[1:]:
+        raise Stop("is of a board that was begun by `follow`: close it, and begin the next day by `serve`")
     found = Running(words, folder, environment, limits, Path())
     kept = found.value("--keep")
     if not kept:

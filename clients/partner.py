@@ -1,11 +1,12 @@
 #!/usr/bin/env python3
 """A partner of `acdm serve`: sends objects, and prints the reply to each.
 
-    clients/partner.py ADDRESS [--feed ADDRESS] [--patience SECONDS] < objects
+    clients/partner.py ADDRESS[,ADDRESS..] [--feed ADDRESS[,ADDRESS..]] [--patience SECONDS] < objects
 
-ADDRESS is the partner's own, as 127.0.0.1:4002; standard input has one JSON object a line (docs/CONNECT.md). Each line
-waits for the reply to the one before. After a break it connects again. Was a line sent whole and not replied, it may
-have been entered. With --feed, the address of `serve --changes`, it is looked for there, and sent again only where it
+ADDRESS is the partner's own, as 127.0.0.1:4002, and behind commas those of boards that may take over (`acdm follow`),
+which are tried in turn; standard input has one JSON object a line (docs/CONNECT.md). Each line waits for the reply to
+the one before. After a break it connects again. Was a line sent whole and not replied, it may have been entered. With
+--feed, the address of `serve --changes`, and those of the others, it is looked for there, and sent again only where it
 made no entry; else its reply is that of the feed. Without --feed, or where the board has another journal by then, the
 program stops, and names the line. A question and a tick are sent again in any case. Status 0 where each line was
 accepted, 1 where one was not, 2 where it had to stop. Outside what is proved.
@@ -116,15 +117,19 @@ def reply_of(entry: Line) -> str:
 
 
 class Connection:
-    """A connection to a partner's address, which is made again after a break."""
+    """A connection to a partner's address, which is made again after a break: to the first of several that is there."""
 
-    def __init__(self, where: Address, patience: float) -> None:
-        self.where, self.patience = where, patience
+    def __init__(self, where: Address | list[Address], patience: float) -> None:
+        self.places, self.place, self.patience = where if isinstance(where, list) else [where], 0, patience
         self.stream: socket.socket | None = None
         self.replies: BinaryIO | None = None
         self.until: float | None = None
         # Whether it is not known yet which journal its lines go to.
         self.is_new = True
+
+    @property
+    def where(self) -> Address:
+        return self.places[self.place]
 
     def close(self) -> None:
         stream, replies, self.stream, self.replies = self.stream, self.replies, None, None
@@ -151,7 +156,9 @@ class Connection:
                 self.stream.settimeout(None)
                 self.replies = self.stream.makefile("rb")
             except OSError as error:
-                self.wait(pause, fault_of(self.where, error))
+                why = fault_of(self.where, error)
+                self.place = (self.place + 1) % len(self.places)
+                self.wait(pause, why)
                 pause = min(2 * pause, 5)
         return self.stream, self.replies
 
@@ -202,8 +209,11 @@ def has_ended(stream: socket.socket) -> bool:
 class Partner:
     """A partner, each of whose lines is entered once."""
 
-    def __init__(self, where: Address, feed: Address | None = None, patience: float = 60) -> None:
-        self.connection, self.feed = Connection(where, patience), feed
+    def __init__(
+        self, where: Address | list[Address], feed: Address | list[Address] | None = None, patience: float = 60
+    ) -> None:
+        self.connection = Connection(where, patience)
+        self.feeds: list[Address | None] = [*feed] if isinstance(feed, list) else [feed]
         # The journal that the lines of this connection go to, by its name. Of it, the last entry that was replied here,
         # with its command, and the first one that may have the next line.
         self.journal = ""
@@ -211,6 +221,11 @@ class Partner:
         self.first: int | None = None
         # Whether the line in hand may have been entered.
         self.is_uncertain = False
+
+    @property
+    def feed(self) -> Address | None:
+        """The feed of the board that is connected to."""
+        return self.feeds[self.connection.place % len(self.feeds)]
 
     def close(self) -> None:
         self.connection.close()
@@ -413,12 +428,19 @@ def run(partner: Partner, given: BinaryIO) -> int:
     return status
 
 
+def parse_addresses(text: str) -> list[Address]:
+    """Addresses with commas between them."""
+    return [parse_address(it) for it in text.split(",")]
+
+
 def main() -> int:
     words = Arguments(description="A partner of acdm serve.")
-    words.add_argument("address", type=parse_address, help="the partner's address, as 127.0.0.1:4002")
-    words.add_argument("--feed", type=parse_address, metavar="ADDRESS", help="that of serve --changes")
+    words.add_argument("address", type=parse_addresses, help="the partner's, as 127.0.0.1:4002; others behind commas")
+    words.add_argument("--feed", type=parse_addresses, metavar="ADDRESS", help="that of serve --changes, of each board")
     words.add_argument("--patience", type=float, default=60, metavar="SECONDS", help="how long it tries anew; 60")
     given = words.parse_args()
+    if given.feed and len(given.feed) != len(given.address):
+        words.error("--feed has another number of addresses than the partner")
     signal.signal(signal.SIGPIPE, signal.SIG_DFL)
     try:
         return run(Partner(given.address, given.feed, given.patience), sys.stdin.buffer)

@@ -9,7 +9,9 @@ board closes; `status` and `close`; a bounded pace; SIGTERM and Ctrl-C through t
 nearly full, which is told; and, with none of these words, sessions whose connections are closed as they end. The last line is `N cases, M failed`; status 1 where one failed.
 """
 
+import contextlib
 import pathlib
+import random
 import re
 import signal
 import socket
@@ -22,9 +24,11 @@ import time
 
 from cases import ALERTS, PLAN, SCHEDULE, TOP, Cases, cause, ran, words
 
+PORTS = random.sample(range(20_000, 32_000), 12_000)
 SHOW = '{"cmd":"show","flight":7}'
 ROLES = ["NM", "ATC", "APT", "AO", "GH", "DIC"]
 MOMENT = r"\d{4}-\d\d-\d\dT\d\d:\d\d:\d\dZ"
+VERSION = (TOP / "VERSION").read_text(encoding="ascii").strip()
 # What runs the program by the script at the top, whether it was proved by that or by the gate.
 BY_SCRIPT = """
 import importlib.machinery, importlib.util, pathlib, sys
@@ -37,8 +41,20 @@ sys.exit(script.run_proved(sys.argv[3:]))
 
 
 def free_port():
-    with socket.create_server(("127.0.0.1", 0)) as it:
-        return it.getsockname()[1]
+    """A port at which nobody listens: another one each time, and none of those that the system gives by itself."""
+    while True:
+        port = PORTS.pop()
+        with contextlib.suppress(OSError), socket.create_server(("127.0.0.1", port)):
+            return port
+
+
+def is_refused(host, port):
+    """Whether nobody listens there."""
+    try:
+        socket.create_connection((host, port), timeout=5).close()
+    except ConnectionRefusedError:
+        return True
+    return False
 
 
 class Board:
@@ -218,7 +234,7 @@ def probes(cases, program):
     for _ in range(5):
         for session in (1, 2):
             board.connect(session).close()
-    cases.expect("status of an empty board", board.ask("status").endswith("entries 0 of 100000\nlast none\n"))
+    cases.expect("status of an empty board", board.ask("status").endswith(f"entries 0 of 100000\nversion {VERSION}\nlast none\n"))
     cases.expect("probes are not told", board.told(1, "here") == 0, board.said)
     airport = board.connect(1)
     cases.expect("served after probes", airport.asks(SCHEDULE) == "ok 0")
@@ -229,7 +245,7 @@ def probes(cases, program):
     told = board.ask("status").splitlines()
     cases.expect("status tells who is here", re.match(rf"session 1 APT here 127\.0\.0\.1:\d+ since {MOMENT} ", told[0]), told)
     cases.expect("and who never was", told[2].startswith("session 3 GH gone ") and told[3] == "entries 2 of 100000", told)
-    cases.expect("and the last moment", re.fullmatch(r"last \d{4}-\d\d-\d\dT\d\d:\d\d:00Z", told[4]), told)
+    cases.expect("and the last moment", re.fullmatch(r"last \d{4}-\d\d-\d\dT\d\d:\d\d:00Z", told[5]), told)
     with socket.create_connection(("127.0.0.1", board.port), timeout=20) as it:
         it.sendall(b"nothing\nstatus\r\nx")
         cases.expect("control answers each line", it.recv(65536).startswith(b"unknown\n"))
@@ -289,6 +305,7 @@ def let_go(cases, program, again):
 def paced(cases, program):
     """So many lines of a session are taken in a minute; the others wait for nothing."""
     board = Board([program], ["--again", "--control", "PORT", "--pace", "120"], ["APT", "NM"])
+    cases.expect("a port alone is of the loopback address", is_refused("127.0.0.2", board.port))
     many, other = board.connect(1), board.connect(2)
     begun = time.monotonic()
     many.send(f"{ALERTS}\n" * 124)
@@ -301,6 +318,9 @@ def paced(cases, program):
     took = time.monotonic() - begun
     cases.expect("all are answered", all(it.startswith("alerts ") for it in replies))
     cases.expect("the first at once, the others by the pace", at < 1.5 <= took < 10, (at, took))
+    anew, begun = board.connect(1), time.monotonic()
+    cases.expect("and goes on where it comes anew", all(anew.asks(ALERTS) for _ in range(4)) and time.monotonic() - begun >= 1)
+    many = anew
     many.send(f"{ALERTS}\n" * 100)
     begun = time.monotonic()
     answer, status, lines = board.close()

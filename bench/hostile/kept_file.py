@@ -110,7 +110,8 @@ class Shown:
 
     def __init__(self, ports):
         self.streams = [socket.create_connection(("127.0.0.1", port), timeout=5) for port in ports]
-        self.streams[1].sendall(b"from 0\n")
+        for stream in self.streams[:2]:
+            stream.sendall(b"from 0\n")
         self.streams[2].sendall(b"GET /events HTTP/1.1\r\nHost: localhost\r\nLast-Event-ID: 0\r\n\r\n")
         self.came = [b"", b"", b""]
 
@@ -134,7 +135,7 @@ class Shown:
     def entries(self):
         """How many entries each has been sent."""
         journal, feed, events = self.came
-        return [journal.count(b"\n"), feed.count(b'"entry":'), events.count(b'"entry":')]
+        return [journal.count(b" tick\n"), feed.count(b'"entry":'), events.count(b'"entry":')]
 
 
 def held(program, cases, room, is_killed):

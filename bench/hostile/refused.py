@@ -13,6 +13,7 @@ library are refused memory too. The last line is `N cases, M failed`; status 1 w
 """
 
 import contextlib
+import hashlib
 import os
 import pathlib
 import socket
@@ -164,6 +165,14 @@ def front(part, whole):
     return whole.startswith(part) and (part == "" or part.endswith("\n"))
 
 
+def head_of(entries):
+    """The line of the journal with this text, for who is sent all of it; of one with no entry it does not come."""
+    if not entries:
+        return ""
+    name = hashlib.sha256(entries.split("\n")[0].encode()).hexdigest()[:32]
+    return f'{{"journal":"{name}","next":0,"room":{CAPACITY}}}\n'
+
+
 class Scenes:
     def __init__(self, cases, refusing, folder, stride):
         self.cases, self.refusing, self.stride = cases, refusing, stride
@@ -302,21 +311,23 @@ class Scenes:
             self.given.append(("explain", path, status, told))
 
     def serve(self, number):
-        """Two partners and a display. A session may end for want of memory, a display may be let go, and each line that was answered
-        with an entry is saved."""
+        """Two partners and a display, which asks `from 0` each other time. A session may end for want of memory, a display may be let go,
+        and each line that was answered with an entry is saved."""
         self.saved.unlink(missing_ok=True)
         ports = [free_port() for _ in range(3)]
         at_port = [f"127.0.0.1:{port}" for port in ports]
         words = ["serve", "--journal", CAPACITY, "--save", self.saved, "--watch", at_port[0], f"APT={at_port[1]}", f"NM={at_port[2]}"]
         name = f"serve, request {number}"
         with self.refusing.started(words, number, stdin=subprocess.DEVNULL) as process:
-            answered, seen = self.served(process, ports)
+            first = b"from 0\n" if number % 2 else b""
+            answered, seen = self.served(process, ports, first)
             output, errors = process.communicate(timeout=PATIENCE)
             came = process.returncode, output.decode(), errors.decode(), answered, seen
             entries = self.journal()
             status, told = model_journal.audit(line.encode() for line in entries.splitlines(keepends=True))[::-1]
             self.cases.expect(f"{name}, the journal", status == 0, (told, entries))
-            self.cases.expect(f"{name}, the display", front(seen[: seen.rfind("\n") + 1], entries) or came[0] == 2, came)
+            wanted = head_of(entries) + entries if first else entries
+            self.cases.expect(f"{name}, the display", front(seen[: seen.rfind("\n") + 1], wanted) or came[0] == 2, came)
             if came[0] == 0:
                 made = [line.split(" ", 4)[3] for line in entries.splitlines()]
                 wanted = [role for role, answer in answered if not answer.startswith("bad")]
@@ -328,8 +339,8 @@ class Scenes:
                 self.cases.expect(name, came[0] == 2 and (is_unsaved or came[2] in known), came)
             return process.was_refused()
 
-    def served(self, process, ports):
-        """What the partners were answered, with the role of each line, and what the display was sent."""
+    def served(self, process, ports, first):
+        """What the partners were answered, with the role of each line, and what the display was sent, which said this first."""
         own = [load(9, "alert", TAXI), SCHEDULE, ALERTS], [PLAN, '{"cmd":"show","flight":7}', ALERTS]
         answered, seen = [], b""
         with contextlib.ExitStack() as opened:
@@ -340,6 +351,8 @@ class Scenes:
                     return answered, ""
                 parts.append((opened.enter_context(stream), opened.enter_context(stream.makefile("rb"))))
             display = parts.pop()
+            with contextlib.suppress(OSError):
+                display[0].sendall(first)
             gone = set()
             for lines in zip(*own):
                 for role, (stream, heard), line in zip(("APT", "NM"), parts, lines):

@@ -8,8 +8,9 @@ use Rattle.bpf_regstate.specs.declared.length.Length.{Length}
 use Rattle.acdm_command_line.specs.declared.command_line.Subcommand.{Subcommand}
 use Rattle.acdm_command_line.specs.CommandLine.{Answers, Asks, AsksNothing, AsksWith, AuditsFile}
 use Rattle.acdm_command_line.specs.CommandLine.{Explains, TellsFile}
-use Rattle.acdm_command_line.specs.CommandLine.{IsJournal, IsRight, Runs, Serves, Verifies}
-use Rattle.acdm_command_line.specs.CommandLine.{program, tables_in, value_in, values_in}
+use Rattle.acdm_command_line.specs.CommandLine.{Follows, IsJournal, IsRight, Runs, ServesAlone, Verifies}
+use Rattle.acdm_command_line.specs.CommandLine.{held_app, lasting_app, logging_app, program, showing_app, watching_app}
+use Rattle.acdm_command_line.specs.CommandLine.{tables_in, value_in, values_in}
 
 module _ {X : Type 0} (name : X → Text) (rows : X → List Row) where
   abbrev both : X → Text × List Row
@@ -48,22 +49,24 @@ values_found o name id n r e h = ap (values_in name id) e
 -- ---- what is asked for
 
 pub program_is_simple : is_simple program ≡ true
-unfolding clap_on_literals
+unfolding clap_on_literals watching_app showing_app held_app lasting_app logging_app
 program_is_simple = refl
 
 none_asked : (found : Option (Text × List Row)) → AsksNothing found
     → ((text : Text) × Runs found text × IsJournal text)
-    ⊎ ((text : Text) × Serves found text × IsJournal text)
+    ⊎ ((text : Text) × ServesAlone found text × IsJournal text)
+    ⊎ ((text : Text) × Follows found text × IsJournal text)
     ⊎ ((length : Length) × (file : Text) × Verifies found length file)
     ⊎ ((file : Text) × AuditsFile found file)
     ⊎ ((length : Length) × (file : Text) × Explains found length file)
     ⊎ ((file : Text) × TellsFile found file) → ⊥
 none_asked found none (inl h) = none.run h.0 h.1 h.2
 none_asked found none (inr (inl h)) = none.serve h.0 h.1 h.2
-none_asked found none (inr (inr (inl h))) = none.verify h.0 h.1 h.2
-none_asked found none (inr (inr (inr (inl h)))) = none.audit h.0 h.1
-none_asked found none (inr (inr (inr (inr (inl h))))) = none.explain h.0 h.1 h.2
-none_asked found none (inr (inr (inr (inr (inr h))))) = none.tell h.0 h.1
+none_asked found none (inr (inr (inl h))) = none.follow h.0 h.1 h.2
+none_asked found none (inr (inr (inr (inl h)))) = none.verify h.0 h.1 h.2
+none_asked found none (inr (inr (inr (inr (inl h))))) = none.audit h.0 h.1
+none_asked found none (inr (inr (inr (inr (inr (inl h)))))) = none.explain h.0 h.1 h.2
+none_asked found none (inr (inr (inr (inr (inr (inr h)))))) = none.tell h.0 h.1
 
 -- words of which something is answered ask for it
 pub some_right : (words : List Text) (found : Option (Text × List Row)) (line : Option Subcommand) (l : Subcommand)

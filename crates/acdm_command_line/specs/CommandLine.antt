@@ -1,6 +1,6 @@
 -- What the words of a command line ask for, as `clap` reads them.
 use Rattle.std.specs.Prelude.{ℕ, ◌≡◌, ◌≤◌, ◌⊎◌, Bool, true, false, List, [], ◌∷◌, codes, Option, Some, None}
-use Rattle.std.specs.Prelude.{map, option_and_then, option_map, if◌then◌else◌}
+use Rattle.std.specs.Prelude.{map, option_and_then, option_map, if◌then◌else◌, IsSome}
 use Rattle.std.specs.Str.{bytes_eq}
 use Rattle.std.specs.Str.Parse.{IsNumeral, digits_value, without_leading_plus}
 use Rattle.clap.specs.Words.{App, Row, Rule, Text, all_of, first_of, new_app, new_rule}
@@ -32,6 +32,14 @@ save_rule = record (new_rule (codes "save")) { long = Some (codes "save"); value
 -- `--keep FILE`
 abbrev pub keep_rule : Rule
 keep_rule = record (new_rule (codes "keep")) { long = Some (codes "keep"); value_names = 1 }
+
+-- the same where it has to be given
+abbrev pub kept_rule : Rule
+kept_rule = record (new_rule (codes "keep")) {
+  long = Some (codes "keep");
+  value_names = 1;
+  required = true;
+}
 
 -- `--sync`
 abbrev pub sync_rule : Rule
@@ -73,17 +81,17 @@ log_rule = record (new_rule (codes "log")) { long = Some (codes "log"); value_na
 abbrev pub tables_rule : Rule
 tables_rule = record (new_rule (codes "tables")) { long = Some (codes "tables"); value_names = 1 }
 
--- a subcommand of this name that has a journal; and one that takes tables too
-abbrev pub journal_app : Text → App
-journal_app name =
-    with_rule (with_rule (with_rule (with_rule (new_app name) journal_rule) save_rule) keep_rule) sync_rule
+-- a subcommand of this name that has a journal, which is kept by such an option; and one that takes tables too
+abbrev pub journal_app : Text → Rule → App
+journal_app name keep =
+    with_rule (with_rule (with_rule (with_rule (new_app name) journal_rule) save_rule) keep) sync_rule
 
-abbrev pub keeping_app : Text → App
-keeping_app name = with_rule (journal_app name) tables_rule
+abbrev pub keeping_app : Text → Rule → App
+keeping_app name keep = with_rule (journal_app name keep) tables_rule
 
 -- `run [--journal N] [--save FILE] [--keep FILE] [--sync] [--tables FILE]`
 abbrev pub run_app : App
-run_app = keeping_app (codes "run")
+run_app = keeping_app (codes "run") keep_rule
 
 -- `serve [--journal N] [--save FILE] [--keep FILE] [--sync] [--tables FILE] [--watch ADDR] [--changes ADDR]
 -- [--web ADDR] [--web-name NAME] [--again] [--control ADDR] [--pace N] [--tick SECONDS] [--log FILE] ROLE=ADDR...`,
@@ -95,20 +103,30 @@ partners_rule = record (new_rule (codes "partners")) {
   required = true;
 }
 
-abbrev pub serve_options_app : App
-serve_options_app =
-    with_rule (with_rule (with_rule (with_rule (keeping_app (codes "serve")) watch_rule) changes_rule) web_rule)
-    web_name_rule
+unfoldable pub watching_app : Text → Rule → App
+watching_app name keep = with_rule (with_rule (keeping_app name keep) watch_rule) changes_rule
 
-abbrev pub lasting_app : App
-lasting_app =
-    with_rule (with_rule (with_rule (with_rule serve_options_app again_rule) control_rule) pace_rule) tick_rule
+unfoldable pub showing_app : Text → Rule → App
+showing_app name keep = with_rule (with_rule (watching_app name keep) web_rule) web_name_rule
 
-abbrev pub logging_app : App
-logging_app = with_rule lasting_app log_rule
+unfoldable pub held_app : Text → Rule → App
+held_app name keep = with_rule (with_rule (showing_app name keep) again_rule) control_rule
+
+unfoldable pub lasting_app : Text → Rule → App
+lasting_app name keep = with_rule (with_rule (held_app name keep) pace_rule) tick_rule
+
+unfoldable pub logging_app : Text → Rule → App
+logging_app name keep = with_rule (lasting_app name keep) log_rule
 
 abbrev pub serve_app : App
-serve_app = with_rule logging_app partners_rule
+serve_app = with_rule (logging_app (codes "serve") keep_rule) partners_rule
+
+-- `follow ADDR --keep FILE [..] ROLE=ADDR...`, with the other options of `serve`
+abbrev pub first_rule : Rule
+first_rule = record (new_rule (codes "first")) { value_names = 1; required = true }
+
+abbrev pub follow_app : App
+follow_app = with_rule (with_rule (logging_app (codes "follow") kept_rule) first_rule) partners_rule
 
 -- a subcommand of this name on a file, as `audit [--tables FILE] FILE`
 abbrev pub file_rule : Rule
@@ -132,7 +150,7 @@ program_app name = with_rule (with_rule (with_rule (new_app name) length_rule) t
 abbrev required : App → App
 required a = record a { top = record a.top { subcommand_required = true } }
 
--- the program before it has subcommands, of which one is wanted; then with `run`; with `serve`; all
+-- the program before it has subcommands, of which one is wanted; then with `run`; with `serve`; with `follow`; all
 abbrev pub bare_app : App
 bare_app = required (new_app (codes "acdm"))
 
@@ -142,9 +160,12 @@ running_app = with_subcommand bare_app run_app.top
 abbrev pub serving_app : App
 serving_app = with_subcommand running_app serve_app.top
 
+abbrev pub following_app : App
+following_app = with_subcommand serving_app follow_app.top
+
 abbrev pub program : App
 program =
-    with_subcommand (with_subcommand (with_subcommand (with_subcommand serving_app
+    with_subcommand (with_subcommand (with_subcommand (with_subcommand following_app
     (program_app (codes "verify")).top) (file_app (codes "audit")).top)
     (program_app (codes "explain")).top) (file_app (codes "tell")).top
 
@@ -179,8 +200,8 @@ listed (Some texts) = texts
 listed None = []
 
 -- the words that name partners, in their order
-abbrev pub partners_in : Option (Text × List Row) → List Text
-partners_in found = listed (values_in (codes "serve") (codes "partners") found)
+abbrev pub partners_in : List ℕ → Option (Text × List Row) → List Text
+partners_in name found = listed (values_in name (codes "partners") found)
 
 -- the number that a text names, as Rust reads one
 abbrev pub number_of : Text → ℕ
@@ -196,28 +217,28 @@ abbrev pub IsCount : ℕ → Text → Type 0
 IsCount most text =
     IsNumeral 10 (without_leading_plus text) × (1 ≤ number_of text) × (number_of text ≤ most)
 
--- the number from 1 to this one that `serve` is given by an option: none, or that which its text names
-abbrev pub HasCount : List ℕ → ℕ → Option (Text × List Row) → Option ℕ → Type 0
-HasCount id most found None = value_in (codes "serve") id found ≡ None
-HasCount id most found (Some count) =
-    (text : Text) × (value_in (codes "serve") id found ≡ Some text) × IsCount most text
+-- the number from 1 to this one that the subcommand of a name is given by an option: none, or that which its text names
+abbrev pub HasCount : List ℕ → List ℕ → ℕ → Option (Text × List Row) → Option ℕ → Type 0
+HasCount name id most found None = value_in name id found ≡ None
+HasCount name id most found (Some count) =
+    (text : Text) × (value_in name id found ≡ Some text) × IsCount most text
     × (count ≡ number_of text)
 
 -- that it is one, or none
-abbrev pub IsCounted : List ℕ → ℕ → Option (Text × List Row) → Type 0
-IsCounted id most found = (count : Option ℕ) × HasCount id most found count
+abbrev pub IsCounted : List ℕ → List ℕ → ℕ → Option (Text × List Row) → Type 0
+IsCounted name id most found = (count : Option ℕ) × HasCount name id most found count
 
 -- the same as an answer
-abbrev pub AnswersCount : List ℕ → ℕ → Option (Text × List Row) → Option (Option ℕ) → Type 0
-AnswersCount id most found (Some count) = HasCount id most found count
-AnswersCount id most found None = IsCounted id most found → ⊥
+abbrev pub AnswersCount : List ℕ → List ℕ → ℕ → Option (Text × List Row) → Option (Option ℕ) → Type 0
+AnswersCount name id most found (Some count) = HasCount name id most found count
+AnswersCount name id most found None = IsCounted name id most found → ⊥
 
 -- how many lines in a minute, and how many seconds between ticks
-abbrev pub HasPace : Option (Text × List Row) → Option ℕ → Type 0
-HasPace = HasCount (codes "pace") 4294967295
+abbrev pub HasPace : List ℕ → Option (Text × List Row) → Option ℕ → Type 0
+HasPace name = HasCount name (codes "pace") 4294967295
 
-abbrev pub HasTick : Option (Text × List Row) → Option ℕ → Type 0
-HasTick = HasCount (codes "tick") 86400
+abbrev pub HasTick : List ℕ → Option (Text × List Row) → Option ℕ → Type 0
+HasTick name = HasCount name (codes "tick") 86400
 
 -- the length of a record that a text names
 abbrev pub length_named : Text → Option Length
@@ -228,15 +249,26 @@ length_named text =
 abbrev pub length_in : List ℕ → Option (Text × List Row) → Option Length
 length_in name found = option_and_then length_named (value_in name (codes "length") found)
 
--- the subcommand that was entered is `run` or `serve` with this text for its journal, `verify` or
+-- the subcommand that was entered is `run`, `serve` or `follow` with this text for its journal, `verify` or
 -- `explain` of this file beside records of this length, or `audit` or `tell` of this file
 abbrev pub Runs : Option (Text × List Row) → Text → Type 0
 Runs found text = value_in (codes "run") (codes "journal") found ≡ Some text
 
-abbrev pub Serves : Option (Text × List Row) → Text → Type 0
-Serves found text =
-    (value_in (codes "serve") (codes "journal") found ≡ Some text)
-    × IsCounted (codes "pace") 4294967295 found × IsCounted (codes "tick") 86400 found
+abbrev pub Serves : List ℕ → Option (Text × List Row) → Text → Type 0
+Serves name found text =
+    (value_in name (codes "journal") found ≡ Some text)
+    × IsCounted name (codes "pace") 4294967295 found × IsCounted name (codes "tick") 86400 found
+
+-- the first board that `follow` is given
+abbrev pub first_in : Option (Text × List Row) → Option Text
+first_in found = value_in (codes "follow") (codes "first") found
+
+-- it is `serve`, where no first board is named, or `follow`, where one is
+abbrev pub ServesAlone : Option (Text × List Row) → Text → Type 0
+ServesAlone found text = (first_in found ≡ None) × Serves (codes "serve") found text
+
+abbrev pub Follows : Option (Text × List Row) → Text → Type 0
+Follows found text = IsSome (first_in found) × Serves (codes "follow") found text
 
 abbrev pub Judges : List ℕ → Option (Text × List Row) → Length → Text → Type 0
 Judges name found length file =
@@ -254,7 +286,12 @@ Explains = Judges (codes "explain")
 abbrev pub TellsFile : Option (Text × List Row) → Text → Type 0
 TellsFile found file = value_in (codes "tell") (codes "file") found ≡ Some file
 
--- it is `run` or `serve` with the journal, the files, the addresses and the partners that are named, or
+-- the name of the subcommand that serves: `follow` where a first board is followed before, else `serve`
+abbrev pub serving_name : {T : Type 0} → Option T → List ℕ
+serving_name None = codes "serve"
+serving_name (Some first) = codes "follow"
+
+-- it is `run`, `serve` or `follow` with the journal, the files, the addresses and the partners that are named, or
 -- `verify`, `audit`, `explain` or `tell` of the file that is, with the length
 abbrev pub Asks : Option (Text × List Row) → Subcommand → Type 0
 Asks found (Run journal save keep sync) =
@@ -262,20 +299,21 @@ Asks found (Run journal save keep sync) =
     × (option_map (λ s. s.now) save ≡ value_in (codes "run") (codes "save") found)
     × (option_map (λ s. s.now) keep ≡ value_in (codes "run") (codes "keep") found)
     × (sync ≡ is_set_in (codes "run") (codes "sync") found)
-Asks found (Serve journal save keep sync watch changes web web_name again control pace tick log partners) =
-    (text : Text) × Serves found text × IsJournal text × (journal ≡ number_of text)
-    × (option_map (λ s. s.now) save ≡ value_in (codes "serve") (codes "save") found)
-    × (option_map (λ s. s.now) keep ≡ value_in (codes "serve") (codes "keep") found)
-    × (sync ≡ is_set_in (codes "serve") (codes "sync") found)
-    × (option_map (λ s. s.now) watch ≡ value_in (codes "serve") (codes "watch") found)
-    × (option_map (λ s. s.now) changes ≡ value_in (codes "serve") (codes "changes") found)
-    × (option_map (λ s. s.now) web ≡ value_in (codes "serve") (codes "web") found)
-    × (option_map (λ s. s.now) web_name ≡ value_in (codes "serve") (codes "web-name") found)
-    × (again ≡ is_set_in (codes "serve") (codes "again") found)
-    × (option_map (λ s. s.now) control ≡ value_in (codes "serve") (codes "control") found)
-    × HasPace found pace × HasTick found tick
-    × (option_map (λ s. s.now) log ≡ value_in (codes "serve") (codes "log") found)
-    × (map (λ s. s.now) partners.items ≡ partners_in found)
+Asks found (Serve first journal save keep sync watch changes web web_name again control pace tick log partners) =
+    (text : Text) × Serves (serving_name first) found text × IsJournal text × (journal ≡ number_of text)
+    × (option_map (λ s. s.now) first ≡ first_in found)
+    × (option_map (λ s. s.now) save ≡ value_in (serving_name first) (codes "save") found)
+    × (option_map (λ s. s.now) keep ≡ value_in (serving_name first) (codes "keep") found)
+    × (sync ≡ is_set_in (serving_name first) (codes "sync") found)
+    × (option_map (λ s. s.now) watch ≡ value_in (serving_name first) (codes "watch") found)
+    × (option_map (λ s. s.now) changes ≡ value_in (serving_name first) (codes "changes") found)
+    × (option_map (λ s. s.now) web ≡ value_in (serving_name first) (codes "web") found)
+    × (option_map (λ s. s.now) web_name ≡ value_in (serving_name first) (codes "web-name") found)
+    × (again ≡ is_set_in (serving_name first) (codes "again") found)
+    × (option_map (λ s. s.now) control ≡ value_in (serving_name first) (codes "control") found)
+    × HasPace (serving_name first) found pace × HasTick (serving_name first) found tick
+    × (option_map (λ s. s.now) log ≡ value_in (serving_name first) (codes "log") found)
+    × (map (λ s. s.now) partners.items ≡ partners_in (serving_name first) found)
 Asks found (Verify length file) = Verifies found length file.now
 Asks found (Audit file) = AuditsFile found file.now
 Asks found (Explain length file) = Explains found length file.now
@@ -290,10 +328,11 @@ AsksFor words line =
     AsksWith (subcommand_of program words) line.subcommand
     (option_map (λ s. s.now) line.tables)
 
--- it is none of the six
+-- it is none of the seven
 pub record AsksNothing (found : Option (Text × List Row)) : Type 0 where
   pub run : (text : Text) → Runs found text → IsJournal text → ⊥
-  pub serve : (text : Text) → Serves found text → IsJournal text → ⊥
+  pub serve : (text : Text) → ServesAlone found text → IsJournal text → ⊥
+  pub follow : (text : Text) → Follows found text → IsJournal text → ⊥
   pub verify : (length : Length) (file : Text) → Verifies found length file → ⊥
   pub audit : (file : Text) → AuditsFile found file → ⊥
   pub explain : (length : Length) (file : Text) → Explains found length file → ⊥
@@ -311,14 +350,22 @@ AnswersJournal name found (Some journal) =
 AnswersJournal name found None = (text : Text)
     → value_in name (codes "journal") found ≡ Some text → IsJournal text → ⊥
 
--- what `run` asks for, or that it asks for nothing; the same of `serve`
+-- what `run` asks for, or that it asks for nothing; the same of `serve` and of `follow`
 abbrev pub AnswersRun : Option (Text × List Row) → Option Subcommand → Type 0
 AnswersRun found (Some subcommand) = Asks found subcommand
 AnswersRun found None = (text : Text) → Runs found text → IsJournal text → ⊥
 
+abbrev pub AnswersServing : List ℕ → Option (Text × List Row) → Option Subcommand → Type 0
+AnswersServing name found (Some subcommand) = Asks found subcommand
+AnswersServing name found None = (text : Text) → Serves name found text → IsJournal text → ⊥
+
 abbrev pub AnswersServe : Option (Text × List Row) → Option Subcommand → Type 0
 AnswersServe found (Some subcommand) = Asks found subcommand
-AnswersServe found None = (text : Text) → Serves found text → IsJournal text → ⊥
+AnswersServe found None = (text : Text) → ServesAlone found text → IsJournal text → ⊥
+
+abbrev pub AnswersFollow : Option (Text × List Row) → Option Subcommand → Type 0
+AnswersFollow found (Some subcommand) = Asks found subcommand
+AnswersFollow found None = (text : Text) → Follows found text → IsJournal text → ⊥
 
 -- the length and the file of the subcommand of a name, or none
 abbrev pub AnswersJudged : List ℕ → Option (Text × List Row) → Option (Length × Text) → Type 0
@@ -326,11 +373,12 @@ AnswersJudged name found (Some judged) = Judges name found judged.0 judged.1
 AnswersJudged name found None =
     (length : Length) (file : Text) → Judges name found length file → ⊥
 
--- `clap` takes the words, and they ask for one of the six
+-- `clap` takes the words, and they ask for one of the seven
 pub record IsRight (words : List Text) : Type 0 where
   pub taken : takes program words ≡ true
   pub asks : ((text : Text) × Runs (subcommand_of program words) text × IsJournal text)
-      ⊎ ((text : Text) × Serves (subcommand_of program words) text × IsJournal text)
+      ⊎ ((text : Text) × ServesAlone (subcommand_of program words) text × IsJournal text)
+      ⊎ ((text : Text) × Follows (subcommand_of program words) text × IsJournal text)
       ⊎ ((length : Length) × (file : Text) × Verifies (subcommand_of program words) length file)
       ⊎ ((file : Text) × AuditsFile (subcommand_of program words) file)
       ⊎ ((length : Length) × (file : Text) × Explains (subcommand_of program words) length file)

@@ -8,8 +8,9 @@ ghost use Rattle.clap.specs.declared.builder.Command.TheViews.{out-Command as fi
 ghost use Rattle.acdm_command_line.specs.CommandLine.{program, file_app, keeping_app};
 ghost use Rattle.acdm_command_line.specs.CommandLine.{file_rule, length_rule, program_app};
 ghost use Rattle.acdm_command_line.specs.CommandLine.{AnswersJudged, length_named};
-ghost use Rattle.acdm_command_line.specs.CommandLine.{bare_app, run_app, running_app, serve_app};
-ghost use Rattle.acdm_command_line.specs.CommandLine.{serve_options_app, serving_app};
+ghost use Rattle.acdm_command_line.specs.CommandLine.{bare_app, first_in, first_rule, follow_app, following_app, kept_rule, run_app, running_app, serve_app};
+ghost use Rattle.acdm_command_line.specs.CommandLine.{AnswersFollow, partners_rule, serving_name};
+ghost use Rattle.acdm_command_line.specs.CommandLine.{held_app, serving_app, showing_app, watching_app};
 ghost use Rattle.acdm_command_line.specs.CommandLine.{changes_rule, journal_rule, keep_rule, save_rule, sync_rule};
 ghost use Rattle.acdm_command_line.specs.CommandLine.{is_set_in, watch_rule, web_name_rule, web_rule};
 ghost use Rattle.acdm_command_line.specs.CommandLine.{journal_app, tables_in, tables_rule};
@@ -17,7 +18,7 @@ ghost use Rattle.acdm_command_line.specs.CommandLine.{again_rule, control_rule, 
 ghost use Rattle.acdm_command_line.specs.CommandLine.{AnswersCount, IsCount, tick_rule};
 ghost use Rattle.acdm_command_line.specs.CommandLine.{partners_in, value_in, values_in};
 ghost use Rattle.acdm_command_line.specs.CommandLine.{number_of, IsJournal, AsksFor, Refuses};
-ghost use Rattle.acdm_command_line.specs.CommandLine.{Answers, AnswersJournal, AnswersRun, AnswersServe};
+ghost use Rattle.acdm_command_line.specs.CommandLine.{Answers, AnswersJournal, AnswersRun, AnswersServe, AnswersServing};
 
 use bpf_regstate::Length;
 use clap::error::ErrorKind;
@@ -50,8 +51,9 @@ pub enum Subcommand<'a> {
     /// which browsers have a page at a third, by this name beside its addresses, for the partners of these words, as they stand: who may
     /// come again where `again` is true, of whom so many lines are taken in a minute; it is closed at the
     /// control address, ticks by itself each so many seconds, from 1 to 86,400, and logs in a file what the operator
-    /// is told.
+    /// is told. Where the address of a first board is named it is `follow`: that board is followed before.
     Serve {
+        first: Option<&'a str>,
         journal: usize,
         save: Option<&'a str>,
         keep: Option<&'a str>,
@@ -126,6 +128,18 @@ fn keep<'a>(alloc: Global) -> Arg<'a>
     Arg::new(alloc, "keep").long("keep").value_name("FILE").help(
         "Where the journal is kept as it grows, and is gone on from",
     )
+}
+
+// The same where it has to be given.
+fn kept<'a>(alloc: Global) -> Arg<'a>
+    ensures rule { rule_of result ≡ kept_rule }
+    ensures local { result.global ≡ false }
+{
+    Arg::new(alloc, "keep")
+        .long("keep")
+        .value_name("FILE")
+        .required(true)
+        .help("Where the followed journal is kept as it grows, and is gone on from")
 }
 
 // `--sync`.
@@ -248,25 +262,37 @@ fn log<'a>(alloc: Global) -> Arg<'a>
     )
 }
 
-// A subcommand that has a journal.
-fn with_journal<'a>(alloc: Global, name: &'a str, about: &'a str) -> Result<Command<'a>, AllocError>
-    ensures shape { IfOk result (λ c. app_of c ≡ journal_app name.now) }
+// A subcommand that has a journal, which is kept by this option.
+fn with_journal<'a>(
+    alloc: Global,
+    name: &'a str,
+    about: &'a str,
+    keep: Arg<'a>,
+) -> Result<Command<'a>, AllocError>
+    requires local { keep.global ≡ false }
+    ensures shape { IfOk result (λ c. app_of c ≡ journal_app name.now (rule_of keep.entry)) }
     ensures local { IfOk result (λ c. (fields_of c).has_globals ≡ false) }
 {
     Command::new(alloc, name)
         .about(about)
         .arg(journal(alloc))?
         .arg(save(alloc))?
-        .arg(keep(alloc))?
+        .arg(keep)?
         .arg(sync(alloc))
 }
 
 // One that takes tables too.
-fn keeping<'a>(alloc: Global, name: &'a str, about: &'a str) -> Result<Command<'a>, AllocError>
-    ensures shape { IfOk result (λ c. app_of c ≡ keeping_app name.now) }
+fn keeping<'a>(
+    alloc: Global,
+    name: &'a str,
+    about: &'a str,
+    keep: Arg<'a>,
+) -> Result<Command<'a>, AllocError>
+    requires local { keep.global ≡ false }
+    ensures shape { IfOk result (λ c. app_of c ≡ keeping_app name.now (rule_of keep.entry)) }
     ensures local { IfOk result (λ c. (fields_of c).has_globals ≡ false) }
 {
-    with_journal(alloc, name, about)?.arg(tables(alloc))
+    with_journal(alloc, name, about, keep)?.arg(tables(alloc))
 }
 
 fn run_command<'a>(alloc: Global) -> Result<Command<'a>, AllocError>
@@ -274,53 +300,133 @@ fn run_command<'a>(alloc: Global) -> Result<Command<'a>, AllocError>
     ensures local { IfOk result (λ c. (fields_of c).has_globals ≡ false) }
 {
     let about = "Answers the lines of standard input on standard output";
-    keeping(alloc, "run", about)
+    keeping(alloc, "run", about, keep(alloc))
 }
 
-// `serve` without its partners.
-fn serve_options<'a>(alloc: Global) -> Result<Command<'a>, AllocError>
-    ensures shape { IfOk result (λ c. app_of c ≡ serve_options_app) }
+// A subcommand that serves, with what is sent to displays of lines.
+#[tactic(auto, unfolding(crate::specs::CommandLine::watching_app))]
+fn watching<'a>(
+    alloc: Global,
+    name: &'a str,
+    about: &'a str,
+    keep: Arg<'a>,
+) -> Result<Command<'a>, AllocError>
+    requires local { keep.global ≡ false }
+    ensures shape { IfOk result (λ c. app_of c ≡ watching_app name.now (rule_of keep.entry)) }
     ensures local { IfOk result (λ c. (fields_of c).has_globals ≡ false) }
 {
-    let about =
-        "Accepts a partner at each address, and serves all at once; --config FILE puts in its place the words of a file in TOML";
-    keeping(alloc, "serve", about)?
+    keeping(alloc, name, about, keep)?
         .arg(watch(alloc))?
-        .arg(changes(alloc))?
+        .arg(changes(alloc))
+}
+
+// The same with what browsers have.
+#[tactic(auto, unfolding(crate::specs::CommandLine::showing_app))]
+fn showing<'a>(
+    alloc: Global,
+    name: &'a str,
+    about: &'a str,
+    keep: Arg<'a>,
+) -> Result<Command<'a>, AllocError>
+    requires local { keep.global ≡ false }
+    ensures shape { IfOk result (λ c. app_of c ≡ showing_app name.now (rule_of keep.entry)) }
+    ensures local { IfOk result (λ c. (fields_of c).has_globals ≡ false) }
+{
+    watching(alloc, name, about, keep)?
         .arg(web(alloc))?
         .arg(web_name(alloc))
 }
 
-// `serve` with what holds it open, without its partners.
-fn lasting<'a>(alloc: Global) -> Result<Command<'a>, AllocError>
-    ensures shape { IfOk result (λ c. app_of c ≡ lasting_app) }
+// The same with what holds it open, and closes it.
+#[tactic(auto, unfolding(crate::specs::CommandLine::held_app))]
+fn held<'a>(
+    alloc: Global,
+    name: &'a str,
+    about: &'a str,
+    keep: Arg<'a>,
+) -> Result<Command<'a>, AllocError>
+    requires local { keep.global ≡ false }
+    ensures shape { IfOk result (λ c. app_of c ≡ held_app name.now (rule_of keep.entry)) }
     ensures local { IfOk result (λ c. (fields_of c).has_globals ≡ false) }
 {
-    serve_options(alloc)?
+    showing(alloc, name, about, keep)?
         .arg(again(alloc))?
-        .arg(control(alloc))?
+        .arg(control(alloc))
+}
+
+// The same with its pace and its ticks.
+#[tactic(auto, unfolding(crate::specs::CommandLine::lasting_app))]
+fn lasting<'a>(
+    alloc: Global,
+    name: &'a str,
+    about: &'a str,
+    keep: Arg<'a>,
+) -> Result<Command<'a>, AllocError>
+    requires local { keep.global ≡ false }
+    ensures shape { IfOk result (λ c. app_of c ≡ lasting_app name.now (rule_of keep.entry)) }
+    ensures local { IfOk result (λ c. (fields_of c).has_globals ≡ false) }
+{
+    held(alloc, name, about, keep)?
         .arg(pace(alloc))?
         .arg(tick(alloc))
 }
 
 // The same with its log.
-fn logging<'a>(alloc: Global) -> Result<Command<'a>, AllocError>
-    ensures shape { IfOk result (λ c. app_of c ≡ logging_app) }
+#[tactic(auto, unfolding(crate::specs::CommandLine::logging_app))]
+fn logging<'a>(
+    alloc: Global,
+    name: &'a str,
+    about: &'a str,
+    keep: Arg<'a>,
+) -> Result<Command<'a>, AllocError>
+    requires local { keep.global ≡ false }
+    ensures shape { IfOk result (λ c. app_of c ≡ logging_app name.now (rule_of keep.entry)) }
     ensures local { IfOk result (λ c. (fields_of c).has_globals ≡ false) }
 {
-    lasting(alloc)?.arg(log(alloc))
+    lasting(alloc, name, about, keep)?.arg(log(alloc))
+}
+
+// `ROLE=ADDR`, once or more.
+fn partners<'a>(alloc: Global) -> Arg<'a>
+    ensures rule { rule_of result ≡ partners_rule }
+    ensures local { result.global ≡ false }
+{
+    Arg::new(alloc, "partners")
+        .value_name("ROLE=ADDR")
+        .action(ArgAction::Append)
+        .required(true)
+        .help("A role, NM, ATC, APT, AO, GH or DIC, and the IP address and port where it connects")
 }
 
 fn serve_command<'a>(alloc: Global) -> Result<Command<'a>, AllocError>
     ensures shape { IfOk result (λ c. app_of c ≡ serve_app) }
     ensures local { IfOk result (λ c. (fields_of c).has_globals ≡ false) }
 {
-    let partners = Arg::new(alloc, "partners")
-        .value_name("ROLE=ADDR")
-        .action(ArgAction::Append)
+    let about =
+        "Accepts a partner at each address, and serves all at once; --config FILE puts in its place the words of a file in TOML";
+    logging(alloc, "serve", about, keep(alloc))?.arg(partners(alloc))
+}
+
+// `ADDR`, of a first board.
+fn first<'a>(alloc: Global) -> Arg<'a>
+    ensures rule { rule_of result ≡ first_rule }
+    ensures local { result.global ≡ false }
+{
+    Arg::new(alloc, "first")
+        .value_name("ADDR")
         .required(true)
-        .help("A role, NM, ATC, APT, AO, GH or DIC, and the IP address and port where it connects");
-    logging(alloc)?.arg(partners)
+        .help("The IP address and port where the board that is followed has its --watch")
+}
+
+fn follow_command<'a>(alloc: Global) -> Result<Command<'a>, AllocError>
+    ensures shape { IfOk result (λ c. app_of c ≡ follow_app) }
+    ensures local { IfOk result (λ c. (fields_of c).has_globals ≡ false) }
+{
+    let about =
+        "Keeps the journal of another board as it grows, and serves as that board did once it is promoted";
+    logging(alloc, "follow", about, kept(alloc))?
+        .arg(first(alloc))?
+        .arg(partners(alloc))
 }
 
 // `FILE`.
@@ -393,13 +499,22 @@ fn run_program<'a>(alloc: Global) -> Result<Command<'a>, AllocError>
     bare_program(alloc).subcommand(run)
 }
 
-// The program with the two subcommands that keep a journal.
+// The program with the first two subcommands that keep a journal.
 fn serving_program<'a>(alloc: Global) -> Result<Command<'a>, AllocError>
     ensures shape { IfOk result (λ c. app_of c ≡ serving_app) }
     ensures local { IfOk result (λ c. (fields_of c).has_globals ≡ false) }
 {
     let serve = serve_command(alloc)?;
     run_program(alloc)?.subcommand(serve)
+}
+
+// The program with the three.
+fn following_program<'a>(alloc: Global) -> Result<Command<'a>, AllocError>
+    ensures shape { IfOk result (λ c. app_of c ≡ following_app) }
+    ensures local { IfOk result (λ c. (fields_of c).has_globals ≡ false) }
+{
+    let follow = follow_command(alloc)?;
+    serving_program(alloc)?.subcommand(follow)
 }
 
 // The program with one more subcommand, on a file.
@@ -444,7 +559,7 @@ fn program<'a>(alloc: Global) -> Result<Command<'a>, AllocError>
     let explains = "Lists a BPF program with what is known before each slot, and why it is refused";
     let tells = "Tells what each entry of a saved journal says and changes, as lines of JSON";
     let saved = "A journal that was saved as text";
-    let judging = with_program(alloc, serving_program(alloc)?, "verify", verifies)?;
+    let judging = with_program(alloc, following_program(alloc)?, "verify", verifies)?;
     let judging = with_file(alloc, judging, "audit", audits, saved)?;
     let judging = with_program(alloc, judging, "explain", explains)?;
     with_file(alloc, judging, "tell", tells, saved)
@@ -492,13 +607,17 @@ fn values<'m, 'a>(matches: &'m ArgMatches<'a>, name: &str, id: &str) -> Option<&
     inner.get_strs(id)
 }
 
-// The words that name partners, in their order.
-fn partners_of<'a>(alloc: Global, matches: &ArgMatches<'a>) -> Result<Vec<&'a str>, AllocError>
+// The words by which the subcommand of this name names partners, in their order.
+fn partners_of<'a>(
+    alloc: Global,
+    matches: &ArgMatches<'a>,
+    name: &str,
+) -> Result<Vec<&'a str>, AllocError>
     ensures { IfOk result (λ partners.
-        map (λ w. w.now) partners.items ≡ partners_in (subcommand_rows_of matches.now)) }
+        map (λ w. w.now) partners.items ≡ partners_in name.now (subcommand_rows_of matches.now)) }
 {
     let mut partners = Vec::new(alloc);
-    if let Some(words) = values(matches, "serve", "partners") {
+    if let Some(words) = values(matches, name, "partners") {
         partners.extend_from_slice(words)?;
     }
     Ok(partners)
@@ -572,11 +691,11 @@ fn count_in(text: &str, most: u32) -> Option<u32>
     }
 }
 
-// The number from 1 to another that `serve` is given by an option, if it is one or none.
-fn count_for(matches: &ArgMatches, id: &str, most: u32) -> Option<Option<u32>>
-    ensures { AnswersCount id.now most (subcommand_rows_of matches.now) result }
+// The number from 1 to another that the subcommand of this name is given by an option, if it is one or none.
+fn count_for(matches: &ArgMatches, name: &str, id: &str, most: u32) -> Option<Option<u32>>
+    ensures { AnswersCount name.now id.now most (subcommand_rows_of matches.now) result }
 {
-    match value(matches, "serve", id) {
+    match value(matches, name, id) {
         Some(text) => match count_in(text, most) {
             Some(count) => Some(Some(count)),
             None => None,
@@ -585,34 +704,40 @@ fn count_for(matches: &ArgMatches, id: &str, most: u32) -> Option<Option<u32>>
     }
 }
 
-// What `serve` asks for, if it was entered with such a journal.
-fn serve_of<'a>(
+// What the subcommand of this name asks for, one of the two that serve, if it was entered with such a journal; and
+// with the address of a first board, if it is `follow`.
+fn serving_of<'a>(
     alloc: Global,
     matches: &ArgMatches<'a>,
+    name: &str,
+    first: Option<&'a str>,
 ) -> Result<Option<Subcommand<'a>>, AllocError>
-    ensures { IfOk result (AnswersServe (subcommand_rows_of matches.now)) }
+    requires name { name.now ≡ serving_name first }
+    requires first { option_map (λ s. s.now) first ≡ first_in (subcommand_rows_of matches.now) }
+    ensures { IfOk result (AnswersServing name.now (subcommand_rows_of matches.now)) }
 {
-    let Some(journal) = journal_for(matches, "serve") else {
+    let Some(journal) = journal_for(matches, name) else {
         return Ok(None);
     };
-    let save = value(matches, "serve", "save");
-    let keep = value(matches, "serve", "keep");
-    let sync = is_set(matches, "serve", "sync");
-    let watch = value(matches, "serve", "watch");
-    let changes = value(matches, "serve", "changes");
-    let web = value(matches, "serve", "web");
-    let web_name = value(matches, "serve", "web-name");
-    let again = is_set(matches, "serve", "again");
-    let control = value(matches, "serve", "control");
-    let Some(pace) = count_for(matches, "pace", MOST_PACE) else {
+    let save = value(matches, name, "save");
+    let keep = value(matches, name, "keep");
+    let sync = is_set(matches, name, "sync");
+    let watch = value(matches, name, "watch");
+    let changes = value(matches, name, "changes");
+    let web = value(matches, name, "web");
+    let web_name = value(matches, name, "web-name");
+    let again = is_set(matches, name, "again");
+    let control = value(matches, name, "control");
+    let Some(pace) = count_for(matches, name, "pace", MOST_PACE) else {
         return Ok(None);
     };
-    let Some(tick) = count_for(matches, "tick", MOST_TICK) else {
+    let Some(tick) = count_for(matches, name, "tick", MOST_TICK) else {
         return Ok(None);
     };
-    let log = value(matches, "serve", "log");
-    let partners = partners_of(alloc, matches)?;
+    let log = value(matches, name, "log");
+    let partners = partners_of(alloc, matches, name)?;
     Ok(Some(Subcommand::Serve {
+        first,
         journal,
         save,
         keep,
@@ -628,6 +753,32 @@ fn serve_of<'a>(
         log,
         partners,
     }))
+}
+
+// What `follow` asks for, if it was entered with such a journal.
+fn follow_of<'a>(
+    alloc: Global,
+    matches: &ArgMatches<'a>,
+) -> Result<Option<Subcommand<'a>>, AllocError>
+    ensures asks { IfOk result (AnswersFollow (subcommand_rows_of matches.now)) }
+{
+    let Some(first) = value(matches, "follow", "first") else {
+        return Ok(None);
+    };
+    serving_of(alloc, matches, "follow", Some(first))
+}
+
+// What `serve` asks for, if it was entered with such a journal.
+fn serve_of<'a>(
+    alloc: Global,
+    matches: &ArgMatches<'a>,
+) -> Result<Option<Subcommand<'a>>, AllocError>
+    ensures { IfOk result (AnswersServe (subcommand_rows_of matches.now)) }
+{
+    if value(matches, "follow", "first").is_some() {
+        return Ok(None);
+    }
+    serving_of(alloc, matches, "serve", None)
 }
 
 // What is asked for by the subcommand that was entered.
@@ -652,6 +803,9 @@ fn subcommand_in<'a>(
     if let Some(run) = run_of(matches) {
         return Ok(Some(run));
     }
+    if let Some(follow) = follow_of(alloc, matches)? {
+        return Ok(Some(follow));
+    }
     serve_of(alloc, matches)
 }
 
@@ -664,10 +818,10 @@ fn reason(matches: &ArgMatches) -> &'static str {
     if name == "verify" || name == "explain" {
         return "invalid value for '--length <N>': it is neither 128 nor 160";
     }
-    if count_for(matches, "pace", MOST_PACE).is_none() {
+    if count_for(matches, name, "pace", MOST_PACE).is_none() {
         return "invalid value for '--pace <N>': it is not a number from 1 to 4294967295";
     }
-    if count_for(matches, "tick", MOST_TICK).is_none() {
+    if count_for(matches, name, "tick", MOST_TICK).is_none() {
         return "invalid value for '--tick <SECONDS>': it is not a number from 1 to 86400";
     }
     "invalid value for '--journal <N>': it is not a number from 1 to 1000000"

@@ -23,6 +23,7 @@ unseated words ticks (failures.Role n) p = p
 unseated words ticks (failures.Address n) p = inl p
 unseated words ticks failures.Memory p = tt
 unseated words ticks failures.Watch (front, word, more, split, all, fails) = absurd fails
+unseated words ticks failures.Follow (front, word, more, split, all, fails) = absurd fails
 unseated words ticks failures.Control (front, word, more, split, all, fails) = absurd fails
 unseated words ticks failures.Log (front, word, more, split, all, fails) = absurd fails
 unseated words ticks failures.Read (front, word, more, split, all, fails) = absurd fails

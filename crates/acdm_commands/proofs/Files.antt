@@ -20,7 +20,7 @@ use Rattle.acdm_commands.specs.Completed.{ExplainsLine, InFile, IsUnread, IsUnwr
 use Rattle.acdm_commands.specs.Completed.{ComesOfRun, Places, RunsLine, ServesLine, Settles}
 use Rattle.acdm_commands.specs.Completed.{written_to}
 use Rattle.acdm_board.specs.Desk.{DeskView}
-use Rattle.acdm_commands.specs.Keeping.{KeepsTo, ServesTo, StopsAtDesk, StopsFrom}
+use Rattle.acdm_commands.specs.Keeping.{ClosesFrom, ClosesLed, KeepsTo, ServesTo, StopsAtDesk, StopsFrom}
 use Rattle.acdm_commands.specs.Served.{FailsToSave, IsSaved, Runs, RunsTo}
 use Rattle.acdm_commands.specs.Partners.{Named, SavesSo, ServesNamed}
 use Rattle.acdm_serving.specs.Partners.{Telling}
@@ -56,6 +56,7 @@ module _ {F : Type 0} (sigs : List (ℕ × Promise)) (file later : SourceView F)
   audited_any old new (Err (failures.Address n)) p = absurd p
   audited_any old new (Err (failures.Accept n)) p = absurd p
   audited_any old new (Err failures.Watch) p = absurd p
+  audited_any old new (Err failures.Follow) p = absurd p
   audited_any old new (Err failures.Control) p = absurd p
   audited_any old new (Err failures.Log) p = absurd p
   audited_any old new (Err failures.Word) p = absurd p
@@ -97,6 +98,7 @@ module _ {F : Type 0} (sigs : List (ℕ × Promise)) (file later : SourceView F)
   told_any old new (Err (failures.Address n)) p = absurd p
   told_any old new (Err (failures.Accept n)) p = absurd p
   told_any old new (Err failures.Watch) p = absurd p
+  told_any old new (Err failures.Follow) p = absurd p
   told_any old new (Err failures.Control) p = absurd p
   told_any old new (Err failures.Log) p = absurd p
   told_any old new (Err failures.Word) p = absurd p
@@ -136,6 +138,7 @@ module _ {F : Type 0} (sigs : List (ℕ × Promise)) (file later : SourceView F)
   verified_any long old new (Err (failures.Address n)) p = absurd p
   verified_any long old new (Err (failures.Accept n)) p = absurd p
   verified_any long old new (Err failures.Watch) p = absurd p
+  verified_any long old new (Err failures.Follow) p = absurd p
   verified_any long old new (Err failures.Control) p = absurd p
   verified_any long old new (Err failures.Log) p = absurd p
   verified_any long old new (Err failures.Word) p = absurd p
@@ -193,6 +196,7 @@ fails_any (Some file) (Some later) (failures.Address n) p = absurd p
 fails_any (Some file) (Some later) (failures.Accept n) p = absurd p
 fails_any (Some file) (Some later) failures.Watch p = absurd p
 fails_any (Some file) (Some later) failures.Control p = absurd p
+fails_any (Some file) (Some later) failures.Follow p = absurd p
 fails_any (Some file) (Some later) failures.Log p = absurd p
 fails_any (Some file) (Some later) failures.Word p = absurd p
 fails_any (Some file) (Some later) failures.Stream p = absurd p
@@ -372,6 +376,25 @@ stops_at_any kept opening named old new file later failure (inr (said, p)) =
           (λ J. saves_any said J file later failure) p,
     )
 
+closes_led_any : {W F : Type 0} (led : DeskView) (old new : SinkView W) (file later : Option (SinkView F))
+    (work : Result ℕ Failure) → ClosesLed led old new file later work
+    → ClosesLed led old new (option_map written_to file) (option_map written_to later) work
+closes_led_any led old new file later (Ok status) p = (p.0, saved_any led.history file later p.1, p.2)
+closes_led_any led old new file later (Err failure) (same, inl p) = (same, inl p)
+closes_led_any led old new file later (Err failure) (same, inr p) = (same, inr (fails_any file later failure p))
+
+closes_any : {W F : Type 0} (sigs : List (ℕ × Promise)) (capacity : ℕ) (kept : Bool) (named : Named)
+    (old new : SinkView W) (file later : Option (SinkView F)) (work : Result ℕ Failure)
+    → ClosesFrom sigs capacity kept named old new file later work
+    → ClosesFrom sigs capacity kept named old new (option_map written_to file) (option_map written_to later) work
+closes_any sigs capacity kept named old new file later work p = record {
+  opening = p.opening;
+  begins = p.begins;
+  is_kept = p.is_kept;
+  follows = p.follows;
+  closes = closes_led_any p.opening old new file later work p.closes;
+}
+
 serves_any : {W F : Type 0} (sigs : List (ℕ × Promise)) (capacity : ℕ) (kept : Bool) (named : Named)
     (old new : SinkView W) (file later : Option (SinkView F)) (work : Result ℕ Failure)
     → ServesTo sigs capacity kept named old new file later work
@@ -386,15 +409,19 @@ serves_any sigs capacity kept named old new file later (Ok status) (inl p) = inl
   },
   p.1,
 )
-serves_any sigs capacity kept named old new file later (Ok status) (inr p) = inr p
+serves_any sigs capacity kept named old new file later (Ok status) (inr (inl p)) = inr (inl p)
+serves_any sigs capacity kept named old new file later (Ok status) (inr (inr p)) =
+    inr (inr (closes_any sigs capacity kept named old new file later (Ok status) p))
 serves_any sigs capacity kept named old new file later (Err failure) (inl p) = inl p
 serves_any sigs capacity kept named old new file later (Err failure) (inr (inl p)) = inr (inl p)
-serves_any sigs capacity kept named old new file later (Err failure) (inr (inr p)) =
-    inr (inr (record {
+serves_any sigs capacity kept named old new file later (Err failure) (inr (inr (inl p))) =
+    inr (inr (inl (closes_any sigs capacity kept named old new file later (Err failure) p)))
+serves_any sigs capacity kept named old new file later (Err failure) (inr (inr (inr p))) =
+    inr (inr (inr (record {
       opening = p.opening;
       begins = p.begins;
       why = stops_at_any kept p.opening named old new file later failure p.why;
-    }))
+    })))
 
 -- `serve`
 pub served_line : {W F E : Type 0} (sigs : List (ℕ × Promise)) (capacity : ℕ) (path : Option (List ℕ)) (kept : Bool)

@@ -53,6 +53,7 @@ module _ {P : Type 0} (role : P → Role) where
   named_as words front more word n failures.Memory split all count fails = tt
   named_as words front more word n (failures.Accept k) split all count fails = absurd fails
   named_as words front more word n failures.Watch split all count fails = absurd fails
+  named_as words front more word n failures.Follow split all count fails = absurd fails
   named_as words front more word n failures.Control split all count fails = absurd fails
   named_as words front more word n failures.Log split all count fails = absurd fails
   named_as words front more word n failures.Word split all count fails = absurd fails

@@ -1,5 +1,5 @@
 -- The board's own ticks, behind the partners that words name.
-use Rattle.std.proofs.Common.{◌≡◌, ℕ, ◌+◌, ◌≤◌, Bool, false, List, length, map, Option, Some, None, option_map, is_some, arith, length-append, append-nil, sym, subst, refl}
+use Rattle.std.proofs.Common.{◌≡◌, ℕ, ◌+◌, ◌≤◌, Bool, true, false, List, length, map, Option, Some, None, option_map, is_some, arith, length-append, append-nil, sym, subst, refl}
 use Rattle.std.proofs.lemmas.List.{length-map}
 use Rattle.acdm_sessions.specs.Sessions.{new_session}
 use Rattle.acdm_serving.specs.Partners.{starts_of, tick_starts}
@@ -13,12 +13,12 @@ use Rattle.acdm_step.specs.Commands.{History}
 use Rattle.acdm_commands.specs.Partners.{ServesPartners, ticking}
 
 -- their session, where the words ask for it
-pub ticking_is : {C T : Type 0} (clock : T → C) (ticks : Option T) (tick : Option ℕ)
-    → is_some ticks ≡ is_some tick → tick_starts (λ _. is_minute) (option_map clock ticks) ≡ ticking (is_some tick)
-ticking_is clock None None same = refl
-ticking_is clock None (Some n) same = absurd (cc)
-ticking_is clock (Some t) None same = absurd (cc)
-ticking_is clock (Some t) (Some n) same = refl
+pub ticking_by : {C T : Type 0} (clock : T → C) (ticks : Option T) (given : Bool)
+    → is_some ticks ≡ given → tick_starts (λ _. is_minute) (option_map clock ticks) ≡ ticking given
+ticking_by clock None false same = refl
+ticking_by clock None true same = absurd (cc)
+ticking_by clock (Some t) false same = absurd (cc)
+ticking_by clock (Some t) true same = refl
 
 -- partners and ticks are no more than they are together
 pub few_in_all : {C : Type 0} (gives : C → ℕ → Bool) (partners : List (Listener C)) (ticks : Option C) (n : ℕ)

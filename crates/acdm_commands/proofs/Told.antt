@@ -1,22 +1,28 @@
 -- Partners who were served, by what was told of them.
-use Rattle.std.proofs.Common.{◌≡◌, ℕ, Bool, List, [], ◌∷◌, ◌++◌, length, map, refl, ap}
-use Rattle.std.proofs.Common.{Some, Option, Result, Ok, Err, inl, inr, ◌∙◌, subst, sym}
+use Rattle.std.proofs.Common.{◌≡◌, ℕ, Bool, List, [], ◌∷◌, ◌++◌, length, map, option_map, refl, ap}
+use Rattle.std.proofs.Common.{Some, Option, Result, Ok, Err, IfErr, OnOk, inl, inr, ◌⊎◌, ◌∙◌, subst, sym, true, false}
 use Rattle.bpf_helpers.specs.Promise.{Promise}
 use Rattle.acdm_judging.specs.Findings.{Tells}
 use Rattle.acdm_judging.specs.declared.auditing.Finding.{Finding}
-use Rattle.acdm_commands.specs.Keeping.{BeginsWith, FailsToBegin, ServesTo, ServesWordsTo, StopsAtDesk}
+use Rattle.acdm_commands.specs.Keeping.{BeginsWith, ClosesLed, ComesLed, FailsToBegin, FailsToKeep, IsLed}
+use Rattle.acdm_commands.specs.Keeping.{AnswersSome, ServesKept, ServesLed, ServesTo, ServesWordsTo, StopsAnswering}
 use Rattle.acdm_commands.specs.declared.serve_command.BeginError.TheVariants as begin_errors
 use Rattle.std.specs.List.{flat_map}
 use Rattle.acdm_milestones.specs.declared.role.Role.{Role}
-use Rattle.acdm_lines.specs.Counted.{SinkView}
+use Rattle.acdm_lines.specs.Counted.{SinkView, SourceView}
 use Rattle.acdm_board.specs.Desk.{DeskView}
 use Rattle.acdm_sessions.specs.Sessions.{ServesSessions, SessionStart, SessionTold, new_session}
 use Rattle.acdm_sessions.proofs.Seats.{map_map}
-use Rattle.acdm_serving.specs.Partners.{Telling, TellsPartners, told_text}
+use Rattle.acdm_serving.specs.Partners.{Telling, TellsPartners, starts_of, told_text}
 use Rattle.acdm_commands.specs.Minutes.{is_minute}
-use Rattle.acdm_commands.specs.Partners.{Named, SavesSo, ServesNamed, ServesPartners, role_in, ticking}
-use Rattle.acdm_commands.specs.Served.{IsSaved}
+use Rattle.acdm_commands.specs.Partners.{FailsToServe, IsNamedBy, Named, SavesSo, ServesNamed, ServesPartners, role_in, ticking}
+use Rattle.acdm_serving.specs.declared.reconnecting.Partners.{Partners}
+use Rattle.acdm_commands.proofs.Ticks.{ticking_by}
+use Rattle.acdm_commands.specs.Served.{FailsToSave, IsSaved}
+use Rattle.acdm_failures.specs.Failures.{failure_of_keeping}
 use Rattle.acdm_failures.specs.declared.failure.Failure.{Failure}
+use Rattle.acdm_failures.specs.declared.failure.Failure.TheVariants as failures
+use Rattle.acdm_keeping.specs.Kept.{CutsShort}
 use Rattle.acdm_step.specs.Commands.{History}
 
 told_texts : {X : Type 0} (f : X → SessionTold) (xs : List X)
@@ -93,26 +99,180 @@ serves_named ps role behind desk named old new are_named is_behind said Kept ser
       (λ i. map_map (λ r. new_session r is_minute) role ps i ++ is_behind i) served;
 }
 
+-- ---- a desk by which another board was followed, or not
+
+-- where it was told how partners ended, it can only be that nothing was saved
+unsaved_alone : {F : Type 0} (saved later : Option (SinkView F)) (J : History) (said : Telling) (failure : Failure)
+    → said ≡ Ok tt → SavesSo {T = Unit {0}} said J saved later (Err failure) → FailsToSave saved later failure
+unsaved_alone saved later J said failure well (inl fails) = fails
+unsaved_alone saved later J said failure well (inr untold) = absurd (untold.1 well)
+
+-- it was served by, or the board was closed before
+served_or_closed : {W F : Type 0} (kept : Bool) (led : DeskView) (named : Named) (old new : SinkView W)
+    (saved later : Option (SinkView F)) (J : History) (said : Telling) (work : Result ℕ Failure)
+    → (ServesNamed led named old new said (λ H. H ≡ J) → ServesWordsTo kept led named old new saved later work)
+    → (new ≡ old → said ≡ Ok tt → J ≡ led.history → ClosesLed led old new saved later work)
+    → ServesNamed led named old new said (λ H. H ≡ J)
+    ⊎ ((kept ≡ true) × (named.follows ≡ true) × (new ≡ old) × (said ≡ Ok tt) × (J ≡ led.history))
+    → ServesWordsTo kept led named old new saved later work
+    ⊎ ((kept ≡ true) × (named.follows ≡ true) × ClosesLed led old new saved later work)
+served_or_closed kept led named old new saved later J said work serving closing (inl served) = inl (serving served)
+served_or_closed kept led named old new saved later J said work serving closing (inr p) =
+    inr (p.0, p.1, closing p.2 p.3 p.4)
+
+module _ {W F : Type 0} (kept : Bool) (desk : DeskView) (named : Named) (old new : SinkView W)
+    (saved later : Option (SinkView F)) (J : History) (said : Telling)
+    (comes : ComesLed kept desk named old new said J) where
+  -- what was made was saved
+  pub led_saved : SavesSo {T = Unit {0}} said J saved later (Ok tt)
+      → ServesLed kept desk named old new saved later (Ok 0)
+  led_saved saves = record {
+    led = comes.led;
+    is_led = comes.is_led;
+    serves = served_or_closed kept comes.led named old new saved later J said (Ok 0)
+        (λ so. comes_saved kept comes.led named old new saved later J said so saves)
+        (λ same well is. (same, subst (λ K. IsSaved K saved later) is saves.1, refl)) comes.serves;
+  }
+
+  -- it was not, or it could not be told how partners ended
+  pub led_unsaved : (failure : Failure) → SavesSo {T = Unit {0}} said J saved later (Err failure)
+      → ServesLed kept desk named old new saved later (Err failure)
+  led_unsaved failure saves = record {
+    led = comes.led;
+    is_led = comes.is_led;
+    serves = served_or_closed kept comes.led named old new saved later J said (Err failure)
+        (λ so. comes_unsaved kept comes.led named old new saved later J said so failure saves)
+        (λ same well is. (same, inr (unsaved_alone saved later J said failure well saves))) comes.serves;
+  }
+
+  -- it was not kept
+  pub led_unkept : (failure : Failure) → kept ≡ true → FailsToKeep failure
+      → ServesLed kept desk named old new saved later (Err failure)
+  led_unkept failure is_kept fails = record {
+    led = comes.led;
+    is_led = comes.is_led;
+    serves = served_or_closed kept comes.led named old new saved later J said (Err failure)
+        (λ so. inl (inr (record {
+          is_kept = is_kept;
+          failure_is = fails;
+          told = said;
+          served = kept_as comes.led named old new said J (λ H. Unit {0}) tt so;
+        })))
+        (λ same well is. (same, inl fails)) comes.serves;
+  }
+
+-- something failed, and no desk is asked about
+pub led_stopped : {W F : Type 0} (kept : Bool) (desk : DeskView) (named : Named) (old new : SinkView W)
+    (saved : Option (SinkView F)) (failure : Failure) → FailsToServe named old new failure
+    → ServesLed kept desk named old new saved saved (Err failure)
+led_stopped kept desk named old new saved failure fails = record {
+  led = desk;
+  is_led = inl refl;
+  serves = inl (inl (inl fails));
+}
+
+-- partners of the words were served by a desk that was led so
+pub comes_served : {W C : Type 0} (kept : Bool) (desk led : DeskView) (named : Named) (partners : Partners C)
+    (old new : SinkView W) (said : Telling) (J : History) → IsLed kept named.follows desk led → IsNamedBy named partners
+    → ServesPartners led (map (λ p. p.role) partners.listeners.items)
+    (starts_of (λ _. is_minute) partners.listeners.items (option_map (λ t. t.clock) partners.ticks)) old new said
+    (λ H. H ≡ J)
+    → ComesLed kept desk named old new said J
+comes_served kept desk led named partners old new said J is_led names served = record {
+  led = led;
+  is_led = is_led;
+  serves = inl (serves_named partners.listeners.items (λ l. l.role) _ led named old new names.0
+      (ticking_by (λ t. t.clock) partners.ticks named.ticks names.1) said (λ H. H ≡ J) served);
+}
+
+-- nobody was, since the board was closed before
+pub comes_closed : {W : Type 0} (kept : Bool) (desk led : DeskView) (named : Named) (old : SinkView W)
+    → IsLed kept named.follows desk led → (kept ≡ true) × (named.follows ≡ true)
+    → ComesLed kept desk named old old (Ok tt) led.history
+comes_closed kept desk led named old is_led so = record {
+  led = led;
+  is_led = is_led;
+  serves = inr (so.0, so.1, refl, refl, refl);
+}
+
+-- why a keeper ended early, as what a command fails by
+pub unkept_by : (failure : Failure) → CutsShort failure → FailsToKeep (failure_of_keeping failure)
+unkept_by failures.Save cut = tt
+unkept_by failures.Memory cut = tt
+unkept_by failures.Read cut = absurd cut
+unkept_by failures.Write cut = absurd cut
+unkept_by failures.Untold cut = absurd cut
+unkept_by (failures.Role n) cut = absurd cut
+unkept_by (failures.Address n) cut = absurd cut
+unkept_by (failures.Accept n) cut = absurd cut
+unkept_by failures.Watch cut = absurd cut
+unkept_by failures.Control cut = absurd cut
+unkept_by failures.Follow cut = absurd cut
+unkept_by failures.Log cut = absurd cut
+unkept_by failures.Word cut = absurd cut
+unkept_by failures.Stream cut = absurd cut
+unkept_by failures.Keep cut = absurd cut
+unkept_by failures.InUse cut = absurd cut
+unkept_by failures.Room cut = absurd cut
+
+-- lines were answered, all or some
+pub answers_some : {R W T : Type 0} (before after : DeskView) (read read_after : SourceView R) (old new : SinkView W)
+    (served : Result T Failure) → OnOk served (ServesKept before after read read_after)
+    → IfErr served (StopsAnswering before after read read_after old new) → AnswersSome before after read read_after old new
+answers_some before after read read_after old new (Ok x) ok err = inl ok
+answers_some before after read read_after old new (Err failure) ok err = inr (failure, err)
+
 -- ---- a desk that is begun, or none
+
+-- a desk that another board was followed by is begun so too
+begins_led : (sigs : List (ℕ × Promise)) (capacity : ℕ) (kept follows : Bool) (desk led : DeskView)
+    → BeginsWith sigs capacity kept desk → IsLed kept follows desk led → BeginsWith sigs capacity kept led
+begins_led sigs capacity kept follows desk led begins (inl is) = subst (BeginsWith sigs capacity kept) (sym is) begins
+begins_led sigs capacity kept follows desk led begins (inr p) = record {
+  room = ap (λ d. d.capacity) p.2.1 ∙ begins.room;
+  helpers = ap (λ d. d.sigs) p.2.1 ∙ begins.helpers;
+  empty = λ none. let t : true ≡ false = sym p.0 ∙ none in absurd (cc);
+}
 
 module _ {W F : Type 0} (sigs : List (ℕ × Promise)) (capacity : ℕ) (kept : Bool) (named : Named)
     (old new : SinkView W) (saved later : Option (SinkView F)) where
-  pub serves_begun : (own : Bool) (desk : DeskView) (work : Result ℕ Failure) → own ≡ kept
-      → BeginsWith sigs capacity kept desk → ServesWordsTo own desk named old new saved later work
+  serves_led : (led : DeskView) (work : Result ℕ Failure) → BeginsWith sigs capacity kept led
+      → ServesWordsTo kept led named old new saved later work
+      ⊎ ((kept ≡ true) × (named.follows ≡ true) × ClosesLed led old new saved later work)
       → ServesTo sigs capacity kept named old new saved later work
-  serves_begun own desk (Ok status) same begins served =
-      inl (record { opening = desk; begins = begins; serves = served.0 }, served.1)
-  serves_begun own desk (Err failure) same begins served =
+  serves_led led (Ok status) begins (inl served) =
+      inl (record { opening = led; begins = begins; serves = served.0 }, served.1)
+  serves_led led (Ok status) begins (inr closed) =
       inr (inr (record {
-        opening = desk;
+        opening = led;
         begins = begins;
-        why = subst (λ k. StopsAtDesk k desk named old new saved later failure) same served;
+        is_kept = closed.0;
+        follows = closed.1;
+        closes = closed.2;
       }))
+  serves_led led (Err failure) begins (inl served) =
+      inr (inr (inr (record { opening = led; begins = begins; why = served })))
+  serves_led led (Err failure) begins (inr closed) =
+      inr (inr (inl (record {
+        opening = led;
+        begins = begins;
+        is_kept = closed.0;
+        follows = closed.1;
+        closes = closed.2;
+      })))
+
+  pub serves_begun : (own : Bool) (desk : DeskView) (work : Result ℕ Failure) → own ≡ kept
+      → BeginsWith sigs capacity kept desk → ServesLed own desk named old new saved later work
+      → ServesTo sigs capacity kept named old new saved later work
+  serves_begun own desk work same begins served =
+      let l : ServesLed kept desk named old new saved later work =
+      subst (λ k. ServesLed k desk named old new saved later work) same served in
+      serves_led l.led work (begins_led sigs capacity kept named.follows desk l.led begins l.is_led) l.serves
 
   -- the kept journal is not legal, which was told, or could not be
   pub told_illegal : (finding : Finding) (work : Result ℕ Failure) → FailsToBegin kept (begin_errors.Illegal finding)
       → Tells finding old new work → ServesTo sigs capacity kept named old new saved later work
-  told_illegal finding (Ok status) fails tells = inr (fails.0, (finding, fails.1, tells))
+  told_illegal finding (Ok status) fails tells = inr (inl (fails.0, (finding, fails.1, tells)))
   told_illegal finding (Err failure) fails tells = inr (inl (fails.0, (finding, fails.1, tells)))
 
 -- there was no desk, and nobody was served

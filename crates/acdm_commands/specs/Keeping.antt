@@ -19,7 +19,9 @@ use Rattle.acdm_commands.specs.declared.resuming.Resumption.TheVariants.{Illegal
 use Rattle.acdm_commands.specs.declared.serve_command.BeginError.{BeginError}
 use Rattle.acdm_commands.specs.declared.serve_command.BeginError.TheVariants as begin_errors
 use Rattle.acdm_serving.specs.Partners.{Telling}
+use Rattle.acdm_following.specs.Follows.{Grows}
 use Rattle.acdm_step.specs.Commands.{History}
+use Rattle.acdm_step.specs.History.{IsLegal}
 use Rattle.acdm_step.specs.declared.entry.Entry.{Entry}
 use Rattle.acdm_commands.specs.Served.{FailsToSave, IsSaved}
 
@@ -106,6 +108,12 @@ StopsAnswering before after read read_after written written_after Memory =
     (read_after ≡ read) × (after ≡ before)
 StopsAnswering before after read read_after written written_after failure = ⊥
 
+-- what was made was not kept: its file failed, or memory was refused to the keeper
+abbrev pub FailsToKeep : Failure → Type 0
+FailsToKeep Keep = Unit {0}
+FailsToKeep Memory = Unit {0}
+FailsToKeep failure = ⊥
+
 -- all lines were answered by a desk, or those before something failed
 abbrev pub AnswersSome : {R W : Type 0} → DeskView → DeskView → SourceView R → SourceView R
     → SinkView W → SinkView W → Type 0
@@ -120,7 +128,7 @@ abbrev pub StopsKept : {R W : Type 0} → DeskView → DeskView → SourceView R
 StopsKept before after read read_after written written_after failure =
     (FailsToResume failure × (read_after ≡ read) × (after ≡ before) × (written_after ≡ written))
     ⊎ StopsAnswering before after read read_after written written_after failure
-    ⊎ ((failure ≡ Keep) × AnswersSome before after read read_after written written_after)
+    ⊎ (FailsToKeep failure × AnswersSome before after read read_after written written_after)
 
 -- A desk with room for so many entries went on from a kept journal. Not all lines were answered or kept; or
 -- all were, and what the desk had then was not saved.
@@ -168,7 +176,7 @@ FailsToBegin false (begin_errors.Failed failure) = failure ≡ Memory
 pub record FailsKept {W : Type 0} (kept : Bool) (desk : DeskView) (named : Named) (written written_after : SinkView W)
     (failure : Failure) : Type 0 where
   pub is_kept : kept ≡ true
-  pub failure_is : failure ≡ Keep
+  pub failure_is : FailsToKeep failure
   pub told : Telling
   pub served : ServesNamed desk named written written_after told (λ J. Unit {0})
 
@@ -185,6 +193,29 @@ StopsAtDesk kept desk named written written_after saved saved_after failure =
     FailsAtDesk kept desk named written written_after failure
     ⊎ FailsServed (ServesNamed desk named written written_after) saved saved_after failure
 
+-- The desk that partners are served by: that which was begun; or, where its journal is kept and another board was
+-- followed before, that with the entries which came of that board behind its own.
+abbrev pub IsLed : Bool → Bool → DeskView → DeskView → Type 0
+IsLed kept follows desk led =
+    (led ≡ desk) ⊎ ((kept ≡ true) × (follows ≡ true) × Grows desk led × IsLegal led.sigs led.history)
+
+-- Partners were served by such a desk, and this history came of it; or nobody was, since the board was closed while
+-- another one was followed.
+pub record ComesLed {W : Type 0} (kept : Bool) (desk : DeskView) (named : Named) (written written_after : SinkView W)
+    (told : Telling) (J : History) : Type 0 where
+  pub led : DeskView
+  pub is_led : IsLed kept named.follows desk led
+  pub serves : ServesNamed led named written written_after told (λ K. K ≡ J)
+      ⊎ ((kept ≡ true) × (named.follows ≡ true) × (written_after ≡ written) × (told ≡ Ok tt) × (J ≡ led.history))
+
+-- The board was closed while another one was followed: nobody was served, and what the desk had then was saved, or not.
+abbrev pub ClosesLed : {W F : Type 0} → DeskView → SinkView W → SinkView W → Option (SinkView F)
+    → Option (SinkView F) → Result ℕ Failure → Type 0
+ClosesLed led written written_after saved saved_after (Ok status) =
+    (written_after ≡ written) × IsSaved led.history saved saved_after × (status ≡ 0)
+ClosesLed led written written_after saved saved_after (Err failure) =
+    (written_after ≡ written) × (FailsToKeep failure ⊎ FailsToSave saved saved_after failure)
+
 -- what comes of serving the partners that the words name by a desk: all was done, with the status 0, or not
 abbrev pub ServesWordsTo : {W F : Type 0} → Bool → DeskView → Named → SinkView W → SinkView W
     → Option (SinkView F) → Option (SinkView F) → Result ℕ Failure → Type 0
@@ -192,6 +223,25 @@ ServesWordsTo kept desk named written written_after saved saved_after (Ok status
     ServesNamed desk named written written_after (Ok tt) (λ J. IsSaved J saved saved_after) × (status ≡ 0)
 ServesWordsTo kept desk named written written_after saved saved_after (Err failure) =
     StopsAtDesk kept desk named written written_after saved saved_after failure
+
+-- The same by a desk that another board may have been followed by before, until which the board may have been closed.
+pub record ServesLed {W F : Type 0} (kept : Bool) (desk : DeskView) (named : Named)
+    (written written_after : SinkView W) (saved saved_after : Option (SinkView F)) (work : Result ℕ Failure)
+    : Type 0 where
+  pub led : DeskView
+  pub is_led : IsLed kept named.follows desk led
+  pub serves : ServesWordsTo kept led named written written_after saved saved_after work
+      ⊎ ((kept ≡ true) × (named.follows ≡ true) × ClosesLed led written written_after saved saved_after work)
+
+-- the board was closed while another one was followed, by a desk that was begun so
+pub record ClosesFrom {W F : Type 0} (sigs : List (ℕ × Promise)) (capacity : ℕ) (kept : Bool) (named : Named)
+    (written written_after : SinkView W) (saved saved_after : Option (SinkView F)) (work : Result ℕ Failure)
+    : Type 0 where
+  pub opening : DeskView
+  pub begins : BeginsWith sigs capacity kept opening
+  pub is_kept : kept ≡ true
+  pub follows : named.follows ≡ true
+  pub closes : ClosesLed opening written written_after saved saved_after work
 
 -- partners were served by a desk that was begun so
 pub record ServesFrom {W : Type 0} (sigs : List (ℕ × Promise)) (capacity : ℕ) (kept : Bool) (named : Named)
@@ -213,15 +263,17 @@ abbrev pub FailsFirst : Bool → Failure → Type 0
 FailsFirst kept failure = FailsToBegin kept (begin_errors.Failed failure)
 
 -- What comes of it: all was done, with the status 0; or the kept journal is not legal, which was told, with
--- the status 1; or there was no desk, or that could not be told, and nobody was served; or something
--- failed then.
+-- the status 1; or there was no desk, or that could not be told, and nobody was served; or the board was closed while
+-- another one was followed; or something failed then.
 abbrev pub ServesTo : {W F : Type 0} → List (ℕ × Promise) → ℕ → Bool → Named → SinkView W
     → SinkView W → Option (SinkView F) → Option (SinkView F) → Result ℕ Failure → Type 0
 ServesTo sigs capacity kept named written written_after saved saved_after (Ok status) =
     (ServesFrom sigs capacity kept named written written_after (Ok tt) (λ J. IsSaved J saved saved_after)
     × (status ≡ 0))
     ⊎ ((kept ≡ true) × TellsFault written written_after (Ok status))
+    ⊎ ClosesFrom sigs capacity kept named written written_after saved saved_after (Ok status)
 ServesTo sigs capacity kept named written written_after saved saved_after (Err failure) =
     (FailsFirst kept failure × (written_after ≡ written))
     ⊎ ((kept ≡ true) × TellsFault written written_after (Err failure))
+    ⊎ ClosesFrom sigs capacity kept named written written_after saved saved_after (Err failure)
     ⊎ StopsServing sigs capacity kept named written written_after saved saved_after failure

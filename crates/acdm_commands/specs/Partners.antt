@@ -14,6 +14,7 @@ use Rattle.acdm_lines.specs.Counted.{SinkView, faults_after}
 use Rattle.acdm_sessions.specs.Sessions.{ServesSessions, SessionStart, SessionTold, new_session}
 use Rattle.acdm_step.specs.Commands.{History}
 use Rattle.acdm_serving.specs.Partners.{Telling, TellsPartners, told_text}
+use Rattle.acdm_serving.specs.declared.reconnecting.Partners.{Partners}
 use Rattle.acdm_commands.specs.Minutes.{is_minute}
 use Rattle.acdm_commands.specs.Served.{FailsToSave, IsSaved}
 use Rattle.acdm_commands.specs.declared.request.ServeRequest.{ServeRequest}
@@ -37,10 +38,11 @@ address_in word = after_first is_equals word
 abbrev pub has_outlet : Bool → Bool → Bool → Bool
 has_outlet journal changes web = journal || (changes || web)
 
--- what the words of `serve` name: its partners; and whether the board ticks by itself, whether there is a control
--- address and a log, and whether displays have an address
+-- what the words of `serve` or `follow` name: its partners; and whether another board is followed before, whether the
+-- board ticks by itself, whether there is a control address and a log, and whether displays have an address
 pub record Named : Type 0 where
   pub words : List (List ℕ)
+  pub follows : Bool
   pub ticks : Bool
   pub controlled : Bool
   pub logged : Bool
@@ -49,6 +51,7 @@ pub record Named : Type 0 where
 abbrev pub named_of : ServeRequest → Named
 named_of request = record {
   words = map (λ w. w.now) request.words.items;
+  follows = is_some request.first;
   ticks = is_some request.options.tick;
   controlled = is_some request.options.control;
   logged = is_some request.options.log;
@@ -107,6 +110,12 @@ pub record ServesNamed {W : Type 0} (desk : DeskView) (named : Named)
   pub partners : ServesPartners desk roles
       (map (λ role. new_session role is_minute) roles ++ ticking named.ticks) written written_after told Kept
 
+-- partners at listeners are those that the words name, and the board ticks by itself where they say so
+abbrev pub IsNamedBy : {C : Type 0} → Named → Partners C → Type 0
+IsNamedBy named partners =
+    (map role_in named.words ≡ map (λ p. Some p.role) partners.listeners.items)
+    × (is_some partners.ticks ≡ named.ticks)
+
 -- a partner is one too many, by its number from 1: at most 64 sessions are served, of which the board's own ticks are
 -- one
 abbrev pub IsOneTooMany : List (List ℕ) → Bool → ℕ → Type 0
@@ -137,10 +146,20 @@ FailsToOperate controlled logged failures.Log = logged ≡ true
 FailsToOperate controlled logged failures.Memory = Unit {0}
 FailsToOperate controlled logged failure = ⊥
 
+-- why no board is followed: the address of one that is to be followed is none; or, once it was followed, no more could
+-- be kept, or there was no room for an entry that came; or memory was refused
+abbrev pub FailsToLead : Bool → Failure → Type 0
+FailsToLead follows failures.Follow = follows ≡ true
+FailsToLead follows failures.Keep = follows ≡ true
+FailsToLead follows failures.Room = follows ≡ true
+FailsToLead follows failures.Memory = Unit {0}
+FailsToLead follows failure = ⊥
+
 -- why nobody was served, by what the words name
 abbrev pub FailsToOpen : Named → Failure → Type 0
 FailsToOpen named failure =
     FailsToSeat named.words named.ticks failure
+    ⊎ FailsToLead named.follows failure
     ⊎ FailsToShow named.shown failure
     ⊎ FailsToOperate named.controlled named.logged failure
 

@@ -121,6 +121,7 @@ fn complete_by<'a, Rt: Host + Files<File = File>, R: Read, W: Write, E: Write>(
             run_command(context, setup, files, input, output, errors)
         }
         Subcommand::Serve {
+            first,
             journal: capacity,
             save,
             keep,
@@ -137,6 +138,7 @@ fn complete_by<'a, Rt: Host + Files<File = File>, R: Read, W: Write, E: Write>(
             partners,
         } => {
             let request = ServeRequest {
+                first,
                 files: JournalFiles::new(named, save, keep, sync),
                 outlets: OutletAddresses {
                     journal: watch,

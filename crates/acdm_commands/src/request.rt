@@ -70,10 +70,11 @@ impl<'a> JournalFiles<'a> {
     }
 }
 
-/// What `serve` is asked for: the files of its journal, the addresses of displays, how partners are served, and a
-/// word `ROLE=ADDR` for each of them.
+/// What `serve` is asked for: the address of a board that is followed before, where it is `follow`; the files of its
+/// journal, the addresses of displays, how partners are served, and a word `ROLE=ADDR` for each of them.
 #[derive(Drop)]
 pub(crate) struct ServeRequest<'a> {
+    pub(crate) first: Option<&'a str>,
     pub(crate) files: JournalFiles<'a>,
     pub(crate) outlets: OutletAddresses<'a>,
     pub(crate) options: ServeOptions<'a>,

@@ -212,10 +212,10 @@ fn answer_kept<H: Helpers + Drop, R: Read, W: Write, F: Write + Drop>(
 {
     let mut keeper = keeper_of(alloc, desk, file)?;
     let served = answer_behind(alloc, desk, &mut keeper, input, output);
-    if keeper.keep().is_err() {
-        return Err(Failure::Keep);
+    match keeper.keep() {
+        Ok(_) => served,
+        Err(failure) => Err(failure.of_keeping()),
     }
-    served
 }
 
 // Answers the lines of a reader on a writer, behind a keeper. Where they could not be handed on and the

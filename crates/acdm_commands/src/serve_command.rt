@@ -1,14 +1,14 @@
 //! The command `serve`, from its words on.
-ghost use Rattle.std.specs.Prelude.{◌≡◌, ◌≤◌, true, false, IfErr, IfOk, IfSome, OnErr, is_some, length, map, option_map};
+ghost use Rattle.std.specs.Prelude.{◌≡◌, ◌≤◌, true, false, IfErr, IfOk, IfSome, None, OnErr, is_some, length, map, option_map};
 ghost use Rattle.acdm_board.specs.Desk.{row_of};
 ghost use Rattle.acdm_commands.specs.Completed.{ServesLine};
 ghost use Rattle.acdm_commands.specs.Keeping.{BeginsWith, FailsAtDesk, FailsToBegin, FailsToResume, IsNewKeeper};
-ghost use Rattle.acdm_commands.specs.Keeping.{ServesWordsTo, seen_by};
+ghost use Rattle.acdm_commands.specs.Keeping.{ComesLed, IsLed, ServesLed, seen_by};
 ghost use Rattle.acdm_commands.specs.Minutes.{is_minute};
-ghost use Rattle.acdm_commands.specs.Partners.{FailsToOpen, FailsToServeAll, ServesNamed, ServesPartners};
-ghost use Rattle.acdm_commands.specs.Partners.{named_of, role_in};
+ghost use Rattle.acdm_commands.specs.Partners.{FailsToOpen, FailsToServe, IsNamedBy, named_of, role_in};
 ghost use Rattle.acdm_failures.specs.Failures.{EndsBy};
-ghost use Rattle.acdm_failures.specs.declared.failure.Failure.TheVariants.{Memory};
+ghost use Rattle.acdm_keeping.specs.Kept.{Blames, CutsShort, StandsFor};
+ghost use Rattle.acdm_failures.specs.declared.failure.Failure.TheVariants.{Follow, Memory};
 ghost use Rattle.acdm_serving.specs.Partners.{starts_of};
 ghost use Rattle.acdm_tables.specs.Helpers.{helpers_by};
 
@@ -28,16 +28,17 @@ use acdm_keeping::{
 };
 use acdm_row::Row;
 use acdm_serving::{
-    FileKeeper, Host, Operation, Partners, ServedPartners, latest_receipt, serve_partners,
-    serve_reconnecting,
+    FileKeeper, FirstBoardPlace, Host, Operation, Partners, ServedPartners, follow_first,
+    latest_receipt, serve_partners, serve_reconnecting,
 };
-use acdm_sessions::{Clock, RunError, Sink};
+use acdm_sessions::{RunError, Sink};
 use acdm_tables::KnownHelpers;
 use bpf_helpers::Helpers;
 use std::alloc::Global;
 use std::fs::{File, Files};
-use std::io::Write;
+use std::io::{self, ErrorKind, Write};
 use std::marker::Brand;
+use std::net::SocketAddr;
 use std::sync::Arc;
 use std::sync::atomic::AtomicBool;
 
@@ -144,7 +145,7 @@ fn serve_begun<Rt: Host + Files<File = File>, H: Helpers + Drop + Send, W: Write
     saved: &mut Option<Sink<F>>,
 ) -> Result<u8, Failure>
     requires new { IfSome begun.keeper (IsNewKeeper begun.desk) }
-    ensures { ServesWordsTo (is_some begun.keeper) begun.desk (named_of request.now) output.old output.new saved.old
+    ensures { ServesLed (is_some begun.keeper) begun.desk (named_of request.now) output.old output.new saved.old
         saved.new result }
 {
     serve_desk::<Brand, Rt, H, W, F>(context, request, begun, output, saved)
@@ -169,7 +170,7 @@ fn serve_desk<
     requires opening { seen_by begun.keeper ≡ J.opening }
     requires table { begun.count ≡ J.table }
     requires new { IfSome begun.keeper (IsNewKeeper begun.desk) }
-    ensures { ServesWordsTo (is_some begun.keeper) begun.desk (named_of request.now) output.old output.new saved.old
+    ensures { ServesLed (is_some begun.keeper) begun.desk (named_of request.now) output.old output.new saved.old
         saved.new result }
 {
     let alloc = context.alloc;
@@ -213,7 +214,12 @@ fn serve_desk<
         log,
         keeper: shared.as_ref(),
     };
-    let served = serve_opened(context.rt, alloc, partners, desk, operation, output);
+    let led = Led {
+        partners: Some(partners),
+        desk,
+        operation,
+    };
+    let served = serve_led(context.rt, context, request, led, output);
     let (mut desk, told, latest) = match served {
         Ok(served) => served,
         Err(failure) => {
@@ -223,13 +229,13 @@ fn serve_desk<
             return Err(failure);
         }
     };
-    let kept = keep_rest(context.rt, shared, latest);
+    let (_keeper, kept) = keep_rest(context.rt, shared, latest);
     match kept {
         Ok(()) => {}
-        Err(_) => {
+        Err(failure) => {
             close_all(context.rt, outlets);
             note_kept(context, request.files.keep, &same);
-            return Err(Failure::Keep);
+            return Err(failure.of_keeping());
         }
     }
     let came = save_served(&mut buffer, &mut desk, told, saved);
@@ -293,21 +299,26 @@ fn reach_of<J: Opening, Rt: Host>(
     }
 }
 
-// Keeps what is left, where the journal is kept. Whether that fails or not, what the latest receipt is for, behind which
-// replies were handed on, stands in the file.
+// Keeps what is left, where the journal is kept, and answers its keeper. Whether that fails or not, what the latest
+// receipt is for, behind which replies were handed on, stands in the file. It fails only where the file has, or where
+// memory was refused.
 fn keep_rest<J: Opening, Rt: Host>(
     rt: &Rt,
     shared: Option<FileKeeper<J, Rt>>,
     latest: Option<LastingReceipt<J>>,
-) -> Result<(), Failure>
-    ensures { OnErr result (is_some shared ≡ true) }
+) -> (Option<Keeper<Synced<Rt>>>, Result<(), Failure>)
+    ensures keeper { is_some result.0 ≡ is_some shared }
+    ensures stands { IfSome result.0 (λ k. StandsFor J.opening latest k.seen k.writer.log) }
+    ensures blames { IfErr result.1 (λ failure. IfSome result.0 (λ k. Blames k.writer failure)) }
+    ensures fails { IfErr result.1 CutsShort }
+    ensures kept { OnErr result.1 (is_some shared ≡ true) }
 {
     match shared {
         Some(keeper) => {
-            let (_keeper, kept) = keeper.end(rt, latest);
-            kept
+            let (keeper, kept) = keeper.end(rt, latest);
+            (Some(keeper), kept)
         }
-        None => Ok(()),
+        None => (None, Ok(())),
     }
 }
 
@@ -345,33 +356,121 @@ fn is_served_once<J: Opening, Rt: Host, C: Drop>(
     partners.ticks.is_none() && operation.is_plain()
 }
 
-// Serves the partners. Answers the desk once they are gone, how it went to tell how they ended, and the latest receipt
-// behind which replies were handed on, if the journal is kept.
-fn serve_opened<
-    'r,
-    J: Opening + Send + Sync + 'r,
-    Rt: Host,
-    H: Helpers + Drop + Send,
-    C: Clock + Drop + Send,
-    W: Write,
->(
-    rt: &'r Rt,
-    alloc: Global,
-    partners: Partners<C>,
+/// Who is served, by what desk, and how that is run: nobody, where the board was closed while another one was followed.
+#[derive(Drop)]
+struct Led<'r, 'c, J: Opening, Rt: Host, H: Helpers + Drop> {
+    partners: Option<Partners<SystemMinutes<'c, Rt>>>,
     desk: Desk<H>,
     operation: Operation<'r, J, Rt>,
+}
+
+// The board that is to be followed, at its address. `Follow` where that is none, which is noted.
+fn first_board<'a, Rt>(
+    context: &Context<'_, Rt>,
+    name: &'a str,
+) -> Result<FirstBoardPlace<'a>, Failure>
+    ensures { IfErr result (λ failure. failure ≡ Follow) }
+{
+    match name.parse::<SocketAddr>() {
+        Ok(address) => Ok(FirstBoardPlace { name, address }),
+        Err(_) => {
+            let error = io::Error::new(ErrorKind::InvalidInput, "no IP address with a port");
+            context.why.note(context.alloc, "", name, &error);
+            Err(Failure::Follow)
+        }
+    }
+}
+
+// Follows another board first, where that is asked for and the journal is kept, until this one is to serve. Nobody listens
+// for partners meanwhile.
+fn lead<'r, 'c, J: Opening + Send + Sync, Rt: Host, H: Helpers + Drop>(
+    rt: &'r Rt,
+    context: &Context<'c, Rt>,
+    request: &ServeRequest<'_>,
+    led: Led<'r, 'c, J, Rt, H>,
+) -> Result<Led<'r, 'c, J, Rt, H>, Failure>
+    requires some { is_some led.partners ≡ true }
+    requires few { IfSome led.partners (λ p. length (starts_of (λ _. is_minute) p.listeners.items
+        (option_map (λ t. t.clock) p.ticks)) ≤ 64) }
+    requires named { IfSome led.partners (IsNamedBy (named_of request.now)) }
+    ensures few { IfOk result (λ led. IfSome led.partners (λ p. length (starts_of (λ _. is_minute) p.listeners.items
+        (option_map (λ t. t.clock) p.ticks)) ≤ 64)) }
+    ensures named { IfOk result (λ led. IfSome led.partners (IsNamedBy (named_of request.now))) }
+    ensures led { IfOk result (λ after.
+        IsLed (is_some led.entry.operation.keeper) (named_of request.now).follows led.entry.desk after.desk) }
+    ensures closed { IfOk result (λ after. after.partners ≡ None
+        → (is_some led.entry.operation.keeper ≡ true) × ((named_of request.now).follows ≡ true)) }
+    ensures fails { IfErr result (FailsToOpen (named_of request.now)) }
+{
+    let Some(name) = request.first else {
+        return Ok(led);
+    };
+    if led.operation.keeper.is_none() {
+        return Ok(led);
+    }
+    let Led {
+        partners,
+        mut desk,
+        mut operation,
+    } = led;
+    drop(partners);
+    let place = match first_board(context, name) {
+        Ok(place) => place,
+        Err(failure) => return Err(failure),
+    };
+    match follow_first(rt, context.alloc, place, &mut operation, &mut desk) {
+        Ok(true) => {}
+        Ok(false) => {
+            return Ok(Led {
+                partners: None,
+                desk,
+                operation,
+            });
+        }
+        Err(failure) => return Err(failure),
+    }
+    match few_partners(context, request.options.tick, request.words.as_slice()) {
+        Ok(partners) => Ok(Led {
+            partners: Some(partners),
+            desk,
+            operation,
+        }),
+        Err(failure) => Err(failure),
+    }
+}
+
+// Follows another board first, where that is asked for, and serves the partners then. Answers the desk once they are gone,
+// how it went to tell how they ended, and the latest receipt behind which replies were handed on, if the journal is kept.
+fn serve_led<'r, 'c, J: Opening + Send + Sync + 'r, Rt: Host, H: Helpers + Drop + Send, W: Write>(
+    rt: &'r Rt,
+    context: &Context<'c, Rt>,
+    request: &ServeRequest<'_>,
+    led: Led<'r, 'c, J, Rt, H>,
     output: &mut Sink<W>,
 ) -> Result<(Desk<H>, Result<(), RunError>, Option<LastingReceipt<J>>), Failure>
-    requires few { length (starts_of C.gives partners.listeners.items
-        (option_map (λ t. t.clock) partners.ticks)) ≤ 64 }
-    ensures serves { IfOk result (λ after. ServesPartners desk (map (λ p. p.role) partners.listeners.items)
-        (starts_of C.gives partners.listeners.items (option_map (λ t. t.clock) partners.ticks))
-        output.old output.new after.1 (λ J. J ≡ after.0.history)) }
-    ensures fails { IfErr result (FailsToServeAll output.old output.new) }
+    requires some { is_some led.partners ≡ true }
+    requires few { IfSome led.partners (λ p. length (starts_of (λ _. is_minute) p.listeners.items
+        (option_map (λ t. t.clock) p.ticks)) ≤ 64) }
+    requires named { IfSome led.partners (IsNamedBy (named_of request.now)) }
+    ensures serves { IfOk result (λ after. ComesLed (is_some led.entry.operation.keeper) led.entry.desk
+        (named_of request.now) output.old output.new after.1 after.0.history) }
+    ensures fails { IfErr result (FailsToServe (named_of request.now) output.old output.new) }
 {
+    let led = match lead(rt, context, request, led) {
+        Ok(led) => led,
+        Err(failure) => return Err(failure),
+    };
+    let Led {
+        partners,
+        desk,
+        operation,
+    } = led;
+    let Some(partners) = partners else {
+        return Ok((desk, Ok(()), None));
+    };
     if is_served_once(&partners, &operation) {
         let Partners { listeners, .. } = partners;
-        let served = match serve_partners(rt, alloc, listeners, desk, output) {
+        let served = match serve_partners(rt, context.alloc, listeners, desk, output) {
             Ok(served) => served,
             Err(error) => return Err(Failure::from(error)),
         };
@@ -383,7 +482,8 @@ fn serve_opened<
         drop(sessions);
         return Ok((desk, told, None));
     }
-    let served = match serve_reconnecting(rt, alloc, partners, operation, desk, output) {
+    let served = serve_reconnecting(rt, context.alloc, partners, operation, desk, output);
+    let served = match served {
         Ok(served) => served,
         Err(error) => return Err(Failure::from(error)),
     };

@@ -13,6 +13,16 @@ use std::time::{Clock, Duration};
 /// At how many looks it is looked once for the file of the journal: at about every half second.
 const LOOKS_A_FILE: u64 = 16;
 
+/// A board that is followed: where it is, as the words name it, and the word that says that it is not followed any more,
+/// since it was asked at the control address that this board serves.
+#[derive(Drop)]
+pub struct FollowedBoard {
+    /// Its address.
+    pub address: String,
+    /// Whether this board was promoted.
+    pub promoted: Arc<AtomicBool>,
+}
+
 /// Who accepts partners at all addresses, looks after the file of the journal, tells who comes and leaves and when the journal is nearly full,
 /// and answers at the control address.
 #[derive(Drop)]
@@ -25,18 +35,22 @@ pub struct Acceptor<K: Drop, S: Drop> {
     looks: u64,
     // Whether it was asked at the control address that the board closes.
     is_asked: bool,
+    // The board that this one follows, if it does: then there are no partners.
+    first: Option<FollowedBoard>,
     closing: Arc<AtomicBool>,
     done: Arc<AtomicBool>,
 }
 
 impl<K: Wait + Clock + Drop, S: Standing + Drop> Acceptor<K, S> {
-    /// One for these addresses, and for this control address, if there is one. What is to be told of them and of the
-    /// journal goes to the reporter. The word tells that the board closes.
+    /// One for these addresses, and for this control address, if there is one; or for a board that follows another one,
+    /// and has no partners meanwhile. What is to be told of them and of the journal goes to the reporter. The word tells
+    /// that the board closes.
     pub fn new(
         reporter: Reporter<K>,
         doors: Vec<Door>,
         control: Option<Control>,
         standing: S,
+        first: Option<FollowedBoard>,
         closing: Arc<AtomicBool>,
     ) -> Result<Acceptor<K, S>, AllocError> {
         let done = Arc::new(reporter.alloc, AtomicBool::new(false))?;
@@ -48,6 +62,7 @@ impl<K: Wait + Clock + Drop, S: Standing + Drop> Acceptor<K, S> {
             levels: [Level::new(80), Level::new(95)],
             looks: 0,
             is_asked: false,
+            first,
             closing,
             done,
         })
@@ -55,6 +70,14 @@ impl<K: Wait + Clock + Drop, S: Standing + Drop> Acceptor<K, S> {
 
     fn is_done(&self) -> bool {
         self.done.load(Ordering::SeqCst)
+    }
+
+    // Whether the board that it follows is not followed any more.
+    fn is_promoted(&self) -> bool {
+        match &self.first {
+            Some(first) => first.promoted.load(Ordering::SeqCst),
+            None => false,
+        }
     }
 
     fn is_closing(&self) -> bool {
@@ -65,16 +88,19 @@ impl<K: Wait + Clock + Drop, S: Standing + Drop> Acceptor<K, S> {
         thread::sleep(&self.reporter.rt, Duration::from_millis(PAUSE));
     }
 
-    fn run(mut self) {
+    // Gives the control address back, if there is one.
+    fn run(mut self) -> Option<Control> {
         self.serve();
         self.close();
         self.finish();
+        let Acceptor { control, .. } = self;
+        control
     }
 
     // Accepts and answers until the board closes or all sessions have ended.
     fn serve(&mut self) {
         for _ in 0..u64::MAX {
-            if self.is_done() || self.is_closing() {
+            if self.is_done() || self.is_closing() || self.is_promoted() {
                 return;
             }
             self.look();
@@ -89,16 +115,25 @@ impl<K: Wait + Clock + Drop, S: Standing + Drop> Acceptor<K, S> {
         self.look_at_room();
         // Where the clock tells no time nobody is too late.
         let now = self.reporter.passed().unwrap_or(0);
+        let first = match &self.first {
+            Some(first) => Some(first.address.as_str()),
+            None => None,
+        };
         if let Some(control) = &mut self.control {
             let state = BoardState {
                 rt: &self.reporter.rt,
                 alloc: self.reporter.alloc,
                 doors: self.doors.as_slice(),
                 standing: &self.standing,
+                first,
             };
-            if control.look(&state, now) {
+            let asked = control.look(&state, now);
+            if asked.closes {
                 self.is_asked = true;
                 self.close_board();
+            }
+            if asked.promotes {
+                self.promote();
             }
         }
         self.reporter.look_after_log();
@@ -113,6 +148,12 @@ impl<K: Wait + Clock + Drop, S: Standing + Drop> Acceptor<K, S> {
             if level.look(used, room) {
                 self.reporter.tell_room(level.percent(), used, room);
             }
+        }
+    }
+
+    fn promote(&self) {
+        if let Some(first) = &self.first {
+            first.promoted.store(true, Ordering::SeqCst);
         }
     }
 
@@ -152,7 +193,9 @@ impl<K: Wait + Clock + Drop, S: Standing + Drop> Acceptor<K, S> {
     // Tells what is left to be told.
     fn finish(&mut self) {
         self.look_at_room();
-        if self.reporter.has_log() {
+        if self.is_promoted() && !self.is_closing() {
+            self.reporter.tell_promoted(self.standing.used());
+        } else if self.reporter.has_log() {
             self.log_end();
         }
         self.reporter.end();
@@ -191,7 +234,7 @@ impl<K: Wait + Clock + Drop, S: Standing + Drop> Acceptor<K, S> {
 #[derive(Drop)]
 pub struct Reception {
     done: Arc<AtomicBool>,
-    thread: JoinHandle<()>,
+    thread: JoinHandle<Option<Control>>,
 }
 
 impl Reception {
@@ -208,10 +251,10 @@ impl Reception {
         }
     }
 
-    /// Ends it, once all sessions have ended.
-    pub fn end<Rt: Threads>(self, rt: &Rt) {
+    /// Ends it, once all sessions have ended, and gives the control address back, if there is one.
+    pub fn end<Rt: Threads>(self, rt: &Rt) -> Option<Control> {
         let Reception { done, thread } = self;
         done.store(true, Ordering::SeqCst);
-        thread.join(rt);
+        thread.join(rt)
     }
 }

@@ -1,4 +1,5 @@
-//! The control address: who connects there may ask for the state of the board, and have it close.
+//! The control address: who connects there may ask for the state of the board, have it close, and have a board that
+//! follows another one serve.
 ghost use Rattle.std.specs.Prelude.{◌≡◌, ◌<◌, vec_len};
 
 use crate::connection::is_passing;
@@ -19,6 +20,9 @@ const PATIENCE: u64 = 10_000;
 
 /// How many bytes a line has at most. Who sends one that has more is let go.
 const LONGEST_LINE: usize = 64;
+
+/// The number of this version, which stands in the repository's file `VERSION` too.
+const VERSION: &str = "1.0.0";
 
 /// What is told of the journal.
 pub trait Standing {
@@ -48,6 +52,17 @@ pub(crate) struct BoardState<'a, K, S> {
     pub(crate) alloc: Global,
     pub(crate) doors: &'a [Door],
     pub(crate) standing: &'a S,
+    // The board that it follows, if it does.
+    pub(crate) first: Option<&'a str>,
+}
+
+/// What was asked for at the control address since the last look.
+#[derive(Clone, Copy)]
+pub(crate) struct Requests {
+    /// That the board closes.
+    pub(crate) closes: bool,
+    /// That it follows no longer, and serves.
+    pub(crate) promotes: bool,
 }
 
 // Who is connected, the line that was begun, and when the one before was answered, in milliseconds.
@@ -73,11 +88,14 @@ fn address_of(text: &str) -> Option<SocketAddr> {
     }
 }
 
-// What is told of the board: who is here, the entries, and the moment of the last one.
+// What is told of the board: who is here, the entries, the version, and the moment of the last entry.
 fn status<K: Wait, S: Standing>(state: &BoardState<'_, K, S>) -> Result<String, AllocError> {
     let alloc = state.alloc;
     let standing = state.standing;
     let mut text = String::new(alloc);
+    if let Some(first) = state.first {
+        writeln!(text, "following {first}")?;
+    }
     for door in state.doors {
         door.add_status(state.rt, alloc, &mut text)?;
     }
@@ -88,6 +106,7 @@ fn status<K: Wait, S: Standing>(state: &BoardState<'_, K, S>) -> Result<String, 
     let used = standing.used();
     let room = standing.room();
     writeln!(text, "entries {used} of {room}")?;
+    writeln!(text, "version {VERSION}")?;
     match standing.last() {
         Some(minute) => {
             let moment = moment_text(alloc, u64::from(minute) * 60)?;
@@ -133,13 +152,18 @@ impl ControlCaller {
     fn answer<K: Wait, S: Standing>(
         &mut self,
         state: &BoardState<'_, K, S>,
-        closes: &mut bool,
+        asked: &mut Requests,
     ) -> bool {
         match control_request(self.line.as_slice()) {
             ControlRequest::Close => {
-                *closes = true;
+                asked.closes = true;
                 self.send(b"closing\n")
             }
+            ControlRequest::Promote if state.first.is_some() => {
+                asked.promotes = true;
+                self.send(b"promoting\n")
+            }
+            ControlRequest::Promote => self.send(b"serving\n"),
             ControlRequest::Status => match status(state) {
                 Ok(text) => self.send(text.as_bytes()),
                 Err(_) => false,
@@ -156,7 +180,7 @@ impl ControlCaller {
         &mut self,
         state: &BoardState<'_, K, S>,
         now: u64,
-        closes: &mut bool,
+        asked: &mut Requests,
     ) -> bool {
         let mut buf = [0u8; LONGEST_LINE];
         let Some(count) = self.heard(&mut buf) else {
@@ -164,7 +188,7 @@ impl ControlCaller {
         };
         for byte in buf.iter().take(count) {
             if *byte == b'\n' {
-                if !self.answer(state, closes) {
+                if !self.answer(state, asked) {
                     return false;
                 }
                 self.line.clear();
@@ -238,26 +262,29 @@ impl Control {
         found
     }
 
-    /// Accepts who waits, and answers the lines that have come by this moment, in milliseconds. Says whether
-    /// the board is to close.
+    /// Accepts who waits, and answers the lines that have come by this moment, in milliseconds. Says what they asked
+    /// for.
     pub(crate) fn look<K: Wait, S: Standing>(
         &mut self,
         state: &BoardState<'_, K, S>,
         now: u64,
-    ) -> bool {
-        let mut closes = false;
+    ) -> Requests {
+        let mut asked = Requests {
+            closes: false,
+            promotes: false,
+        };
         let mut at = 0;
         self.admit(state.alloc, now);
         for _ in 0..MOST_CALLERS {
             if at >= self.callers.len() {
                 break;
             }
-            if self.callers[at].look(state, now, &mut closes) {
+            if self.callers[at].look(state, now, &mut asked) {
                 at += 1;
             } else {
                 let _left = self.callers.remove(at);
             }
         }
-        closes
+        asked
     }
 }

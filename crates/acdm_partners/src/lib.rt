@@ -26,7 +26,7 @@ mod stamp;
 mod stopwatch;
 mod times;
 
-pub use acceptor::{Acceptor, Reception};
+pub use acceptor::{Acceptor, FollowedBoard, Reception};
 pub use arrivals::Arrivals;
 pub use arriving::Arriving;
 pub use connection::Connection;

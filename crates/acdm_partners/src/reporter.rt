@@ -188,6 +188,68 @@ impl<K: Wait + Clock + Drop> Reporter<K> {
         Ok(line)
     }
 
+    /// Tells that a board is followed from the entry of this number on: `following ADDR NEXT MOMENT`.
+    pub fn tell_following(&self, address: &str, next: u64) {
+        self.tell(self.following_line(address, next));
+        self.log(self.following_event(address, next));
+    }
+
+    fn following_line(&self, address: &str, next: u64) -> Result<String, AllocError> {
+        let moment = now_text(&self.rt, self.alloc)?;
+        let mut line = String::new(self.alloc);
+        writeln!(line, "following {address} {next} {moment}")?;
+        Ok(line)
+    }
+
+    fn following_event(&self, address: &str, next: u64) -> Result<String, AllocError> {
+        let mut line = self.begin("following")?;
+        line.push_str(",\"address\":")?;
+        add_json(&mut line, address.as_bytes())?;
+        writeln!(line, ",\"next\":{next}}}")?;
+        Ok(line)
+    }
+
+    /// Tells that a board that is followed was parted from, or could not be reached, and why: `parted WHY MOMENT`.
+    pub fn tell_parted(&self, why: &str) {
+        self.tell(self.parted_line(why));
+        self.log(self.parted_event(why));
+    }
+
+    fn parted_line(&self, why: &str) -> Result<String, AllocError> {
+        let moment = now_text(&self.rt, self.alloc)?;
+        let mut line = String::new(self.alloc);
+        writeln!(line, "parted {why} {moment}")?;
+        Ok(line)
+    }
+
+    fn parted_event(&self, why: &str) -> Result<String, AllocError> {
+        let mut line = self.begin("parted")?;
+        line.push_str(",\"why\":")?;
+        add_json(&mut line, why.as_bytes())?;
+        line.push_str("}\n")?;
+        Ok(line)
+    }
+
+    /// Tells that no board is followed any more, and that this one serves from then on, with so many entries: `promoted
+    /// ENTRIES MOMENT`.
+    pub(crate) fn tell_promoted(&self, used: usize) {
+        self.tell(self.promoted_line(used));
+        self.log(self.promoted_event(used));
+    }
+
+    fn promoted_line(&self, used: usize) -> Result<String, AllocError> {
+        let moment = now_text(&self.rt, self.alloc)?;
+        let mut line = String::new(self.alloc);
+        writeln!(line, "promoted {used} {moment}")?;
+        Ok(line)
+    }
+
+    fn promoted_event(&self, used: usize) -> Result<String, AllocError> {
+        let mut line = self.begin("promoted")?;
+        writeln!(line, ",\"entries\":{used}}}")?;
+        Ok(line)
+    }
+
     /// Logs that the journal is not kept any more, by this error of the system, or since its file does not stand where
     /// it was.
     pub(crate) fn log_keep(&self, error: Option<io::Error>) {
@@ -237,7 +299,7 @@ impl<K: Wait + Clock + Drop> Reporter<K> {
     }
 
     /// Has what waits written, and waits for that, a second at most for either.
-    pub(crate) fn end(&self) {
+    pub fn end(&self) {
         if let Some(log) = &self.log {
             log.end(&self.rt);
         }

@@ -8,6 +8,8 @@ pub enum ControlRequest {
     Close,
     /// The state of the board.
     Status,
+    /// That a board which follows another one serves partners itself from then on.
+    Promote,
     /// Nothing that there is: who sends it is let go.
     Nothing,
 }
@@ -21,6 +23,9 @@ pub fn control_request(line: &[u8]) -> ControlRequest
     }
     if line == b"status".as_slice() {
         return ControlRequest::Status;
+    }
+    if line == b"promote".as_slice() {
+        return ControlRequest::Promote;
     }
     ControlRequest::Nothing
 }

@@ -1,3 +1,4 @@
+pub mod Following
 pub mod Outcomes
 pub mod Partners
 pub mod Ticks

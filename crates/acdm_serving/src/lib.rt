@@ -3,6 +3,7 @@
 //! a file are.
 #![tactic(auto)]
 
+mod following;
 mod handed;
 mod host;
 mod partners;
@@ -13,7 +14,7 @@ pub use handed::{KeptSession, latest_receipt};
 pub use host::Host;
 pub use partners::{Listener, PatientWriter, ServedPartners, serve_on, serve_partners};
 pub use reconnecting::{
-    Answering, FileKeeper, KeptReplyWriter, Operation, Partners, Reading, Ticking,
-    serve_reconnecting,
+    Answering, FileKeeper, FirstBoardPlace, KeptReplyWriter, Operation, Partners, Reading, Ticking,
+    follow_first, serve_reconnecting,
 };
 pub use ticks::{Beat, Ticks, Timer};

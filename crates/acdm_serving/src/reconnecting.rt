@@ -6,19 +6,24 @@ ghost use Rattle.acdm_serving.specs.Partners.{Announces, FailsToTell, IsOfAccept
 ghost use Rattle.acdm_serving.specs.Partners.{session_text, starts_of, tick_starts};
 ghost use Rattle.acdm_sessions.specs.Sessions.{ServesSessions, new_session, session_start};
 ghost use Rattle.acdm_sessions.specs.Sessions.{session_told};
+ghost use Rattle.acdm_following.specs.Follows.{Grows};
+ghost use Rattle.acdm_serving.specs.Following.{FailsToFollow};
 ghost use Rattle.acdm_serving.specs.Outcomes.{outcome_of};
+ghost use Rattle.acdm_step.specs.History.{IsLegal};
 
+use crate::following::{BoardAddress, Connects, FirstBoardAt, FollowedStream, StopFlags};
 use crate::host::Host;
 use crate::partners::{Listener, REPLIES_HELD, ServedPartners, announce, tell};
 use crate::ticks::{Ticks, Timer};
 use acdm_board::Desk;
-use acdm_failures::ServeError;
+use acdm_failures::{Failure, ServeError};
+use acdm_following::follow;
 use acdm_headline::serve_sessions;
 use acdm_keeping::{Named, Opening, Paths, Replies, SharedKeeper, Synced, Waiter};
 use acdm_milestones::Role;
 use acdm_partners::{
-    Acceptor, Arriving, Connection, Control, Door, LineOutcome, LineQueue, PartnerPlace,
-    PartnerReplies, Reception, Reporter, Standing, Terms, WholeLines,
+    Acceptor, Arriving, Connection, Control, Door, FollowedBoard, LineOutcome, LineQueue,
+    PartnerPlace, PartnerReplies, Reception, Reporter, Standing, Terms, WholeLines,
 };
 use acdm_row::Row;
 use acdm_sessions::{Answer, Clock, Closed, Gate, Session, Sink, Source};
@@ -27,7 +32,7 @@ use acdm_wire::LONGEST_REQUEST;
 use bpf_helpers::Helpers;
 use std::alloc::{AllocError, Global};
 use std::io::{self, Read, Write};
-use std::net::TcpListener;
+use std::net::{SocketAddr, TcpListener};
 use std::sync::atomic::{AtomicBool, AtomicUsize, Ordering};
 use std::sync::{Arc, Wait};
 use std::time::Clock as SystemClock;
@@ -452,6 +457,20 @@ fn open_all<'r, J: Opening, Rt: Host, C: Clock + Drop>(
     Ok(sessions)
 }
 
+// What tells an operator what happens: on standard error, and in the log at a path, if there is one.
+fn reporter_of<Rt: Host>(
+    rt: &Rt,
+    alloc: Global,
+    log: Option<String>,
+) -> Result<Reporter<Rt>, AllocError> {
+    let errors = LineQueue::on_errors(rt, rt.clone()?, alloc)?;
+    let log = match log {
+        Some(path) => Some(LineQueue::at_file(rt, rt.clone()?, alloc, path)?),
+        None => None,
+    };
+    Ok(Reporter::new(rt.clone()?, alloc, errors, log))
+}
+
 // Who accepts partners and answers at the control address.
 fn acceptor_of<J: Opening, Rt: Host>(
     rt: &Rt,
@@ -474,13 +493,8 @@ fn acceptor_of<J: Opening, Rt: Host>(
         kept,
         ticks,
     };
-    let errors = LineQueue::on_errors(rt, rt.clone()?, alloc)?;
-    let log = match log {
-        Some(path) => Some(LineQueue::at_file(rt, rt.clone()?, alloc, path)?),
-        None => None,
-    };
-    let reporter = Reporter::new(rt.clone()?, alloc, errors, log);
-    Acceptor::new(reporter, doors, control, tally, closing)
+    let reporter = reporter_of(rt, alloc, log)?;
+    Acceptor::new(reporter, doors, control, tally, None, closing)
 }
 
 // Starts the thread that accepts partners and answers at the control address.
@@ -531,48 +545,151 @@ fn opened<'r, J: Opening, Rt: Host, C: Clock + Drop, W: Write>(
     }
 }
 
-// Serves the sessions while partners are accepted.
-fn served_while<
+/// A board that is followed: its address, as the words name it, and as what that is.
+#[derive(Clone, Copy)]
+pub struct FirstBoardPlace<'a> {
+    /// As it is named.
+    pub name: &'a str,
+    /// What it is.
+    pub address: SocketAddr,
+}
+
+// A text once more, if there is one.
+fn text_of(alloc: Global, text: &Option<String>) -> Result<Option<String>, AllocError> {
+    match text {
+        Some(text) => Ok(Some(String::from_str(alloc, text.as_str())?)),
+        None => Ok(None),
+    }
+}
+
+// A board that is followed, and who looks after this one meanwhile.
+#[derive(Drop)]
+struct Follower<'r, Rt: Host> {
+    board: FirstBoardAt<'r, Rt, BoardAddress<'r, Rt>, FollowedStream>,
+    reception: Reception,
+    flags: StopFlags,
+}
+
+// Starts the thread that answers at the control address while a board is followed, and looks after the file of the
+// journal. `Memory` where that was refused, or no thread could be made.
+fn follower_of<'r, J: Opening, Rt: Host>(
+    rt: &'r Rt,
+    alloc: Global,
+    place: FirstBoardPlace<'_>,
+    operation: &mut Operation<'r, J, Rt>,
+    row: &Arc<Row>,
+) -> Result<Follower<'r, Rt>, AllocError>
+    ensures keeper { operation.new ≡ record operation.old { control = operation.new.control } }
+{
+    let flags = StopFlags {
+        closing: Arc::try_clone(&operation.closing)?,
+        promoted: Arc::new(alloc, AtomicBool::new(false))?,
+    };
+    let first = FollowedBoard {
+        address: String::from_str(alloc, place.name)?,
+        promoted: Arc::try_clone(&flags.promoted)?,
+    };
+    let kept = match &operation.kept {
+        Some(kept) => Some(kept.copy(alloc)?),
+        None => None,
+    };
+    let tally = Tally {
+        rt: rt.clone()?,
+        row: Arc::try_clone(row)?,
+        kept,
+        ticks: None,
+    };
+    let reporter = reporter_of(rt, alloc, text_of(alloc, &operation.log)?)?;
+    let own = reporter_of(rt, alloc, text_of(alloc, &operation.log)?)?;
+    let closing = Arc::try_clone(&operation.closing)?;
+    let same = flags.copy()?;
+    let control = operation.control.take();
+    let acceptor = Acceptor::new(
+        reporter,
+        Vec::new(alloc),
+        control,
+        tally,
+        Some(first),
+        closing,
+    )?;
+    let reception = Reception::begin(rt, acceptor)?;
+    let address = BoardAddress {
+        rt,
+        alloc,
+        row: Arc::try_clone(row)?,
+        address: place.address,
+        flags: flags.copy()?,
+    };
+    let board = FirstBoardAt::new(rt, alloc, own, address, same);
+    Ok(Follower {
+        board,
+        reception,
+        flags,
+    })
+}
+
+/// Follows a board, by a desk whose journal is kept, until it is asked at the control address that this one serves or
+/// closes, or until its file does not stand any more where it was. Says whether it was asked to serve. All that came by
+/// then is in the desk, and kept.
+///
+/// `Keep` where keeping failed, `Room` where the desk has no place for an entry that came; `Memory` where it was refused,
+/// or no thread could be made.
+pub fn follow_first<'r, J: Opening + Send + Sync, Rt: Host, H: Helpers + Drop>(
+    rt: &'r Rt,
+    alloc: Global,
+    place: FirstBoardPlace<'_>,
+    operation: &mut Operation<'r, J, Rt>,
+    desk: &mut Desk<H>,
+) -> Result<bool, Failure>
+    ensures grows { Grows desk.old desk.new }
+    ensures legal { IsLegal desk.new.sigs desk.new.history }
+    ensures operation { operation.new ≡ record operation.old { control = operation.new.control } }
+    ensures fails { IfErr result FailsToFollow }
+{
+    // (it says that the journal is legal)
+    let _core = desk.core();
+    let Ok(follower) = follower_of(rt, alloc, place, operation, desk.row()) else {
+        return Err(Failure::Memory);
+    };
+    let Follower {
+        mut board,
+        reception,
+        flags,
+    } = follower;
+    let followed = follow_by(rt, alloc, &mut board, operation.keeper, desk);
+    board.end();
+    operation.control = reception.end(rt);
+    match followed {
+        Ok(()) => Ok(flags.is_promoted()),
+        Err(failure) => Err(failure),
+    }
+}
+
+// Follows a board over any connections, by a desk whose journal is kept.
+fn follow_by<
     'r,
     J: Opening + Send + Sync,
     Rt: Host,
-    H: Helpers + Drop + Send,
-    C: Clock + Drop + Send,
+    M: Connects<C> + Drop,
+    C: Read + Drop,
+    H: Helpers + Drop,
 >(
     rt: &'r Rt,
     alloc: Global,
-    desk: Desk<H>,
-    sessions: Vec<Session<Reading<'r, Rt>, KeptReplyWriter<'r, J, Rt>, C>>,
-    addresses: Addresses,
-    operation: Operation<'r, J, Rt>,
-) -> Result<Closed<H, Reading<'r, Rt>, KeptReplyWriter<'r, J, Rt>, C>, ServeError>
-    requires few { vec_len sessions ≤ 64 }
-    ensures serves { IfOk result (λ c. ServesSessions desk c.desk
-        (map (λ s. session_start s.role s.reader s.writer (C.gives s.clock)) sessions.entry.items)
-        (map (λ e. session_told e.number e.role e.calls e.end e.torn e.reader e.writer e.pass)
-        c.sessions.items)) }
-    ensures fails { IfErr result IsOfAccepting }
+    board: &mut FirstBoardAt<'r, Rt, M, C>,
+    keeper: Option<&'r FileKeeper<J, Rt>>,
+    desk: &mut Desk<H>,
+) -> Result<(), Failure>
+    ensures grows { Grows desk.old desk.new }
+    ensures legal { IsLegal desk.new.sigs desk.new.history }
+    ensures fails { IfErr result FailsToFollow }
 {
-    let Addresses {
-        doors,
-        places,
-        ticks,
-    } = addresses;
-    let Ok(closing) = Arc::try_clone(&operation.closing) else {
-        return Err(ServeError::Memory);
-    };
-    let places = PartnerPlaces {
-        rt,
-        places,
-        ended: AtomicUsize::new(0),
-        closing,
-    };
-    let reception = receive(rt, alloc, (doors, ticks), operation, desk.row())?;
-    let served = serve_sessions(rt, alloc, desk, sessions, &places);
-    reception.end(rt);
-    match served {
-        Ok(closed) => Ok(closed),
-        Err(_desk) => Err(ServeError::Memory),
+    let mut waiter = Waiter::new(rt, keeper);
+    match follow(alloc, board, &mut waiter, desk) {
+        Ok(()) => Ok(()),
+        Err(Failure::Memory) => Err(Failure::Memory),
+        Err(Failure::Room) => Err(Failure::Room),
+        Err(_) => Err(Failure::Keep),
     }
 }
 
@@ -615,7 +732,27 @@ pub fn serve_reconnecting<
     let mut addresses = Addresses::new(alloc);
     let open = &mut addresses;
     let sessions = opened(rt, alloc, partners, &operation, open, writer)?;
-    let closed = served_while(rt, alloc, desk, sessions, addresses, operation)?;
+    let Addresses {
+        doors,
+        places,
+        ticks,
+    } = addresses;
+    let Ok(closing) = Arc::try_clone(&operation.closing) else {
+        return Err(ServeError::Memory);
+    };
+    let places = PartnerPlaces {
+        rt,
+        places,
+        ended: AtomicUsize::new(0),
+        closing,
+    };
+    let reception = receive(rt, alloc, (doors, ticks), operation, desk.row())?;
+    let served = serve_sessions(rt, alloc, desk, sessions, &places);
+    let _control = reception.end(rt);
+    let closed = match served {
+        Ok(closed) => closed,
+        Err(_desk) => return Err(ServeError::Memory),
+    };
     let told = tell(&closed, writer);
     let Closed { desk, sessions } = closed;
     Ok(ServedPartners {

@@ -156,9 +156,13 @@ place_from before false (word ∷ more) =
     else (if bytes_eq word (codes "--config") then place_from before true more
     else place_from (before + 1) false more)
 
--- behind the program's name and `serve`
+-- a word is the name of a subcommand that serves
+abbrev pub is_serving : List ℕ → Bool
+is_serving word = bytes_eq word (codes "serve") || bytes_eq word (codes "follow")
+
+-- behind the program's name and that
 abbrev pub place_in : List (List ℕ) → Option Place
-place_in (name ∷ command ∷ words) = if bytes_eq command (codes "serve") then place_from 2 false words else None
+place_in (name ∷ command ∷ words) = if is_serving command then place_from 2 false words else None
 place_in _ = None
 
 -- words with others in the place of two

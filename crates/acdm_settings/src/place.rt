@@ -1,7 +1,7 @@
 //! Where a command line names a file of settings.
 
 ghost use Rattle.std.specs.Prelude.{◌≡◌, ◌+◌, ◌≤◌, ◌++◌, IfOk, IfSome, false, length, map, option_map, string_bytes};
-ghost use Rattle.acdm_settings.specs.Settings.{place_from, place_in, with_settings};
+ghost use Rattle.acdm_settings.specs.Settings.{is_serving, place_from, place_in, with_settings};
 
 use std::alloc::{AllocError, Global};
 
@@ -13,7 +13,7 @@ pub struct ConfigPlace<'a> {
 }
 
 /// Where the words of a command line, of which the first is the program's name, name a file of settings: by
-/// `--config FILE`, as the words of `serve` and before a word `--`. `None` where they name none so.
+/// `--config FILE`, as the words of `serve` or of `follow` and before a word `--`. `None` where they name none so.
 pub fn place_in<'a>(words: &[&'a str]) -> Option<ConfigPlace<'a>>
     ensures place { option_map (λ p. (p.before, p.path.now)) result ≡ place_in (map (λ w. w.now) words.now) }
     ensures inside { IfSome result (λ p. p.before + 2 ≤ length words.now) }
@@ -24,10 +24,20 @@ pub fn place_in<'a>(words: &[&'a str]) -> Option<ConfigPlace<'a>>
     let Some((command, rest)) = rest.split_first() else {
         return None;
     };
-    if *command != "serve" {
-        return None;
+    if is_serving(command) {
+        return place_from(2, rest);
     }
-    place_from(2, rest)
+    None
+}
+
+// Whether a word is the name of a subcommand that serves.
+fn is_serving(word: &str) -> bool
+    ensures { result ≡ is_serving word.now }
+{
+    if word == "serve" {
+        return true;
+    }
+    word == "follow"
 }
 
 // The same behind so many words.

@@ -183,12 +183,84 @@ fn a_journal_is_kept_where_it_is_said(rt: HostRuntime) {
     );
 }
 
+// Whether these words ask to follow a first board with this journal kept, for these partners.
+fn asks_to_follow(
+    alloc: Global,
+    words: &[&str],
+    wanted: &str,
+    kept: &str,
+    words_wanted: &[&str],
+) -> bool {
+    match parse(alloc, words) {
+        Ok(
+            Line {
+                subcommand: Subcommand::Serve {
+                    first: Some(first),
+                    keep: Some(keep),
+                    partners,
+                    ..
+                },
+                ..
+            },
+        ) => first == wanted && keep == kept && partners.as_slice() == words_wanted,
+        _ => false,
+    }
+}
+
+// Words of `follow` without a file, an address or a partner, or with another journal than there is.
+static NOT_FOLLOWED: [&[&str]; 5] = [
+    &["acdm", "follow"],
+    &["acdm", "follow", "10.0.0.1:4100", "APT=[::1]:1"],
+    &["acdm", "follow", "10.0.0.1:4100", "--keep", "day"],
+    &[
+        "acdm",
+        "follow",
+        "10.0.0.1:4100",
+        "--keep",
+        "day",
+        "--journal",
+        "0",
+        "APT=[::1]:1",
+    ],
+    &["acdm", "serve", "--first", "10.0.0.1:4100", "APT=[::1]:1"],
+];
+
+// `follow` needs the address of a board, a file and a partner; the other words are those of `serve`.
+#[test]
+fn a_board_is_followed(rt: HostRuntime) {
+    let alloc = rt.alloc();
+    let words = [
+        "acdm",
+        "follow",
+        "10.0.0.1:4100",
+        "--keep",
+        "day",
+        "APT=[::1]:1",
+    ];
+    assert!(rt; asks_to_follow(alloc, &words, "10.0.0.1:4100", "day", &["APT=[::1]:1"]));
+    let words = [
+        "acdm",
+        "follow",
+        "--keep=day",
+        "--again",
+        "10.0.0.1:4100",
+        "APT=[::1]:1",
+        "NM=[::1]:2",
+    ];
+    let partners = ["APT=[::1]:1", "NM=[::1]:2"];
+    assert!(rt; asks_to_follow(alloc, &words, "10.0.0.1:4100", "day", &partners));
+    for words in &NOT_FOLLOWED {
+        assert!(rt; is_refused(alloc, *words));
+    }
+}
+
 // Whether these words ask to serve these partners with such a journal.
 fn asks_to_serve(alloc: Global, words: &[&str], wanted: usize, words_wanted: &[&str]) -> bool {
     match parse(alloc, words) {
         Ok(
             Line {
                 subcommand: Subcommand::Serve {
+                    first: None,
                     journal,
                     save,
                     keep: None,

@@ -111,9 +111,12 @@ fn a_newcomer_is_judged_by_its_first_line(rt: HostRuntime) {
     }
 }
 
-static REQUESTS: [(&[u8], ControlRequest); 7] = [
+static REQUESTS: [(&[u8], ControlRequest); 10] = [
     (b"close", ControlRequest::Close),
     (b"status", ControlRequest::Status),
+    (b"promote", ControlRequest::Promote),
+    (b"promote ", ControlRequest::Nothing),
+    (b"promot", ControlRequest::Nothing),
     (b"close ", ControlRequest::Nothing),
     (b"CLOSE", ControlRequest::Nothing),
     (b"clos", ControlRequest::Nothing),

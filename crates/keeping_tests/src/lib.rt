@@ -8,4 +8,6 @@ mod crash;
 #[cfg(test)]
 mod files;
 #[cfg(test)]
+mod following;
+#[cfg(test)]
 mod sharing;

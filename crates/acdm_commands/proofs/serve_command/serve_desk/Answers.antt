@@ -1,44 +1,55 @@
-use Rattle.std.proofs.Common.{◌≡◌, inl, inr, is_some, refl, sym, ◌∙◌}
-use Rattle.acdm_commands.proofs.Ticks.{ticking_is}
-use Rattle.acdm_commands.proofs.Told.{comes_saved, comes_unsaved, kept_as, serves_named}
+use Rattle.std.proofs.Common.{Err, Ok, inl, inr, is_some, subst, ◌∙◌}
+use Rattle.acdm_commands.specs.Keeping.{ServesLed}
 use Rattle.acdm_commands.specs.Partners.{named_of}
+use Rattle.acdm_commands.proofs.Told.{led_saved, led_stopped, led_unkept, led_unsaved, unkept_by}
 use Rattle.acdm_commands.proofs.serve_command.serve_desk.Goals as goal
+
+pub returns-in_default : goal.returns-in_default
+returns-in_default g c = led_stopped _ _ _ _ _ _ _ (inl (inr (inl tt)))
+
+pub returns-in_default-new : goal.returns-in_default-new
+returns-in_default-new g c = led_stopped _ _ _ _ _ _ _ (inl (inr (inl tt)))
+
+pub returns-in_default-copy_of : goal.returns-in_default-copy_of
+returns-in_default-copy_of g c = led_stopped _ _ _ _ _ _ _ (inl (inr (inl tt)))
+
+pub returns-in-Err : goal.returns-in-Err
+returns-in-Err g c = led_stopped _ _ _ _ _ _ _ (inl (inr (inr (inr c.in-Err.ensures))))
+
+pub returns-in-Err-share : goal.returns-in-Err-share
+returns-in-Err-share g c = led_stopped _ _ _ _ _ _ _ (inl (inr (inl tt)))
+
+pub returns-in_default-reach_of : goal.returns-in_default-reach_of
+returns-in_default-reach_of g c = led_stopped _ _ _ _ _ _ _ (inl (inr (inl tt)))
+
+pub returns-in-Err-opened : goal.returns-in-Err-opened
+returns-in-Err-opened g c = led_stopped _ _ _ _ _ _ _ (inl c.in-Err-opened.ensures.fails)
+
+pub returns-in-Err-served : goal.returns-in-Err-served
+returns-in-Err-served g c = led_stopped _ _ _ _ _ _ _ c.in-Err-served.ensures.fails
 
 pub returns-in-Err-kept : goal.returns-in-Err-kept
 returns-in-Err-kept g c =
-    let opened = c.in-Ok-opened.opened.0 in
-    let served = c.in-Ok-served.served in
-    inl (inr (record {
-      is_kept = sym c.in-Ok-share.ensures.shared ∙ c.in-Err-kept.ensures;
-      failure_is = refl;
-      told = served.1;
-      served = kept_as c.args.begun.desk (named_of c.args.request.now) c.args.output.now
-          c.serve_opened-served.new.output served.1 served.0.history (λ J. Unit {0}) tt
-          (serves_named opened.listeners.items (λ p. p.role) _ c.args.begun.desk (named_of c.args.request.now)
-          c.args.output.now c.serve_opened-served.new.output c.in-Ok-opened.ensures.roles
-          (ticking_is (λ t. t.clock) opened.ticks c.args.request.now.options.tick c.in-Ok-opened.ensures.ticks)
-          served.1 (λ J. J ≡ served.0.history) c.in-Ok-served.ensures.serves);
-    }))
+    subst (λ k. ServesLed k c.args.begun.desk (named_of c.args.request.now) c.args.output.now
+    c.serve_led-served.new.output c.args.saved.now c.args.saved.now (Err c.of_keeping.result)) (c.as_ref-2.ensures.variant ∙ c.in-Ok-share.ensures.shared)
+    (led_unkept (is_some c.as_ref-2.result) c.args.begun.desk (named_of c.args.request.now) c.args.output.now
+    c.serve_led-served.new.output c.args.saved.now c.args.saved.now c.in-Ok-served.served.0.history c.in-Ok-served.served.1
+    c.in-Ok-served.ensures.serves c.of_keeping.result
+    (c.as_ref-2.ensures.variant ∙ (rw c.in-Err-kept.is at c.keep_rest-keeper.ensures.kept))
+    (rw c.of_keeping.ensures (unkept_by c.in-Err-kept.failure (rw c.in-Err-kept.is at c.keep_rest-keeper.ensures.fails))))
 
 pub returns-in-Ok-came : goal.returns-in-Ok-came
 returns-in-Ok-came g c =
-    let opened = c.in-Ok-opened.opened.0 in
-    let served = c.in-Ok-served.served in
-    comes_saved (is_some c.args.begun.keeper) c.args.begun.desk (named_of c.args.request.now) c.args.output.now
-    c.serve_opened-served.new.output c.args.saved.now c.save_served-came.new.saved served.0.history served.1
-    (serves_named opened.listeners.items (λ p. p.role) _ c.args.begun.desk (named_of c.args.request.now)
-    c.args.output.now c.serve_opened-served.new.output c.in-Ok-opened.ensures.roles
-    (ticking_is (λ t. t.clock) opened.ticks c.args.request.now.options.tick c.in-Ok-opened.ensures.ticks)
-    served.1 (λ J. J ≡ served.0.history) c.in-Ok-served.ensures.serves) c.in-Ok-came.ensures
+    subst (λ k. ServesLed k c.args.begun.desk (named_of c.args.request.now) c.args.output.now
+    c.serve_led-served.new.output c.args.saved.now c.save_served-came.new.saved (Ok 0)) (c.as_ref-2.ensures.variant ∙ c.in-Ok-share.ensures.shared)
+    (led_saved (is_some c.as_ref-2.result) c.args.begun.desk (named_of c.args.request.now) c.args.output.now
+    c.serve_led-served.new.output c.args.saved.now c.save_served-came.new.saved c.in-Ok-served.served.0.history c.in-Ok-served.served.1
+    c.in-Ok-served.ensures.serves c.in-Ok-came.ensures)
 
 pub returns : goal.returns
 returns g c =
-    let opened = c.in-Ok-opened.opened.0 in
-    let served = c.in-Ok-served.served in
-    comes_unsaved (is_some c.args.begun.keeper) c.args.begun.desk (named_of c.args.request.now) c.args.output.now
-    c.serve_opened-served.new.output c.args.saved.now c.save_served-came.new.saved served.0.history served.1
-    (serves_named opened.listeners.items (λ p. p.role) _ c.args.begun.desk (named_of c.args.request.now)
-    c.args.output.now c.serve_opened-served.new.output c.in-Ok-opened.ensures.roles
-    (ticking_is (λ t. t.clock) opened.ticks c.args.request.now.options.tick c.in-Ok-opened.ensures.ticks)
-    served.1 (λ J. J ≡ served.0.history) c.in-Ok-served.ensures.serves) c.in-Err-came.failure
-    c.in-Err-came.ensures
+    subst (λ k. ServesLed k c.args.begun.desk (named_of c.args.request.now) c.args.output.now
+    c.serve_led-served.new.output c.args.saved.now c.save_served-came.new.saved (Err c.in-Err-came.failure)) (c.as_ref-2.ensures.variant ∙ c.in-Ok-share.ensures.shared)
+    (led_unsaved (is_some c.as_ref-2.result) c.args.begun.desk (named_of c.args.request.now) c.args.output.now
+    c.serve_led-served.new.output c.args.saved.now c.save_served-came.new.saved c.in-Ok-served.served.0.history c.in-Ok-served.served.1
+    c.in-Ok-served.ensures.serves c.in-Err-came.failure c.in-Err-came.ensures)

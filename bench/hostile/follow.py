@@ -1,0 +1,414 @@
+#!/usr/bin/env python3
+"""Tries `acdm follow` of the built program: a second board that keeps the journal of a first one, and takes over.
+
+    python3 bench/hostile/follow.py [--program PATH] [--kills N]
+
+A day that is followed, its first board killed and the second promoted, N times; connections that are cut at each byte; a
+follower that is killed and begun again; a chain of two; a first board that comes back; addresses that are no board's; other
+journals, boards that are behind, lines that are not legal; words and files that are refused; `close`. The last line is
+`N cases, M failed`; status 1 where one failed.
+"""
+
+import hashlib
+import pathlib
+import random
+import re
+import socket
+import subprocess
+import sys
+import tempfile
+import threading
+import time
+
+from again import Board, Partner, free_port
+from cases import ALERTS, PLAN, SCHEDULE, Cases, cause, ran, text, words
+
+TICK = '{"cmd":"tick"}'
+CLIENT = pathlib.Path(__file__).resolve().parents[2] / "clients" / "partner.py"
+MOMENT = r"\d{4}-\d\d-\d\dT\d\d:\d\d:\d\dZ"
+ROLES = ["APT", "NM"]
+# Five entries, as an audit takes them.
+JOURNAL = [
+    "0 1 29000580 APT 0 0 schedule 7 DLH7 A320 DAIBC EDDM 29000760 40 5 10 12",
+    "1 2 29000580 NM 0 0 report 7 1 29000760 DLH7 A320 DAIBC EDDM",
+    "2 1 29000580 APT 0 0 alerts",
+    "3 1 29000581 APT 0 0 tick",
+    "4 1 29000582 APT 0 0 tick",
+]
+OTHER = ["0 1 29000999 APT 0 0 tick"]
+
+
+class First(Board):
+    """A first board, whose journal is kept and may be watched."""
+
+    def __init__(self, program, kept, *arguments):
+        self.watch = free_port()
+        super().__init__(
+            [program], ["--again", "--control", "PORT", "--keep", str(kept), "--watch", f"127.0.0.1:{self.watch}", *arguments], ROLES
+        )
+
+    def kill(self):
+        self.ran.kill()
+        self.ran.wait()
+
+
+class Second(Board):
+    """A board that follows another one: it listens for partners once it was promoted."""
+
+    def __init__(self, program, first, kept, *arguments):
+        self.kept, self.port, self.watch = pathlib.Path(kept), free_port(), free_port()
+        self.ports, self.said, self.lines = [free_port() for _ in ROLES], [], []
+        command = [str(program), "follow", f"127.0.0.1:{first}", "--keep", str(kept), "--control", str(self.port)]
+        command += ["--watch", f"127.0.0.1:{self.watch}", *arguments]
+        command += [f"{role}=127.0.0.1:{port}" for role, port in zip(ROLES, self.ports)]
+        self.ran = subprocess.Popen(command, stdout=subprocess.PIPE, stderr=subprocess.PIPE, text=True)
+        self.listening = threading.Thread(target=self.listen, daemon=True)
+        self.listening.start()
+        self.waits_for(lambda: self.is_open() or self.ran.poll() is not None)
+
+    def is_open(self):
+        try:
+            return "entries" in self.ask("status")
+        except OSError:
+            return False
+
+    def entries(self):
+        found = re.search(r"^entries (\d+) of", self.ask("status"), re.M)
+        return int(found[1]) if found else None
+
+    def has(self, count):
+        """Whether it gets so many entries, and its file as many lines."""
+        return self.waits_for(lambda: self.entries() == count and self.kept.read_bytes().count(b"\n") == count)
+
+    def says(self, pattern):
+        return self.waits_for(lambda: any(re.fullmatch(pattern, it) for it in self.said))
+
+    def promote(self):
+        """The answer, and whether the listeners were told then."""
+        answer = self.ask("promote")
+        told = [self.ran.stdout.readline().split()[:3] for _ in ROLES]
+        return answer, told == [["listen", str(number), role] for number, role in enumerate(ROLES, 1)]
+
+    def kill(self):
+        self.ran.kill()
+        self.ran.wait()
+
+
+class Server:
+    """Sends each that connects what it is handed, cut off behind so many bytes, and hears what was sent first."""
+
+    def __init__(self, answers):
+        self.answers, self.heard = list(answers), []
+        self.listener = socket.create_server(("127.0.0.1", 0))
+        self.port = self.listener.getsockname()[1]
+        self.thread = threading.Thread(target=self.serve, daemon=True)
+        self.thread.start()
+
+    def serve(self):
+        while True:
+            try:
+                stream, _ = self.listener.accept()
+            except OSError:
+                return
+            stream.settimeout(5)
+            answer = self.answers.pop(0) if len(self.answers) > 1 else self.answers[0]
+            try:
+                self.heard.append(stream.makefile("rb").readline())
+                given = answer(self.heard[-1]) if callable(answer) else answer
+                stream.sendall(given.encode() if isinstance(given, str) else given)
+                if self.answers == [answer]:
+                    self.last = stream
+                    continue
+            except OSError:
+                pass
+            stream.close()
+
+    def close(self):
+        self.listener.close()
+
+
+def name_of(lines):
+    """The name of a journal, by the rule of docs/FORMATS.md."""
+    return hashlib.sha256(lines[0].encode()).hexdigest()[:32]
+
+
+def head(lines, following, name=None):
+    return f'{{"journal":"{name or name_of(lines)}","next":{following},"room":100000}}\n'
+
+
+def from_line(lines):
+    """What a board with these entries sends who asks for those from a number on."""
+
+    def answer(heard):
+        asked = int(re.fullmatch(rb"from (\d+)\n", heard)[1])
+        start = min(asked, len(lines))
+        return head(lines, start) + text(lines[start:])
+
+    return answer
+
+
+def audited(cases, program, name, kept, count):
+    done = ran(program, ["audit", str(kept)])
+    cases.expect(f"{name}: legal", done.stdout.decode() == f"legal {count}\n", done.stdout.decode() + done.stderr.decode())
+
+
+def day(cases, program, room):
+    """A day is followed; the first board is killed, and the second goes on."""
+    kept, copy = room / "first", room / "second"
+    first = First(program, kept)
+    airport, network = first.connect(1), first.connect(2)
+    cases.expect("the first replies", airport.asks(SCHEDULE) == "ok 0")
+    second = Second(program, first.watch, copy)
+    cases.expect("it says that it follows", second.says(rf"following 127\.0\.0\.1:{first.watch} 0 {MOMENT}"), second.said)
+    cases.expect("status says so too", second.ask("status").startswith(f"following 127.0.0.1:{first.watch}\nentries "))
+    cases.expect("it has what was there", second.has(1))
+    cases.expect("the first replies on", network.asks(PLAN) == "ok 1" and airport.asks(ALERTS).startswith("alerts 2 "))
+    cases.expect("it has that too", second.has(3))
+    cases.expect("both files are the same", copy.read_bytes() == kept.read_bytes())
+    with socket.create_connection(("127.0.0.1", second.watch)) as display:
+        display.settimeout(5)
+        cases.expect("its display has the journal", display.makefile("rb").readline() == kept.read_bytes().splitlines(True)[0])
+    refused = socket.socket()
+    cases.expect("no partner is listened for", refused.connect_ex(("127.0.0.1", second.ports[0])) != 0)
+    refused.close()
+    first.kill()
+    cases.expect("it says that the connection has ended", second.says(rf"parted the connection has ended {MOMENT}"), second.said)
+    cases.expect("and that nobody is there", second.says(rf"parted .*refused.* {MOMENT}"), second.said)
+    began = time.monotonic()
+    answer, told = second.promote()
+    cases.expect("promote is answered", answer == "promoting\n" and told, answer)
+    airport = second.connect(1)
+    cases.expect("it replies as the next entry", airport.asks(TICK) == "ok 3")
+    cases.expect("within a second", time.monotonic() - began < 1, time.monotonic() - began)
+    cases.expect("it says so", second.says(rf"promoted 3 {MOMENT}"), second.said)
+    cases.expect("status has no line of it any more", "following" not in second.ask("status"), second.ask("status"))
+    cases.expect("once more it serves already", second.ask("promote") == "serving\n")
+    cases.expect("it goes on", second.connect(2).asks(ALERTS).startswith("alerts 4 "))
+    _, status, lines = second.close()
+    cases.expect("it ends in good order", (status, lines) == (0, ["session 1 1 end", "session 2 1 end", "closed 5"]), lines)
+    audited(cases, program, "its file", copy, 5)
+    cases.expect("which begins with the first one's", copy.read_bytes().startswith(kept.read_bytes()))
+    again = First(program, copy)
+    cases.expect("and may be gone on from", again.connect(1).asks(TICK) == "ok 5")
+    again.close()
+
+
+def work(port, turns, told, wrong):
+    """A partner that reads each reply before the next line, until its board is gone."""
+    try:
+        partner = Partner(port)
+        for _ in range(turns):
+            reply = partner.asks(ALERTS)
+            if not reply:
+                return
+            told.append(int(reply.split()[1]))
+    except (OSError, ValueError, IndexError) as error:
+        wrong.append(error)
+
+
+def killed(cases, program, room, turn, chance):
+    """The first board is killed at some moment under load: what the second has is a beginning of its file, or all of it."""
+    kept, copy = room / f"first{turn}", room / f"second{turn}"
+    first = First(program, kept)
+    second = Second(program, first.watch, copy)
+    first.connect(1).asks(SCHEDULE)
+    told, wrong = [], []
+    threads = [threading.Thread(target=work, args=(port, 100_000, told, wrong)) for port in first.ports]
+    for it in threads:
+        it.start()
+    time.sleep(chance.uniform(0.05, 0.5))
+    first.kill()
+    for it in threads:
+        it.join()
+    second.says(rf"parted the connection has (ended|failed) {MOMENT}")
+    second.promote()
+    reply = second.connect(1).asks(TICK)
+    cases.expect("it goes on behind what it has", reply.startswith("ok "), reply)
+    count = int(reply.split()[1]) if reply.startswith("ok ") else -1
+    text_of = copy.read_bytes().splitlines(True)
+    cases.expect("which the first had", b"".join(text_of[:count]) == b"".join(kept.read_bytes().splitlines(True)[:count]))
+    second.close()
+    audited(cases, program, f"kill {turn}", copy, count + 1)
+
+
+def cuts(cases, program, room):
+    """Connections that are cut at each byte: each entry comes once, whole, and in order."""
+    whole = head(JOURNAL, 0) + text(JOURNAL)
+    points = sorted(random.Random(7).sample(range(1, len(whole)), 24))
+    answers = []
+    for cut in points:
+        answers.append(lambda heard, cut=cut: from_line(JOURNAL)(heard)[:cut])
+    server = Server([*answers, from_line(JOURNAL)])
+    copy = room / "cuts"
+    second = Second(program, server.port, copy)
+    cases.expect("after all cuts it has all", second.waits_for(lambda: second.entries() == 5, 60), (second.entries(), second.said[-3:]))
+    cases.expect("each was asked for once", copy.read_text() == text(JOURNAL), copy.read_text())
+    asked = [int(it.split()[1]) for it in server.heard]
+    # (before each connection the entry before the next one is asked for)
+    grow = asked[0] == 0 and all(after >= before - 1 for before, after in zip(asked, asked[1:]))
+    cases.expect("the numbers asked for grow", grow, asked)
+    second.close()
+    server.close()
+
+
+def others(cases, program, room):
+    """Who is no board, another journal, a board that is behind, and lines that are not legal."""
+    good, begun = text(JOURNAL[:2]), room / "begun"
+    other = [JOURNAL[0], "1 2 29000580 NM 0 0 alerts", *JOURNAL[2:]]
+    faulty = [*JOURNAL[:2], "2 1 29000580 APT 0 0 alerts 7", *JOURNAL[3:]]
+    for name, answer, why in (
+        ("HTTP", "HTTP/1.1 400 Bad Request\r\nConnection: close\r\n\r\n", "no journal is sent there"),
+        ("a partner's address", "bad 101\n", "no journal is sent there"),
+        ("a journal without its line", text(JOURNAL[2:]), "no journal is sent there"),
+        ("one that says nothing", "", "the connection has ended"),
+        ("half a line", head(JOURNAL, 2)[:40], "the connection has ended"),
+        ("a long line", "x" * 5000 + "\n", "no journal is sent there"),
+        ("another journal", head(OTHER, 2), "another journal is sent there"),
+        ("another last entry", from_line(other), "another journal is sent there: entry 1 is another one"),
+        ("a board that is behind", head(JOURNAL, 1), "there are only 1 entries"),
+        ("a board that is ahead", head(JOURNAL, 4) + text(JOURNAL[4:]), "entries before 4 are not sent"),
+        ("a line that is not legal", head(JOURNAL, 2) + text(faulty[2:]), r"entry 2: .+"),
+        ("an entry of another number", head(JOURNAL, 2) + text(JOURNAL[3:]), r"entry 2: .+"),
+        ("bytes that are no text", head(JOURNAL, 2).encode() + b"\xff\xfe\n", r"entry 2: .+"),
+        ("a line without an end", head(JOURNAL, 2) + "2 1 " + "x" * 8_000_000, r"entry 2: .+"),
+    ):
+        begun.write_text(good)
+        server = Server([answer] * 4 + [""])
+        second = Second(program, server.port, begun)
+        cases.expect(f"{name}: told", second.says(rf"parted {why} {MOMENT}"), second.said)
+        cases.expect(f"{name}: nothing is kept of it", begun.read_text() == good and second.entries() == 2, begun.read_text())
+        answer, status, lines = second.close()
+        cases.expect(f"{name}: closed in good order", (answer, status, lines) == ("closing\n", 0, []), (status, lines))
+        server.close()
+    empty = room / "empty"
+    server = Server([head(JOURNAL, 0, "0" * 32) + text(JOURNAL)])
+    second = Second(program, server.port, empty)
+    cases.expect("a name that is not the first entry's", second.says(rf"parted another journal is sent there {MOMENT}"), second.said)
+    cases.expect("nothing of it is kept", empty.read_text() == "", empty.read_text())
+    second.close()
+    server.close()
+
+
+def again(cases, program, room):
+    """A follower that is killed and begun again; a chain of two; a first board that comes back."""
+    kept, copy, third = room / "origin", room / "copy", room / "chain"
+    first = First(program, kept)
+    airport = first.connect(1)
+    airport.asks(SCHEDULE)
+    second = Second(program, first.watch, copy)
+    second.has(1)
+    second.kill()
+    for _ in range(3):
+        airport.asks(TICK)
+    second = Second(program, first.watch, copy)
+    cases.expect("it goes on behind its own", second.says(rf"following 127\.0\.0\.1:{first.watch} 1 {MOMENT}"), second.said)
+    cases.expect("and has all", second.has(4))
+    last = Second(program, second.watch, third)
+    cases.expect("one that follows a follower has all", last.has(4), last.said)
+    airport.asks(TICK)
+    cases.expect("also what comes", last.has(5), last.said)
+    watch = first.watch
+    first.close()
+    second.says(rf"parted the connection has ended {MOMENT}")
+    first = subprocess.Popen(
+        [str(program), "serve", "--again", "--keep", str(kept), "--watch", f"127.0.0.1:{watch}", "APT=127.0.0.1:0"],
+        stdout=subprocess.PIPE,
+        text=True,
+    )
+    port = int(first.stdout.readline().split()[3].rsplit(":", 1)[1])
+    cases.expect("a first board that comes back", Partner(port).asks(TICK) == "ok 5")
+    cases.expect("is followed on", second.has(6) and last.has(6), second.said[-3:])
+    cases.expect("all three files are the same", kept.read_bytes() == copy.read_bytes() == third.read_bytes())
+    first.kill()
+    first.wait()
+    second.close()
+    last.close()
+    audited(cases, program, "the chain", third, 6)
+
+
+def schedules(count):
+    """Lines of a partner, of a flight each."""
+    return [SCHEDULE.replace('"flight":7', f'"flight":{number}') for number in range(1, count + 1)]
+
+
+def switched(cases, program, room):
+    """A partner's client that knows both boards goes on at the second one: no line is lost, and none entered twice."""
+    kept, copy = room / "from", room / "to"
+    feeds, lines = [free_port(), free_port()], schedules(400)
+    first = First(program, kept, "--changes", f"127.0.0.1:{feeds[0]}")
+    second = Second(program, first.watch, copy, "--changes", f"127.0.0.1:{feeds[1]}", "--again")
+    second.has(0)
+    places = f"127.0.0.1:{first.ports[0]},127.0.0.1:{second.ports[0]}"
+    asked = [sys.executable, str(CLIENT), places, "--feed", f"127.0.0.1:{feeds[0]},127.0.0.1:{feeds[1]}"]
+    client = subprocess.Popen(asked, stdin=subprocess.PIPE, stdout=subprocess.PIPE, stderr=subprocess.PIPE, text=True)
+    client.stdin.write("".join(f"{it}\n" for it in lines[:120]))
+    client.stdin.flush()
+    replies = [client.stdout.readline() for _ in range(120)]
+    cases.expect("the second board has what was replied", second.has(120), second.entries())
+    first.kill()
+    second.says(rf"parted the connection has (ended|failed) {MOMENT}")
+    second.promote()
+    client.stdin.write("".join(f"{it}\n" for it in lines[120:]))
+    client.stdin.close()
+    replies += client.stdout.readlines()
+    said, status = client.stderr.read(), client.wait()
+    cases.expect("a client goes on at the second board", (status, len(replies)) == (0, len(lines)), (status, len(replies), said[-500:]))
+    second.close()
+    flights = re.findall(r" schedule (\d+) ", copy.read_text())
+    cases.expect("each line is entered once", flights == [str(number) for number in range(1, len(lines) + 1)], len(flights))
+
+
+def saved(cases, program, room):
+    """A board that is closed while it follows saves what it has."""
+    server = Server([from_line(JOURNAL)])
+    copy, end = room / "kept", room / "saved"
+    second = Second(program, server.port, copy, "--save", str(end))
+    second.has(5)
+    cases.expect("closed", second.close() == ("closing\n", 0, []))
+    cases.expect("what it had is saved", end.read_text() == copy.read_text() == text(JOURNAL))
+    small = Second(program, server.port, room / "small", "--journal", "3")
+    status, lines = small.ended()
+    cases.expect("a board with no room ends", (status, lines) == (2, []), (status, lines))
+    cases.expect("and says so", "acdm: the kept journal needs a larger --journal" in small.said, small.said)
+    cases.expect("and has kept what it took", (room / "small").read_text() == text(JOURNAL[:3]))
+    server.close()
+
+
+def refused(cases, program, room):
+    """Words and files that are refused before anything is followed."""
+    file = str(room / "words")
+    done = ran(program, ["follow", "nowhere", "--keep", file, "APT=127.0.0.1:0"])
+    said = "acdm: follow address\n" + cause("nowhere", "no IP address with a port")
+    cases.expect("no address", (done.returncode, done.stderr.decode()) == (2, said), done.stderr.decode())
+    for given in (["127.0.0.1:1", "APT=127.0.0.1:0"], ["--keep", file, "127.0.0.1:1"], []):
+        done = ran(program, ["follow", *given])
+        cases.expect(f"words {given}", done.returncode == 2 and done.stderr and not done.stdout, done.stderr.decode())
+    done = ran(program, ["follow", "127.0.0.1:1", "--keep", file, "XYZ=127.0.0.1:0"])
+    cases.expect("no role", done.returncode == 2 and done.stderr.decode().startswith("acdm: role 1\n"), done.stderr.decode())
+    (room / "faulty").write_text("0 1 29000580 APT 0 0 nothing\n")
+    done = ran(program, ["follow", "127.0.0.1:1", "--keep", str(room / "faulty"), "APT=127.0.0.1:0"])
+    cases.expect("a file that is no journal", (done.returncode, done.stdout.decode()[:7]) == (1, "entry 0"), done.stdout.decode())
+
+
+def main():
+    parser = words(__doc__)
+    parser.add_argument("--kills", type=int, default=10, help="how often the first board is killed under load")
+    asked = parser.parse_args()
+    program, cases = asked.program, Cases()
+    with tempfile.TemporaryDirectory() as made:
+        room = pathlib.Path(made)
+        day(cases, program, room)
+        cuts(cases, program, room)
+        others(cases, program, room)
+        again(cases, program, room)
+        switched(cases, program, room)
+        saved(cases, program, room)
+        refused(cases, program, room)
+        chance = random.Random(11)
+        for turn in range(asked.kills):
+            killed(cases, program, room, turn, chance)
+    return cases.end()
+
+
+if __name__ == "__main__":
+    sys.exit(main())

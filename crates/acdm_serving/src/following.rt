@@ -1,0 +1,465 @@
+//! The following of another board, over its connections.
+ghost use Rattle.std.specs.Prelude.{◌≡◌, is_some};
+ghost use Rattle.acdm_following.specs.Courses.{asked, parted_as};
+
+use acdm_following::{Course, FirstBoard, Parting};
+use acdm_journal::push_entry;
+use acdm_partners::Reporter;
+use acdm_row::Row;
+use std::alloc::{AllocError, Global};
+use std::io::{self, ErrorKind, Read, Write};
+use std::net::{Net, SocketAddr, TcpListener, TcpStream};
+use std::sync::atomic::{AtomicBool, Ordering};
+use std::sync::{Arc, Wait};
+use std::thread;
+use std::time::{Clock, Duration};
+
+/// For how many milliseconds a connection is read from, until it is looked whether it is to be followed any more.
+const PAUSE: u64 = 25;
+
+/// For how many pauses it is waited between two attempts to connect: a second.
+const PAUSES_BETWEEN: u64 = 40;
+
+/// For how many milliseconds a connection may take to be made.
+const CONNECTING: u64 = 2_000;
+
+/// After how many pauses in a row in which nothing came a connection is made anew, so that one that is gone is found: 10
+/// seconds.
+const SILENT_PAUSES: u64 = 400;
+
+/// How often a connection is read from for the entry that both boards are to have, and how many bytes are enough.
+const MOST_READS: u64 = 200;
+
+const MOST_BYTES: usize = 262_144;
+
+/// What says that a board is not followed any more.
+#[derive(Drop)]
+pub(crate) struct StopFlags {
+    /// That it closes.
+    pub(crate) closing: Arc<AtomicBool>,
+    /// That it was promoted.
+    pub(crate) promoted: Arc<AtomicBool>,
+}
+
+impl StopFlags {
+    /// Whether one of them is set.
+    pub(crate) fn is_over(&self) -> bool {
+        self.closing.load(Ordering::SeqCst) || self.promoted.load(Ordering::SeqCst)
+    }
+
+    /// Whether it was promoted, and does not close.
+    pub(crate) fn is_promoted(&self) -> bool {
+        self.promoted.load(Ordering::SeqCst) && !self.closing.load(Ordering::SeqCst)
+    }
+
+    /// The same flags.
+    pub(crate) fn copy(&self) -> Result<StopFlags, AllocError> {
+        Ok(StopFlags {
+            closing: Arc::try_clone(&self.closing)?,
+            promoted: Arc::try_clone(&self.promoted)?,
+        })
+    }
+}
+
+/// A connection to the board that is followed. It ends where that ends it, where this board is not to follow any more, and
+/// where nothing came for a while.
+#[derive(Drop)]
+pub(crate) struct FollowedStream {
+    stream: TcpStream,
+    flags: StopFlags,
+    // How many pauses there were in a row in which nothing came.
+    silent: u64,
+}
+
+// Whether a call that failed so is made once more: nothing came in its time, or a signal came.
+fn is_passing(error: &io::Error) -> bool {
+    error.kind() == ErrorKind::WouldBlock || error.kind() == ErrorKind::Interrupted
+}
+
+impl FollowedStream {
+    // Whether nothing came for so long that the connection may be gone.
+    fn is_silent(&self) -> bool {
+        self.silent >= SILENT_PAUSES
+    }
+}
+
+impl Read for FollowedStream {
+    fn read(&mut self, buf: &mut [u8]) -> io::Result<usize> {
+        for _ in 0..u64::MAX {
+            if self.flags.is_over() || self.is_silent() {
+                return Ok(0);
+            }
+            match self.stream.read(buf) {
+                Err(error) if is_passing(&error) => self.silent = self.silent.saturating_add(1),
+                came => {
+                    self.silent = 0;
+                    return came;
+                }
+            }
+        }
+        Ok(0)
+    }
+}
+
+// The second line of a text, with its line feed, where that is there.
+fn second_line(text: &[u8]) -> Option<&[u8]> {
+    let first = text.iter().position(|byte| *byte == b'\n')?;
+    let rest = text.get(first.saturating_add(1)..)?;
+    let end = rest.iter().position(|byte| *byte == b'\n')?;
+    rest.get(..end.saturating_add(1))
+}
+
+// Whether a line is that of an entry of the same number, and another one.
+fn differs(line: &[u8], own: &[u8]) -> bool {
+    let number = match own.iter().position(|byte| *byte == b' ') {
+        Some(end) => own.get(..end),
+        None => None,
+    };
+    match number {
+        Some(number) => line != own && line.get(..number.len()) == Some(number),
+        None => false,
+    }
+}
+
+/// Why a board that is followed was not connected to.
+#[derive(Clone, Copy, PartialEq, Eq)]
+enum Unreached {
+    /// It could not be.
+    Gone,
+    /// Its journal is another one from some entry on.
+    Differs,
+}
+
+// What was told last, so that nothing is told again and again while nothing changes.
+#[derive(Clone, Copy)]
+struct LastTold {
+    is_following: bool,
+    parted: Option<(u64, Parting)>,
+    unreached: Option<Unreached>,
+}
+
+const NOTHING_TOLD: LastTold = LastTold {
+    is_following: false,
+    parted: None,
+    unreached: None,
+};
+
+/// Who makes connections to a board that is followed. (The type of these is a parameter all the way down to `follow`: the
+/// check takes none in its place whose `Read` is an impl of our own.)
+pub(crate) trait Connects<C> {
+    /// Where they are made.
+    fn address(&self) -> SocketAddr;
+
+    /// A connection at which the entries from this number on are asked for; none where the entry before is another one
+    /// there.
+    fn reach(&self, next: u64) -> io::Result<Option<C>>;
+
+    /// Whether a connection has ended since nothing came for a while.
+    fn is_silent(&self, connection: C) -> bool;
+}
+
+/// The address of a board that is followed by one with this row. Its connections end where one of the flags is set.
+#[derive(Drop)]
+pub(crate) struct BoardAddress<'r, Rt> {
+    pub(crate) rt: &'r Rt,
+    pub(crate) alloc: Global,
+    pub(crate) row: Arc<Row>,
+    pub(crate) address: SocketAddr,
+    pub(crate) flags: StopFlags,
+}
+
+impl<Rt: Net<Listener = TcpListener, Stream = TcpStream>> BoardAddress<'_, Rt> {
+    // A connection at which the entries from this number on are asked for.
+    fn asked_from(&self, number: u64) -> io::Result<TcpStream> {
+        let within = Duration::from_millis(CONNECTING);
+        let mut stream = TcpStream::connect_timeout(self.rt, &self.address, within)?;
+        stream.set_read_timeout(Some(Duration::from_millis(PAUSE)))?;
+        stream.set_write_timeout(Some(within))?;
+        let mut line = String::new(self.alloc);
+        writeln!(line, "from {number}")?;
+        stream.write_all(line.as_bytes())?;
+        Ok(stream)
+    }
+
+    // What comes of a connection, up to its second line feed.
+    fn heard(&self, stream: &mut TcpStream) -> io::Result<Vec<u8>> {
+        let mut text = Vec::new(self.alloc);
+        let mut buf = [0u8; 4096];
+        for _ in 0..MOST_READS {
+            if self.flags.is_over() || text.len() > MOST_BYTES {
+                break;
+            }
+            if second_line(text.as_slice()).is_some() {
+                break;
+            }
+            match stream.read(&mut buf) {
+                Ok(0) => break,
+                Ok(count) => text.extend_from_slice(&buf[..count])?,
+                Err(error) if is_passing(&error) => {}
+                Err(error) => return Err(error),
+            }
+        }
+        Ok(text)
+    }
+
+    // The text of an entry of this board, if it is there.
+    fn own_line(&self, number: u64) -> io::Result<Option<Vec<u8>>> {
+        let at = number as usize;
+        if at >= self.row.len() {
+            return Ok(None);
+        }
+        let mut note = self.row.note(at);
+        let Some(published) = self.row.look(at, &mut note) else {
+            return Ok(None);
+        };
+        let mut text = Vec::new(self.alloc);
+        push_entry(&mut text, &published.entry)?;
+        Ok(Some(text))
+    }
+
+    // Whether the entry of this number is another one there than here.
+    fn has_other(&self, number: u64) -> io::Result<bool> {
+        let Some(own) = self.own_line(number)? else {
+            return Ok(false);
+        };
+        let mut stream = self.asked_from(number)?;
+        let came = self.heard(&mut stream)?;
+        match second_line(came.as_slice()) {
+            Some(line) => Ok(differs(line, own.as_slice())),
+            None => Ok(false),
+        }
+    }
+}
+
+impl<Rt: Net<Listener = TcpListener, Stream = TcpStream>> Connects<FollowedStream>
+    for BoardAddress<'_, Rt> {
+    fn address(&self) -> SocketAddr {
+        self.address
+    }
+
+    fn reach(&self, next: u64) -> io::Result<Option<FollowedStream>> {
+        if let Some(last) = next.checked_sub(1) {
+            if self.has_other(last)? {
+                return Ok(None);
+            }
+        }
+        Ok(Some(FollowedStream {
+            stream: self.asked_from(next)?,
+            flags: self.flags.copy()?,
+            silent: 0,
+        }))
+    }
+
+    fn is_silent(&self, connection: FollowedStream) -> bool {
+        connection.is_silent()
+    }
+}
+
+/// The board that is followed, as far as it can be reached. Each attempt to connect comes a second after the one before.
+#[derive(Drop)]
+pub(crate) struct FirstBoardAt<'r, Rt: Drop, M: Drop, C: Drop> {
+    rt: &'r Rt,
+    alloc: Global,
+    reporter: Reporter<Rt>,
+    place: M,
+    flags: StopFlags,
+    // A connection that was made, until it is handed over.
+    made: Option<C>,
+    // The number of the entry that was asked for last.
+    next: u64,
+    told: LastTold,
+    course: Course,
+}
+
+// Why a connection was parted from, in words.
+fn parting_text(alloc: Global, why: Parting) -> Result<String, AllocError> {
+    let mut text = String::new(alloc);
+    match why {
+        Parting::Ended => text.push_str("the connection has ended")?,
+        Parting::Read => text.push_str("the connection has failed")?,
+        Parting::NotAJournal => text.push_str("no journal is sent there")?,
+        Parting::OtherJournal => text.push_str("another journal is sent there")?,
+        Parting::Behind { has } => write!(text, "there are only {has} entries")?,
+        Parting::Ahead { next } => write!(text, "entries before {next} are not sent")?,
+        Parting::Faulty { entry, clause } => write!(text, "entry {entry}: {clause}")?,
+        Parting::Failed(failure) => write!(text, "{failure}")?,
+    }
+    Ok(text)
+}
+
+impl<'r, Rt: Clock + Wait + Drop, M: Connects<C> + Drop, C: Drop> FirstBoardAt<'r, Rt, M, C> {
+    /// The board at this place, until one of these flags is set. What is told of it goes to the reporter.
+    pub(crate) fn new(
+        rt: &'r Rt,
+        alloc: Global,
+        reporter: Reporter<Rt>,
+        place: M,
+        flags: StopFlags,
+    ) -> FirstBoardAt<'r, Rt, M, C> {
+        FirstBoardAt {
+            rt,
+            alloc,
+            reporter,
+            place,
+            flags,
+            made: None,
+            next: 0,
+            told: NOTHING_TOLD,
+            course: Course::new(),
+        }
+    }
+
+    /// Has all written that was told.
+    pub(crate) fn end(&self) {
+        self.reporter.end();
+    }
+
+    // Waits a second, or until this board is not to follow any more.
+    fn pause(&self) {
+        for _ in 0..PAUSES_BETWEEN {
+            if self.flags.is_over() {
+                return;
+            }
+            thread::sleep(self.rt, Duration::from_millis(PAUSE));
+        }
+    }
+
+    // Makes a connection, once there is none, at which the entries from this number on are asked for; none where this board
+    // is not to follow any more.
+    fn make(&mut self, next: u64)
+        ensures { self.new.course ≡ self.old.course }
+    {
+        for _ in 0..u64::MAX {
+            if self.flags.is_over() {
+                return;
+            }
+            match self.place.reach(next) {
+                Ok(Some(connection)) => {
+                    self.tell_following(next);
+                    self.made = Some(connection);
+                    return;
+                }
+                Ok(None) => self.tell_other(next),
+                Err(error) => self.tell_unreached(&error),
+            }
+            self.pause();
+        }
+    }
+
+    // Tells that the board is followed from this entry on.
+    fn tell_following(&mut self, next: u64)
+        ensures { self.new.course ≡ self.old.course }
+    {
+        if self.told.is_following {
+            return;
+        }
+        self.told.is_following = true;
+        self.told.unreached = None;
+        let mut address = String::new(self.alloc);
+        if write!(address, "{}", self.place.address()).is_ok() {
+            self.reporter.tell_following(address.as_str(), next);
+        }
+    }
+
+    // Whether it was not told yet that the board is not connected to for this reason.
+    fn is_news(&mut self, why: Unreached) -> bool
+        ensures { self.new.course ≡ self.old.course }
+    {
+        if self.told.unreached == Some(why) {
+            return false;
+        }
+        self.told = LastTold {
+            is_following: false,
+            parted: None,
+            unreached: Some(why),
+        };
+        true
+    }
+
+    // Tells that the board was not reached.
+    fn tell_unreached(&mut self, error: &io::Error)
+        ensures { self.new.course ≡ self.old.course }
+    {
+        if !self.is_news(Unreached::Gone) {
+            return;
+        }
+        if let Ok(text) = error.to_string(self.alloc) {
+            self.reporter.tell_parted(text.as_str());
+        }
+    }
+
+    // Tells that the entry before this one is another one there.
+    fn tell_other(&mut self, next: u64)
+        ensures { self.new.course ≡ self.old.course }
+    {
+        if !self.is_news(Unreached::Differs) {
+            return;
+        }
+        let mut text = String::new(self.alloc);
+        let number = next.saturating_sub(1);
+        if write!(
+            text,
+            "another journal is sent there: entry {number} is another one"
+        )
+        .is_ok()
+        {
+            self.reporter.tell_parted(text.as_str());
+        }
+    }
+
+    // Tells why the board was parted from.
+    fn tell_parted(&mut self, why: Parting)
+        ensures { self.new.course ≡ self.old.course }
+    {
+        let told = Some((self.next, why));
+        if self.told.parted == told {
+            return;
+        }
+        self.told = LastTold {
+            is_following: false,
+            parted: told,
+            unreached: None,
+        };
+        if let Ok(text) = parting_text(self.alloc, why) {
+            self.reporter.tell_parted(text.as_str());
+        }
+    }
+}
+
+impl<Rt: Clock + Wait + Drop, M: Connects<C> + Drop, C: Read + Drop> FirstBoard
+    for FirstBoardAt<'_, Rt, M, C> {
+    type Connection = C;
+
+    ghost course = { λ b. b.course };
+
+    fn connect(&mut self, next: u64) -> Option<C>
+        ensures course { self.new.course ≡ asked self.old.course next (is_some result) }
+    {
+        self.next = next;
+        self.make(next);
+        match self.made.take() {
+            Some(connection) => {
+                self.course.ask(next);
+                Some(connection)
+            }
+            None => {
+                self.course.end(next);
+                None
+            }
+        }
+    }
+
+    fn part(&mut self, connection: C, given: &Course, why: Parting)
+        ensures course { self.new.course ≡ parted_as self.old.course given.now.parted why }
+    {
+        self.course.part(given, why);
+        if self.flags.is_over() {
+            return;
+        }
+        if self.place.is_silent(connection) && why == Parting::Ended {
+            return;
+        }
+        self.tell_parted(why);
+        self.pause();
+    }
+}
