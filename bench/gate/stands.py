@@ -5,8 +5,7 @@ the public functions of each crate that have no clause, and those that no edit t
 usage: bench/gate/stands.py [CRATE..]         names the functions of these crates too
 
 It proves nothing and takes a moment: run it after a merge, and after a change that takes a line away. The exit status is 1 where
-a text is not there, or stands more than once; and where a crate that is listed here as whole has a function without either that
-is not listed with it.
+a text is not there, or stands more than once; and where a function that is not listed here lacks a clause or an edit.
 """
 import pathlib
 import re
@@ -18,8 +17,14 @@ from turned import functions_of, pairs_of
 
 CRATES = pathlib.Path(__file__).resolve().parents[2] / "crates"
 PUBLIC = re.compile(r" *pub (?:const )?fn (\w+)")
-# The crates of which each public function has a clause and an edit, but for these, of which bench/gate/README.md says why.
-WHOLE = {
+# Each public function of a crate has a clause and an edit, but for these, of which bench/gate/README.md says why.
+LACKING = {
+    "acdm_board": {"Desk::core", "Desk::row", "Desk::sigs"},
+    "acdm_commands": {"Cause::new", "Cause::note", "Noting::new", "standard_streams::is_error_file"},
+    "acdm_displays": {"Displays::close", "Displays::start"},
+    "acdm_feed": {"telling::pass_next"},
+    "acdm_following": {"Course::ask", "Course::end", "Course::new"},
+    "acdm_headline": {"headline::the_written_step_is_kept"},
     "acdm_keeping": {
         "KeptCount::new",
         "LastingReceipt::receipt",
@@ -37,6 +42,33 @@ WHOLE = {
         "replacement::leads_to",
         "replacement::sync_folder",
     },
+    "acdm_lines": {"Window::clear"},
+    "acdm_partners": {
+        "Acceptor::new",
+        "Arriving::new",
+        "Control::address",
+        "Control::open",
+        "Door::new",
+        "LineQueue::at_file",
+        "LineQueue::on_errors",
+        "PartnerPlace::count",
+        "PartnerPlace::finish",
+        "PartnerPlace::new",
+        "Patient::new",
+        "Reception::begin",
+        "Reception::end",
+        "Reporter::end",
+        "Reporter::new",
+        "Reporter::tell_following",
+        "Reporter::tell_parted",
+    },
+    "acdm_row": {"Publisher::alloc", "Publisher::row", "Row::alloc", "Row::sigs"},
+    "acdm_slots": {"Slots::sigs"},
+    "acdm_step": {"Answers::none", "Core::sigs", "Schedule::plan"},
+    "acdm_watch": {"Watch::board"},
+    "bpf_explain": {"Told::write"},
+    "bpf_helpers": {"Helper::signature", "Sigs::keep_their_form"},
+    "bpf_verifier": {"Checked::program", "Checked::sigs"},
 }
 
 
@@ -85,11 +117,11 @@ def report(named):
     for crate in sorted(it for it in CRATES.iterdir() if (it / "src/lib.rt").exists() and not it.name.endswith("_tests")):
         public, without_clause, without_edit = counted(crate)
         total, bare, untouched = total + len(public), bare + len(without_clause), untouched + len(without_edit)
-        lacking = sorted({*without_clause, *without_edit} - WHOLE.get(crate.name, set()))
+        lacking = sorted({*without_clause, *without_edit} - LACKING.get(crate.name, set()))
         if crate.name in named:
             print(f"{crate.name}: {len(public)} public functions")
             print(*(f"  no clause: {it}" for it in without_clause), *(f"  no edit: {it}" for it in without_edit), sep="\n")
-        if crate.name in WHOLE and lacking:
+        if lacking:
             print(f"{crate.name}: no clause or no edit: {', '.join(lacking)}")
             wrong = True
     print(f"{total} public functions, {bare} without a clause, {untouched} without an edit")
