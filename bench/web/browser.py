@@ -30,7 +30,7 @@ except ImportError:
     # (another Python than Debian's has not what Debian's packages bring)
     if os.path.exists(DEBIAN) and os.path.realpath(sys.executable) != os.path.realpath(DEBIAN):
         os.execv(DEBIAN, [DEBIAN, *sys.argv])
-    webdriver = None
+    webdriver = By = None
 
 TOP = pathlib.Path(__file__).resolve().parents[2]
 ROLES = ("NM", "ATC", "APT", "AO", "GH")

@@ -81,6 +81,9 @@ NOT_RUN = {
     "echo 'a long pass-word'": "needs the settings of a desk, with which desk/tests tries it",
     "curl --cert swiss.pem": "needs a partner's certificate, with which desk/tests tries it",
     "clients/board.py ADDRESS": "says which words there are",
+    "./acdm serve --watch 10.": "is of two machines; bench/hostile/link.py tries it",
+    "./acdm follow 10.": "is of two machines; bench/hostile/link.py tries it",
+    "clients/control.py 4199 promote": "needs a board that follows another one; bench/hostile/follow.py tries it",
     "clients/newday.py": "ends the board of its page, and begins another; bench/journal/newday.py tries it",
     "clients/check.py 'LINE'": "says which words there are",
 }

@@ -138,7 +138,7 @@ def until(holds: object) -> bool:
 def units(place: Installed) -> Iterator[Case]:
     """The units for systemd: what they start is in the archive, each is hardened, and systemd reads them."""
     found = sorted((place.top / "examples/systemd").glob("*.service"))
-    yield "units for board, clock, next day, desk and bridges", len(found) == 5
+    yield "units for both boards, clock, next day, desk and bridges", len(found) == 6
     for file in found:
         text = file.read_text(encoding="utf-8")
         started = [word.replace("%i", "to_mqtt") for word in re.findall(r"/opt/kevotranjy/([\w/%.-]+)", text)]
