@@ -5,11 +5,13 @@
 
 A day that is followed, its first board killed and the second promoted, N times; connections that are cut at each byte; a
 follower that is killed and begun again; a chain of two; a first board that comes back; addresses that are no board's; other
-journals, boards that are behind, lines that are not legal; words and files that are refused; `close`. The last line is
+journals, boards that are behind, lines that are not legal; attempts a second apart; a file that is taken away while it follows; words
+and files that are refused; `close`. The last line is
 `N cases, M failed`; status 1 where one failed.
 """
 
 import hashlib
+import os
 import pathlib
 import random
 import re
@@ -140,7 +142,7 @@ def from_line(lines):
     """What a board with these entries sends who asks for those from a number on."""
 
     def answer(heard):
-        asked = int(re.fullmatch(rb"from (\d+)\n", heard)[1])
+        asked = int(re.fullmatch(rb"from (\d+)(?: as \d+)?\n", heard)[1])
         start = min(asked, len(lines))
         return head(lines, start) + text(lines[start:])
 
@@ -289,6 +291,45 @@ def others(cases, program, room):
     server.close()
 
 
+def paced(cases, program, room):
+    """A first board that ends each connection at once, and one that is not there: it is tried again a second later, and no sooner."""
+    other = [JOURNAL[0], "1 2 29000580 NM 0 0 alerts"]
+    # (where there is an entry it is asked for, and compared, before it connects once more)
+    for name, lines, answer, most in (("nothing", [], "", 5), ("two entries", JOURNAL[:2], "", 10), ("others", JOURNAL[:2], from_line(other), 5)):
+        begun = room / f"paced {name}"
+        begun.write_text(text(lines))
+        server = Server([answer] * 20 + ["x"])
+        second = Second(program, server.port, begun)
+        time.sleep(3)
+        cases.expect(f"{name}: tried again, and not at each moment", 2 <= len(server.heard) <= most, len(server.heard))
+        second.close()
+        server.close()
+
+
+def taken(cases, program, room):
+    """Its file is removed, moved, replaced or cut while nothing comes: it ends, and says why."""
+    for name, harm in (
+        ("removed", pathlib.Path.unlink),
+        ("moved", lambda it: it.rename(it.with_name("moved"))),
+        ("replaced", lambda it: (it.unlink(), it.write_text(text(JOURNAL)))),
+        ("cut", lambda it: os.truncate(it, 10)),
+    ):
+        own = room / f"taken {name}"
+        own.mkdir()
+        server = Server([head(JOURNAL, 0) + text(JOURNAL)])
+        second = Second(program, server.port, own / "day")
+        cases.expect(f"{name}: it follows", second.has(len(JOURNAL)), second.said)
+        harm(own / "day")
+        timer = threading.Timer(20, second.ran.kill)
+        timer.start()
+        status = second.ran.wait()
+        timer.cancel()
+        second.listening.join(5)
+        cases.expect(f"{name}: it ends", status == 2, status)
+        cases.expect(f"{name}: and says why", "acdm: keep failed" in second.said, second.said)
+        server.close()
+
+
 def again(cases, program, room):
     """A follower that is killed and begun again; a chain of two; a first board that comes back."""
     kept, copy, third = room / "origin", room / "copy", room / "chain"
@@ -400,6 +441,8 @@ def main():
         day(cases, program, room)
         cuts(cases, program, room)
         others(cases, program, room)
+        paced(cases, program, room)
+        taken(cases, program, room)
         again(cases, program, room)
         switched(cases, program, room)
         saved(cases, program, room)

@@ -11,6 +11,7 @@ entry; they are once it does, and where the board is killed before, nobody has s
 standard error too has no line of the program's. The last line is `N cases, M failed`; status 1 where one failed.
 """
 
+import errno
 import os
 import pathlib
 import signal
@@ -79,6 +80,29 @@ def run_without_file(program, cases, room):
         cases.expect(f"run, {harm.__name__}: no reply", ended == (2, b"", told.encode()), ended)
         if harm is renamed:
             cases.expect("what was replied stands there", (folder / "yesterday").read_bytes().startswith(kept))
+
+
+def unread_tables(program, cases, room):
+    """A journal whose tables can't be read is not gone on from: the line names them, and nothing is changed."""
+    folder = room / "tables"
+    folder.mkdir()
+    file, beside = folder / "day", folder / "day.tables"
+    file.write_bytes(b"0 1 29000580 APT 0 0 tick\n")
+    for name, make, number in (
+        ("a folder", beside.mkdir, errno.EISDIR),
+        ("a link to itself", lambda: beside.symlink_to(beside), errno.ELOOP),
+    ):
+        make()
+        for given in (["run", "--keep", file], ["audit", file], ["tell", file], ["run", "--save", file]):
+            done = subprocess.run([program, *given], input=b"", capture_output=True, timeout=60, check=False)
+            told = done.stderr.decode()
+            holds = (done.returncode, done.stdout) == (2, b"") and str(beside) in told and os.strerror(number) in told
+            cases.expect(f"tables that are {name}, {given[0]} {given[1]}", holds, done)
+        if beside.is_symlink():
+            beside.unlink()
+        else:
+            beside.rmdir()
+        cases.expect(f"tables that were {name}: the journal stays", file.read_bytes() == b"0 1 29000580 APT 0 0 tick\n")
 
 
 def serve_without_file(program, cases, room):
@@ -214,6 +238,7 @@ def main():
         held(program, cases, room, False)
         held(program, cases, room, True)
         standard_error(program, cases, room)
+        unread_tables(program, cases, room)
     return cases.end()
 
 

@@ -8,6 +8,7 @@ be; each event in the log; the log moved away while partners come and go, also b
 mount one); and files that can't be a log. The last line is `N cases, M failed`; status 1 where one failed.
 """
 
+import errno
 import grp
 import json
 import os
@@ -203,6 +204,26 @@ def kept(cases, program, room):
     airport.close()
 
 
+def limited(cases, program, room):
+    """A kept file that can grow no further: the log says why, by the system's reason."""
+    log, journal = room / "limited-log", room / "limited"
+    board = Board(
+        ["bash", "-c", 'trap "" XFSZ; ulimit -f 2; exec "$0" "$@"', program],
+        ["--again", "--keep", str(journal), "--log", str(log)],
+        ["APT"],
+    )
+    airport, replies = board.connect(1), []
+    while len(replies) < 200 and (reply := airport.asks(TICK)):
+        replies.append(reply)
+    status, _ = board.ended()
+    kept_lines = journal.read_bytes().count(b"\n")
+    cases.expect("a full file ends the board", (status, len(replies)) == (2, kept_lines) and kept_lines > 50, (status, len(replies), kept_lines))
+    found = [it for it in events(log) if it["event"] == "keep"]
+    why = f"{os.strerror(errno.EFBIG)} (os error {errno.EFBIG})"
+    cases.expect("and the log says why", [it["why"] for it in found] == [why], found)
+    airport.close()
+
+
 def moved(cases, program, room):
     """The log is moved away 20 times while partners come and go: each event is in one file, once and whole."""
     log = room / "moved"
@@ -301,6 +322,34 @@ def full_disk(cases, program, room):
         subprocess.run(["umount", str(disk)], capture_output=True, check=False)
 
 
+def bounded_file(cases, program, room):
+    """A log that may grow no further in the middle of a line: what stands there is whole lines, and partners are served on."""
+    log = room / "bounded-log"
+    filler = "x" * 1000
+    line = json.dumps({"at": "2026-01-01T00:00:00Z", "event": "other", "text": filler}, separators=(",", ":")) + "\n"
+    log.write_text(line * 60)
+    # (64 of 1,024 bytes: the rest has room for some lines, and no room for the next one whole)
+    rest = 65_536 - log.stat().st_size
+    board = Board(
+        ["bash", "-c", 'trap "" XFSZ; ulimit -f 64; exec "$0" "$@"', program],
+        ["--again", "--control", "PORT", "--log", str(log)],
+        ["APT"],
+    )
+    for turn in range(rest // 60):
+        partner = board.connect(1)
+        cases.expect(f"a partner is served beside it, {turn}", partner.asks(TICK) == f"ok {turn}")
+        partner.close()
+        board.waits_for(lambda turn=turn: board.told(1, "gone") > turn)
+        if any(it.startswith("log failed") for it in board.said):
+            break
+    told = board.waits_for(lambda: any(re.fullmatch(rf"log failed {MOMENT}", it) for it in board.said))
+    cases.expect("that the log failed is said", told, board.said[-3:])
+    cases.expect("there is no room for a line more", 65_536 - log.stat().st_size < 120, log.stat().st_size)
+    text = log.read_text()
+    cases.expect("no line is cut", text.endswith("}\n") and all(json.loads(it) for it in text.splitlines()), text[-200:])
+    cases.expect("ends", board.close()[1] == 0)
+
+
 def refused(cases, program, room):
     """Files that can't be a log: the line, the word and why, status 2, and nothing served."""
     tables, journal = room / "tables.toml", room / "day"
@@ -339,7 +388,7 @@ def main():
     counted(cases, asked.program)
     many(cases, asked.program)
     with tempfile.TemporaryDirectory() as room:
-        for try_it in (each_event, bounded, plain, kept, moved, rotated, full_disk, refused):
+        for try_it in (each_event, bounded, plain, kept, limited, moved, rotated, full_disk, bounded_file, refused):
             own = pathlib.Path(room) / try_it.__name__
             own.mkdir()
             try_it(cases, asked.program, own)

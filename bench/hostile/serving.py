@@ -5,12 +5,13 @@
 
 A partner that reads late and little, under each word that keeps partners; a second connection at an address that is taken; `close` with
 2,000 lines in hand; replies that an older connection has not taken; a pace after silence; levels of rooms that do not divide; moments
-beside the machine's clock; a display that reads late; and ticks of the board's own. The last line is `N cases, M failed`; status 1 where one failed.
+beside the machine's clock; a display that reads late, and one that reads nothing; ticks of the board's own, also where it slept. The last line is `N cases, M failed`; status 1 where one failed.
 """
 
 import datetime
 import hashlib
 import pathlib
+import signal
 import socket
 import sys
 import tempfile
@@ -71,6 +72,14 @@ def received(connection, most):
         return connection.recv(most)
     except OSError:
         return b""
+
+
+def rest_of(connection):
+    """All bytes of a connection up to its end."""
+    pieces = []
+    while piece := received(connection, 1 << 20):
+        pieces.append(piece)
+    return b"".join(pieces)
 
 
 def is_held_up(other):
@@ -385,6 +394,60 @@ def own_ticks(cases, program):
     cases.expect("63 partners and ticks end", (answer, status) == ("closing\n", 0), (answer, status))
 
 
+def slept(cases, program):
+    """A board that slept: the ticks that it has missed are one."""
+    board, _ = opened(program, ["--tick", "1", "--again", "--control", "PORT"], ["GH"])
+    partner = board.connect(1)
+
+    def number():
+        return int(partner.asks(SHOW).split(" ")[1])
+
+    cases.expect("a board ticks", board.waits_for(lambda: number() > 2))
+    before = number()
+    board.ran.send_signal(signal.SIGSTOP)
+    time.sleep(5)
+    board.ran.send_signal(signal.SIGCONT)
+    time.sleep(0.5)
+    # (one entry is that of the question before)
+    ticks = number() - before - 1
+    cases.expect("what it missed is one tick", 1 <= ticks <= 2, ticks)
+    time.sleep(3)
+    more = number() - before - 2 - ticks
+    cases.expect("and it ticks on, each second", 2 <= more <= 4, more)
+    partner.close()
+    cases.expect("it ends", board.close()[1] == 0)
+
+
+def stopped_display(cases, program):
+    """A display that takes nothing for half a minute is let go, and another one is sent all."""
+    with tempfile.TemporaryDirectory() as room:
+        saved = pathlib.Path(room) / "saved"
+        board, port = opened(program, ["--journal", "400000", "--again", "--control", "PORT", "--save", str(saved), "--watch", "DISPLAY"], ["APT"])
+        still, other = socket.socket(), socket.socket()
+        still.setsockopt(socket.SOL_SOCKET, socket.SO_RCVBUF, 65536)
+        for it in (still, other):
+            it.settimeout(20)
+            it.connect(("127.0.0.1", port))
+        heard = []
+        reading = threading.Thread(target=lambda: heard.append(rest_of(other)), daemon=True)
+        reading.start()
+        partner = board.connect(1)
+        count = 0
+        for _ in range(100):
+            sends(partner, [SCHEDULE] * MANY)
+            for _ in range(MANY):
+                count += partner.replies.readline()[:3] in ("ok ", "no ")
+        cases.expect("all lines are answered beside it", count == 100 * MANY, count)
+        time.sleep(38)
+        data = rest_of(still)
+        partner.close()
+        cases.expect("the board ends", board.close()[1] == 0)
+        reading.join(20)
+        text = saved.read_bytes()
+        cases.expect("who took nothing was sent the first part", text.startswith(data) and len(data) < len(text), (len(data), len(text)))
+        cases.expect("the other display has all", heard == [text], [len(it) for it in heard])
+
+
 def tried(make, cases, *given):
     """Makes cases; a fault of the script itself is a case that failed."""
     try:
@@ -393,12 +456,16 @@ def tried(make, cases, *given):
         cases.expect(f"{make.__name__} of {given[1:]} comes to its end", False, repr(fault))
 
 
+# They wait more than they work, and are made at once.
+TOGETHER = (pace_after_silence, late_display, own_ticks, slept, stopped_display)
+
+
 def main():
     asked = words(__doc__).parse_args()
     program, cases = str(asked.program.resolve()), Cases()
     late = [["--again", "--control"], ["--control"], ["--pace"], ["--keep"], []]
     waiting = [threading.Thread(target=tried, args=(late_reader, cases, program, given)) for given in late]
-    waiting += [threading.Thread(target=tried, args=(it, cases, program)) for it in (pace_after_silence, late_display, own_ticks)]
+    waiting += [threading.Thread(target=tried, args=(it, cases, program)) for it in TOGETHER]
     for it in waiting:
         it.start()
     for given in ([], ["--control", "PORT"], ["--pace", "6000"]):
