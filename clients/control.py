@@ -25,7 +25,9 @@ ANSWER = 5
 END = 120
 # (a line of a session ends with the first 200 bytes of a bad line, each of which may take six)
 LONGEST = 4096
-LINE = re.compile(rb"(following |session \d+ [A-Z]+ (here|gone|ticks)|entries \d+ of \d+|version |last )[ -~]*\n")
+LINE = re.compile(
+    rb"(following |session \d+ [A-Z]+ (here|gone|ticks)|followers |entries \d+ of \d+|version |last )[ -~]*\n"
+)
 
 
 class Fault(Exception):

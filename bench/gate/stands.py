@@ -21,6 +21,7 @@ PUBLIC = re.compile(r" *pub (?:const )?fn (\w+)")
 LACKING = {
     "acdm_board": {"Desk::core", "Desk::row", "Desk::sigs"},
     "acdm_commands": {"Cause::new", "Cause::note", "Noting::new", "standard_streams::is_error_file"},
+    "acdm_confirming": {"Confirmed::confirm", "Confirmed::join", "Confirmed::leave", "Confirmed::wait_for_more"},
     "acdm_displays": {"Displays::close", "Displays::start"},
     "acdm_feed": {"telling::pass_next"},
     "acdm_following": {"Course::ask", "Course::end", "Course::new"},

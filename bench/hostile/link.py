@@ -5,8 +5,8 @@
 
 The link is cut both ways, for a while and until the first board lets the second one go. It is cut in one way only, in
 silence. It is slow, and narrow. The second board is promoted while it is cut. The first machine vanishes and comes
-back. The second file is held against the first one, byte by byte. Where no such machines can be made this is left
-out, with a line. The last line is `N cases, M failed`; status 1 where one failed.
+back. Replies wait for the second board over a link that is cut, and over a slow one. The second file is held against the
+first one, byte by byte. Where no such machines can be made this is left out, with a line. The last line is `N cases, M failed`; status 1 where one failed.
 """
 
 import contextlib
@@ -124,9 +124,9 @@ class OnMachine:
 
 
 class FirstThere(OnMachine, First):
-    def __init__(self, machine, program, kept):
+    def __init__(self, machine, program, kept, given):
         self.machine = machine
-        arguments = ["--again", "--control", "PORT", "--keep", str(kept), "--watch", f"{machine.address}:{WATCH}"]
+        arguments = ["--again", "--control", "PORT", "--keep", str(kept), "--watch", f"{machine.address}:{WATCH}", *given]
         with machine.inside():
             Board.__init__(self, [program], arguments, ROLES)
 
@@ -152,17 +152,18 @@ class SecondThere(OnMachine, Second):
 class Link:
     """Two machines with a link between them, and their boards; all of it is gone at the end."""
 
-    def __init__(self, program, room):
-        self.program, self.kept, self.copy = program, room / "first", room / "second"
+    def __init__(self, program, room, given=()):
+        self.program, self.kept, self.copy, self.given = program, room / "first", room / "second", given
         self.lines, self.count = iter(schedules(OTHERS)), 0
         self.at_end, self.is_over, self.faults = contextlib.ExitStack(), threading.Event(), []
         self.near = self.far = self.first = self.second = self.airport = None
 
     def begin(self):
-        """There are machines and a link; the first board serves, and has some entries."""
+        """There are machines and a link; the first board serves, and has some entries, where it waits for no other board."""
         self.join()
         self.serve()
-        self.enter(BEFORE)
+        if not self.given:
+            self.enter(BEFORE)
 
     def join(self):
         """Makes the machines and the link."""
@@ -182,7 +183,7 @@ class Link:
 
     def serve(self):
         """The first board begins, or goes on in its file, and its partner connects."""
-        self.first = FirstThere(self.near, self.program, self.kept)
+        self.first = FirstThere(self.near, self.program, self.kept, self.given)
         self.at_end.callback(self.first.kill)
         self.airport = self.first.connect(1)
 
@@ -213,6 +214,15 @@ class Link:
             if reply != f"ok {self.count}":
                 raise ValueError(f"entry {self.count} was replied as {reply}")
             self.count += 1
+
+    def enter_surely(self, count):
+        """The same, where each reply is to have its entry in the second file by then: those that have none."""
+        lost = []
+        for _ in range(count):
+            self.enter(1)
+            if self.copy.read_bytes().count(b"\n") < self.count:
+                lost.append(self.count - 1)
+        return lost
 
     def set(self, state):
         """Both ends of the link are set up, or down."""
@@ -495,6 +505,73 @@ def given_up(cases, link):
 TRIES = (cut_both_ways, let_go, first_unheard, second_unheard, slow, narrow, promoted, vanished, given_up)
 
 
+def strict_over_a_cut(cases, link):
+    """No reply comes while the link is cut, where the board is strict, and it comes once the link is whole."""
+    link.follow()
+    lost = link.enter_surely(BEFORE)
+    cases.expect("each reply has its entry there", not lost, lost)
+    link.set("down")
+    link.airport.send(next(link.lines) + "\n")
+    link.airport.socket.settimeout(CUT)
+    try:
+        reply = link.airport.socket.recv(1)
+    except TimeoutError:
+        reply = None
+    cases.expect("no reply comes over a link that is cut", reply is None, reply)
+    cases.expect("it says that", link.first.waits_for(lambda: any(it.startswith("late ") for it in link.first.said)), link.first.said)
+    link.airport.socket.settimeout(4 * THEN)
+    link.set("up")
+    reply = link.airport.replies.readline()
+    cases.expect("it comes over one that is whole", reply == f"ok {link.count}\n", reply)
+    link.count += 1
+    lost = link.enter_surely(BEFORE)
+    cases.expect("and each one after it", not lost, lost)
+    cases.expect_all(link, "further on", THEN)
+
+
+def alone_over_a_cut(cases, link):
+    """One reply waits where the link is cut, the others go alone; the second board has them all once the link is whole."""
+    link.follow()
+    lost = link.enter_surely(BEFORE)
+    cases.expect("each reply has its entry there", not lost, lost)
+    link.set("down")
+    began = time.monotonic()
+    link.enter(1)
+    took = time.monotonic() - began
+    cases.expect("the first reply waits, and comes", 4.5 <= took <= 12, took)
+    began = time.monotonic()
+    link.enter(SOME)
+    cases.expect("the others come at once", time.monotonic() - began < 4, time.monotonic() - began)
+    link.set("up")
+    cases.expect_all(link, "after the cut", 3 * THEN)
+    back = link.first.waits_for(lambda: [it[:4] for it in link.first.said if it[:4] in ("late", "back")] == ["late", "back"], 3 * THEN)
+    cases.expect("it says that it was late, and is back", back, link.first.said)
+    lost = link.enter_surely(BEFORE)
+    cases.expect("and each reply has its entry again", not lost, lost)
+
+
+def sure_over_a_slow_one(cases, link):
+    """Each byte comes late: a reply waits for its entry and for the word, and has its entry there when it comes."""
+    late = Late(link.near, WATCH)
+    link.at_end.callback(late.listener.close)
+    link.follow(late.port)
+    began = time.monotonic()
+    lost = link.enter_surely(10)
+    took = (time.monotonic() - began) / 10
+    cases.expect("each reply has its entry there", not lost, lost)
+    cases.expect("and waits for the way there and back", took >= 2 * LATE, took)
+    cases.expect("but for not much more", took < 4 * LATE, took)
+    cases.expect_all(link, "in the end", THEN)
+
+
+# Whose first board waits for the second one, and by which words.
+SURE = {
+    strict_over_a_cut: ["--second", "1", "--strict"],
+    alone_over_a_cut: ["--second", "1"],
+    sure_over_a_slow_one: ["--second", "1", "--strict"],
+}
+
+
 def tried(cases, link, try_it):
     """One try, to its end or to its failure."""
     is_whole = False
@@ -532,10 +609,10 @@ def main():
     signal.signal(signal.SIGTERM, lambda *_: sys.exit(1))
     with tempfile.TemporaryDirectory() as made:
         try:
-            for try_it in TRIES:
+            for try_it in (*TRIES, *SURE):
                 room = pathlib.Path(made) / try_it.__name__
                 room.mkdir()
-                cases, link = Tried(try_it.__name__), Link(asked.program.resolve(), room)
+                cases, link = Tried(try_it.__name__), Link(asked.program.resolve(), room, SURE.get(try_it, ()))
                 thread = threading.Thread(target=tried, args=(cases, link, try_it), daemon=True)
                 running.append((cases, link, thread))
                 thread.start()

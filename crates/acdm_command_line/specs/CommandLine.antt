@@ -1,6 +1,6 @@
 -- What the words of a command line ask for, as `clap` reads them.
 use Rattle.std.specs.Prelude.{ℕ, ◌≡◌, ◌≤◌, ◌⊎◌, Bool, true, false, List, [], ◌∷◌, codes, Option, Some, None}
-use Rattle.std.specs.Prelude.{map, option_and_then, option_map, if◌then◌else◌, IsSome}
+use Rattle.std.specs.Prelude.{map, option_and_then, option_map, if◌then◌else◌, IsSome, is_some}
 use Rattle.std.specs.Str.{bytes_eq}
 use Rattle.std.specs.Str.Parse.{IsNumeral, digits_value, without_leading_plus}
 use Rattle.clap.specs.Words.{App, Row, Rule, Text, all_of, first_of, new_app, new_rule}
@@ -77,6 +77,13 @@ tick_rule = record (new_rule (codes "tick")) { long = Some (codes "tick"); value
 abbrev pub log_rule : Rule
 log_rule = record (new_rule (codes "log")) { long = Some (codes "log"); value_names = 1 }
 
+-- `--second N`, `--strict`
+abbrev pub second_rule : Rule
+second_rule = record (new_rule (codes "second")) { long = Some (codes "second"); value_names = 1 }
+
+abbrev pub strict_rule : Rule
+strict_rule = record (new_rule (codes "strict")) { long = Some (codes "strict"); action = Some SetTrue }
+
 -- `--tables FILE`
 abbrev pub tables_rule : Rule
 tables_rule = record (new_rule (codes "tables")) { long = Some (codes "tables"); value_names = 1 }
@@ -94,8 +101,8 @@ abbrev pub run_app : App
 run_app = keeping_app (codes "run") keep_rule
 
 -- `serve [--journal N] [--save FILE] [--keep FILE] [--sync] [--tables FILE] [--watch ADDR] [--changes ADDR]
--- [--web ADDR] [--web-name NAME] [--again] [--control ADDR] [--pace N] [--tick SECONDS] [--log FILE] ROLE=ADDR...`,
--- of at least one partner
+-- [--web ADDR] [--web-name NAME] [--again] [--control ADDR] [--pace N] [--tick SECONDS] [--log FILE] [--second N]
+-- [--strict] ROLE=ADDR...`, of at least one partner
 abbrev pub partners_rule : Rule
 partners_rule = record (new_rule (codes "partners")) {
   value_names = 1;
@@ -118,15 +125,18 @@ lasting_app name keep = with_rule (with_rule (held_app name keep) pace_rule) tic
 unfoldable pub logging_app : Text → Rule → App
 logging_app name keep = with_rule (lasting_app name keep) log_rule
 
+unfoldable pub seconded_app : Text → Rule → App
+seconded_app name keep = with_rule (with_rule (logging_app name keep) second_rule) strict_rule
+
 abbrev pub serve_app : App
-serve_app = with_rule (logging_app (codes "serve") keep_rule) partners_rule
+serve_app = with_rule (seconded_app (codes "serve") keep_rule) partners_rule
 
 -- `follow ADDR --keep FILE [..] ROLE=ADDR...`, with the other options of `serve`
 abbrev pub first_rule : Rule
 first_rule = record (new_rule (codes "first")) { value_names = 1; required = true }
 
 abbrev pub follow_app : App
-follow_app = with_rule (with_rule (logging_app (codes "follow") kept_rule) first_rule) partners_rule
+follow_app = with_rule (with_rule (seconded_app (codes "follow") kept_rule) first_rule) partners_rule
 
 -- a subcommand of this name on a file, as `audit [--tables FILE] FILE`
 abbrev pub file_rule : Rule
@@ -240,6 +250,34 @@ HasPace name = HasCount name (codes "pace") 4294967295
 abbrev pub HasTick : List ℕ → Option (Text × List Row) → Option ℕ → Type 0
 HasTick name = HasCount name (codes "tick") 86400
 
+-- how many boards have to keep an entry before a reply tells of it
+abbrev pub HasSecond : List ℕ → Option (Text × List Row) → Option ℕ → Type 0
+HasSecond name = HasCount name (codes "second") 8
+
+-- options go together: one that is strict needs boards to wait for, and these a file that is kept and an address at
+-- which they follow
+abbrev pub GoesTogether : Bool → Bool → Bool → Bool → Type 0
+GoesTogether is_kept is_watched is_seconded is_strict =
+    (is_seconded ≡ true → (is_kept ≡ true) × (is_watched ≡ true)) × (is_strict ≡ true → is_seconded ≡ true)
+
+abbrev pub AreTogether : List ℕ → Option (Text × List Row) → Type 0
+AreTogether name found =
+    GoesTogether (is_some (value_in name (codes "keep") found)) (is_some (value_in name (codes "watch") found))
+    (is_some (value_in name (codes "second") found)) (is_set_in name (codes "strict") found)
+
+-- for how many boards replies wait, and whether none is sent without them, where that goes together with the rest
+pub record HasSeconding (name : List ℕ) (found : Option (Text × List Row)) (seconding : Option ℕ × Bool) : Type 0 where
+  pub second : HasSecond name found seconding.0
+  pub strict : seconding.1 ≡ is_set_in name (codes "strict") found
+  pub together : AreTogether name found
+
+abbrev pub IsSeconded : List ℕ → Option (Text × List Row) → Type 0
+IsSeconded name found = (seconding : Option ℕ × Bool) × HasSeconding name found seconding
+
+abbrev pub AnswersSeconding : List ℕ → Option (Text × List Row) → Option (Option ℕ × Bool) → Type 0
+AnswersSeconding name found (Some seconding) = HasSeconding name found seconding
+AnswersSeconding name found None = IsSeconded name found → ⊥
+
 -- the length of a record that a text names
 abbrev pub length_named : Text → Option Length
 length_named text =
@@ -258,6 +296,7 @@ abbrev pub Serves : List ℕ → Option (Text × List Row) → Text → Type 0
 Serves name found text =
     (value_in name (codes "journal") found ≡ Some text)
     × IsCounted name (codes "pace") 4294967295 found × IsCounted name (codes "tick") 86400 found
+    × IsSeconded name found
 
 -- the first board that `follow` is given
 abbrev pub first_in : Option (Text × List Row) → Option Text
@@ -299,7 +338,7 @@ Asks found (Run journal save keep sync) =
     × (option_map (λ s. s.now) save ≡ value_in (codes "run") (codes "save") found)
     × (option_map (λ s. s.now) keep ≡ value_in (codes "run") (codes "keep") found)
     × (sync ≡ is_set_in (codes "run") (codes "sync") found)
-Asks found (Serve first journal save keep sync watch changes web web_name again control pace tick log partners) =
+Asks found (Serve first journal save keep sync watch changes web web_name again control pace tick log second strict partners) =
     (text : Text) × Serves (serving_name first) found text × IsJournal text × (journal ≡ number_of text)
     × (option_map (λ s. s.now) first ≡ first_in found)
     × (option_map (λ s. s.now) save ≡ value_in (serving_name first) (codes "save") found)
@@ -313,6 +352,7 @@ Asks found (Serve first journal save keep sync watch changes web web_name again 
     × (option_map (λ s. s.now) control ≡ value_in (serving_name first) (codes "control") found)
     × HasPace (serving_name first) found pace × HasTick (serving_name first) found tick
     × (option_map (λ s. s.now) log ≡ value_in (serving_name first) (codes "log") found)
+    × HasSeconding (serving_name first) found (second, strict)
     × (map (λ s. s.now) partners.items ≡ partners_in (serving_name first) found)
 Asks found (Verify length file) = Verifies found length file.now
 Asks found (Audit file) = AuditsFile found file.now

@@ -1,5 +1,5 @@
 //! The command line.
-ghost use Rattle.std.specs.Prelude.{◌≡◌, false, IfOk, IfErr, OnOk, map, codes};
+ghost use Rattle.std.specs.Prelude.{◌≡◌, false, true, IfOk, IfErr, OnOk, map, codes};
 ghost use Rattle.std.specs.Prelude.{option_map};
 ghost use Rattle.std.specs.Option.{SomeIff};
 ghost use Rattle.clap.specs.Values.{kind_of};
@@ -15,6 +15,7 @@ ghost use Rattle.acdm_command_line.specs.CommandLine.{changes_rule, journal_rule
 ghost use Rattle.acdm_command_line.specs.CommandLine.{is_set_in, watch_rule, web_name_rule, web_rule};
 ghost use Rattle.acdm_command_line.specs.CommandLine.{journal_app, tables_in, tables_rule};
 ghost use Rattle.acdm_command_line.specs.CommandLine.{again_rule, control_rule, lasting_app, log_rule, logging_app, pace_rule};
+ghost use Rattle.acdm_command_line.specs.CommandLine.{AnswersSeconding, GoesTogether, second_rule, seconded_app, strict_rule};
 ghost use Rattle.acdm_command_line.specs.CommandLine.{AnswersCount, IsCount, tick_rule};
 ghost use Rattle.acdm_command_line.specs.CommandLine.{partners_in, value_in, values_in};
 ghost use Rattle.acdm_command_line.specs.CommandLine.{number_of, IsJournal, AsksFor, Refuses};
@@ -34,6 +35,9 @@ const MOST_PACE: u32 = 4_294_967_295;
 /// How many seconds lie between ticks at most: a day.
 const MOST_TICK: u32 = 86_400;
 
+/// How many boards have to keep an entry at most before a reply tells of it.
+const MOST_SECOND: u32 = 8;
+
 /// What a command line asks for.
 #[derive(Debug, Drop, PartialEq, Eq)]
 pub enum Subcommand<'a> {
@@ -51,7 +55,8 @@ pub enum Subcommand<'a> {
     /// which browsers have a page at a third, by this name beside its addresses, for the partners of these words, as they stand: who may
     /// come again where `again` is true, of whom so many lines are taken in a minute; it is closed at the
     /// control address, ticks by itself each so many seconds, from 1 to 86,400, and logs in a file what the operator
-    /// is told. Where the address of a first board is named it is `follow`: that board is followed before.
+    /// is told. Replies wait until so many boards that follow it keep their entries too, from 1 to 8; where `strict` is
+    /// true, none goes out without them. Where the address of a first board is named it is `follow`: that board is followed before.
     Serve {
         first: Option<&'a str>,
         journal: usize,
@@ -67,6 +72,8 @@ pub enum Subcommand<'a> {
         pace: Option<u32>,
         tick: Option<u32>,
         log: Option<&'a str>,
+        second: Option<u32>,
+        strict: bool,
         partners: Vec<&'a str>,
     },
     /// `audit`, of the journal in this file.
@@ -262,6 +269,30 @@ fn log<'a>(alloc: Global) -> Arg<'a>
     )
 }
 
+// `--second N`.
+fn second<'a>(alloc: Global) -> Arg<'a>
+    ensures rule { rule_of result ≡ second_rule }
+    ensures optional { (result.required ≡ false) × (result.global ≡ false) }
+{
+    Arg::new(alloc, "second")
+        .long("second")
+        .value_name("N")
+        .help(
+            "With --keep and --watch: a reply is sent once so many boards that follow keep its entry too, 1 to 8",
+        )
+}
+
+// `--strict`.
+fn strict<'a>(alloc: Global) -> Arg<'a>
+    ensures rule { rule_of result ≡ strict_rule }
+    ensures optional { (result.required ≡ false) × (result.global ≡ false) }
+{
+    Arg::new(alloc, "strict")
+        .long("strict")
+        .action(ArgAction::SetTrue)
+        .help("With --second: no reply is sent while too few boards follow")
+}
+
 // A subcommand that has a journal, which is kept by this option.
 fn with_journal<'a>(
     alloc: Global,
@@ -386,6 +417,23 @@ fn logging<'a>(
     lasting(alloc, name, about, keep)?.arg(log(alloc))
 }
 
+// The same with the boards that replies wait for.
+#[tactic(auto, unfolding(crate::specs::CommandLine::seconded_app))]
+fn seconded<'a>(
+    alloc: Global,
+    name: &'a str,
+    about: &'a str,
+    keep: Arg<'a>,
+) -> Result<Command<'a>, AllocError>
+    requires local { keep.global ≡ false }
+    ensures shape { IfOk result (λ c. app_of c ≡ seconded_app name.now (rule_of keep.entry)) }
+    ensures local { IfOk result (λ c. (fields_of c).has_globals ≡ false) }
+{
+    logging(alloc, name, about, keep)?
+        .arg(second(alloc))?
+        .arg(strict(alloc))
+}
+
 // `ROLE=ADDR`, once or more.
 fn partners<'a>(alloc: Global) -> Arg<'a>
     ensures rule { rule_of result ≡ partners_rule }
@@ -404,7 +452,7 @@ fn serve_command<'a>(alloc: Global) -> Result<Command<'a>, AllocError>
 {
     let about =
         "Accepts a partner at each address, and serves all at once; --config FILE puts in its place the words of a file in TOML";
-    logging(alloc, "serve", about, keep(alloc))?.arg(partners(alloc))
+    seconded(alloc, "serve", about, keep(alloc))?.arg(partners(alloc))
 }
 
 // `ADDR`, of a first board.
@@ -424,7 +472,7 @@ fn follow_command<'a>(alloc: Global) -> Result<Command<'a>, AllocError>
 {
     let about =
         "Keeps the journal of another board as it grows, and serves as that board did once it is promoted";
-    logging(alloc, "follow", about, kept(alloc))?
+    seconded(alloc, "follow", about, kept(alloc))?
         .arg(first(alloc))?
         .arg(partners(alloc))
 }
@@ -704,6 +752,30 @@ fn count_for(matches: &ArgMatches, name: &str, id: &str, most: u32) -> Option<Op
     }
 }
 
+// Whether options go together: one that is strict needs boards to wait for, and these a file that is kept and an address
+// at which they follow.
+fn goes_together(is_kept: bool, is_watched: bool, is_seconded: bool, is_strict: bool) -> bool
+    ensures goes { result ≡ true → GoesTogether is_kept is_watched is_seconded is_strict }
+    ensures only { GoesTogether is_kept is_watched is_seconded is_strict → result ≡ true }
+{
+    (is_kept && is_watched || !is_seconded) && (is_seconded || !is_strict)
+}
+
+// For how many boards replies wait by the subcommand of this name, if they do, and whether none is sent without them; if
+// that goes together with the rest.
+fn seconding_for(matches: &ArgMatches, name: &str) -> Option<(Option<u32>, bool)>
+    ensures { AnswersSeconding name.now (subcommand_rows_of matches.now) result }
+{
+    let second = count_for(matches, name, "second", MOST_SECOND)?;
+    let strict = is_set(matches, name, "strict");
+    let is_kept = value(matches, name, "keep").is_some();
+    let is_watched = value(matches, name, "watch").is_some();
+    if !goes_together(is_kept, is_watched, second.is_some(), strict) {
+        return None;
+    }
+    Some((second, strict))
+}
+
 // What the subcommand of this name asks for, one of the two that serve, if it was entered with such a journal; and
 // with the address of a first board, if it is `follow`.
 fn serving_of<'a>(
@@ -735,6 +807,9 @@ fn serving_of<'a>(
         return Ok(None);
     };
     let log = value(matches, name, "log");
+    let Some((second, strict)) = seconding_for(matches, name) else {
+        return Ok(None);
+    };
     let partners = partners_of(alloc, matches, name)?;
     Ok(Some(Subcommand::Serve {
         first,
@@ -751,6 +826,8 @@ fn serving_of<'a>(
         pace,
         tick,
         log,
+        second,
+        strict,
         partners,
     }))
 }
@@ -824,6 +901,18 @@ fn reason(matches: &ArgMatches) -> &'static str {
     if count_for(matches, name, "tick", MOST_TICK).is_none() {
         return "invalid value for '--tick <SECONDS>': it is not a number from 1 to 86400";
     }
+    let Some(second) = count_for(matches, name, "second", MOST_SECOND) else {
+        return "invalid value for '--second <N>': it is not a number from 1 to 8";
+    };
+    if second.is_some() && value(matches, name, "keep").is_none() {
+        return "'--second <N>' needs '--keep <FILE>'";
+    }
+    if second.is_some() && value(matches, name, "watch").is_none() {
+        return "'--second <N>' needs '--watch <ADDR>'";
+    }
+    if second.is_none() && is_set(matches, name, "strict") {
+        return "'--strict' needs '--second <N>'";
+    }
     "invalid value for '--journal <N>': it is not a number from 1 to 1000000"
 }
 
@@ -852,8 +941,10 @@ fn parse_by<'a>(
 /// The journal is what `--journal` says, else 100,000, the length what `--length` says, else 128,
 /// and the other words are taken as they stand. Words that name no such command are refused by
 /// `clap`; a journal outside 1 to 1,000,000 is refused, a length that is neither 128 nor 160, a pace that
-/// is no number from 1 to 4,294,967,295, and a tick that is none from 1 to 86,400 seconds. A request for help
-/// counts as a refusal.
+/// is no number from 1 to 4,294,967,295, a tick that is none from 1 to 86,400 seconds, and boards to wait for that are
+/// none from 1 to 8; these without a file that is kept or an address of displays of the journal, and `--strict` without
+/// these. A request for help counts as a
+/// refusal.
 pub fn parse<'a>(alloc: Global, words: &'a [&'a str]) -> Result<Line<'a>, Error>
     ensures asks { IfOk result (AsksFor (map (λ w. w.now) words.entry.now)) }
     ensures refuses { IfErr result (λ error.

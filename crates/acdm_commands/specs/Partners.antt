@@ -8,6 +8,7 @@ use Rattle.acdm_milestones.specs.Names.{role_named}
 use Rattle.acdm_milestones.specs.declared.role.Role.{Role}
 use Rattle.acdm_milestones.specs.declared.role.Role.TheVariants.{AirportOperator}
 use Rattle.acdm_board.specs.Desk.{DeskView}
+use Rattle.acdm_confirming.specs.declared.confirmations.ConfirmationTerms.{ConfirmationTerms}
 use Rattle.acdm_failures.specs.declared.failure.Failure.{Failure}
 use Rattle.acdm_failures.specs.declared.failure.Failure.TheVariants as failures
 use Rattle.acdm_lines.specs.Counted.{SinkView, faults_after}
@@ -33,6 +34,11 @@ role_in word =
 
 abbrev pub address_in : List ℕ → List ℕ
 address_in word = after_first is_equals word
+
+-- for how many boards replies wait, by the options, if they do
+abbrev pub terms_by : Option ℕ → Bool → Option ConfirmationTerms
+terms_by (Some wanted) strict = Some (record { wanted = wanted; is_strict = strict })
+terms_by None strict = None
 
 -- displays have an address: one at least of those for the journal, for what it changes and for browsers
 abbrev pub has_outlet : Bool → Bool → Bool → Bool

@@ -135,6 +135,8 @@ fn complete_by<'a, Rt: Host + Files<File = File>, R: Read, W: Write, E: Write>(
             pace,
             tick,
             log,
+            second,
+            strict,
             partners,
         } => {
             let request = ServeRequest {
@@ -152,6 +154,8 @@ fn complete_by<'a, Rt: Host + Files<File = File>, R: Read, W: Write, E: Write>(
                     pace,
                     tick,
                     log,
+                    second,
+                    is_strict: strict,
                 },
                 words: partners,
             };

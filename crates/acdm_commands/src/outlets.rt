@@ -4,6 +4,7 @@ ghost use Rattle.acdm_commands.specs.Partners.{FailsToShow, has_outlet};
 
 use crate::addresses::socket_at;
 use crate::context::Context;
+use acdm_confirming::Confirmed;
 use acdm_displays::{DisplayKind, DisplayListener, Displays};
 use acdm_failures::Failure;
 use acdm_keeping::Reach;
@@ -78,18 +79,36 @@ fn option_of(kind: DisplayKind) -> &'static str {
     }
 }
 
+/// The entries that displays are shown: those of a row, as far as it is kept where it is, and what other boards keep
+/// where replies wait for that.
+#[derive(Clone, Copy)]
+pub(crate) struct ShownRow<'a> {
+    pub(crate) row: &'a Arc<Row>,
+    pub(crate) reach: &'a Option<Reach>,
+    pub(crate) confirmed: &'a Option<Arc<Confirmed>>,
+}
+
 // Displays of a row that connect at an address.
 fn displays_at<Rt: Host>(
     context: &Context<'_, Rt>,
     kind: DisplayKind,
     address: &str,
     name: Option<&str>,
-    row: &Arc<Row>,
-    reach: Option<&Reach>,
+    shown: ShownRow<'_>,
 ) -> io::Result<Displays> {
+    let ShownRow {
+        row,
+        reach,
+        confirmed,
+    } = shown;
     let socket = socket_at(context.rt, address)?;
-    let listener = DisplayListener { kind, socket, name };
-    Displays::start(context.rt, context.alloc, listener, row, reach)
+    let listener = DisplayListener {
+        kind,
+        socket,
+        name,
+        confirmed: confirmed.as_ref(),
+    };
+    Displays::start(context.rt, context.alloc, listener, row, reach.as_ref())
 }
 
 impl Outlets {
@@ -99,13 +118,12 @@ impl Outlets {
         context: &Context<'_, Rt>,
         addresses: OutletAddresses<'_>,
         kind: DisplayKind,
-        row: &Arc<Row>,
-        reach: Option<&Reach>,
+        shown: ShownRow<'_>,
     ) -> Result<(), Failure> {
         let Some(address) = addresses.of(kind) else {
             return Ok(());
         };
-        match displays_at(context, kind, address, addresses.web_name, row, reach) {
+        match displays_at(context, kind, address, addresses.web_name, shown) {
             Ok(displays) => {
                 self.open.push(displays)?;
                 Ok(())
@@ -126,12 +144,11 @@ impl Outlets {
         &mut self,
         context: &Context<'_, Rt>,
         addresses: OutletAddresses<'_>,
-        row: &Arc<Row>,
-        reach: Option<&Reach>,
+        shown: ShownRow<'_>,
     ) -> Result<(), Failure> {
-        self.add(context, addresses, DisplayKind::Journal, row, reach)?;
-        self.add(context, addresses, DisplayKind::Changes, row, reach)?;
-        self.add(context, addresses, DisplayKind::Web, row, reach)
+        self.add(context, addresses, DisplayKind::Journal, shown)?;
+        self.add(context, addresses, DisplayKind::Changes, shown)?;
+        self.add(context, addresses, DisplayKind::Web, shown)
     }
 }
 
@@ -140,8 +157,7 @@ impl Outlets {
 pub(crate) fn outlets_at<Rt: Host>(
     context: &Context<'_, Rt>,
     addresses: OutletAddresses<'_>,
-    row: &Arc<Row>,
-    reach: Option<&Reach>,
+    shown: ShownRow<'_>,
 ) -> Result<Outlets, Failure>
     ensures { IfErr result (FailsToShow (has_outlet (is_some addresses.entry.journal)
         (is_some addresses.entry.changes) (is_some addresses.entry.web))) }
@@ -153,7 +169,7 @@ pub(crate) fn outlets_at<Rt: Host>(
     if !addresses.is_any() {
         return Ok(outlets);
     }
-    match outlets.add_all(context, addresses, row, reach) {
+    match outlets.add_all(context, addresses, shown) {
         Ok(()) => Ok(outlets),
         Err(Failure::Memory) => {
             close_all(context.rt, outlets);

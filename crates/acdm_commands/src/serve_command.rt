@@ -1,11 +1,13 @@
 //! The command `serve`, from its words on.
 ghost use Rattle.std.specs.Prelude.{◌≡◌, ◌≤◌, true, false, IfErr, IfOk, IfSome, None, OnErr, is_some, length, map, option_map};
+ghost use Rattle.std.specs.Arc.{arc_value};
 ghost use Rattle.acdm_board.specs.Desk.{row_of};
+ghost use Rattle.acdm_confirming.specs.Confirming.{terms_of};
 ghost use Rattle.acdm_commands.specs.Completed.{ServesLine};
 ghost use Rattle.acdm_commands.specs.Keeping.{BeginsWith, FailsAtDesk, FailsToBegin, FailsToResume, IsNewKeeper};
 ghost use Rattle.acdm_commands.specs.Keeping.{ComesLed, IsLed, ServesLed, seen_by};
 ghost use Rattle.acdm_commands.specs.Minutes.{is_minute};
-ghost use Rattle.acdm_commands.specs.Partners.{FailsToOpen, FailsToServe, IsNamedBy, named_of, role_in};
+ghost use Rattle.acdm_commands.specs.Partners.{FailsToOpen, FailsToServe, IsNamedBy, named_of, role_in, terms_by};
 ghost use Rattle.acdm_failures.specs.Failures.{EndsBy};
 ghost use Rattle.acdm_keeping.specs.Kept.{Blames, CutsShort, StandsFor};
 ghost use Rattle.acdm_failures.specs.declared.failure.Failure.TheVariants.{Follow, Memory};
@@ -14,19 +16,19 @@ ghost use Rattle.acdm_tables.specs.Helpers.{helpers_by};
 
 use crate::addresses::few_partners;
 use crate::context::Context;
-use crate::outlets::{Outlets, close_all, outlets_at};
+use crate::outlets::{Outlets, ShownRow, close_all, outlets_at};
 use crate::request::{KeepIn, ServeRequest, Setup};
 use crate::resuming::{KeptFile, Resumption, keeper_of, resume};
 use crate::saving::{buffer_for, save_served, saving_in, settle};
-use crate::serve_options::{Operator, operator_of};
+use crate::serve_options::{Operator, ServeOptions, operator_of};
 use crate::system_clock::SystemMinutes;
 use acdm_board::Desk;
+use acdm_confirming::Confirmed;
 use acdm_failures::{Failure, ended};
 use acdm_judging::Finding;
 use acdm_keeping::{
     Keeper, KeptCount, LastingReceipt, Named, Opening, Paths, Reach, SharedKeeper, Synced,
 };
-use acdm_row::Row;
 use acdm_serving::{
     FileKeeper, FirstBoardPlace, Host, Operation, Partners, ServedPartners, follow_first,
     latest_receipt, serve_partners, serve_reconnecting,
@@ -34,7 +36,7 @@ use acdm_serving::{
 use acdm_sessions::{RunError, Sink};
 use acdm_tables::KnownHelpers;
 use bpf_helpers::Helpers;
-use std::alloc::Global;
+use std::alloc::{AllocError, Global};
 use std::fs::{File, Files};
 use std::io::{self, ErrorKind, Write};
 use std::marker::Brand;
@@ -202,7 +204,15 @@ fn serve_desk<
     let Ok(reach) = reach_of(&shared) else {
         return Err(Failure::Memory);
     };
-    let (partners, outlets) = match opened(context, request, desk.row(), reach.as_ref()) {
+    let Ok(confirmed) = confirmed_by(alloc, request.options, &closing) else {
+        return Err(Failure::Memory);
+    };
+    let shown = ShownRow {
+        row: desk.row(),
+        reach: &reach,
+        confirmed: &confirmed,
+    };
+    let (partners, outlets) = match opened(context, request, shown) {
         Ok(opened) => opened,
         Err(failure) => return Err(failure),
     };
@@ -213,6 +223,7 @@ fn serve_desk<
         kept: named,
         log,
         keeper: shared.as_ref(),
+        confirmed: confirmed.as_ref(),
     };
     let led = Led {
         partners: Some(partners),
@@ -322,12 +333,27 @@ fn keep_rest<J: Opening, Rt: Host>(
     }
 }
 
+// What other boards keep, where replies wait for that.
+fn confirmed_by(
+    alloc: Global,
+    options: ServeOptions<'_>,
+    closing: &Arc<AtomicBool>,
+) -> Result<Option<Arc<Confirmed>>, AllocError>
+    ensures { IfOk result (λ confirmed. option_map (λ c. terms_of (arc_value c)) confirmed
+        ≡ terms_by options.entry.second options.entry.is_strict) }
+{
+    let Some(terms) = options.confirmation_terms() else {
+        return Ok(None);
+    };
+    let confirmed = Confirmed::new(terms, Arc::try_clone(closing)?);
+    Ok(Some(Arc::new(alloc, confirmed)?))
+}
+
 // Listens for partners, and for displays of a row.
 fn opened<'r, Rt: Host>(
     context: &Context<'r, Rt>,
     request: &ServeRequest<'_>,
-    row: &Arc<Row>,
-    reach: Option<&Reach>,
+    shown: ShownRow<'_>,
 ) -> Result<(Partners<SystemMinutes<'r, Rt>>, Outlets), Failure>
     ensures few { IfOk result (λ opened. length (starts_of (λ _. is_minute) opened.0.listeners.items
         (option_map (λ t. t.clock) opened.0.ticks)) ≤ 64) }
@@ -340,7 +366,7 @@ fn opened<'r, Rt: Host>(
         Ok(partners) => partners,
         Err(failure) => return Err(failure),
     };
-    match outlets_at(context, request.outlets, row, reach) {
+    match outlets_at(context, request.outlets, shown) {
         Ok(outlets) => Ok((partners, outlets)),
         Err(failure) => Err(failure),
     }

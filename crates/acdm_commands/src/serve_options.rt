@@ -1,12 +1,13 @@
 //! How `serve` is asked to serve its partners, and what its operator has.
 ghost use Rattle.std.specs.Prelude.{◌≡◌, true, IfErr, is_some};
-ghost use Rattle.acdm_commands.specs.Partners.{FailsToOperate};
+ghost use Rattle.acdm_commands.specs.Partners.{FailsToOperate, terms_by};
 
 use crate::beside::is_beside;
 use crate::context::Context;
 use crate::request::JournalFiles;
 use crate::saving::{is_one, taken};
 use crate::standard_streams::is_standard;
+use acdm_confirming::ConfirmationTerms;
 use acdm_failures::Failure;
 use acdm_keeping::is_special;
 use acdm_partners::{Appends, Control, Terms};
@@ -27,6 +28,10 @@ pub(crate) struct ServeOptions<'a> {
     pub(crate) tick: Option<u32>,
     /// The file in which is logged what an operator is told, if it is.
     pub(crate) log: Option<&'a str>,
+    /// How many boards that follow have to keep an entry before a reply tells of it, from 1 to 8, if any have to.
+    pub(crate) second: Option<u32>,
+    /// Whether no reply is sent while too few boards follow.
+    pub(crate) is_strict: bool,
 }
 
 impl ServeOptions<'_> {
@@ -37,6 +42,19 @@ impl ServeOptions<'_> {
         Terms {
             again: self.again,
             pace: self.pace,
+        }
+    }
+
+    /// For how many boards replies wait, if they do.
+    pub(crate) fn confirmation_terms(&self) -> Option<ConfirmationTerms>
+        ensures { result ≡ terms_by self.now.second self.now.is_strict }
+    {
+        match self.second {
+            Some(wanted) => Some(ConfirmationTerms {
+                wanted: wanted as usize,
+                is_strict: self.is_strict,
+            }),
+            None => None,
         }
     }
 }

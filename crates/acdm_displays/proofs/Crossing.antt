@@ -4,7 +4,9 @@ use denote.Param.Send.{IsSend, sendable}
 use denote.Param.SendFields.{declared_send}
 use Rattle.std.proofs.Crossing.{crosses}
 use Rattle.acdm_row.proofs.Crossing.{row_send, row_sync}
+use Rattle.acdm_confirming.proofs.confirmed.Confirmed.TheSendSync as confirmed
 use Rattle.acdm_keeping.proofs.reach.Reach.TheSendSync as reach
+use Rattle.acdm_displays.proofs.asked.DisplayRequest.TheSendSync as asked
 use Rattle.acdm_displays.proofs.places.Shared.TheSendSync as shared
 use Rattle.acdm_displays.proofs.displays.DisplayKind.TheSendSync as kind
 use Rattle.acdm_displays.specs.contracts.displays.Admission as admission
@@ -26,7 +28,10 @@ showing_send =
           search (reach.the_send, sendable, crosses) depth 20,
           (
             search (kind.the_send, sendable, crosses) depth 12,
-            (place_send, (search (sendable, crosses) depth 12, tt)),
+            (
+              search (asked.the_send, sendable, crosses) depth 12,
+              (place_send, (search (sendable, crosses) depth 12, tt)),
+            ),
           ),
         ),
       ),
@@ -45,8 +50,11 @@ admission_send K k =
             (
               search (kind.the_send, sendable, crosses) depth 12,
               (
-                search (shared.the_send, shared.the_sync, sendable, crosses) depth 20,
-                (search (sendable, crosses) depth 12, tt),
+                search (confirmed.the_send, confirmed.the_sync, sendable, crosses) depth 20,
+                (
+                  search (shared.the_send, shared.the_sync, sendable, crosses) depth 20,
+                  (search (sendable, crosses) depth 12, tt),
+                ),
               ),
             ),
           ),

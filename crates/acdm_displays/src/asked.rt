@@ -1,6 +1,6 @@
 //! What a display asks for first.
 ghost use Rattle.std.specs.Prelude.{◌≡◌, ◌==◌, IfSome, if◌then◌else◌};
-ghost use Rattle.acdm_displays.specs.Asked.{IsAskedBy, Names, feed_start};
+ghost use Rattle.acdm_displays.specs.Asked.{IsAskedBy, Names, NamesFollower, feed_start};
 ghost use Rattle.acdm_displays.specs.declared.asked.DisplayRequest.TheVariants.{Silence, Unknown};
 
 use crate::leaving::is_passing;
@@ -22,6 +22,15 @@ pub enum Start {
     Board,
 }
 
+/// What a board asks for that follows.
+#[derive(Clone, Copy, Debug, PartialEq, Eq)]
+pub struct FollowerStart {
+    /// The number of the entry that comes next there, from 0.
+    pub from: u64,
+    /// Its name.
+    pub name: u64,
+}
+
 /// What a display has asked for first.
 #[derive(Clone, Copy, Debug, PartialEq, Eq)]
 pub(crate) enum DisplayRequest {
@@ -29,6 +38,8 @@ pub(crate) enum DisplayRequest {
     Silence,
     /// A line that asks for this was sent.
     For(Start),
+    /// A board that follows has sent its line.
+    Follow(FollowerStart),
     /// Something else was sent.
     Unknown,
 }
@@ -49,6 +60,23 @@ pub fn start_named(line: &[u8]) -> Option<Start>
     Some(Start::Entry(number))
 }
 
+/// What a first line of a board asks for that follows, without its line feed: `from N as M`, of two decimal numbers below
+/// 2^64 with no sign and no zero before them, the second its name. No other line asks so.
+pub fn follower_named(line: &[u8]) -> Option<FollowerStart>
+    ensures { IfSome result (NamesFollower line.now) }
+{
+    let Ok(line) = str::from_utf8(line) else {
+        return None;
+    };
+    let rest = line.strip_prefix("from ")?;
+    let (digits, rest) = rest.split_once(' ')?;
+    let name = rest.strip_prefix("as ")?;
+    Some(FollowerStart {
+        from: number_in(digits.as_bytes())?,
+        name: number_in(name.as_bytes())?,
+    })
+}
+
 /// Where the feed begins for a display that has asked so, if it is sent to that one: with the first entry where
 /// nothing was sent.
 pub(crate) fn feed_start(asked: DisplayRequest) -> Option<Start>
@@ -57,11 +85,11 @@ pub(crate) fn feed_start(asked: DisplayRequest) -> Option<Start>
     match asked {
         DisplayRequest::Silence => Some(Start::Entry(0)),
         DisplayRequest::For(start) => Some(start),
-        DisplayRequest::Unknown => None,
+        DisplayRequest::Follow(_) | DisplayRequest::Unknown => None,
     }
 }
 
-/// What a display asks for by its first line, as `start_named` says. A line that is too long is unknown, and one that
+/// What a display asks for by its first line, as `follower_named` and `start_named` say. A line that is too long is unknown, and one that
 /// does not end within a quarter of a second.
 pub(crate) fn first_asked<R: Read>(reader: &mut R) -> DisplayRequest {
     let mut line = [0u8; LONGEST_FIRST];
@@ -97,6 +125,9 @@ pub(crate) fn first_asked<R: Read>(reader: &mut R) -> DisplayRequest {
 fn by_line(line: &[u8]) -> DisplayRequest
     ensures { IsAskedBy line.now result }
 {
+    if let Some(start) = follower_named(line) {
+        return DisplayRequest::Follow(start);
+    }
     match start_named(line) {
         Some(start) => DisplayRequest::For(start),
         None => DisplayRequest::Unknown,

@@ -3,13 +3,15 @@ ghost use Rattle.std.specs.Prelude.{[], IfOk};
 ghost use Rattle.std.specs.Arc.{arc_value};
 ghost use Rattle.acdm_displays.specs.Displayed.{WasSentSome, WasToldEvents, WasToldSome};
 
-use crate::asked::{feed_start, first_asked};
+use crate::asked::{DisplayRequest, FollowerStart, feed_start, first_asked};
 use crate::browsing::{answer, follow_events};
+use crate::confirming::{FollowerPlace, FollowingBoard};
 use crate::entries::Entries;
 use crate::following::{MOST_REFUSALS, Shown, follow_changes};
 use crate::leaving::has_left;
 use crate::places::{DisplayPlace, Shared};
 use crate::resuming::follow_asked;
+use acdm_confirming::{Confirmed, MOST_FOLLOWERS};
 use acdm_failures::Failure;
 use acdm_keeping::Reach;
 use acdm_lines::{Sink, Source};
@@ -19,13 +21,16 @@ use httpdate::HttpDate;
 use std::alloc::{AllocError, Global};
 use std::io::{self, ErrorKind};
 use std::net::{Shutdown, TcpListener, TcpStream};
-use std::sync::Arc;
 use std::sync::atomic::Ordering;
+use std::sync::{Arc, Wait};
 use std::thread::{self, JoinHandle, Threads};
 use std::time::{Clock as SystemClock, Duration, Instant, SystemTime};
 
 /// After how many milliseconds it is looked for more, and for a further display.
 const PAUSE: u64 = 25;
+
+/// For how many milliseconds it is waited at once for what a board says that follows, while replies may begin to wait.
+const ANSWERING: u64 = 1;
 
 /// For how many milliseconds a display may take nothing of what it is sent, until it is let go.
 const PATIENCE: u64 = 30_000;
@@ -62,6 +67,8 @@ pub struct DisplayListener<'a> {
     pub socket: TcpListener,
     /// The name by which browsers may ask for the board, beside its addresses, if it has one.
     pub name: Option<&'a str>,
+    /// What other boards keep, where replies wait for that: at most eight that ask for the journal from an entry on say it.
+    pub confirmed: Option<&'a Arc<Confirmed>>,
 }
 
 // What a thread does.
@@ -74,13 +81,14 @@ fn begin<Rt: Threads, T: Task + 'static>(rt: &Rt, task: T) -> Option<JoinHandle<
     thread::spawn(rt, move || task.run()).ok()
 }
 
-// The serving of a display.
+// The serving of a display. What it has asked for first is there where it was heard.
 #[derive(Drop)]
 struct Showing {
     alloc: Global,
     row: Arc<Row>,
     reach: Option<Reach>,
     kind: DisplayKind,
+    asked: Option<DisplayRequest>,
     place: DisplayPlace,
     stream: TcpStream,
 }
@@ -92,6 +100,7 @@ impl Task for Showing {
             row,
             reach,
             kind,
+            asked,
             place,
             stream,
         } = self;
@@ -100,29 +109,27 @@ impl Task for Showing {
             reach: reach.as_ref(),
             closing: &place.shared.closing,
         };
-        show(alloc, &entries, kind, &place.shared, stream);
+        match kind {
+            DisplayKind::Journal => {
+                let _ = show_journal(alloc, &entries, asked, stream);
+            }
+            DisplayKind::Changes => {
+                let _ = show_changes(alloc, &entries, stream);
+            }
+            DisplayKind::Web => {
+                let _ = show_web(alloc, &entries, &place.shared, stream);
+            }
+        }
         drop(place);
     }
 }
 
-// Sends a display of a kind the entries, until it leaves or has all of them.
-fn show(
-    alloc: Global,
-    entries: &Entries<'_>,
-    kind: DisplayKind,
-    shared: &Shared,
-    stream: TcpStream,
-) {
-    match kind {
-        DisplayKind::Journal => {
-            let _ = show_journal(alloc, entries, stream);
-        }
-        DisplayKind::Changes => {
-            let _ = show_changes(alloc, entries, stream);
-        }
-        DisplayKind::Web => {
-            let _ = show_web(alloc, entries, shared, stream);
-        }
+// Sets for how many milliseconds a read waits.
+fn wait_for(stream: &TcpStream, pause: u64) -> Result<(), Failure> {
+    let pause = Duration::from_millis(pause);
+    match stream.set_read_timeout(Some(pause)) {
+        Ok(()) => Ok(()),
+        Err(_) => Err(Failure::Watch),
     }
 }
 
@@ -131,27 +138,51 @@ fn reader_of(stream: &TcpStream) -> Result<TcpStream, Failure> {
     let Ok(reader) = stream.try_clone() else {
         return Err(Failure::Watch);
     };
-    let pause = Duration::from_millis(PAUSE);
+    wait_for(stream, PAUSE)?;
     let patience = Duration::from_millis(PATIENCE / MOST_REFUSALS);
-    if stream.set_read_timeout(Some(pause)).is_err() {
-        return Err(Failure::Watch);
-    }
     if stream.set_write_timeout(Some(patience)).is_err() {
         return Err(Failure::Watch);
     }
     Ok(reader)
 }
 
-// Sends a display the journal, as it asked by its first line. One that asked for no text of it is let go.
-fn show_journal(
+// Sends a board that follows the journal, from the entry on that it has asked for. It is sent more as soon as a reply waits.
+fn show_following<Rt: SystemClock + Wait>(
+    rt: &Rt,
     alloc: Global,
     entries: &Entries<'_>,
+    place: FollowerPlace<'_>,
+    start: FollowerStart,
     stream: TcpStream,
 ) -> Result<Shown<TcpStream>, Failure>
     ensures { IfOk result (WasSentSome (arc_value entries.now.row.now) entries.now.reach []) }
 {
     let mut reader = reader_of(&stream)?;
-    let asked = first_asked(&mut reader);
+    let heard = reader_of(&stream)?;
+    wait_for(&heard, ANSWERING)?;
+    let mut board = FollowingBoard::new(rt, place, entries.reach, heard);
+    let asked = DisplayRequest::Follow(start);
+    let shown = follow_asked(alloc, entries, asked, &mut board, Sink::new(stream))?;
+    drop(board);
+    wait_for(&reader, PAUSE)?;
+    part(&mut reader);
+    Ok(shown)
+}
+
+// Sends a display the journal, as it asked by its first line. One that asked for no text of it is let go.
+fn show_journal(
+    alloc: Global,
+    entries: &Entries<'_>,
+    asked: Option<DisplayRequest>,
+    stream: TcpStream,
+) -> Result<Shown<TcpStream>, Failure>
+    ensures { IfOk result (WasSentSome (arc_value entries.now.row.now) entries.now.reach []) }
+{
+    let mut reader = reader_of(&stream)?;
+    let asked = match asked {
+        Some(asked) => asked,
+        None => first_asked(&mut reader),
+    };
     let shown = follow_asked(alloc, entries, asked, &mut reader, Sink::new(stream))?;
     part(&mut reader);
     Ok(shown)
@@ -276,18 +307,21 @@ struct Admission<K: Drop> {
     row: Arc<Row>,
     reach: Option<Reach>,
     kind: DisplayKind,
+    // What other boards keep, where replies wait for that. Such a board is sent the entries on this thread, which has the
+    // runtime by which it is woken; a thread that this one starts has none.
+    confirmed: Option<Arc<Confirmed>>,
     shared: Arc<Shared>,
     socket: TcpListener,
 }
 
-impl<K: SystemClock + Threads + Drop + Send> Task for Admission<K> {
+impl<K: SystemClock + Threads + Wait + Drop + Send> Task for Admission<K> {
     fn run(self) {
         self.admit();
         self.admit_last();
     }
 }
 
-impl<K: SystemClock + Threads + Drop> Admission<K> {
+impl<K: SystemClock + Threads + Wait + Drop> Admission<K> {
     // Accepts displays until the last entry was made.
     fn admit(&self) {
         let begun = Instant::now(&self.rt).ok();
@@ -350,11 +384,60 @@ impl<K: SystemClock + Threads + Drop> Admission<K> {
             }
             return Ok(());
         };
+        match &self.confirmed {
+            Some(confirmed) if self.kind == DisplayKind::Journal => self.hear_one(
+                confirmed, place, stream,
+            ),
+            _ => self.show(None, place, stream),
+        }
+    }
+
+    // Hears what a display asks for, and sends the entries to it itself where it is a board that follows.
+    fn hear_one(
+        &self,
+        confirmed: &Confirmed,
+        place: DisplayPlace,
+        stream: TcpStream,
+    ) -> Result<(), Failure> {
+        let mut reader = reader_of(&stream)?;
+        let asked = first_asked(&mut reader);
+        let DisplayRequest::Follow(start) = asked else {
+            return self.show(Some(asked), place, stream);
+        };
+        let Some(at) = confirmed.join(&self.rt) else {
+            return self.show(Some(asked), place, stream);
+        };
+        let entries = Entries {
+            row: &self.row,
+            reach: self.reach.as_ref(),
+            closing: &self.shared.closing,
+        };
+        let name = start.name;
+        let own = FollowerPlace {
+            confirmed,
+            at,
+            name,
+        };
+        let shown = show_following(&self.rt, self.alloc, &entries, own, start, stream);
+        confirmed.leave(&self.rt, at);
+        drop(place);
+        let _shown = shown?;
+        Ok(())
+    }
+
+    // Starts a thread for a display.
+    fn show(
+        &self,
+        asked: Option<DisplayRequest>,
+        place: DisplayPlace,
+        stream: TcpStream,
+    ) -> Result<(), Failure> {
         let showing = Showing {
             alloc: self.alloc,
             row: Arc::try_clone(&self.row)?,
             reach: copy_of(self.reach.as_ref())?,
             kind: self.kind,
+            asked,
             place,
             stream,
         };
@@ -367,7 +450,7 @@ impl<K: SystemClock + Threads + Drop> Admission<K> {
 #[derive(Drop)]
 pub struct Displays {
     shared: Arc<Shared>,
-    admitting: JoinHandle<()>,
+    admitting: Vec<JoinHandle<()>>,
 }
 
 impl Displays {
@@ -375,29 +458,48 @@ impl Displays {
     /// kept, as far as it is.
     ///
     /// The system's error where the socket can't be used, one of the kind `OutOfMemory` where memory was refused.
-    pub fn start<Rt: SystemClock + Threads + Clone + Drop + Send + 'static>(
+    pub fn start<Rt: SystemClock + Threads + Wait + Clone + Drop + Send + 'static>(
         rt: &Rt,
         alloc: Global,
         listener: DisplayListener<'_>,
         row: &Arc<Row>,
         reach: Option<&Reach>,
     ) -> io::Result<Displays> {
-        let DisplayListener { kind, socket, name } = listener;
+        let DisplayListener {
+            kind,
+            socket,
+            name,
+            confirmed,
+        } = listener;
         socket.set_nonblocking(true)?;
         let shared = Shared::new(alloc, name)?;
-        let admission = Admission {
-            rt: rt.clone()?,
-            alloc,
-            row: Arc::try_clone(row)?,
-            reach: copy_of(reach)?,
-            kind,
-            shared: Arc::try_clone(&shared)?,
-            socket,
+        // A board that follows takes the thread that has accepted it, so there is one more than may follow.
+        let threads = if confirmed.is_some() && kind == DisplayKind::Journal {
+            MOST_FOLLOWERS + 1
+        } else {
+            1
         };
-        match begin(rt, admission) {
-            Some(admitting) => Ok(Displays { shared, admitting }),
-            None => Err(io::Error::from(ErrorKind::OutOfMemory)),
+        let mut admitting = Vec::with_capacity(alloc, threads)?;
+        for _ in 0..threads {
+            let admission = Admission {
+                rt: rt.clone()?,
+                alloc,
+                row: Arc::try_clone(row)?,
+                reach: copy_of(reach)?,
+                kind,
+                confirmed: match confirmed {
+                    Some(confirmed) => Some(Arc::try_clone(confirmed)?),
+                    None => None,
+                },
+                shared: Arc::try_clone(&shared)?,
+                socket: socket.try_clone()?,
+            };
+            let Some(thread) = begin(rt, admission) else {
+                return Err(io::Error::from(ErrorKind::OutOfMemory));
+            };
+            admitting.push(thread)?;
         }
+        Ok(Displays { shared, admitting })
     }
 
     /// Has displays sent what there is yet, those too that have connected by now, and lets them go.
@@ -405,7 +507,9 @@ impl Displays {
     pub fn close<Rt: SystemClock + Threads>(self, rt: &Rt) {
         let Displays { shared, admitting } = self;
         shared.closing.store(true, Ordering::SeqCst);
-        admitting.join(rt);
+        for thread in admitting {
+            thread.join(rt);
+        }
         for _ in 0..LAST_PAUSES {
             if shared.taken.load(Ordering::SeqCst) == 0 {
                 return;

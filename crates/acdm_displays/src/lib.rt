@@ -4,6 +4,7 @@
 mod asked;
 mod beginning;
 mod browsing;
+mod confirming;
 mod displays;
 mod entries;
 mod following;
@@ -12,8 +13,9 @@ mod places;
 mod resuming;
 mod telling;
 
-pub use asked::{Start, start_named};
+pub use asked::{FollowerStart, Start, follower_named, start_named};
 pub use browsing::{answer, follow_events};
+pub use confirming::kept_named;
 pub use displays::{DisplayKind, DisplayListener, Displays};
 pub use entries::Entries;
 pub use following::{Shown, follow, follow_changes};

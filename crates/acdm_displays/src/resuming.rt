@@ -257,6 +257,7 @@ pub(crate) fn follow_asked<R: Read, W: Write + Drop>(
         DisplayRequest::For(Start::Entry(number)) => follow_from(
             alloc, entries, number, reader, writer,
         ),
+        DisplayRequest::Follow(start) => follow_from(alloc, entries, start.from, reader, writer),
         _ => Err(Failure::Watch),
     }
 }

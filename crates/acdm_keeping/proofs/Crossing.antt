@@ -8,6 +8,8 @@ use Rattle.std.specs.declared.io.traits.Write as write
 use Rattle.std.proofs.option.Option.TheSendSync as optional
 use Rattle.std.specs.contracts.option.Option as option
 use Rattle.std.specs.contracts.sync.Mutex as lock
+use Rattle.acdm_confirming.proofs.confirmations.Confirmation.TheSendSync as confirmation
+use Rattle.acdm_confirming.proofs.confirmed.Confirmed.TheSendSync as confirmed
 use Rattle.acdm_lines.proofs.sink.Sink.TheSendSync as sink
 use Rattle.acdm_row.proofs.Crossing.{row_send, row_sync}
 use Rattle.acdm_watch.proofs.Crossing.{sight_send}
@@ -35,6 +37,7 @@ use Rattle.acdm_keeping.specs.contracts.shared.SharedKeeper as shared
 use Rattle.acdm_keeping.specs.contracts.shared.Waiter as waiting
 use Rattle.acdm_keeping.specs.contracts.shared.WaiterEntryKeeper.TheImpl as waits
 use Rattle.std.specs.declared.sync.Wait as wait
+use Rattle.std.specs.declared.time.Clock as clock
 use Rattle.acdm_keeping.specs.contracts.replies.Replies as replies
 
 keeper_parts : (F : RattleType) (o : write.Ghosts F.Denot) → IsSend F → IsSend (keeper_inside.the_row F o)
@@ -132,7 +135,16 @@ waiting_send κ F J Q o n f q =
     let told = receipt_send J n in
     declared_send (waiting.the_type κ F J Q o n) (
       search (q, sendable) depth 10,
-      (search (all, sendable) depth 10, (as_row_send (option.the_field (token.the_row J n)) (optional.the_field_send _ told), tt)),
+      (
+        search (all, sendable) depth 10,
+        (
+          search (confirmed.the_send, confirmed.the_sync, sendable, crosses) depth 20,
+          (
+            as_row_send (option.the_field (token.the_row J n)) (optional.the_field_send _ told),
+            (search (confirmation.the_send, sendable) depth 10, tt),
+          ),
+        ),
+      ),
     )
 
 backed_send : (K : RattleType) (e : entries.Ghosts K.Denot) → IsSend K → IsSend (backed.the_row K e)
@@ -160,9 +172,10 @@ replies_send K W e w ks ws =
 
 -- the same of a keeper that is shared
 pub kept_replies_send : (κ : NamedLft) (F J Q W : RattleType) (o : write.Ghosts F.Denot) (n : opening.Ghosts J.Denot)
-    (t : wait.Ghosts Q.Denot) (w : write.Ghosts W.Denot) → IsSend F → IsSync Q → IsSend W
-    → IsSend (replies.the_row (waiting.the_row κ F J Q o n) W (waits.ghosts F J Q o waits.no_dict n waits.no_dict t waits.no_dict waits.no_dict) w)
-kept_replies_send κ F J Q W o n t w f q ws =
+    (t : wait.Ghosts Q.Denot) (k : clock.Ghosts Q.Denot) (w : write.Ghosts W.Denot) → IsSend F → IsSync Q → IsSend W
+    → IsSend (replies.the_row (waiting.the_row κ F J Q o n) W
+    (waits.ghosts F J Q o waits.no_dict n waits.no_dict t waits.no_dict k waits.no_dict waits.no_dict) w)
+kept_replies_send κ F J Q W o n t k w f q ws =
     replies_send (waiting.the_row κ F J Q o n) W
-    (waits.ghosts F J Q o waits.no_dict n waits.no_dict t waits.no_dict waits.no_dict) w
+    (waits.ghosts F J Q o waits.no_dict n waits.no_dict t waits.no_dict k waits.no_dict waits.no_dict) w
     (waiting_send κ F J Q o n f q) ws

@@ -1,7 +1,9 @@
 //! A keeper that many sessions share.
-ghost use Rattle.std.specs.Prelude.{◌≡◌, ◌≤◌, [], true, false, None, IfErr, IfOk, OnOk};
+ghost use Rattle.std.specs.Prelude.{◌≡◌, ◌≤◌, [], true, false, None, IfErr, IfOk, IfSome, OnOk, option_map};
 ghost use Rattle.std.specs.Arc.{arc_value};
 ghost use Rattle.acdm_failures.specs.declared.failure.Failure.TheVariants.{Save};
+ghost use Rattle.acdm_confirming.specs.Confirming.{terms_of};
+ghost use Rattle.acdm_keeping.specs.Confirmed.{IsConfirmed};
 ghost use Rattle.acdm_keeping.specs.Kept.{Blames, Keeps, StandsFor};
 ghost use Rattle.acdm_keeping.specs.Turns.{TellsKept};
 
@@ -11,11 +13,13 @@ use crate::progress::{Progress, Turn};
 use crate::reach::Reach;
 use crate::replies::{EntryKeeper, entries_to};
 use crate::writing::{Opening, Writing};
+use acdm_confirming::{Confirmation, Confirmed};
 use acdm_failures::Failure;
 use std::alloc::{AllocError, Global};
 use std::io::Write;
 use std::sync::atomic::{AtomicBool, Ordering};
 use std::sync::{Arc, Condvar, Mutex, Wait};
+use std::time::Clock;
 
 /// Who keeps the entries of a row for many who wait. One of those who wait writes and flushes all
 /// entries in sight, the others are told once he has: so many are served by one write and one flush.
@@ -152,24 +156,35 @@ impl<F: Write + Drop, J: Opening> SharedKeeper<F, J> {
 }
 
 /// A keeper that is shared, if there is one, for a session on a thread of its own, and the latest receipt that it gave.
-/// Where there is none, nothing is kept and nobody waits.
+/// Where there is none, nothing is kept and nobody waits. Where other boards have to keep an entry too, it waits for them
+/// behind that.
 #[derive(Drop)]
 pub struct Waiter<'r, F: Write + Drop, J: Opening, Rt> {
     rt: &'r Rt,
     keeper: Option<&'r SharedKeeper<F, J>>,
+    confirmed: Option<&'r Arc<Confirmed>>,
     receipt: Option<LastingReceipt<J>>,
+    // That other boards keep the entries of the receipt, or are late, where they have to.
+    confirmation: Option<Confirmation>,
 }
 
 impl<'r, F: Write + Drop, J: Opening, Rt> Waiter<'r, F, J, Rt> {
-    /// For this keeper, if there is one.
-    pub fn new(rt: &'r Rt, keeper: Option<&'r SharedKeeper<F, J>>) -> Waiter<'r, F, J, Rt>
+    /// For this keeper, if there is one, and for what other boards keep, where they have to.
+    pub fn new(
+        rt: &'r Rt,
+        keeper: Option<&'r SharedKeeper<F, J>>,
+        confirmed: Option<&'r Arc<Confirmed>>,
+    ) -> Waiter<'r, F, J, Rt>
         ensures keeper { result.keeper ≡ keeper.entry }
+        ensures confirmed { result.confirmed ≡ confirmed.entry }
         ensures receipt { result.receipt ≡ None }
     {
         Waiter {
             rt,
             keeper,
+            confirmed,
             receipt: None,
+            confirmation: None,
         }
     }
 
@@ -182,13 +197,40 @@ impl<'r, F: Write + Drop, J: Opening, Rt> Waiter<'r, F, J, Rt> {
     }
 }
 
-impl<'r, F: Write + Drop, J: Opening, Rt: Wait> EntryKeeper for Waiter<'r, F, J, Rt> {
-    ghost use Rattle.std.specs.Prelude.{◌≡◌, is_some, true};
+// Waits until other boards keep the entry of this number, if there is one, and all before it, where they have to. `Save`
+// where they don't, and the board closes.
+fn confirmation_of<Rt: Wait + Clock>(
+    rt: &Rt,
+    confirmed: Option<&Arc<Confirmed>>,
+    last: Option<u64>,
+) -> Result<Option<Confirmation>, Failure>
+    ensures confirmed { IfOk result (λ c. IfSome last
+        (IsConfirmed (option_map (λ c. terms_of (arc_value c.now)) confirmed.entry) c)) }
+    ensures failed { IfErr result (λ e. e ≡ Save) }
+{
+    let (Some(confirmed), Some(last)) = (confirmed, last) else {
+        return Ok(None);
+    };
+    let Some(count) = last.checked_add(1) else {
+        return Err(Failure::Save);
+    };
+    match confirmed.wait_for(rt, count) {
+        Some(confirmation) => Ok(Some(confirmation)),
+        None => Err(Failure::Save),
+    }
+}
+
+impl<'r, F: Write + Drop, J: Opening, Rt: Wait + Clock> EntryKeeper for Waiter<'r, F, J, Rt> {
+    ghost use Rattle.std.specs.Arc.{arc_value};
+    ghost use Rattle.std.specs.Prelude.{◌≡◌, is_some, option_map, true};
+    ghost use Rattle.acdm_confirming.specs.Confirming.{terms_of};
     ghost use Rattle.acdm_keeping.specs.Behind.{IsWithin};
+    ghost use Rattle.acdm_keeping.specs.Confirmed.{IsConfirmed};
 
     ghost keeps = { λ w. is_some w.keeper };
 
-    ghost covers = { λ w number. is_some w.keeper ≡ true → IsWithin w.receipt number };
+    ghost covers = { λ w number. is_some w.keeper ≡ true → IsWithin w.receipt number
+        × IsConfirmed (option_map (λ c. terms_of (arc_value c.now)) w.confirmed) w.confirmation number };
 
     fn keep_to(&mut self, last: Option<u64>) -> Result<Option<Receipt>, Failure> {
         let Some(keeper) = self.keeper else {
@@ -197,8 +239,10 @@ impl<'r, F: Write + Drop, J: Opening, Rt: Wait> EntryKeeper for Waiter<'r, F, J,
         let count = entries_to(last)?;
         match keeper.wait_for(self.rt, count) {
             Ok(receipt) => {
+                let confirmation = confirmation_of(self.rt, self.confirmed, last)?;
                 let told = receipt.receipt();
                 self.receipt = Some(receipt);
+                self.confirmation = confirmation;
                 Ok(Some(told))
             }
             Err(failure) => Err(failure),

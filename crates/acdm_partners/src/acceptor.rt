@@ -32,6 +32,8 @@ pub struct Acceptor<K: Drop, S: Drop> {
     control: Option<Control>,
     standing: S,
     levels: [Level; 2],
+    // Whether it was told that boards which follow are late.
+    are_late: bool,
     looks: u64,
     // Whether it was asked at the control address that the board closes.
     is_asked: bool,
@@ -60,6 +62,7 @@ impl<K: Wait + Clock + Drop, S: Standing + Drop> Acceptor<K, S> {
             control,
             standing,
             levels: [Level::new(80), Level::new(95)],
+            are_late: false,
             looks: 0,
             is_asked: false,
             first,
@@ -113,6 +116,7 @@ impl<K: Wait + Clock + Drop, S: Standing + Drop> Acceptor<K, S> {
             door.look(&self.reporter);
         }
         self.look_at_room();
+        self.look_at_followers();
         // Where the clock tells no time nobody is too late.
         let now = self.reporter.passed().unwrap_or(0);
         let first = match &self.first {
@@ -151,6 +155,17 @@ impl<K: Wait + Clock + Drop, S: Standing + Drop> Acceptor<K, S> {
         }
     }
 
+    // Tells that boards which follow are late, and that they are not any more.
+    fn look_at_followers(&mut self) {
+        let Some(followers) = self.standing.followers() else {
+            return;
+        };
+        if followers.are_late != self.are_late {
+            self.are_late = followers.are_late;
+            self.reporter.tell_followers(followers);
+        }
+    }
+
     fn promote(&self) {
         if let Some(first) = &self.first {
             first.promoted.store(true, Ordering::SeqCst);
@@ -182,6 +197,7 @@ impl<K: Wait + Clock + Drop, S: Standing + Drop> Acceptor<K, S> {
             for door in self.doors.as_mut_slice() {
                 door.look_after(&self.reporter);
             }
+            self.look_at_followers();
             if is_last {
                 return;
             }

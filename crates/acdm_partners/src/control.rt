@@ -43,6 +43,27 @@ pub trait Standing {
 
     /// How many seconds lie between the board's own ticks, if it gives any.
     fn ticks(&self) -> Option<u32>;
+
+    /// The boards that follow this one, where replies wait for what they keep.
+    fn followers(&self) -> Option<Followers>;
+}
+
+/// What is told of the boards that follow this one.
+#[derive(Clone, Copy)]
+pub struct Followers {
+    /// How many there are.
+    pub count: usize,
+    /// How many have to keep an entry before a reply tells of it.
+    pub wanted: usize,
+    /// Whether a reply has waited for them for too long.
+    pub are_late: bool,
+}
+
+impl Followers {
+    /// What an operator is told where this has changed.
+    pub(crate) fn word(self) -> &'static str {
+        if self.are_late { "late" } else { "back" }
+    }
 }
 
 /// The board, as it is told of at the control address.
@@ -102,6 +123,11 @@ fn status<K: Wait, S: Standing>(state: &BoardState<'_, K, S>) -> Result<String, 
     if let Some(seconds) = standing.ticks() {
         let number = state.doors.len().saturating_add(1);
         writeln!(text, "session {number} APT ticks each {seconds} s")?;
+    }
+    if let Some(followers) = standing.followers() {
+        let Followers { count, wanted, .. } = followers;
+        let late = if followers.are_late { " late" } else { "" };
+        writeln!(text, "followers {count} of {wanted}{late}")?;
     }
     let used = standing.used();
     let room = standing.room();

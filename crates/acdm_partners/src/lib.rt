@@ -30,7 +30,7 @@ pub use acceptor::{Acceptor, FollowedBoard, Reception};
 pub use arrivals::Arrivals;
 pub use arriving::Arriving;
 pub use connection::Connection;
-pub use control::{Control, Standing};
+pub use control::{Control, Followers, Standing};
 pub use counts::LineOutcome;
 pub use doors::Door;
 pub use first_line::{FirstLine, judge_first};

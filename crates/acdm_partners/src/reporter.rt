@@ -1,4 +1,5 @@
 //! What is told of partners and of the journal, and when: on standard error, and in the log of an operator.
+use crate::control::Followers;
 use crate::counts::add_json;
 use crate::line_queue::LineQueue;
 use crate::places::PartnerPlace;
@@ -247,6 +248,28 @@ impl<K: Wait + Clock + Drop> Reporter<K> {
     fn promoted_event(&self, used: usize) -> Result<String, AllocError> {
         let mut line = self.begin("promoted")?;
         writeln!(line, ",\"entries\":{used}}}")?;
+        Ok(line)
+    }
+
+    /// Tells that boards which follow are late, or that they are not any more: `late COUNT of WANTED MOMENT`, `back COUNT
+    /// of WANTED MOMENT`.
+    pub(crate) fn tell_followers(&self, followers: Followers) {
+        self.tell(self.followers_line(followers));
+        self.log(self.followers_event(followers));
+    }
+
+    fn followers_line(&self, followers: Followers) -> Result<String, AllocError> {
+        let moment = now_text(&self.rt, self.alloc)?;
+        let Followers { count, wanted, .. } = followers;
+        let mut line = String::new(self.alloc);
+        writeln!(line, "{} {count} of {wanted} {moment}", followers.word())?;
+        Ok(line)
+    }
+
+    fn followers_event(&self, followers: Followers) -> Result<String, AllocError> {
+        let Followers { count, wanted, .. } = followers;
+        let mut line = self.begin(followers.word())?;
+        writeln!(line, ",\"followers\":{count},\"wanted\":{wanted}}}")?;
         Ok(line)
     }
 

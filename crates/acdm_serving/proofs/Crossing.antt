@@ -18,6 +18,7 @@ use Rattle.acdm_partners.specs.contracts.connection.Connection as of_connection
 use Rattle.acdm_partners.specs.contracts.reader.WholeLines as reader
 use Rattle.acdm_partners.proofs.Crossing.{reader_send}
 use Rattle.acdm_partners.proofs.replies.PartnerReplies.TheSendSync as replies
+use Rattle.acdm_confirming.proofs.confirmed.Confirmed.TheSendSync as confirmed
 use Rattle.acdm_keeping.proofs.Crossing.{kept_replies_send}
 use Rattle.acdm_keeping.proofs.named.Named.TheSendSync as named
 use Rattle.acdm_keeping.proofs.synced.Synced.TheSendSync as synced
@@ -42,7 +43,7 @@ tally_send K k =
         search (row_send, row_sync, sendable, crosses) depth 20,
         (
           search (named.the_send, sendable, crosses) depth 20,
-          (search (sendable, crosses) depth 20, tt),
+          (search (confirmed.the_send, confirmed.the_sync, sendable, crosses) depth 20, (search (sendable, crosses) depth 20, tt)),
         ),
       ),
     )
@@ -101,10 +102,11 @@ synced_send : (Q : RattleType) → IsSend Q → IsSend (of_synced.the_row Q)
 synced_send Q q = search (synced.the_send, q, sendable, crosses) depth 20
 
 pub writing_send : (κ κ' : NamedLft) (J Q : RattleType) (o : write.Ghosts (of_synced.the_row Q).Denot)
-    (n : opening.Ghosts J.Denot) (t : wait.Ghosts Q.Denot) (w : write.Ghosts (answering.the_row κ' Q).Denot) → IsSend Q
-    → IsSync Q
+    (n : opening.Ghosts J.Denot) (t : wait.Ghosts Q.Denot) (k : clock.Ghosts Q.Denot)
+    (w : write.Ghosts (answering.the_row κ' Q).Denot) → IsSend Q → IsSync Q
     → IsSend (behind.the_row (waiting.the_row κ (of_synced.the_row Q) J Q o n) (answering.the_row κ' Q)
-    (waits.ghosts (of_synced.the_row Q) J Q o waits.no_dict n waits.no_dict t waits.no_dict waits.no_dict) w)
-writing_send κ κ' J Q o n t w s q =
-    kept_replies_send κ (of_synced.the_row Q) J Q (answering.the_row κ' Q) o n t w (synced_send Q s) q
+    (waits.ghosts (of_synced.the_row Q) J Q o waits.no_dict n waits.no_dict t waits.no_dict k waits.no_dict
+    waits.no_dict) w)
+writing_send κ κ' J Q o n t k w s q =
+    kept_replies_send κ (of_synced.the_row Q) J Q (answering.the_row κ' Q) o n t k w (synced_send Q s) q
     (answering_send κ' Q q)

@@ -2,6 +2,7 @@
 ghost use Rattle.std.specs.Prelude.{◌≡◌, is_some};
 ghost use Rattle.acdm_following.specs.Courses.{asked, parted_as};
 
+use crate::confirming::Confirming;
 use acdm_following::{Course, FirstBoard, Parting};
 use acdm_journal::push_entry;
 use acdm_partners::Reporter;
@@ -166,19 +167,35 @@ pub(crate) struct BoardAddress<'r, Rt> {
     pub(crate) row: Arc<Row>,
     pub(crate) address: SocketAddr,
     pub(crate) flags: StopFlags,
+    // What is said there of what this board keeps.
+    pub(crate) confirming: Arc<Confirming>,
 }
 
 impl<Rt: Net<Listener = TcpListener, Stream = TcpStream>> BoardAddress<'_, Rt> {
-    // A connection at which the entries from this number on are asked for.
-    fn asked_from(&self, number: u64) -> io::Result<TcpStream> {
+    // A connection at which this text was sent first.
+    fn connected(&self, text: &str) -> io::Result<TcpStream> {
         let within = Duration::from_millis(CONNECTING);
         let mut stream = TcpStream::connect_timeout(self.rt, &self.address, within)?;
         stream.set_read_timeout(Some(Duration::from_millis(PAUSE)))?;
         stream.set_write_timeout(Some(within))?;
+        stream.write_all(text.as_bytes())?;
+        Ok(stream)
+    }
+
+    // A connection at which the entries from this number on were asked for.
+    fn asked_from(&self, number: u64) -> io::Result<TcpStream> {
         let mut line = String::new(self.alloc);
         writeln!(line, "from {number}")?;
-        stream.write_all(line.as_bytes())?;
-        Ok(stream)
+        self.connected(line.as_str())
+    }
+
+    // The same by the name of this board, at which it was said that it keeps all entries before.
+    fn followed_from(&self, number: u64) -> io::Result<TcpStream> {
+        let mut text = String::new(self.alloc);
+        let name = self.confirming.name();
+        writeln!(text, "from {number} as {name}")?;
+        writeln!(text, "kept {number}")?;
+        self.connected(text.as_str())
     }
 
     // What comes of a connection, up to its second line feed.
@@ -231,7 +248,7 @@ impl<Rt: Net<Listener = TcpListener, Stream = TcpStream>> BoardAddress<'_, Rt> {
     }
 }
 
-impl<Rt: Net<Listener = TcpListener, Stream = TcpStream>> Connects<FollowedStream>
+impl<Rt: Net<Listener = TcpListener, Stream = TcpStream> + Wait> Connects<FollowedStream>
     for BoardAddress<'_, Rt> {
     fn address(&self) -> SocketAddr {
         self.address
@@ -243,8 +260,10 @@ impl<Rt: Net<Listener = TcpListener, Stream = TcpStream>> Connects<FollowedStrea
                 return Ok(None);
             }
         }
+        let stream = self.followed_from(next)?;
+        self.confirming.begin(self.rt, &stream, next)?;
         Ok(Some(FollowedStream {
-            stream: self.asked_from(next)?,
+            stream,
             flags: self.flags.copy()?,
             silent: 0,
         }))

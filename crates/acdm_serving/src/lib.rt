@@ -3,6 +3,7 @@
 //! a file are.
 #![tactic(auto)]
 
+mod confirming;
 mod following;
 mod handed;
 mod host;

@@ -11,19 +11,21 @@ ghost use Rattle.acdm_serving.specs.Following.{FailsToFollow};
 ghost use Rattle.acdm_serving.specs.Outcomes.{outcome_of};
 ghost use Rattle.acdm_step.specs.History.{IsLegal};
 
+use crate::confirming::{Confirming, ConfirmingKeeper};
 use crate::following::{BoardAddress, Connects, FirstBoardAt, FollowedStream, StopFlags};
 use crate::host::Host;
 use crate::partners::{Listener, REPLIES_HELD, ServedPartners, announce, tell};
 use crate::ticks::{Ticks, Timer};
 use acdm_board::Desk;
+use acdm_confirming::Confirmed;
 use acdm_failures::{Failure, ServeError};
 use acdm_following::follow;
 use acdm_headline::serve_sessions;
-use acdm_keeping::{Named, Opening, Paths, Replies, SharedKeeper, Synced, Waiter};
+use acdm_keeping::{EntryKeeper, Named, Opening, Paths, Replies, SharedKeeper, Synced, Waiter};
 use acdm_milestones::Role;
 use acdm_partners::{
-    Acceptor, Arriving, Connection, Control, Door, FollowedBoard, LineOutcome, LineQueue,
-    PartnerPlace, PartnerReplies, Reception, Reporter, Standing, Terms, WholeLines,
+    Acceptor, Arriving, Connection, Control, Door, FollowedBoard, Followers, LineOutcome,
+    LineQueue, PartnerPlace, PartnerReplies, Reception, Reporter, Standing, Terms, WholeLines,
 };
 use acdm_row::Row;
 use acdm_sessions::{Answer, Clock, Closed, Gate, Session, Sink, Source};
@@ -82,8 +84,11 @@ impl<'r, Rt: Wait + SystemClock> Write for Answering<'r, Rt> {
 /// Who keeps the journal, where it is kept, for all whose replies wait.
 pub type FileKeeper<J, Rt> = SharedKeeper<Synced<Rt>, J>;
 
+/// By whom a session waits until the entries of its replies are kept.
+pub type ReplyWaiter<'r, J, Rt> = Waiter<'r, Synced<Rt>, J, Rt>;
+
 /// What its replies go to, once their entries are kept, where the journal is.
-pub type KeptReplyWriter<'r, J, Rt> = Replies<Waiter<'r, Synced<Rt>, J, Rt>, Answering<'r, Rt>>;
+pub type KeptReplyWriter<'r, J, Rt> = Replies<ReplyWaiter<'r, J, Rt>, Answering<'r, Rt>>;
 
 /// Partners at listeners, in the order of their sessions, and behind these the session of the board's own ticks, if
 /// it gives any.
@@ -117,6 +122,8 @@ pub struct Operation<'r, J: Opening, Rt: Host> {
     pub kept: Option<Named>,
     /// Who keeps its journal there, if it is kept.
     pub keeper: Option<&'r FileKeeper<J, Rt>>,
+    /// What other boards keep, where replies wait for that too.
+    pub confirmed: Option<&'r Arc<Confirmed>>,
     /// The path of the file in which it logs what its operator is told, if it does.
     pub log: Option<String>,
 }
@@ -248,6 +255,7 @@ struct Tally<K: Drop> {
     rt: K,
     row: Arc<Row>,
     kept: Option<Named>,
+    confirmed: Option<Arc<Confirmed>>,
     ticks: Option<u32>,
 }
 
@@ -263,7 +271,7 @@ impl<K: Paths + Drop> Tally<K> {
     }
 }
 
-impl<K: Paths + Drop> Standing for Tally<K> {
+impl<K: Paths + Wait + Drop> Standing for Tally<K> {
     // Entries stand one behind the other: of half of those that may be the last, one look tells whether it is there.
     fn used(&self) -> usize {
         let mut least = 0;
@@ -304,15 +312,23 @@ impl<K: Paths + Drop> Standing for Tally<K> {
     fn ticks(&self) -> Option<u32> {
         self.ticks
     }
+
+    fn followers(&self) -> Option<Followers> {
+        let state = self.confirmed.as_ref()?.state(&self.rt);
+        Some(Followers {
+            count: state.followers,
+            wanted: state.wanted,
+            are_late: state.is_late,
+        })
+    }
 }
 
-// A session that reads so, and whose replies go there once their entries are kept.
+// A session that reads so, and whose replies go there once their entries are kept, by whom it waits for that.
 fn session_of<'r, J: Opening, Rt: Host, C: Clock + Drop>(
-    rt: &'r Rt,
     alloc: Global,
     role: Role,
     ends: (Reading<'r, Rt>, Answering<'r, Rt>),
-    keeper: Option<&'r FileKeeper<J, Rt>>,
+    waiter: ReplyWaiter<'r, J, Rt>,
     clock: C,
 ) -> Result<Session<Reading<'r, Rt>, KeptReplyWriter<'r, J, Rt>, C>, ServeError>
     ensures role { IfOk result (λ session. session.role ≡ role) }
@@ -321,7 +337,7 @@ fn session_of<'r, J: Opening, Rt: Host, C: Clock + Drop>(
     ensures fails { IfErr result IsOfAccepting }
 {
     let (reading, answering) = ends;
-    let Ok(writer) = Replies::new(alloc, Waiter::new(rt, keeper), answering, REPLIES_HELD) else {
+    let Ok(writer) = Replies::new(alloc, waiter, answering, REPLIES_HELD) else {
         return Err(ServeError::Memory);
     };
     Ok(Session {
@@ -338,7 +354,7 @@ fn session_at<'r, J: Opening, Rt: Host, C: Clock + Drop>(
     alloc: Global,
     role: Role,
     place: Arc<PartnerPlace>,
-    keeper: Option<&'r FileKeeper<J, Rt>>,
+    operation: &Operation<'r, J, Rt>,
     clock: C,
 ) -> Result<Session<Reading<'r, Rt>, KeptReplyWriter<'r, J, Rt>, C>, ServeError>
     ensures role { IfOk result (λ session. session.role ≡ role) }
@@ -356,10 +372,11 @@ fn session_at<'r, J: Opening, Rt: Host, C: Clock + Drop>(
         Reading::Partner(lines),
         Answering::Partner(PartnerReplies::new(rt, place)),
     );
-    session_of(rt, alloc, role, ends, keeper, clock)
+    let waiter = Waiter::new(rt, operation.keeper, operation.confirmed);
+    session_of(alloc, role, ends, waiter, clock)
 }
 
-// The session of a board's own ticks.
+// The session of a board's own ticks, of which nobody is told, so that no other board has to keep their entries before.
 fn session_ticking<'r, J: Opening, Rt: Host, C: Clock + Drop>(
     rt: &'r Rt,
     alloc: Global,
@@ -379,7 +396,8 @@ fn session_ticking<'r, J: Opening, Rt: Host, C: Clock + Drop>(
         Answering::Nobody,
     );
     let role = Role::AirportOperator;
-    session_of(rt, alloc, role, ends, operation.keeper, clock)
+    let waiter = Waiter::new(rt, operation.keeper, None);
+    session_of(alloc, role, ends, waiter, clock)
 }
 
 // Adds that session, if there is one, for which there is room.
@@ -427,7 +445,7 @@ fn open<'r, J: Opening, Rt: Host, C: Clock + Drop>(
         clock,
     } = listener;
     let place = addresses.add(alloc, number, role, socket, operation)?;
-    session_at(rt, alloc, role, place, operation.keeper, clock)
+    session_at(rt, alloc, role, place, operation, clock)
 }
 
 // Opens the address of each partner, in order, and its session.
@@ -483,6 +501,7 @@ fn acceptor_of<J: Opening, Rt: Host>(
         control,
         closing,
         kept,
+        confirmed,
         log,
         ..
     } = operation;
@@ -491,6 +510,10 @@ fn acceptor_of<J: Opening, Rt: Host>(
         rt: rt.clone()?,
         row: Arc::try_clone(row)?,
         kept,
+        confirmed: match confirmed {
+            Some(confirmed) => Some(Arc::try_clone(confirmed)?),
+            None => None,
+        },
         ticks,
     };
     let reporter = reporter_of(rt, alloc, log)?;
@@ -568,6 +591,7 @@ struct Follower<'r, Rt: Host> {
     board: FirstBoardAt<'r, Rt, BoardAddress<'r, Rt>, FollowedStream>,
     reception: Reception,
     flags: StopFlags,
+    confirming: Arc<Confirming>,
 }
 
 // Starts the thread that answers at the control address while a board is followed, and looks after the file of the
@@ -597,6 +621,7 @@ fn follower_of<'r, J: Opening, Rt: Host>(
         rt: rt.clone()?,
         row: Arc::try_clone(row)?,
         kept,
+        confirmed: None,
         ticks: None,
     };
     let reporter = reporter_of(rt, alloc, text_of(alloc, &operation.log)?)?;
@@ -613,18 +638,21 @@ fn follower_of<'r, J: Opening, Rt: Host>(
         closing,
     )?;
     let reception = Reception::begin(rt, acceptor)?;
+    let confirming = Arc::new(alloc, Confirming::new(rt, alloc))?;
     let address = BoardAddress {
         rt,
         alloc,
         row: Arc::try_clone(row)?,
         address: place.address,
         flags: flags.copy()?,
+        confirming: Arc::try_clone(&confirming)?,
     };
     let board = FirstBoardAt::new(rt, alloc, own, address, same);
     Ok(Follower {
         board,
         reception,
         flags,
+        confirming,
     })
 }
 
@@ -655,8 +683,14 @@ pub fn follow_first<'r, J: Opening + Send + Sync, Rt: Host, H: Helpers + Drop>(
         mut board,
         reception,
         flags,
+        confirming,
     } = follower;
-    let followed = follow_by(rt, alloc, &mut board, operation.keeper, desk);
+    let mut keeper = ConfirmingKeeper {
+        rt,
+        keeper: Waiter::new(rt, operation.keeper, None),
+        confirming,
+    };
+    let followed = follow_by(alloc, &mut board, &mut keeper, desk);
     board.end();
     operation.control = reception.end(rt);
     match followed {
@@ -668,24 +702,22 @@ pub fn follow_first<'r, J: Opening + Send + Sync, Rt: Host, H: Helpers + Drop>(
 // Follows a board over any connections, by a desk whose journal is kept.
 fn follow_by<
     'r,
-    J: Opening + Send + Sync,
+    K: EntryKeeper,
     Rt: Host,
     M: Connects<C> + Drop,
     C: Read + Drop,
     H: Helpers + Drop,
 >(
-    rt: &'r Rt,
     alloc: Global,
     board: &mut FirstBoardAt<'r, Rt, M, C>,
-    keeper: Option<&'r FileKeeper<J, Rt>>,
+    keeper: &mut K,
     desk: &mut Desk<H>,
 ) -> Result<(), Failure>
     ensures grows { Grows desk.old desk.new }
     ensures legal { IsLegal desk.new.sigs desk.new.history }
     ensures fails { IfErr result FailsToFollow }
 {
-    let mut waiter = Waiter::new(rt, keeper);
-    match follow(alloc, board, &mut waiter, desk) {
+    match follow(alloc, board, keeper, desk) {
         Ok(()) => Ok(()),
         Err(Failure::Memory) => Err(Failure::Memory),
         Err(Failure::Room) => Err(Failure::Room),

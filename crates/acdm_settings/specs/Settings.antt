@@ -28,9 +28,11 @@ why_text NoPartners = codes "not a list of texts as APT=127.0.0.1:4001"
 abbrev pub kind_of : List ℕ → Option ValueKind
 kind_of key =
     if bytes_eq key (codes "again") then Some Flag
+    else (if bytes_eq key (codes "strict") then Some Flag
     else (if bytes_eq key (codes "sync") then Some Flag
     else (if bytes_eq key (codes "journal") then Some Number
     else (if bytes_eq key (codes "pace") then Some Number
+    else (if bytes_eq key (codes "second") then Some Number
     else (if bytes_eq key (codes "tick") then Some Number
     else (if bytes_eq key (codes "changes") then Some Words
     else (if bytes_eq key (codes "control") then Some Words
@@ -41,7 +43,7 @@ kind_of key =
     else (if bytes_eq key (codes "watch") then Some Words
     else (if bytes_eq key (codes "web") then Some Words
     else (if bytes_eq key (codes "web-name") then Some Words
-    else (if bytes_eq key (codes "partners") then Some Partners else None))))))))))))))
+    else (if bytes_eq key (codes "partners") then Some Partners else None))))))))))))))))
 
 -- the option of a key, and with a value behind it
 abbrev pub option_of : List ℕ → List ℕ

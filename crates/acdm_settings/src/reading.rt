@@ -37,11 +37,15 @@ fn kind_of(key: &str) -> Option<ValueKind>
 {
     if key == "again" {
         Some(ValueKind::Flag)
+    } else if key == "strict" {
+        Some(ValueKind::Flag)
     } else if key == "sync" {
         Some(ValueKind::Flag)
     } else if key == "journal" {
         Some(ValueKind::Number)
     } else if key == "pace" {
+        Some(ValueKind::Number)
+    } else if key == "second" {
         Some(ValueKind::Number)
     } else if key == "tick" {
         Some(ValueKind::Number)

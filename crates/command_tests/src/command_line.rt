@@ -274,6 +274,8 @@ fn asks_to_serve(alloc: Global, words: &[&str], wanted: usize, words_wanted: &[&
                     pace: None,
                     tick: None,
                     log: None,
+                    second: None,
+                    strict: false,
                     partners,
                 },
                 ..
@@ -370,4 +372,73 @@ fn browsers_have_a_page_where_it_is_said(rt: HostRuntime) {
     assert!(rt; asks_for_page(alloc, &named, "127.0.0.1:8080", Some("board.example")));
     assert!(rt; is_refused(alloc, &["acdm", "serve", "--web-name", "NM=127.0.0.1:0"]));
     assert!(rt; is_refused(alloc, &["acdm", "run", "--web", "127.0.0.1:8080"]));
+}
+
+// Whether these words ask to serve with replies that wait for so many boards, and for all of them where it is strict.
+fn asks_to_wait(alloc: Global, words: &[&str], wanted: Option<u32>, is_strict: bool) -> bool {
+    match parse(alloc, words) {
+        Ok(
+            Line {
+                subcommand: Subcommand::Serve { second, strict, .. },
+                ..
+            },
+        ) => second == wanted && strict == is_strict,
+        _ => false,
+    }
+}
+
+#[test]
+fn replies_wait_for_boards_that_follow(rt: HostRuntime) {
+    let alloc = rt.alloc();
+    let words = [
+        "acdm", "serve", "--keep", "day", "--watch", "4100", "APT=4001",
+    ];
+    assert!(rt; asks_to_wait(alloc, &words, None, false));
+    let words = [
+        "acdm", "serve", "--keep", "day", "--watch", "4100", "--second", "1", "APT=4001",
+    ];
+    assert!(rt; asks_to_wait(alloc, &words, Some(1), false));
+    let words = [
+        "acdm",
+        "follow",
+        "4100",
+        "--keep",
+        "day",
+        "--watch",
+        "4101",
+        "--strict",
+        "--second=8",
+        "APT=4001",
+    ];
+    assert!(rt; asks_to_wait(alloc, &words, Some(8), true));
+}
+
+#[test]
+fn boards_to_wait_for_are_one_to_eight(rt: HostRuntime) {
+    let alloc = rt.alloc();
+    let words = [
+        "acdm", "serve", "--keep", "day", "--watch", "4100", "--second", "0", "APT=4001",
+    ];
+    assert!(rt; is_refused(alloc, &words));
+    let words = [
+        "acdm", "serve", "--keep", "day", "--watch", "4100", "--second", "9", "APT=4001",
+    ];
+    assert!(rt; is_refused(alloc, &words));
+}
+
+#[test]
+fn boards_follow_a_journal_that_is_kept_and_shown(rt: HostRuntime) {
+    let alloc = rt.alloc();
+    let words = [
+        "acdm", "serve", "--watch", "4100", "--second", "1", "APT=4001",
+    ];
+    assert!(rt; is_refused(alloc, &words));
+    let words = [
+        "acdm", "serve", "--keep", "day", "--second", "1", "APT=4001",
+    ];
+    assert!(rt; is_refused(alloc, &words));
+    let words = [
+        "acdm", "serve", "--keep", "day", "--watch", "4100", "--strict", "APT=4001",
+    ];
+    assert!(rt; is_refused(alloc, &words));
 }

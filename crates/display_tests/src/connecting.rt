@@ -7,8 +7,8 @@ use std::alloc::Global;
 use std::io::{Read, Write};
 use std::net::{Net, Shutdown, SocketAddr, TcpListener, TcpStream};
 use std::process::Abort;
-use std::sync::Arc;
 use std::sync::atomic::{AtomicBool, Ordering};
+use std::sync::{Arc, Wait};
 use std::thread;
 use std::thread::Threads;
 use std::time::{Clock as SystemClock, Duration};
@@ -25,6 +25,7 @@ fn journals_at(socket: TcpListener) -> DisplayListener<'static> {
         kind: DisplayKind::Journal,
         socket,
         name: None,
+        confirmed: None,
     }
 }
 
@@ -32,6 +33,7 @@ fn journals_at(socket: TcpListener) -> DisplayListener<'static> {
 fn shown<
     H: Helpers + Drop,
     Rt: Net<Listener = TcpListener, Stream = TcpStream>
+        + Wait
         + SystemClock
         + Threads
         + Abort
@@ -110,6 +112,7 @@ fn free_address<Rt: Net<Listener = TcpListener, Stream = TcpStream> + Abort>(
 fn opened<
     H: Helpers + Drop,
     Rt: Net<Listener = TcpListener, Stream = TcpStream>
+        + Wait
         + SystemClock
         + Threads
         + Abort

@@ -1,6 +1,6 @@
 //! What displays are told of changes, from where they asked to be.
 use crate::following::{entries_of, tick, ticked};
-use acdm_displays::{Shown, Start, follow_changes, start_named};
+use acdm_displays::{Shown, Start, follow_changes, follower_named, kept_named, start_named};
 use acdm_lines::Sink;
 use bpf_helpers::{Bank, Helpers};
 use std::alloc::Global;
@@ -98,5 +98,65 @@ static LINES: [(&[u8], Option<Start>); 16] = [
 fn a_first_line_asks_for_a_start_or_for_nothing(rt: HostRuntime) {
     for (line, start) in &LINES {
         assert!(rt; start_named(*line) == *start);
+    }
+}
+
+// First lines, and from where and by what name a board follows that sends them.
+static FOLLOWERS: [(&[u8], Option<(u64, u64)>); 16] = [
+    (b"from 0 as 0", Some((0, 0))),
+    (b"from 7 as 12", Some((7, 12))),
+    (
+        b"from 18446744073709551615 as 18446744073709551615",
+        Some((18_446_744_073_709_551_615, 18_446_744_073_709_551_615)),
+    ),
+    (b"from 18446744073709551616 as 1", None),
+    (b"from 1 as 18446744073709551616", None),
+    (b"from 1", None),
+    (b"from 1 as", None),
+    (b"from 1 as ", None),
+    (b"from 1 as 01", None),
+    (b"from 01 as 1", None),
+    (b"from 1 as +1", None),
+    (b"from 1  as 1", None),
+    (b"from 1 as  1", None),
+    (b"from 1 as 1 ", None),
+    (b"from as 1", None),
+    (b"board", None),
+];
+
+#[test]
+fn a_board_that_follows_gives_its_name(rt: HostRuntime) {
+    for (line, wanted) in &FOLLOWERS {
+        let named = match follower_named(*line) {
+            Some(start) => Some((start.from, start.name)),
+            None => None,
+        };
+        assert!(rt; named == *wanted);
+    }
+}
+
+// Lines of a board that follows, and how many entries it keeps by them.
+static KEPT: [(&[u8], Option<u64>); 12] = [
+    (b"kept 0", Some(0)),
+    (b"kept 7", Some(7)),
+    (
+        b"kept 18446744073709551615",
+        Some(18_446_744_073_709_551_615),
+    ),
+    (b"kept 18446744073709551616", None),
+    (b"kept", None),
+    (b"kept ", None),
+    (b"kept 01", None),
+    (b"kept +1", None),
+    (b"kept 1 ", None),
+    (b"kept  1", None),
+    (b" kept 1", None),
+    (b"Kept 1", None),
+];
+
+#[test]
+fn a_board_that_follows_says_what_it_keeps(rt: HostRuntime) {
+    for (line, kept) in &KEPT {
+        assert!(rt; kept_named(*line) == *kept);
     }
 }

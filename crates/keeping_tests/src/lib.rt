@@ -4,6 +4,8 @@
 #![tactic(auto)]
 
 #[cfg(test)]
+mod confirming;
+#[cfg(test)]
 mod crash;
 #[cfg(test)]
 mod files;

@@ -21,6 +21,7 @@ use std::process::Abort;
 use std::sync::atomic::{AtomicBool, AtomicU64, Ordering};
 use std::sync::{Arc, Wait};
 use std::thread::{Threads, yield_now};
+use std::time::Clock as SystemClock;
 
 const TICK: &str = "{\"cmd\":\"tick\"}\n";
 
@@ -345,7 +346,7 @@ fn ticks(rt: &impl Abort, alloc: Global, count: usize) -> Vec<u8> {
 }
 
 // A session that sends its part.
-fn opened<'r, J: Opening, Rt: Wait + Abort>(
+fn opened<'r, J: Opening, Rt: Wait + SystemClock + Abort>(
     rt: &'r Rt,
     alloc: Global,
     keeper: &'r SharedKeeper<Paper, J>,
@@ -361,7 +362,7 @@ fn opened<'r, J: Opening, Rt: Wait + Abort>(
         is_bad: false,
     };
     let (role, lines) = part_of(rt, alloc, sent, session);
-    let waiting = Waiter::new(rt, Some(keeper));
+    let waiting = Waiter::new(rt, Some(keeper), None);
     let replies = Replies::new(alloc, waiting, reader, HELD).expect(rt, "room for replies");
     Session {
         role,
@@ -372,7 +373,7 @@ fn opened<'r, J: Opening, Rt: Wait + Abort>(
 }
 
 // So many of them, at most 64.
-fn sessions_of<'r, J: Opening, Rt: Wait + Abort>(
+fn sessions_of<'r, J: Opening, Rt: Wait + SystemClock + Abort>(
     rt: &'r Rt,
     alloc: Global,
     keeper: &'r SharedKeeper<Paper, J>,
@@ -393,7 +394,7 @@ fn sessions_of<'r, J: Opening, Rt: Wait + Abort>(
 fn entries_after<
     H: Helpers + Drop + Send,
     W: ReplyWriter + Drop + Send,
-    Rt: Threads + Wait + Abort + Sync,
+    Rt: Threads + Wait + SystemClock + Abort + Sync,
 >(
     rt: &Rt,
     alloc: Global,
@@ -409,7 +410,7 @@ fn entries_after<
 }
 
 // The latest receipt behind which these sessions handed on replies.
-fn latest_of<J: Opening, Rt: Wait>(
+fn latest_of<J: Opening, Rt: Wait + SystemClock>(
     sessions: Vec<EndedSession<Cursor<Vec<u8>>, Answered<'_, J, Rt>, Fixed>>,
 ) -> Option<LastingReceipt<J>> {
     let mut latest = None;
@@ -426,7 +427,7 @@ fn entries_kept<
     'r,
     J: Opening + Send + Sync,
     H: Helpers + Drop + Send,
-    Rt: Threads + Wait + Abort + Sync,
+    Rt: Threads + Wait + SystemClock + Abort + Sync,
 >(
     rt: &'r Rt,
     alloc: Global,
@@ -455,7 +456,11 @@ struct Outcome {
 }
 
 // What comes of sessions whose replies wait for a keeper.
-fn served<J: Opening + Send + Sync, H: Helpers + Drop + Send, Rt: Threads + Wait + Abort + Sync>(
+fn served<
+    J: Opening + Send + Sync,
+    H: Helpers + Drop + Send,
+    Rt: Threads + Wait + SystemClock + Abort + Sync,
+>(
     rt: &Rt,
     alloc: Global,
     desk: Desk<H>,
@@ -494,7 +499,7 @@ fn served<J: Opening + Send + Sync, H: Helpers + Drop + Send, Rt: Threads + Wait
 }
 
 // The same, by a desk of its own and a keeper whose writer stops so, and waits for so many entries before it flushes.
-fn outcome_of<H: Helpers + Drop + Send, Rt: Threads + Wait + Abort + Sync>(
+fn outcome_of<H: Helpers + Drop + Send, Rt: Threads + Wait + SystemClock + Abort + Sync>(
     rt: &Rt,
     alloc: Global,
     helpers: H,
@@ -610,7 +615,7 @@ fn a_keeper_that_has_failed_goes_on_failing(rt: HostRuntime) {
 
 // Four sessions over a file that stops: whatever a crash may leave of it has all entries of which they were told, and
 // those that the receipts are for that they hold.
-fn keeps_what_was_told<Rt: Threads + Wait + Abort + Sync>(
+fn keeps_what_was_told<Rt: Threads + Wait + SystemClock + Abort + Sync>(
     rt: &Rt,
     alloc: Global,
     sent: Sent,

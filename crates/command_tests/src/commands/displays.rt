@@ -39,7 +39,7 @@ fn is_sent(stream: TcpStream, wanted: &str) -> bool {
     }
 }
 
-fn started<Rt: SystemClock + Threads + Abort + Clone + Drop + Send + 'static>(
+fn started<Rt: SystemClock + Threads + Wait + Abort + Clone + Drop + Send + 'static>(
     rt: &Rt,
     alloc: Global,
     socket: TcpListener,
@@ -49,6 +49,7 @@ fn started<Rt: SystemClock + Threads + Abort + Clone + Drop + Send + 'static>(
         kind: DisplayKind::Journal,
         socket,
         name: None,
+        confirmed: None,
     };
     Displays::start(rt, alloc, listener, row, None)
         .ok()

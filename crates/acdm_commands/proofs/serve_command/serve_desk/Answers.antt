@@ -31,25 +31,25 @@ returns-in-Err-served g c = led_stopped _ _ _ _ _ _ _ c.in-Err-served.ensures.fa
 pub returns-in-Err-kept : goal.returns-in-Err-kept
 returns-in-Err-kept g c =
     subst (λ k. ServesLed k c.args.begun.desk (named_of c.args.request.now) c.args.output.now
-    c.serve_led-served.new.output c.args.saved.now c.args.saved.now (Err c.of_keeping.result)) (c.as_ref-2.ensures.variant ∙ c.in-Ok-share.ensures.shared)
-    (led_unkept (is_some c.as_ref-2.result) c.args.begun.desk (named_of c.args.request.now) c.args.output.now
+    c.serve_led-served.new.output c.args.saved.now c.args.saved.now (Err c.of_keeping.result)) (c.as_ref.ensures.variant ∙ c.in-Ok-share.ensures.shared)
+    (led_unkept (is_some c.as_ref.result) c.args.begun.desk (named_of c.args.request.now) c.args.output.now
     c.serve_led-served.new.output c.args.saved.now c.args.saved.now c.in-Ok-served.served.0.history c.in-Ok-served.served.1
     c.in-Ok-served.ensures.serves c.of_keeping.result
-    (c.as_ref-2.ensures.variant ∙ (rw c.in-Err-kept.is at c.keep_rest-keeper.ensures.kept))
+    (c.as_ref.ensures.variant ∙ (rw c.in-Err-kept.is at c.keep_rest-keeper.ensures.kept))
     (rw c.of_keeping.ensures (unkept_by c.in-Err-kept.failure (rw c.in-Err-kept.is at c.keep_rest-keeper.ensures.fails))))
 
 pub returns-in-Ok-came : goal.returns-in-Ok-came
 returns-in-Ok-came g c =
     subst (λ k. ServesLed k c.args.begun.desk (named_of c.args.request.now) c.args.output.now
-    c.serve_led-served.new.output c.args.saved.now c.save_served-came.new.saved (Ok 0)) (c.as_ref-2.ensures.variant ∙ c.in-Ok-share.ensures.shared)
-    (led_saved (is_some c.as_ref-2.result) c.args.begun.desk (named_of c.args.request.now) c.args.output.now
+    c.serve_led-served.new.output c.args.saved.now c.save_served-came.new.saved (Ok 0)) (c.as_ref.ensures.variant ∙ c.in-Ok-share.ensures.shared)
+    (led_saved (is_some c.as_ref.result) c.args.begun.desk (named_of c.args.request.now) c.args.output.now
     c.serve_led-served.new.output c.args.saved.now c.save_served-came.new.saved c.in-Ok-served.served.0.history c.in-Ok-served.served.1
     c.in-Ok-served.ensures.serves c.in-Ok-came.ensures)
 
 pub returns : goal.returns
 returns g c =
     subst (λ k. ServesLed k c.args.begun.desk (named_of c.args.request.now) c.args.output.now
-    c.serve_led-served.new.output c.args.saved.now c.save_served-came.new.saved (Err c.in-Err-came.failure)) (c.as_ref-2.ensures.variant ∙ c.in-Ok-share.ensures.shared)
-    (led_unsaved (is_some c.as_ref-2.result) c.args.begun.desk (named_of c.args.request.now) c.args.output.now
+    c.serve_led-served.new.output c.args.saved.now c.save_served-came.new.saved (Err c.in-Err-came.failure)) (c.as_ref.ensures.variant ∙ c.in-Ok-share.ensures.shared)
+    (led_unsaved (is_some c.as_ref.result) c.args.begun.desk (named_of c.args.request.now) c.args.output.now
     c.serve_led-served.new.output c.args.saved.now c.save_served-came.new.saved c.in-Ok-served.served.0.history c.in-Ok-served.served.1
     c.in-Ok-served.ensures.serves c.in-Err-came.failure c.in-Err-came.ensures)

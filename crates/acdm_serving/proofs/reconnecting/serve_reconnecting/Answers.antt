@@ -17,7 +17,7 @@ serve_sessions-served-requires-send-W g c κs within =
     let runtime = param 1 g.row.Rt in
     param_send 1 _ (arg_send _ no _ (writing_send (record { mir = named 8; lft = _ })
     (record { mir = named 9; lft = _ }) (param 0 g.row.J) runtime
-    (kept.ghosts runtime g.Rt.Paths kept.no_dict kept.no_dict) g.J.Opening g.Rt.Wait _
+    (kept.ghosts runtime g.Rt.Paths kept.no_dict kept.no_dict) g.J.Opening g.Rt.Wait g.Rt.Clock _
     (param_send 1 _ c.type_bounds.send-Rt) (param_sync 1 _ c.type_bounds.sync-Rt)))
 
 pub returns-clause-tells : goal.returns-clause-tells

@@ -22,5 +22,5 @@ pub entries_after-entries-requires-send-W : goal.entries_after-entries-requires-
 entries_after-entries-requires-send-W g c κs within =
     let k = c.type_bounds in
     param_send 1 _ (arg_send _ no _ (kept_replies_send (record { mir = named 2; lft = κs.1.1.0 }) paper.the_row
-    (param 0 g.row.J) (param 2 g.row.Rt) reader.the_row kept.ghosts g.J.Opening g.Rt.Wait taking.ghosts paper_send
+    (param 0 g.row.J) (param 2 g.row.Rt) reader.the_row kept.ghosts g.J.Opening g.Rt.Wait g.Rt.Clock taking.ghosts paper_send
     k.sync-Rt reader_send))
