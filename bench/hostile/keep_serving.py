@@ -176,19 +176,21 @@ def faulty(cases, program, room):
 
 def in_use(cases, program, room):
     file = room / "used"
-    board = Board(program, file, roles=["APT"])
-    for other in (["serve", "--keep", file, "APT=127.0.0.1:0"], ["run", "--keep", file]):
-        done = came(ran(program, other))
-        told = "acdm: the kept journal is in use\n" + cause(f"--keep {file}", KEPT_ELSEWHERE)
-        cases.expect(f"in use, {other[0]}", done == (2, "", told), done)
-    (stream,) = board.connect()
-    got = []
-    talk(stream, [SCHEDULE], got)
-    stream.close()
-    cases.expect("the first goes on", got == ["ok 0"], got)
-    cases.expect("and ends", board.end()[0] == 0)
+    # (the second time it has entries, and a new file of that name)
+    for number, line in enumerate([SCHEDULE, PLAN]):
+        board = Board(program, file, roles=["APT"])
+        for other in (["serve", "--keep", file, "APT=127.0.0.1:0"], ["run", "--keep", file]):
+            done = came(ran(program, other))
+            told = "acdm: the kept journal is in use\n" + cause(f"--keep {file}", KEPT_ELSEWHERE)
+            cases.expect(f"in use, {other[0]}, {number} entries", done == (2, "", told), done)
+        (stream,) = board.connect()
+        got = []
+        talk(stream, [line], got)
+        stream.close()
+        cases.expect("the first goes on", len(got) == 1 and got[0].split()[1] == str(number), got)
+        cases.expect("and ends", board.end()[0] == 0)
     done = came(ran(program, ["run", "--keep", file], text(DAY[1:2]).encode()))
-    cases.expect("the next goes on", done[0] == 0 and done[1] == "ok 1\n", done)
+    cases.expect("the next goes on", done[0] == 0 and done[1] == "ok 2\n", done)
 
 
 def watched(cases, program, room):

@@ -316,6 +316,9 @@ def going_on(program, cases, room):
     file, lines = room / "day", [f"1 29000580 APT {SCHEDULE}", f"2 29000580 NM {PLAN}"]
     ran(program, ["run", "--keep", file], text(lines[:1]).encode())
     file.chmod(0o640)
+    if os.getuid() == 0:
+        os.chown(file, 65_534, 65_533)
+    owner = file.stat().st_uid, file.stat().st_gid
     inode, before = file.stat().st_ino, file.read_bytes()
     with open(file, "ab") as end:
         end.write(b"1 2 2900")
@@ -324,6 +327,7 @@ def going_on(program, cases, room):
     cases.expect("a board goes on by a link", (done.returncode, done.stdout) == (0, b"ok 1\n"), done)
     cases.expect("in a new file", file.stat().st_ino != inode and (room / "link").is_symlink())
     cases.expect("of the same rights", file.stat().st_mode & 0o777 == 0o640)
+    cases.expect("and of the same owner", (file.stat().st_uid, file.stat().st_gid) == owner, file.stat())
     cases.expect("which begins with the old text and has no cut line", file.read_bytes().startswith(before + b"1 2 2900058"))
     beside = sorted(path.name for path in room.iterdir())
     cases.expect("and nothing is left beside but their tables", beside == ["day", "day.tables", "link", "link.tables"], beside)
