@@ -84,6 +84,10 @@ second_rule = record (new_rule (codes "second")) { long = Some (codes "second");
 abbrev pub strict_rule : Rule
 strict_rule = record (new_rule (codes "strict")) { long = Some (codes "strict"); action = Some SetTrue }
 
+-- `--peer ADDR`
+abbrev pub peer_rule : Rule
+peer_rule = record (new_rule (codes "peer")) { long = Some (codes "peer"); value_names = 1 }
+
 -- `--tables FILE`
 abbrev pub tables_rule : Rule
 tables_rule = record (new_rule (codes "tables")) { long = Some (codes "tables"); value_names = 1 }
@@ -102,7 +106,7 @@ run_app = keeping_app (codes "run") keep_rule
 
 -- `serve [--journal N] [--save FILE] [--keep FILE] [--sync] [--tables FILE] [--watch ADDR] [--changes ADDR]
 -- [--web ADDR] [--web-name NAME] [--again] [--control ADDR] [--pace N] [--tick SECONDS] [--log FILE] [--second N]
--- [--strict] ROLE=ADDR...`, of at least one partner
+-- [--strict] [--peer ADDR] ROLE=ADDR...`, of at least one partner
 abbrev pub partners_rule : Rule
 partners_rule = record (new_rule (codes "partners")) {
   value_names = 1;
@@ -128,15 +132,18 @@ logging_app name keep = with_rule (lasting_app name keep) log_rule
 unfoldable pub seconded_app : Text → Rule → App
 seconded_app name keep = with_rule (with_rule (logging_app name keep) second_rule) strict_rule
 
+unfoldable pub peered_app : Text → Rule → App
+peered_app name keep = with_rule (seconded_app name keep) peer_rule
+
 abbrev pub serve_app : App
-serve_app = with_rule (seconded_app (codes "serve") keep_rule) partners_rule
+serve_app = with_rule (peered_app (codes "serve") keep_rule) partners_rule
 
 -- `follow ADDR --keep FILE [..] ROLE=ADDR...`, with the other options of `serve`
 abbrev pub first_rule : Rule
 first_rule = record (new_rule (codes "first")) { value_names = 1; required = true }
 
 abbrev pub follow_app : App
-follow_app = with_rule (with_rule (seconded_app (codes "follow") kept_rule) first_rule) partners_rule
+follow_app = with_rule (with_rule (peered_app (codes "follow") kept_rule) first_rule) partners_rule
 
 -- a subcommand of this name on a file, as `audit [--tables FILE] FILE`
 abbrev pub file_rule : Rule
@@ -278,6 +285,18 @@ abbrev pub AnswersSeconding : List ℕ → Option (Text × List Row) → Option 
 AnswersSeconding name found (Some seconding) = HasSeconding name found seconding
 AnswersSeconding name found None = IsSeconded name found → ⊥
 
+-- the address of the peer, which is asked where the journal is kept
+abbrev pub IsPeered : List ℕ → Option (Text × List Row) → Type 0
+IsPeered name found =
+    is_some (value_in name (codes "peer") found) ≡ true → is_some (value_in name (codes "keep") found) ≡ true
+
+abbrev pub HasPeer : List ℕ → Option (Text × List Row) → Option Text → Type 0
+HasPeer name found peer = (peer ≡ value_in name (codes "peer") found) × IsPeered name found
+
+abbrev pub AnswersPeer : List ℕ → Option (Text × List Row) → Option (Option Text) → Type 0
+AnswersPeer name found (Some peer) = HasPeer name found peer
+AnswersPeer name found None = IsPeered name found → ⊥
+
 -- the length of a record that a text names
 abbrev pub length_named : Text → Option Length
 length_named text =
@@ -296,7 +315,7 @@ abbrev pub Serves : List ℕ → Option (Text × List Row) → Text → Type 0
 Serves name found text =
     (value_in name (codes "journal") found ≡ Some text)
     × IsCounted name (codes "pace") 4294967295 found × IsCounted name (codes "tick") 86400 found
-    × IsSeconded name found
+    × IsSeconded name found × IsPeered name found
 
 -- the first board that `follow` is given
 abbrev pub first_in : Option (Text × List Row) → Option Text
@@ -338,7 +357,7 @@ Asks found (Run journal save keep sync) =
     × (option_map (λ s. s.now) save ≡ value_in (codes "run") (codes "save") found)
     × (option_map (λ s. s.now) keep ≡ value_in (codes "run") (codes "keep") found)
     × (sync ≡ is_set_in (codes "run") (codes "sync") found)
-Asks found (Serve first journal save keep sync watch changes web web_name again control pace tick log second strict partners) =
+Asks found (Serve first journal save keep sync watch changes web web_name again control pace tick log second strict peer partners) =
     (text : Text) × Serves (serving_name first) found text × IsJournal text × (journal ≡ number_of text)
     × (option_map (λ s. s.now) first ≡ first_in found)
     × (option_map (λ s. s.now) save ≡ value_in (serving_name first) (codes "save") found)
@@ -353,6 +372,7 @@ Asks found (Serve first journal save keep sync watch changes web web_name again 
     × HasPace (serving_name first) found pace × HasTick (serving_name first) found tick
     × (option_map (λ s. s.now) log ≡ value_in (serving_name first) (codes "log") found)
     × HasSeconding (serving_name first) found (second, strict)
+    × HasPeer (serving_name first) found (option_map (λ s. s.now) peer)
     × (map (λ s. s.now) partners.items ≡ partners_in (serving_name first) found)
 Asks found (Verify length file) = Verifies found length file.now
 Asks found (Audit file) = AuditsFile found file.now

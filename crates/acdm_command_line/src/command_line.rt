@@ -15,7 +15,8 @@ ghost use Rattle.acdm_command_line.specs.CommandLine.{changes_rule, journal_rule
 ghost use Rattle.acdm_command_line.specs.CommandLine.{is_set_in, watch_rule, web_name_rule, web_rule};
 ghost use Rattle.acdm_command_line.specs.CommandLine.{journal_app, tables_in, tables_rule};
 ghost use Rattle.acdm_command_line.specs.CommandLine.{again_rule, control_rule, lasting_app, log_rule, logging_app, pace_rule};
-ghost use Rattle.acdm_command_line.specs.CommandLine.{AnswersSeconding, GoesTogether, second_rule, seconded_app, strict_rule};
+ghost use Rattle.acdm_command_line.specs.CommandLine.{AnswersPeer, AnswersSeconding, GoesTogether, second_rule, seconded_app, strict_rule};
+ghost use Rattle.acdm_command_line.specs.CommandLine.{peer_rule, peered_app};
 ghost use Rattle.acdm_command_line.specs.CommandLine.{AnswersCount, IsCount, tick_rule};
 ghost use Rattle.acdm_command_line.specs.CommandLine.{partners_in, value_in, values_in};
 ghost use Rattle.acdm_command_line.specs.CommandLine.{number_of, IsJournal, AsksFor, Refuses};
@@ -56,7 +57,7 @@ pub enum Subcommand<'a> {
     /// come again where `again` is true, of whom so many lines are taken in a minute; it is closed at the
     /// control address, ticks by itself each so many seconds, from 1 to 86,400, and logs in a file what the operator
     /// is told. Replies wait until so many boards that follow it keep their entries too, from 1 to 8; where `strict` is
-    /// true, none goes out without them. Where the address of a first board is named it is `follow`: that board is followed before.
+    /// true, none goes out without them. It does not go on from what is kept where the peer at an address has a later term. Where the address of a first board is named it is `follow`: that board is followed before.
     Serve {
         first: Option<&'a str>,
         journal: usize,
@@ -74,6 +75,7 @@ pub enum Subcommand<'a> {
         log: Option<&'a str>,
         second: Option<u32>,
         strict: bool,
+        peer: Option<&'a str>,
         partners: Vec<&'a str>,
     },
     /// `audit`, of the journal in this file.
@@ -293,6 +295,16 @@ fn strict<'a>(alloc: Global) -> Arg<'a>
         .help("With --second: no reply is sent while too few boards follow")
 }
 
+// `--peer ADDR`.
+fn peer<'a>(alloc: Global) -> Arg<'a>
+    ensures rule { rule_of result ≡ peer_rule }
+    ensures optional { (result.required ≡ false) × (result.global ≡ false) }
+{
+    Arg::new(alloc, "peer").long("peer").value_name("ADDR").help(
+        "With --keep: the IP address and port where another board has its --watch, which may have taken over",
+    )
+}
+
 // A subcommand that has a journal, which is kept by this option.
 fn with_journal<'a>(
     alloc: Global,
@@ -434,6 +446,21 @@ fn seconded<'a>(
         .arg(strict(alloc))
 }
 
+// The same with the other board that may have taken over.
+#[tactic(auto, unfolding(crate::specs::CommandLine::peered_app))]
+fn peered<'a>(
+    alloc: Global,
+    name: &'a str,
+    about: &'a str,
+    keep: Arg<'a>,
+) -> Result<Command<'a>, AllocError>
+    requires local { keep.global ≡ false }
+    ensures shape { IfOk result (λ c. app_of c ≡ peered_app name.now (rule_of keep.entry)) }
+    ensures local { IfOk result (λ c. (fields_of c).has_globals ≡ false) }
+{
+    seconded(alloc, name, about, keep)?.arg(peer(alloc))
+}
+
 // `ROLE=ADDR`, once or more.
 fn partners<'a>(alloc: Global) -> Arg<'a>
     ensures rule { rule_of result ≡ partners_rule }
@@ -452,7 +479,7 @@ fn serve_command<'a>(alloc: Global) -> Result<Command<'a>, AllocError>
 {
     let about =
         "Accepts a partner at each address, and serves all at once; --config FILE puts in its place the words of a file in TOML";
-    seconded(alloc, "serve", about, keep(alloc))?.arg(partners(alloc))
+    peered(alloc, "serve", about, keep(alloc))?.arg(partners(alloc))
 }
 
 // `ADDR`, of a first board.
@@ -472,7 +499,7 @@ fn follow_command<'a>(alloc: Global) -> Result<Command<'a>, AllocError>
 {
     let about =
         "Keeps the journal of another board as it grows, and serves as that board did once it is promoted";
-    seconded(alloc, "follow", about, kept(alloc))?
+    peered(alloc, "follow", about, kept(alloc))?
         .arg(first(alloc))?
         .arg(partners(alloc))
 }
@@ -776,6 +803,17 @@ fn seconding_for(matches: &ArgMatches, name: &str) -> Option<(Option<u32>, bool)
     Some((second, strict))
 }
 
+// The address of the peer that the subcommand of this name is given, if it is; where there is one, a file is kept too.
+fn peer_for<'a>(matches: &ArgMatches<'a>, name: &str) -> Option<Option<&'a str>>
+    ensures { AnswersPeer name.now (subcommand_rows_of matches.now) (option_map (λ p. option_map (λ s. s.now) p) result) }
+{
+    let peer = value(matches, name, "peer");
+    if peer.is_some() && value(matches, name, "keep").is_none() {
+        return None;
+    }
+    Some(peer)
+}
+
 // What the subcommand of this name asks for, one of the two that serve, if it was entered with such a journal; and
 // with the address of a first board, if it is `follow`.
 fn serving_of<'a>(
@@ -810,6 +848,9 @@ fn serving_of<'a>(
     let Some((second, strict)) = seconding_for(matches, name) else {
         return Ok(None);
     };
+    let Some(peer) = peer_for(matches, name) else {
+        return Ok(None);
+    };
     let partners = partners_of(alloc, matches, name)?;
     Ok(Some(Subcommand::Serve {
         first,
@@ -828,6 +869,7 @@ fn serving_of<'a>(
         log,
         second,
         strict,
+        peer,
         partners,
     }))
 }
@@ -913,6 +955,9 @@ fn reason(matches: &ArgMatches) -> &'static str {
     if second.is_none() && is_set(matches, name, "strict") {
         return "'--strict' needs '--second <N>'";
     }
+    if peer_for(matches, name).is_none() {
+        return "'--peer <ADDR>' needs '--keep <FILE>'";
+    }
     "invalid value for '--journal <N>': it is not a number from 1 to 1000000"
 }
 
@@ -942,8 +987,8 @@ fn parse_by<'a>(
 /// and the other words are taken as they stand. Words that name no such command are refused by
 /// `clap`; a journal outside 1 to 1,000,000 is refused, a length that is neither 128 nor 160, a pace that
 /// is no number from 1 to 4,294,967,295, a tick that is none from 1 to 86,400 seconds, and boards to wait for that are
-/// none from 1 to 8; these without a file that is kept or an address of displays of the journal, and `--strict` without
-/// these. A request for help counts as a
+/// none from 1 to 8; these without a file that is kept or an address of displays of the journal, `--strict` without
+/// these, and a peer without a file that is kept. A request for help counts as a
 /// refusal.
 pub fn parse<'a>(alloc: Global, words: &'a [&'a str]) -> Result<Line<'a>, Error>
     ensures asks { IfOk result (AsksFor (map (λ w. w.now) words.entry.now)) }

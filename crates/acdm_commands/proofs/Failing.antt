@@ -36,3 +36,5 @@ unseated words ticks failures.Stream (front, word, more, split, all, fails) = ab
 unseated words ticks failures.Keep (front, word, more, split, all, fails) = absurd fails
 unseated words ticks failures.InUse (front, word, more, split, all, fails) = absurd fails
 unseated words ticks failures.Room (front, word, more, split, all, fails) = absurd fails
+unseated words ticks failures.Peer (front, word, more, split, all, fails) = absurd fails
+unseated words ticks failures.Replaced (front, word, more, split, all, fails) = absurd fails

@@ -64,6 +64,8 @@ module _ {F : Type 0} (sigs : List (ℕ × Promise)) (file later : SourceView F)
   audited_any old new (Err failures.Keep) p = absurd p
   audited_any old new (Err failures.InUse) p = absurd p
   audited_any old new (Err failures.Room) p = absurd p
+  audited_any old new (Err failures.Peer) p = absurd p
+  audited_any old new (Err failures.Replaced) p = absurd p
 
   gives_any : (J : History) (rest : List ℕ) → Gives sigs J rest file later
       → Gives sigs J rest (read_from file) (read_from later)
@@ -106,6 +108,8 @@ module _ {F : Type 0} (sigs : List (ℕ × Promise)) (file later : SourceView F)
   told_any old new (Err failures.Keep) p = absurd p
   told_any old new (Err failures.InUse) p = absurd p
   told_any old new (Err failures.Room) p = absurd p
+  told_any old new (Err failures.Peer) p = absurd p
+  told_any old new (Err failures.Replaced) p = absurd p
 
   pub gave_any : (most : ℕ) (bytes : List ℕ) → GaveBytes most file later bytes
       → GaveBytes most (read_from file) (read_from later) bytes
@@ -146,6 +150,8 @@ module _ {F : Type 0} (sigs : List (ℕ × Promise)) (file later : SourceView F)
   verified_any long old new (Err failures.Keep) p = absurd p
   verified_any long old new (Err failures.InUse) p = absurd p
   verified_any long old new (Err failures.Room) p = absurd p
+  verified_any long old new (Err failures.Peer) p = absurd p
+  verified_any long old new (Err failures.Replaced) p = absurd p
 
   pub explained_any : (long : Length) (work : Result ℕ Failure) → Explains sigs long file later work
       → Explains sigs long (read_from file) (read_from later) work
@@ -203,6 +209,8 @@ fails_any (Some file) (Some later) failures.Stream p = absurd p
 fails_any (Some file) (Some later) failures.Keep p = absurd p
 fails_any (Some file) (Some later) failures.InUse p = absurd p
 fails_any (Some file) (Some later) failures.Room p = absurd p
+fails_any (Some file) (Some later) failures.Peer p = absurd p
+fails_any (Some file) (Some later) failures.Replaced p = absurd p
 
 -- a command whose work came so, and whose file took its place, or could not
 pub settled : (path : Option (List ℕ)) (Comes : Result ℕ Failure → Type 0)

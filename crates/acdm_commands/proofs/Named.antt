@@ -61,6 +61,8 @@ module _ {P : Type 0} (role : P → Role) where
   named_as words front more word n failures.Keep split all count fails = absurd fails
   named_as words front more word n failures.InUse split all count fails = absurd fails
   named_as words front more word n failures.Room split all count fails = absurd fails
+  named_as words front more word n failures.Peer split all count fails = absurd fails
+  named_as words front more word n failures.Replaced split all count fails = absurd fails
 
   -- nobody listens for the next word
   pub fails_next : (words front more : List (List ℕ)) (word : List ℕ) (ps : List P)

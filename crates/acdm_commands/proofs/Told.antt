@@ -214,6 +214,8 @@ unkept_by failures.Stream cut = absurd cut
 unkept_by failures.Keep cut = absurd cut
 unkept_by failures.InUse cut = absurd cut
 unkept_by failures.Room cut = absurd cut
+unkept_by failures.Peer cut = absurd cut
+unkept_by failures.Replaced cut = absurd cut
 
 -- lines were answered, all or some
 pub answers_some : {R W T : Type 0} (before after : DeskView) (read read_after : SourceView R) (old new : SinkView W)
@@ -270,7 +272,7 @@ module _ {W F : Type 0} (sigs : List (ℕ × Promise)) (capacity : ℕ) (kept : 
       serves_led l.led work (begins_led sigs capacity kept named.follows desk l.led begins l.is_led) l.serves
 
   -- the kept journal is not legal, which was told, or could not be
-  pub told_illegal : (finding : Finding) (work : Result ℕ Failure) → FailsToBegin kept (begin_errors.Illegal finding)
+  pub told_illegal : (finding : Finding) (work : Result ℕ Failure) → FailsToBegin kept named.peered (begin_errors.Illegal finding)
       → Tells finding old new work → ServesTo sigs capacity kept named old new saved later work
   told_illegal finding (Ok status) fails tells = inr (inl (fails.0, (finding, fails.1, tells)))
   told_illegal finding (Err failure) fails tells = inr (inl (fails.0, (finding, fails.1, tells)))
@@ -278,6 +280,6 @@ module _ {W F : Type 0} (sigs : List (ℕ × Promise)) (capacity : ℕ) (kept : 
 -- there was no desk, and nobody was served
 pub not_begun : {W F : Type 0} (sigs : List (ℕ × Promise)) (capacity : ℕ) (kept : Bool) (named : Named)
     (old : SinkView W) (saved : Option (SinkView F)) (failure : Failure)
-    → FailsToBegin kept (begin_errors.Failed failure)
+    → FailsToBegin kept named.peered (begin_errors.Failed failure)
     → ServesTo sigs capacity kept named old old saved saved (Err failure)
 not_begun sigs capacity kept named old saved failure fails = inl (fails, refl)

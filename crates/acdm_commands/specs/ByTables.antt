@@ -102,7 +102,7 @@ RefusesJournal (Some path) tables errors errors_after =
 -- the journals that a command names: of which it reads one and may write another
 abbrev pub journals_of : Subcommand → Option (List ℕ) × Option (List ℕ)
 journals_of (Run journal save keep sync) = (option_map (λ s. s.now) keep, option_map (λ s. s.now) save)
-journals_of (Serve first journal save keep sync watch changes web web_name again control pace tick log second strict partners) =
+journals_of (Serve first journal save keep sync watch changes web web_name again control pace tick log second strict peer partners) =
     (option_map (λ s. s.now) keep, option_map (λ s. s.now) save)
 journals_of (Audit file) = (Some file.now, None)
 journals_of (Tell file) = (Some file.now, None)

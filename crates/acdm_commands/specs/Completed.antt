@@ -159,7 +159,7 @@ abbrev pub Does : {R W E : Type 0} → List (ℕ × Promise) → Subcommand → 
 Does sigs (Run journal save keep sync) input input_after output output_after status errors errors_after =
     EndsBy (RunsLine sigs journal (option_map (λ s. s.now) save) (is_some keep) input input_after output output_after)
     status errors errors_after
-Does sigs (Serve first journal save keep sync watch changes web web_name again control pace tick log second strict partners) input input_after output output_after status errors errors_after =
+Does sigs (Serve first journal save keep sync watch changes web web_name again control pace tick log second strict peer partners) input input_after output output_after status errors errors_after =
     (input_after ≡ input) × EndsBy (ServesLine sigs journal (option_map (λ s. s.now) save) (is_some keep)
     (record {
       words = map (λ s. s.now) partners.items;
@@ -167,6 +167,7 @@ Does sigs (Serve first journal save keep sync watch changes web web_name again c
       ticks = is_some tick;
       controlled = is_some control;
       logged = is_some log;
+      peered = is_some peer;
       shown = has_outlet (is_some watch) (is_some changes) (is_some web);
     }) output output_after) status errors errors_after
 Does sigs (Audit file) input input_after output output_after status errors errors_after =

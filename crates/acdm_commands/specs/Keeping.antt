@@ -24,6 +24,7 @@ use Rattle.acdm_step.specs.Commands.{History}
 use Rattle.acdm_step.specs.History.{IsLegal}
 use Rattle.acdm_step.specs.declared.entry.Entry.{Entry}
 use Rattle.acdm_commands.specs.Served.{FailsToSave, IsSaved}
+use Rattle.acdm_commands.specs.Terms.{FailsByTerm}
 
 -- A desk that had no entry has those of a kept journal, and the rest of it is as it was; or something is
 -- to be told of the journal, with the status 1.
@@ -165,12 +166,12 @@ pub record BeginsWith (sigs : List (ℕ × Promise)) (capacity : ℕ) (kept : Bo
   pub helpers : opening.sigs ≡ sigs
   pub empty : kept ≡ false → opening.history ≡ []
 
--- why there is no such desk: where the journal is kept, it is not legal, or it was not gone on from; else memory was
--- refused
-abbrev pub FailsToBegin : Bool → BeginError → Type 0
-FailsToBegin kept (begin_errors.Illegal finding) = (kept ≡ true) × (status_of finding ≡ 1)
-FailsToBegin true (begin_errors.Failed failure) = FailsToResume failure
-FailsToBegin false (begin_errors.Failed failure) = failure ≡ Memory
+-- why there is no such desk: where the journal is kept, it is not legal, or it may not be gone on from, or was not; else
+-- memory was refused
+abbrev pub FailsToBegin : Bool → Bool → BeginError → Type 0
+FailsToBegin kept peered (begin_errors.Illegal finding) = (kept ≡ true) × (status_of finding ≡ 1)
+FailsToBegin true peered (begin_errors.Failed failure) = FailsToResume failure ⊎ FailsByTerm peered failure
+FailsToBegin false peered (begin_errors.Failed failure) = failure ≡ Memory
 
 -- the journal of a desk is kept, and what its partners made was not; that is told only once they were served
 pub record FailsKept {W : Type 0} (kept : Bool) (desk : DeskView) (named : Named) (written written_after : SinkView W)
@@ -259,8 +260,8 @@ pub record StopsServing {W F : Type 0} (sigs : List (ℕ × Promise)) (capacity 
   pub why : StopsAtDesk kept opening named written written_after saved saved_after failure
 
 -- why nobody was served: where the journal is kept it was not gone on from; else memory was refused
-abbrev pub FailsFirst : Bool → Failure → Type 0
-FailsFirst kept failure = FailsToBegin kept (begin_errors.Failed failure)
+abbrev pub FailsFirst : Bool → Bool → Failure → Type 0
+FailsFirst kept peered failure = FailsToBegin kept peered (begin_errors.Failed failure)
 
 -- What comes of it: all was done, with the status 0; or the kept journal is not legal, which was told, with
 -- the status 1; or there was no desk, or that could not be told, and nobody was served; or the board was closed while
@@ -273,7 +274,7 @@ ServesTo sigs capacity kept named written written_after saved saved_after (Ok st
     ⊎ ((kept ≡ true) × TellsFault written written_after (Ok status))
     ⊎ ClosesFrom sigs capacity kept named written written_after saved saved_after (Ok status)
 ServesTo sigs capacity kept named written written_after saved saved_after (Err failure) =
-    (FailsFirst kept failure × (written_after ≡ written))
+    (FailsFirst kept named.peered failure × (written_after ≡ written))
     ⊎ ((kept ≡ true) × TellsFault written written_after (Err failure))
     ⊎ ClosesFrom sigs capacity kept named written written_after saved saved_after (Err failure)
     ⊎ StopsServing sigs capacity kept named written written_after saved saved_after failure

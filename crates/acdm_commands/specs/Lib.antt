@@ -8,5 +8,6 @@ pub mod Minutes
 pub mod Partners
 pub mod Resumed
 pub mod Served
+pub mod Terms
 pub use Rattle.acdm_failures.specs.Failures
 pub use Rattle.acdm_tables.specs.Helpers

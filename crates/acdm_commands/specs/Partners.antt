@@ -45,13 +45,15 @@ abbrev pub has_outlet : Bool → Bool → Bool → Bool
 has_outlet journal changes web = journal || (changes || web)
 
 -- what the words of `serve` or `follow` name: its partners; and whether another board is followed before, whether the
--- board ticks by itself, whether there is a control address and a log, and whether displays have an address
+-- board ticks by itself, whether there is a control address and a log, whether there is a peer, and whether displays
+-- have an address
 pub record Named : Type 0 where
   pub words : List (List ℕ)
   pub follows : Bool
   pub ticks : Bool
   pub controlled : Bool
   pub logged : Bool
+  pub peered : Bool
   pub shown : Bool
 
 abbrev pub named_of : ServeRequest → Named
@@ -61,6 +63,7 @@ named_of request = record {
   ticks = is_some request.options.tick;
   controlled = is_some request.options.control;
   logged = is_some request.options.log;
+  peered = is_some request.options.peer;
   shown = has_outlet (is_some request.outlets.journal) (is_some request.outlets.changes)
       (is_some request.outlets.web);
 }

@@ -8,7 +8,7 @@ use crate::tables::tables_on;
 use acdm_command_line::Subcommand;
 use acdm_failures::Failure;
 use acdm_judging::unread;
-use acdm_keeping::{Replacement, is_special};
+use acdm_keeping::{is_special, put_text};
 use acdm_sessions::{Sink, Source};
 use acdm_tables::Tables;
 use acdm_wire::write_out;
@@ -25,12 +25,12 @@ fn beside(alloc: Global, path: &str) -> Result<String, AllocError>
     Ok(name)
 }
 
-/// Whether a path is that of the file beside the journal of another, if there is one.
+/// Whether a path is that of a file beside the journal of another, if there is one: that of its tables, or of its term.
 pub(crate) fn is_beside(path: &str, journal: Option<&str>) -> bool {
-    match (journal, path.strip_suffix(".tables")) {
-        (Some(journal), Some(front)) => front == journal,
-        _ => false,
-    }
+    let Some(journal) = journal else {
+        return false;
+    };
+    path.strip_suffix(".tables") == Some(journal) || path.strip_suffix(".term") == Some(journal)
 }
 
 // What is told where a journal was made by other tables. An error only where there was no memory.
@@ -157,28 +157,6 @@ pub(crate) fn are_made_by<Rt: Files, E: Write>(
     is_made_by(rt, alloc, first, tables, errors) && is_made_by(rt, alloc, second, tables, errors)
 }
 
-// Puts a new file with this text where none is.
-fn put<Rt: Files<File = File>>(rt: &Rt, alloc: Global, name: &str, text: &[u8]) -> io::Result<()> {
-    let (file, replacement) = Replacement::create(rt, alloc, name, None)?;
-    let came = put_text(rt, &file, &replacement, text);
-    if came.is_err() {
-        replacement.remove(rt);
-    }
-    came
-}
-
-// Writes a text to a file, and puts that in its place.
-fn put_text<Rt: Files<File = File>>(
-    rt: &Rt,
-    file: &File,
-    replacement: &Replacement,
-    text: &[u8],
-) -> io::Result<()> {
-    let mut writer = file;
-    writer.write_all(text)?;
-    replacement.put_in_place(rt, file)
-}
-
 /// Puts the text of the tables by which a journal is made into a file beside it, where none is yet, and has it on
 /// the disk. What is no file has none. Fails where it can't be written, or where memory was refused.
 pub(crate) fn note_tables<Rt: Files<File = File>>(
@@ -193,7 +171,9 @@ pub(crate) fn note_tables<Rt: Files<File = File>>(
     let name = beside(alloc, path)?;
     match fs::metadata(rt, name.as_str()) {
         Ok(_) => Ok(()),
-        Err(error) if error.kind() == ErrorKind::NotFound => put(rt, alloc, name.as_str(), text),
+        Err(error) if error.kind() == ErrorKind::NotFound => {
+            put_text(rt, alloc, name.as_str(), text)
+        },
         Err(error) => Err(error),
     }
 }

@@ -137,6 +137,7 @@ fn complete_by<'a, Rt: Host + Files<File = File>, R: Read, W: Write, E: Write>(
             log,
             second,
             strict,
+            peer,
             partners,
         } => {
             let request = ServeRequest {
@@ -156,6 +157,7 @@ fn complete_by<'a, Rt: Host + Files<File = File>, R: Read, W: Write, E: Write>(
                     log,
                     second,
                     is_strict: strict,
+                    peer,
                 },
                 words: partners,
             };

@@ -20,6 +20,7 @@ mod settings;
 mod standard_streams;
 mod system_clock;
 mod tables;
+mod term;
 
 pub use acdm_failures::{Failure, ServeError};
 pub use acdm_judging::{ProgramFile, audit_on, explain_on, verify_on};

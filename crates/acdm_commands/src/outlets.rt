@@ -7,7 +7,7 @@ use crate::context::Context;
 use acdm_confirming::Confirmed;
 use acdm_displays::{DisplayKind, DisplayListener, Displays};
 use acdm_failures::Failure;
-use acdm_keeping::Reach;
+use acdm_keeping::{BoardTerm, Reach};
 use acdm_row::Row;
 use acdm_serving::Host;
 use std::io;
@@ -79,13 +79,14 @@ fn option_of(kind: DisplayKind) -> &'static str {
     }
 }
 
-/// The entries that displays are shown: those of a row, as far as it is kept where it is, and what other boards keep
-/// where replies wait for that.
+/// The entries that displays are shown: those of a row, as far as it is kept where it is, what other boards keep where
+/// replies wait for that, and the board's term.
 #[derive(Clone, Copy)]
 pub(crate) struct ShownRow<'a> {
     pub(crate) row: &'a Arc<Row>,
     pub(crate) reach: &'a Option<Reach>,
     pub(crate) confirmed: &'a Option<Arc<Confirmed>>,
+    pub(crate) term: &'a BoardTerm,
 }
 
 // Displays of a row that connect at an address.
@@ -100,6 +101,7 @@ fn displays_at<Rt: Host>(
         row,
         reach,
         confirmed,
+        term,
     } = shown;
     let socket = socket_at(context.rt, address)?;
     let listener = DisplayListener {
@@ -107,6 +109,7 @@ fn displays_at<Rt: Host>(
         socket,
         name,
         confirmed: confirmed.as_ref(),
+        term: term.copy(context.alloc)?,
     };
     Displays::start(context.rt, context.alloc, listener, row, reach.as_ref())
 }

@@ -7,6 +7,7 @@ ghost use Rattle.acdm_commands.specs.Completed.{ServesLine};
 ghost use Rattle.acdm_commands.specs.Keeping.{BeginsWith, FailsAtDesk, FailsToBegin, FailsToResume, IsNewKeeper};
 ghost use Rattle.acdm_commands.specs.Keeping.{ComesLed, IsLed, ServesLed, seen_by};
 ghost use Rattle.acdm_commands.specs.Minutes.{is_minute};
+ghost use Rattle.acdm_commands.specs.Terms.{MayGoOn};
 ghost use Rattle.acdm_commands.specs.Partners.{FailsToOpen, FailsToServe, IsNamedBy, named_of, role_in, terms_by};
 ghost use Rattle.acdm_failures.specs.Failures.{EndsBy};
 ghost use Rattle.acdm_keeping.specs.Kept.{Blames, CutsShort, StandsFor};
@@ -22,6 +23,7 @@ use crate::resuming::{KeptFile, Resumption, keeper_of, resume};
 use crate::saving::{buffer_for, save_served, saving_in, settle};
 use crate::serve_options::{Operator, ServeOptions, operator_of};
 use crate::system_clock::SystemMinutes;
+use crate::term::{JournalTerm, term_of};
 use acdm_board::Desk;
 use acdm_confirming::Confirmed;
 use acdm_failures::{Failure, ended};
@@ -52,6 +54,7 @@ struct BoardStart<Rt: Paths + Drop, H: Helpers + Drop> {
     named: Option<Named>,
     // What receipts of the keeper are compared by.
     count: KeptCount,
+    term: JournalTerm,
 }
 
 /// Why no partner is served.
@@ -84,7 +87,7 @@ pub(crate) fn serve_command<'a, Rt: Host + Files<File = File>, W: Write, E: Writ
 {
     match saving_in(context, request.files) {
         Ok(mut saving) => {
-            let work = match begin(context, setup, request.files.keep) {
+            let work = match begin(context, setup, request) {
                 Ok(begun) => serve_begun(context, request, begun, output, &mut saving.file),
                 Err(BeginError::Illegal(finding)) => finding.tell(output),
                 Err(BeginError::Failed(failure)) => Err(failure),
@@ -95,16 +98,19 @@ pub(crate) fn serve_command<'a, Rt: Host + Files<File = File>, W: Write, E: Writ
     }
 }
 
-// Makes a board, which goes on from the journal in a file where it is kept.
+// Makes a board, which goes on from the journal in a file where it is kept, unless its peer has taken over.
 fn begin<Rt: Host + Files<File = File>>(
     context: &Context<'_, Rt>,
     setup: Setup,
-    keep: Option<KeepIn<'_>>,
+    request: &ServeRequest<'_>,
 ) -> Result<BoardStart<Rt, KnownHelpers>, BeginError>
-    ensures begins { IfOk result (λ b. BeginsWith (helpers_by setup.tables) setup.capacity (is_some keep.entry) b.desk) }
-    ensures kept { IfOk result (λ b. is_some b.keeper ≡ is_some keep.entry) }
+    ensures begins { IfOk result (λ b. BeginsWith (helpers_by setup.tables) setup.capacity
+        (is_some request.now.files.keep) b.desk) }
+    ensures kept { IfOk result (λ b. is_some b.keeper ≡ is_some request.now.files.keep) }
     ensures new { IfOk result (λ b. IfSome b.keeper (IsNewKeeper b.desk)) }
-    ensures fails { IfErr result (FailsToBegin (is_some keep.entry)) }
+    ensures goes_on { IfOk result (λ b. is_some request.now.files.keep ≡ true
+        → MayGoOn (named_of request.now).follows (named_of request.now).peered b.term.own b.term.peer) }
+    ensures fails { IfErr result (FailsToBegin (is_some request.now.files.keep) (named_of request.now).peered) }
 {
     let Setup { tables, capacity } = setup;
     let helpers = KnownHelpers::new(context.alloc, tables);
@@ -114,13 +120,22 @@ fn begin<Rt: Host + Files<File = File>>(
     let Ok(mut desk) = Desk::new(context.alloc, helpers, capacity) else {
         return Err(BeginError::Failed(Failure::Memory));
     };
-    let Some(keep) = keep else {
+    let Some(keep) = request.files.keep else {
+        let Ok(term) = JournalTerm::first(context.alloc) else {
+            return Err(BeginError::Failed(Failure::Memory));
+        };
         return Ok(BoardStart {
             desk,
             keeper: None,
             named: None,
             count,
+            term,
         });
+    };
+    let follows = request.first.is_some();
+    let term = match term_of(context, keep, request.options.peer, follows) {
+        Ok(term) => term,
+        Err(failure) => return Err(BeginError::Failed(failure)),
     };
     let KeptFile { writer, named } = match resume(context, keep, &mut desk) {
         Ok(Resumption::Ready(kept)) => kept,
@@ -133,6 +148,7 @@ fn begin<Rt: Host + Files<File = File>>(
             keeper: Some(keeper),
             named: Some(named),
             count,
+            term,
         }),
         Err(failure) => Err(BeginError::Failed(failure)),
     }
@@ -181,7 +197,13 @@ fn serve_desk<
         keeper,
         named,
         count,
+        term,
     } = begun;
+    let JournalTerm { term, peer, .. } = term;
+    let peer = match peer {
+        Some(peer) => Some(peer.again()),
+        None => None,
+    };
     let Ok(mut buffer) = buffer_for(alloc, saved) else {
         return Err(Failure::Memory);
     };
@@ -211,6 +233,7 @@ fn serve_desk<
         row: desk.row(),
         reach: &reach,
         confirmed: &confirmed,
+        term: &term,
     };
     let (partners, outlets) = match opened(context, request, shown) {
         Ok(opened) => opened,
@@ -224,6 +247,8 @@ fn serve_desk<
         log,
         keeper: shared.as_ref(),
         confirmed: confirmed.as_ref(),
+        term,
+        peer,
     };
     let led = Led {
         partners: Some(partners),

@@ -32,6 +32,8 @@ pub(crate) struct ServeOptions<'a> {
     pub(crate) second: Option<u32>,
     /// Whether no reply is sent while too few boards follow.
     pub(crate) is_strict: bool,
+    /// The address of another board that may have taken over, if one is named.
+    pub(crate) peer: Option<&'a str>,
 }
 
 impl ServeOptions<'_> {

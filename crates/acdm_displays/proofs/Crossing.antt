@@ -6,6 +6,7 @@ use Rattle.std.proofs.Crossing.{crosses}
 use Rattle.acdm_row.proofs.Crossing.{row_send, row_sync}
 use Rattle.acdm_confirming.proofs.confirmed.Confirmed.TheSendSync as confirmed
 use Rattle.acdm_keeping.proofs.reach.Reach.TheSendSync as reach
+use Rattle.acdm_keeping.proofs.term.BoardTerm.TheSendSync as term
 use Rattle.acdm_displays.proofs.asked.DisplayRequest.TheSendSync as asked
 use Rattle.acdm_displays.proofs.places.Shared.TheSendSync as shared
 use Rattle.acdm_displays.proofs.displays.DisplayKind.TheSendSync as kind
@@ -29,8 +30,11 @@ showing_send =
           (
             search (kind.the_send, sendable, crosses) depth 12,
             (
-              search (asked.the_send, sendable, crosses) depth 12,
-              (place_send, (search (sendable, crosses) depth 12, tt)),
+              search (term.the_send, sendable, crosses) depth 20,
+              (
+                search (asked.the_send, sendable, crosses) depth 12,
+                (place_send, (search (sendable, crosses) depth 12, tt)),
+              ),
             ),
           ),
         ),
@@ -52,8 +56,11 @@ admission_send K k =
               (
                 search (confirmed.the_send, confirmed.the_sync, sendable, crosses) depth 20,
                 (
-                  search (shared.the_send, shared.the_sync, sendable, crosses) depth 20,
-                  (search (sendable, crosses) depth 12, tt),
+                  search (term.the_send, sendable, crosses) depth 20,
+                  (
+                    search (shared.the_send, shared.the_sync, sendable, crosses) depth 20,
+                    (search (sendable, crosses) depth 12, tt),
+                  ),
                 ),
               ),
             ),

@@ -31,6 +31,7 @@ abbrev pub IsAskedBy : List ℕ → DisplayRequest → Type 0
 IsAskedBy line asks.Silence = ⊥
 IsAskedBy line (asks.For start) = Names line start
 IsAskedBy line (asks.Follow start) = NamesFollower line start
+IsAskedBy line asks.Term = line ≡ codes "term"
 IsAskedBy line asks.Unknown = Unit {0}
 
 -- where the feed begins for one that has asked so: with the first entry where nothing was sent
@@ -38,4 +39,5 @@ abbrev pub feed_start : DisplayRequest → Option Start
 feed_start asks.Silence = Some (starts.Entry 0)
 feed_start (asks.For start) = Some start
 feed_start (asks.Follow start) = None
+feed_start asks.Term = None
 feed_start asks.Unknown = None

@@ -176,6 +176,7 @@ WasSentAs asks.Silence row reach before shown = WasSent row reach before shown
 WasSentAs (asks.For (starts.Entry n)) row reach before shown = WasSentFrom n row reach before shown
 WasSentAs (asks.For starts.Board) row reach before shown = ⊥
 WasSentAs (asks.Follow start) row reach before shown = WasSentFrom start.from row reach before shown
+WasSentAs asks.Term row reach before shown = ⊥
 WasSentAs asks.Unknown row reach before shown = ⊥
 
 abbrev pub WasSentSome : {W X : Type 0} → RowView → Option X → List ℕ → Shown W → Type 0

@@ -4,8 +4,10 @@ ghost use Rattle.acdm_displays.specs.Asked.{IsAskedBy, Names, NamesFollower, fee
 ghost use Rattle.acdm_displays.specs.declared.asked.DisplayRequest.TheVariants.{Silence, Unknown};
 
 use crate::leaving::is_passing;
+use acdm_keeping::term_text;
 use acdm_web::number_in;
-use std::io::Read;
+use std::alloc::Global;
+use std::io::{Read, Write};
 
 /// How many bytes the first line of a display has at most.
 const LONGEST_FIRST: usize = 32;
@@ -40,6 +42,8 @@ pub(crate) enum DisplayRequest {
     For(Start),
     /// A board that follows has sent its line.
     Follow(FollowerStart),
+    /// A board has asked for the term of this one, ahead of what else it asks for.
+    Term,
     /// Something else was sent.
     Unknown,
 }
@@ -85,11 +89,11 @@ pub(crate) fn feed_start(asked: DisplayRequest) -> Option<Start>
     match asked {
         DisplayRequest::Silence => Some(Start::Entry(0)),
         DisplayRequest::For(start) => Some(start),
-        DisplayRequest::Follow(_) | DisplayRequest::Unknown => None,
+        DisplayRequest::Follow(_) | DisplayRequest::Term | DisplayRequest::Unknown => None,
     }
 }
 
-/// What a display asks for by its first line, as `follower_named` and `start_named` say. A line that is too long is unknown, and one that
+/// What a display asks for by its first line, as `follower_named` and `start_named` say, or by the line `term`. A line that is too long is unknown, and one that
 /// does not end within a quarter of a second.
 pub(crate) fn first_asked<R: Read>(reader: &mut R) -> DisplayRequest {
     let mut line = [0u8; LONGEST_FIRST];
@@ -121,10 +125,36 @@ pub(crate) fn first_asked<R: Read>(reader: &mut R) -> DisplayRequest {
     DisplayRequest::Unknown
 }
 
+/// What a display asks for that is not the term of this board. Where it asks for that first, this term is sent, and its next
+/// line says what else it asks for: none is as an unknown one then.
+pub(crate) fn asked_with_term<S: Read + Write>(
+    alloc: Global,
+    term: u64,
+    stream: &mut S,
+) -> DisplayRequest {
+    match first_asked(stream) {
+        DisplayRequest::Term => {}
+        asked => return asked,
+    }
+    let Ok(text) = term_text(alloc, term) else {
+        return DisplayRequest::Unknown;
+    };
+    if stream.write_all(text.as_slice()).is_err() {
+        return DisplayRequest::Unknown;
+    }
+    match first_asked(stream) {
+        DisplayRequest::Silence | DisplayRequest::Term => DisplayRequest::Unknown,
+        asked => asked,
+    }
+}
+
 // What is asked for by a line.
 fn by_line(line: &[u8]) -> DisplayRequest
     ensures { IsAskedBy line.now result }
 {
+    if line == b"term".as_slice() {
+        return DisplayRequest::Term;
+    }
     if let Some(start) = follower_named(line) {
         return DisplayRequest::Follow(start);
     }

@@ -3,7 +3,7 @@ ghost use Rattle.std.specs.Prelude.{[], IfOk};
 ghost use Rattle.std.specs.Arc.{arc_value};
 ghost use Rattle.acdm_displays.specs.Displayed.{WasSentSome, WasToldEvents, WasToldSome};
 
-use crate::asked::{DisplayRequest, FollowerStart, feed_start, first_asked};
+use crate::asked::{DisplayRequest, FollowerStart, asked_with_term, feed_start, first_asked};
 use crate::browsing::{answer, follow_events};
 use crate::confirming::{FollowerPlace, FollowingBoard};
 use crate::entries::Entries;
@@ -13,7 +13,7 @@ use crate::places::{DisplayPlace, Shared};
 use crate::resuming::follow_asked;
 use acdm_confirming::{Confirmed, MOST_FOLLOWERS};
 use acdm_failures::Failure;
-use acdm_keeping::Reach;
+use acdm_keeping::{BoardTerm, Reach};
 use acdm_lines::{Sink, Source};
 use acdm_row::Row;
 use acdm_web::{BrowserRequest, PAGE, Wanted, first_wanted};
@@ -69,6 +69,8 @@ pub struct DisplayListener<'a> {
     pub name: Option<&'a str>,
     /// What other boards keep, where replies wait for that: at most eight that ask for the journal from an entry on say it.
     pub confirmed: Option<&'a Arc<Confirmed>>,
+    /// The board's term, which who asks for it first is sent.
+    pub term: BoardTerm,
 }
 
 // What a thread does.
@@ -88,6 +90,7 @@ struct Showing {
     row: Arc<Row>,
     reach: Option<Reach>,
     kind: DisplayKind,
+    term: BoardTerm,
     asked: Option<DisplayRequest>,
     place: DisplayPlace,
     stream: TcpStream,
@@ -100,6 +103,7 @@ impl Task for Showing {
             row,
             reach,
             kind,
+            term,
             asked,
             place,
             stream,
@@ -111,7 +115,7 @@ impl Task for Showing {
         };
         match kind {
             DisplayKind::Journal => {
-                let _ = show_journal(alloc, &entries, asked, stream);
+                let _ = show_journal(alloc, &entries, term.own(), asked, stream);
             }
             DisplayKind::Changes => {
                 let _ = show_changes(alloc, &entries, stream);
@@ -169,10 +173,12 @@ fn show_following<Rt: SystemClock + Wait>(
     Ok(shown)
 }
 
-// Sends a display the journal, as it asked by its first line. One that asked for no text of it is let go.
+// Sends a display the journal, as it asked by its first line, or behind the board's term. One that asked for no text of it
+// is let go.
 fn show_journal(
     alloc: Global,
     entries: &Entries<'_>,
+    term: u64,
     asked: Option<DisplayRequest>,
     stream: TcpStream,
 ) -> Result<Shown<TcpStream>, Failure>
@@ -181,7 +187,7 @@ fn show_journal(
     let mut reader = reader_of(&stream)?;
     let asked = match asked {
         Some(asked) => asked,
-        None => first_asked(&mut reader),
+        None => asked_with_term(alloc, term, &mut reader),
     };
     let shown = follow_asked(alloc, entries, asked, &mut reader, Sink::new(stream))?;
     part(&mut reader);
@@ -310,6 +316,7 @@ struct Admission<K: Drop> {
     // What other boards keep, where replies wait for that. Such a board is sent the entries on this thread, which has the
     // runtime by which it is woken; a thread that this one starts has none.
     confirmed: Option<Arc<Confirmed>>,
+    term: BoardTerm,
     shared: Arc<Shared>,
     socket: TcpListener,
 }
@@ -400,7 +407,7 @@ impl<K: SystemClock + Threads + Wait + Drop> Admission<K> {
         stream: TcpStream,
     ) -> Result<(), Failure> {
         let mut reader = reader_of(&stream)?;
-        let asked = first_asked(&mut reader);
+        let asked = asked_with_term(self.alloc, self.term.own(), &mut reader);
         let DisplayRequest::Follow(start) = asked else {
             return self.show(Some(asked), place, stream);
         };
@@ -437,6 +444,7 @@ impl<K: SystemClock + Threads + Wait + Drop> Admission<K> {
             row: Arc::try_clone(&self.row)?,
             reach: copy_of(self.reach.as_ref())?,
             kind: self.kind,
+            term: self.term.copy(self.alloc)?,
             asked,
             place,
             stream,
@@ -470,6 +478,7 @@ impl Displays {
             socket,
             name,
             confirmed,
+            term,
         } = listener;
         socket.set_nonblocking(true)?;
         let shared = Shared::new(alloc, name)?;
@@ -491,6 +500,7 @@ impl Displays {
                     Some(confirmed) => Some(Arc::try_clone(confirmed)?),
                     None => None,
                 },
+                term: term.copy(alloc)?,
                 shared: Arc::try_clone(&shared)?,
                 socket: socket.try_clone()?,
             };

@@ -10,8 +10,8 @@ use Rattle.acdm_lines.specs.declared.run_error.RunError.TheVariants as errors
 use Rattle.acdm_wire.specs.Writes.{Wrote, WroteInPart}
 use Rattle.acdm_failures.specs.declared.failure.Failure.{Failure}
 use Rattle.acdm_failures.specs.declared.failure.Failure.TheVariants.{Read, Write, Save, Memory, Accept}
-use Rattle.acdm_failures.specs.declared.failure.Failure.TheVariants.{Role, Address, Follow, Watch, Control, Log, Word, Stream}
-use Rattle.acdm_failures.specs.declared.failure.Failure.TheVariants.{Keep, InUse, Room, Untold}
+use Rattle.acdm_failures.specs.declared.failure.Failure.TheVariants.{Role, Address, Follow, Peer, Watch, Control, Log, Word, Stream}
+use Rattle.acdm_failures.specs.declared.failure.Failure.TheVariants.{Keep, InUse, Room, Replaced, Untold}
 use Rattle.acdm_failures.specs.declared.failure.ServeError.{ServeError}
 use Rattle.acdm_failures.specs.declared.failure.ServeError.TheVariants as serve_errors
 
@@ -47,12 +47,14 @@ failure_text (Accept number) = codes "acdm: accept " ++ decimal number ++ 10 ∷
 failure_text Watch = codes "acdm: watch address" ++ 10 ∷ []
 failure_text Control = codes "acdm: control address" ++ 10 ∷ []
 failure_text Follow = codes "acdm: follow address" ++ 10 ∷ []
+failure_text Peer = codes "acdm: peer address" ++ 10 ∷ []
 failure_text Log = codes "acdm: log file" ++ 10 ∷ []
 failure_text Word = codes "acdm: a word is not UTF-8" ++ 10 ∷ []
 failure_text Stream = codes "acdm: no null device" ++ 10 ∷ []
 failure_text Keep = codes "acdm: keep failed" ++ 10 ∷ []
 failure_text InUse = codes "acdm: the kept journal is in use" ++ 10 ∷ []
 failure_text Room = codes "acdm: the kept journal needs a larger --journal" ++ 10 ∷ []
+failure_text Replaced = codes "acdm: another board has taken over" ++ 10 ∷ []
 
 -- a line was written on the errors' writer, or that failed once more after a first part of it
 abbrev pub Complains : {E : Type 0} → SinkView E → SinkView E → List ℕ → Type 0

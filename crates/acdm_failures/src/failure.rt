@@ -45,6 +45,9 @@ pub enum Failure {
     /// The address of the board that is to be followed is none.
     #[error("follow address")]
     Follow,
+    /// The address of the peer is none.
+    #[error("peer address")]
+    Peer,
     /// The file for what the operator is told can't be written.
     #[error("log file")]
     Log,
@@ -63,6 +66,9 @@ pub enum Failure {
     /// There is no room for the entries of the kept journal.
     #[error("the kept journal needs a larger --journal")]
     Room,
+    /// Another board has taken over from this one's journal.
+    #[error("another board has taken over")]
+    Replaced,
 }
 
 /// Why `serve` did not end as it should.
@@ -118,12 +124,14 @@ impl Failure {
             Failure::Watch => line(b"acdm: watch address"),
             Failure::Control => line(b"acdm: control address"),
             Failure::Follow => line(b"acdm: follow address"),
+            Failure::Peer => line(b"acdm: peer address"),
             Failure::Log => line(b"acdm: log file"),
             Failure::Word => line(b"acdm: a word is not UTF-8"),
             Failure::Stream => line(b"acdm: no null device"),
             Failure::Keep => line(b"acdm: keep failed"),
             Failure::InUse => line(b"acdm: the kept journal is in use"),
             Failure::Room => line(b"acdm: the kept journal needs a larger --journal"),
+            Failure::Replaced => line(b"acdm: another board has taken over"),
         }
     }
 

@@ -2,6 +2,7 @@
 ghost use Rattle.std.specs.Prelude.{◌≡◌, ◌<◌, ◌≤◌, true, false, Some, IfOk, IfSome, IsSome, string_bytes};
 ghost use Rattle.std.specs.Arc.{arc_value};
 
+use crate::replacement::put_text;
 use std::alloc::{AllocError, Global};
 use std::fs::{self, File};
 use std::io::{self, ErrorKind};
@@ -23,10 +24,13 @@ pub struct Found {
     pub bytes: u64,
 }
 
-/// What the system tells of files by their paths, on whatever thread.
+/// What the system tells of files by their paths, and does with them, on whatever thread.
 pub trait Paths {
     /// What is found of the file that a path leads to. `None` where it leads to none.
     fn file_at(&self, path: &str) -> Option<Found>;
+
+    /// Puts a new file with this text in the place of the one of a path, as `put_text` does.
+    fn put_text(&self, alloc: Global, path: &str, text: &[u8]) -> io::Result<()>;
 }
 
 impl Paths for HostRuntime {
@@ -37,6 +41,10 @@ impl Paths for HostRuntime {
             inode: found.ino(),
             bytes: found.len(),
         })
+    }
+
+    fn put_text(&self, alloc: Global, path: &str, text: &[u8]) -> io::Result<()> {
+        put_text(self, alloc, path, text)
     }
 }
 
@@ -135,7 +143,7 @@ impl Named {
     }
 
     /// The file could not be written: the first error is kept, for all who know the file by this name.
-    pub(crate) fn fail(&self, error: &io::Error) {
+    pub fn fail(&self, error: &io::Error) {
         let code = match error.raw_os_error() {
             Some(code) => code,
             None => CHANGED,

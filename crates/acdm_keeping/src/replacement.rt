@@ -4,8 +4,8 @@ ghost use Rattle.acdm_keeping.specs.Settled.{IsPartOf, part_name};
 
 use crate::settling::{Settling, settle};
 use std::alloc::{AllocError, Global};
-use std::fs::{self, Files, Metadata, OpenFile, OpenOptions};
-use std::io::{self, ErrorKind};
+use std::fs::{self, File, Files, Metadata, OpenFile, OpenOptions};
+use std::io::{self, ErrorKind, Write};
 use std::os::unix::fs::MetadataExt;
 use std::path::Path;
 
@@ -155,4 +155,32 @@ impl Replacement {
     pub fn remove<Rt: Files>(&self, rt: &Rt) {
         let _ = fs::remove_file(rt, self.part.as_str());
     }
+}
+
+// Writes a text to a file, and puts that in its place.
+fn fill_with<Rt: Files<File = File>>(
+    rt: &Rt,
+    file: &File,
+    replacement: &Replacement,
+    text: &[u8],
+) -> io::Result<()> {
+    let mut writer = file;
+    writer.write_all(text)?;
+    replacement.put_in_place(rt, file)
+}
+
+/// Puts a new file with this text in the place of the one of a path, or where none is, once all of it is on the disk. The
+/// system's error where that failed, one of the kind `OutOfMemory` where memory was refused; what was there stays then.
+pub fn put_text<Rt: Files<File = File>>(
+    rt: &Rt,
+    alloc: Global,
+    path: &str,
+    text: &[u8],
+) -> io::Result<()> {
+    let (file, replacement) = Replacement::create(rt, alloc, path, None)?;
+    let came = fill_with(rt, &file, &replacement, text);
+    if came.is_err() {
+        replacement.remove(rt);
+    }
+    came
 }

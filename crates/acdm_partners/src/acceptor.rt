@@ -35,8 +35,9 @@ pub struct Acceptor<K: Drop, S: Drop> {
     // Whether it was told that boards which follow are late.
     are_late: bool,
     looks: u64,
-    // Whether it was asked at the control address that the board closes.
+    // Whether it was asked at the control address that the board closes, and whether another board has taken over.
     is_asked: bool,
+    is_replaced: bool,
     // The board that this one follows, if it does: then there are no partners.
     first: Option<FollowedBoard>,
     closing: Arc<AtomicBool>,
@@ -65,6 +66,7 @@ impl<K: Wait + Clock + Drop, S: Standing + Drop> Acceptor<K, S> {
             are_late: false,
             looks: 0,
             is_asked: false,
+            is_replaced: false,
             first,
             closing,
             done,
@@ -117,6 +119,7 @@ impl<K: Wait + Clock + Drop, S: Standing + Drop> Acceptor<K, S> {
         }
         self.look_at_room();
         self.look_at_followers();
+        self.look_at_peer();
         // Where the clock tells no time nobody is too late.
         let now = self.reporter.passed().unwrap_or(0);
         let first = match &self.first {
@@ -163,6 +166,18 @@ impl<K: Wait + Clock + Drop, S: Standing + Drop> Acceptor<K, S> {
         if followers.are_late != self.are_late {
             self.are_late = followers.are_late;
             self.reporter.tell_followers(followers);
+        }
+    }
+
+    // Has a board close that serves, where another one was met that has taken over from it, and tells so.
+    fn look_at_peer(&mut self) {
+        if self.first.is_some() || self.is_replaced {
+            return;
+        }
+        if let Some(term) = self.standing.replaced_by() {
+            self.is_replaced = true;
+            self.reporter.tell_replaced(term);
+            self.close_board();
         }
     }
 
@@ -218,7 +233,7 @@ impl<K: Wait + Clock + Drop, S: Standing + Drop> Acceptor<K, S> {
     }
 
     // Logs what is left to be logged, and what closed the board: a line at the control address, the file of the journal,
-    // or that all partners were gone.
+    // another board that has taken over, or that all partners were gone.
     fn log_end(&mut self) {
         for door in self.doors.as_mut_slice() {
             door.log_rest(&self.reporter);
@@ -230,6 +245,8 @@ impl<K: Wait + Clock + Drop, S: Standing + Drop> Acceptor<K, S> {
         }
         let by = if !is_kept {
             "file"
+        } else if self.is_replaced {
+            "peer"
         } else if self.is_asked {
             "control"
         } else {

@@ -46,6 +46,12 @@ pub trait Standing {
 
     /// The boards that follow this one, where replies wait for what they keep.
     fn followers(&self) -> Option<Followers>;
+
+    /// The board's term.
+    fn term(&self) -> u64;
+
+    /// The term of the board that has taken over from this one, as far as that was met.
+    fn replaced_by(&self) -> Option<u64>;
 }
 
 /// What is told of the boards that follow this one.
@@ -132,6 +138,7 @@ fn status<K: Wait, S: Standing>(state: &BoardState<'_, K, S>) -> Result<String, 
     let used = standing.used();
     let room = standing.room();
     writeln!(text, "entries {used} of {room}")?;
+    writeln!(text, "term {}", standing.term())?;
     writeln!(text, "version {VERSION}")?;
     match standing.last() {
         Some(minute) => {
@@ -141,6 +148,28 @@ fn status<K: Wait, S: Standing>(state: &BoardState<'_, K, S>) -> Result<String, 
         None => writeln!(text, "last none")?,
     }
     Ok(text)
+}
+
+// Whether a board is promoted that is asked to be, and what is answered: it serves already, or is one that another board
+// has taken over from, which is not promoted.
+fn promotion<K: Wait, S: Standing>(
+    state: &BoardState<'_, K, S>,
+) -> Result<(bool, String), AllocError> {
+    let mut text = String::new(state.alloc);
+    if state.first.is_none() {
+        text.push_str("serving\n")?;
+        return Ok((false, text));
+    }
+    match state.standing.replaced_by() {
+        Some(term) => {
+            writeln!(text, "replaced {term}")?;
+            Ok((false, text))
+        }
+        None => {
+            text.push_str("promoting\n")?;
+            Ok((true, text))
+        }
+    }
 }
 
 impl ControlCaller {
@@ -185,11 +214,13 @@ impl ControlCaller {
                 asked.closes = true;
                 self.send(b"closing\n")
             }
-            ControlRequest::Promote if state.first.is_some() => {
-                asked.promotes = true;
-                self.send(b"promoting\n")
-            }
-            ControlRequest::Promote => self.send(b"serving\n"),
+            ControlRequest::Promote => match promotion(state) {
+                Ok((promotes, text)) => {
+                    asked.promotes = asked.promotes || promotes;
+                    self.send(text.as_bytes())
+                }
+                Err(_) => false,
+            },
             ControlRequest::Status => match status(state) {
                 Ok(text) => self.send(text.as_bytes()),
                 Err(_) => false,

@@ -212,19 +212,29 @@ impl<K: Wait + Clock + Drop> Reporter<K> {
 
     /// Tells that a board that is followed was parted from, or could not be reached, and why: `parted WHY MOMENT`.
     pub fn tell_parted(&self, why: &str) {
-        self.tell(self.parted_line(why));
-        self.log(self.parted_event(why));
+        self.tell_why("parted", why);
     }
 
-    fn parted_line(&self, why: &str) -> Result<String, AllocError> {
+    /// Tells that the peer of this board could not be asked for its term, and why: `unreached WHY MOMENT`.
+    pub fn tell_unreached(&self, why: &str) {
+        self.tell_why("unreached", why);
+    }
+
+    // Tells that this happened, and why: `WORD WHY MOMENT`.
+    fn tell_why(&self, word: &str, why: &str) {
+        self.tell(self.why_line(word, why));
+        self.log(self.why_event(word, why));
+    }
+
+    fn why_line(&self, word: &str, why: &str) -> Result<String, AllocError> {
         let moment = now_text(&self.rt, self.alloc)?;
         let mut line = String::new(self.alloc);
-        writeln!(line, "parted {why} {moment}")?;
+        writeln!(line, "{word} {why} {moment}")?;
         Ok(line)
     }
 
-    fn parted_event(&self, why: &str) -> Result<String, AllocError> {
-        let mut line = self.begin("parted")?;
+    fn why_event(&self, word: &str, why: &str) -> Result<String, AllocError> {
+        let mut line = self.begin(word)?;
         line.push_str(",\"why\":")?;
         add_json(&mut line, why.as_bytes())?;
         line.push_str("}\n")?;
@@ -248,6 +258,25 @@ impl<K: Wait + Clock + Drop> Reporter<K> {
     fn promoted_event(&self, used: usize) -> Result<String, AllocError> {
         let mut line = self.begin("promoted")?;
         writeln!(line, ",\"entries\":{used}}}")?;
+        Ok(line)
+    }
+
+    /// Tells that another board, which has this term, has taken over from this one: `replaced TERM MOMENT`.
+    pub(crate) fn tell_replaced(&self, term: u64) {
+        self.tell(self.replaced_line(term));
+        self.log(self.replaced_event(term));
+    }
+
+    fn replaced_line(&self, term: u64) -> Result<String, AllocError> {
+        let moment = now_text(&self.rt, self.alloc)?;
+        let mut line = String::new(self.alloc);
+        writeln!(line, "replaced {term} {moment}")?;
+        Ok(line)
+    }
+
+    fn replaced_event(&self, term: u64) -> Result<String, AllocError> {
+        let mut line = self.begin("replaced")?;
+        writeln!(line, ",\"term\":{term}}}")?;
         Ok(line)
     }
 
@@ -284,11 +313,7 @@ impl<K: Wait + Clock + Drop> Reporter<K> {
             Some(error) => error.to_string(self.alloc)?,
             None => String::from_str(self.alloc, "the file does not stand where it was")?,
         };
-        let mut line = self.begin("keep")?;
-        line.push_str(",\"why\":")?;
-        add_json(&mut line, why.as_bytes())?;
-        line.push_str("}\n")?;
-        Ok(line)
+        self.why_event("keep", why.as_str())
     }
 
     /// Logs that the board has closed with so many entries, and what closed it.

@@ -22,6 +22,7 @@ use Rattle.acdm_confirming.proofs.confirmed.Confirmed.TheSendSync as confirmed
 use Rattle.acdm_keeping.proofs.Crossing.{kept_replies_send}
 use Rattle.acdm_keeping.proofs.named.Named.TheSendSync as named
 use Rattle.acdm_keeping.proofs.synced.Synced.TheSendSync as synced
+use Rattle.acdm_keeping.proofs.term.BoardTerm.TheSendSync as term
 use Rattle.acdm_keeping.specs.contracts.synced.Synced as of_synced
 use Rattle.acdm_keeping.specs.contracts.replies.Replies as behind
 use Rattle.acdm_keeping.specs.contracts.shared.Waiter as waiting
@@ -29,6 +30,7 @@ use Rattle.acdm_keeping.specs.contracts.shared.WaiterEntryKeeper.TheImpl as wait
 use Rattle.acdm_keeping.specs.declared.writing.Opening as opening
 use Rattle.acdm_serving.specs.contracts.reconnecting.Answering as answering
 use Rattle.acdm_serving.specs.contracts.reconnecting.Reading as either
+use Rattle.acdm_serving.specs.contracts.peer.PeerWatch as watch
 use Rattle.acdm_serving.specs.contracts.reconnecting.Tally as tally
 use Rattle.acdm_serving.specs.contracts.ticks.Ticks as ticks
 use Rattle.acdm_serving.specs.contracts.ticks.Ticks.TheInside as ticks_inside
@@ -43,8 +45,21 @@ tally_send K k =
         search (row_send, row_sync, sendable, crosses) depth 20,
         (
           search (named.the_send, sendable, crosses) depth 20,
-          (search (confirmed.the_send, confirmed.the_sync, sendable, crosses) depth 20, (search (sendable, crosses) depth 20, tt)),
+          (
+            search (confirmed.the_send, confirmed.the_sync, sendable, crosses) depth 20,
+            (search (term.the_send, sendable, crosses) depth 20, (search (sendable, crosses) depth 20, tt)),
+          ),
         ),
+      ),
+    )
+
+pub watch_send : (Q : RattleType) → IsSend Q → IsSend (watch.the_row Q)
+watch_send Q q =
+    declared_send (watch.the_type Q) (
+      search (q, sendable) depth 8,
+      (
+        search (sendable, crosses) depth 20,
+        (search (term.the_send, sendable, crosses) depth 20, (search (sendable, crosses) depth 20, tt)),
       ),
     )
 

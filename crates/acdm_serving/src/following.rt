@@ -3,26 +3,19 @@ ghost use Rattle.std.specs.Prelude.{◌≡◌, is_some};
 ghost use Rattle.acdm_following.specs.Courses.{asked, parted_as};
 
 use crate::confirming::Confirming;
+use crate::peer::{PAUSE, PAUSES_BETWEEN, connected_to, hear_term, is_passing};
 use acdm_following::{Course, FirstBoard, Parting};
 use acdm_journal::push_entry;
+use acdm_keeping::{BoardTerm, Paths, is_replaced};
 use acdm_partners::Reporter;
 use acdm_row::Row;
 use std::alloc::{AllocError, Global};
-use std::io::{self, ErrorKind, Read, Write};
+use std::io::{self, Read, Write};
 use std::net::{Net, SocketAddr, TcpListener, TcpStream};
 use std::sync::atomic::{AtomicBool, Ordering};
 use std::sync::{Arc, Wait};
 use std::thread;
 use std::time::{Clock, Duration};
-
-/// For how many milliseconds a connection is read from, until it is looked whether it is to be followed any more.
-const PAUSE: u64 = 25;
-
-/// For how many pauses it is waited between two attempts to connect: a second.
-const PAUSES_BETWEEN: u64 = 40;
-
-/// For how many milliseconds a connection may take to be made.
-const CONNECTING: u64 = 2_000;
 
 /// After how many pauses in a row in which nothing came a connection is made anew, so that one that is gone is found: 10
 /// seconds.
@@ -72,11 +65,6 @@ pub(crate) struct FollowedStream {
     silent: u64,
 }
 
-// Whether a call that failed so is made once more: nothing came in its time, or a signal came.
-fn is_passing(error: &io::Error) -> bool {
-    error.kind() == ErrorKind::WouldBlock || error.kind() == ErrorKind::Interrupted
-}
-
 impl FollowedStream {
     // Whether nothing came for so long that the connection may be gone.
     fn is_silent(&self) -> bool {
@@ -110,15 +98,29 @@ fn second_line(text: &[u8]) -> Option<&[u8]> {
     rest.get(..end.saturating_add(1))
 }
 
-// Whether a line is that of an entry of the same number, and another one.
-fn differs(line: &[u8], own: &[u8]) -> bool {
+/// What was found of an entry at another board that this one has.
+#[derive(Clone, Copy, PartialEq, Eq)]
+enum Compared {
+    /// It is the same there.
+    Same,
+    /// It is another one.
+    Other,
+    /// It did not come.
+    Missing,
+}
+
+// What a line of another board is beside the one of this board's entry.
+fn comparison_of(line: &[u8], own: &[u8]) -> Compared {
+    if line == own {
+        return Compared::Same;
+    }
     let number = match own.iter().position(|byte| *byte == b' ') {
         Some(end) => own.get(..end),
         None => None,
     };
     match number {
-        Some(number) => line != own && line.get(..number.len()) == Some(number),
-        None => false,
+        Some(number) if line.get(..number.len()) == Some(number) => Compared::Other,
+        _ => Compared::Missing,
     }
 }
 
@@ -129,6 +131,19 @@ enum Unreached {
     Gone,
     /// Its journal is another one from some entry on.
     Differs,
+    /// It has this term, which is earlier than that of the board that would follow it.
+    Replaced(u64),
+}
+
+/// What came of connecting to a board that is to be followed.
+#[derive(Drop)]
+pub(crate) enum ConnectOutcome<C: Drop> {
+    /// A connection by which it is followed.
+    Board(C),
+    /// Its journal is another one from some entry on.
+    Other,
+    /// It has an earlier term than this board, which has taken over from it.
+    Replaced { term: u64, own: u64 },
 }
 
 // What was told last, so that nothing is told again and again while nothing changes.
@@ -147,13 +162,13 @@ const NOTHING_TOLD: LastTold = LastTold {
 
 /// Who makes connections to a board that is followed. (The type of these is a parameter all the way down to `follow`: the
 /// check takes none in its place whose `Read` is an impl of our own.)
-pub(crate) trait Connects<C> {
+pub(crate) trait Connects<C: Drop> {
     /// Where they are made.
     fn address(&self) -> SocketAddr;
 
     /// A connection at which the entries from this number on are asked for; none where the entry before is another one
-    /// there.
-    fn reach(&self, next: u64) -> io::Result<Option<C>>;
+    /// there, or where the board there has an earlier term.
+    fn reach(&self, next: u64) -> io::Result<ConnectOutcome<C>>;
 
     /// Whether a connection has ended since nothing came for a while.
     fn is_silent(&self, connection: C) -> bool;
@@ -169,30 +184,33 @@ pub(crate) struct BoardAddress<'r, Rt> {
     pub(crate) flags: StopFlags,
     // What is said there of what this board keeps.
     pub(crate) confirming: Arc<Confirming>,
+    // The term of this board, which goes on in that of a board that it follows.
+    pub(crate) term: BoardTerm,
 }
 
 impl<Rt: Net<Listener = TcpListener, Stream = TcpStream>> BoardAddress<'_, Rt> {
-    // A connection at which this text was sent first.
-    fn connected(&self, text: &str) -> io::Result<TcpStream> {
-        let within = Duration::from_millis(CONNECTING);
-        let mut stream = TcpStream::connect_timeout(self.rt, &self.address, within)?;
-        stream.set_read_timeout(Some(Duration::from_millis(PAUSE)))?;
-        stream.set_write_timeout(Some(within))?;
-        stream.write_all(text.as_bytes())?;
-        Ok(stream)
+    // A connection at which this text was sent first, which asks for the term ahead of the rest; and that term.
+    fn connected(&self, text: &str) -> io::Result<(TcpStream, u64)> {
+        let mut stream = connected_to(self.rt, &self.address, text)?;
+        let term = hear_term(&mut stream)?;
+        self.term.meet(term);
+        Ok((stream, term))
     }
 
     // A connection at which the entries from this number on were asked for.
     fn asked_from(&self, number: u64) -> io::Result<TcpStream> {
-        let mut line = String::new(self.alloc);
-        writeln!(line, "from {number}")?;
-        self.connected(line.as_str())
+        let mut text = String::new(self.alloc);
+        writeln!(text, "term")?;
+        writeln!(text, "from {number}")?;
+        let (stream, _) = self.connected(text.as_str())?;
+        Ok(stream)
     }
 
-    // The same by the name of this board, at which it was said that it keeps all entries before.
-    fn followed_from(&self, number: u64) -> io::Result<TcpStream> {
+    // The same by the name of this board, at which it was said that it keeps all entries before; and the term there.
+    fn followed_from(&self, number: u64) -> io::Result<(TcpStream, u64)> {
         let mut text = String::new(self.alloc);
         let name = self.confirming.name();
+        writeln!(text, "term")?;
         writeln!(text, "from {number} as {name}")?;
         writeln!(text, "kept {number}")?;
         self.connected(text.as_str())
@@ -234,35 +252,49 @@ impl<Rt: Net<Listener = TcpListener, Stream = TcpStream>> BoardAddress<'_, Rt> {
         Ok(Some(text))
     }
 
-    // Whether the entry of this number is another one there than here.
-    fn has_other(&self, number: u64) -> io::Result<bool> {
+    // What the entry of this number is there beside the one here.
+    fn compare(&self, number: u64) -> io::Result<Compared> {
         let Some(own) = self.own_line(number)? else {
-            return Ok(false);
+            return Ok(Compared::Missing);
         };
         let mut stream = self.asked_from(number)?;
         let came = self.heard(&mut stream)?;
         match second_line(came.as_slice()) {
-            Some(line) => Ok(differs(line, own.as_slice())),
-            None => Ok(false),
+            Some(line) => Ok(comparison_of(line, own.as_slice())),
+            None => Ok(Compared::Missing),
+        }
+    }
+
+    // The same of the entry before this one. Where there is none, no entry is another one there.
+    fn compare_before(&self, next: u64) -> io::Result<Compared> {
+        match next.checked_sub(1) {
+            Some(last) => self.compare(last),
+            None => Ok(Compared::Same),
         }
     }
 }
 
-impl<Rt: Net<Listener = TcpListener, Stream = TcpStream> + Wait> Connects<FollowedStream>
+impl<Rt: Net<Listener = TcpListener, Stream = TcpStream> + Wait + Paths> Connects<FollowedStream>
     for BoardAddress<'_, Rt> {
     fn address(&self) -> SocketAddr {
         self.address
     }
 
-    fn reach(&self, next: u64) -> io::Result<Option<FollowedStream>> {
-        if let Some(last) = next.checked_sub(1) {
-            if self.has_other(last)? {
-                return Ok(None);
-            }
+    fn reach(&self, next: u64) -> io::Result<ConnectOutcome<FollowedStream>> {
+        let found = self.compare_before(next)?;
+        if found == Compared::Other {
+            return Ok(ConnectOutcome::Other);
         }
-        let stream = self.followed_from(next)?;
+        let (stream, term) = self.followed_from(next)?;
+        let own = self.term.own();
+        if is_replaced(term, own) {
+            return Ok(ConnectOutcome::Replaced { term, own });
+        }
+        if found == Compared::Same {
+            self.term.raise(self.rt, self.alloc, term)?;
+        }
         self.confirming.begin(self.rt, &stream, next)?;
-        Ok(Some(FollowedStream {
+        Ok(ConnectOutcome::Board(FollowedStream {
             stream,
             flags: self.flags.copy()?,
             silent: 0,
@@ -353,12 +385,13 @@ impl<'r, Rt: Clock + Wait + Drop, M: Connects<C> + Drop, C: Drop> FirstBoardAt<'
                 return;
             }
             match self.place.reach(next) {
-                Ok(Some(connection)) => {
+                Ok(ConnectOutcome::Board(connection)) => {
                     self.tell_following(next);
                     self.made = Some(connection);
                     return;
                 }
-                Ok(None) => self.tell_other(next),
+                Ok(ConnectOutcome::Other) => self.tell_other(next),
+                Ok(ConnectOutcome::Replaced { term, own }) => self.tell_replaced(term, own),
                 Err(error) => self.tell_unreached(&error),
             }
             self.pause();
@@ -422,6 +455,19 @@ impl<'r, Rt: Clock + Wait + Drop, M: Connects<C> + Drop, C: Drop> FirstBoardAt<'
         )
         .is_ok()
         {
+            self.reporter.tell_parted(text.as_str());
+        }
+    }
+
+    // Tells that the board has an earlier term than this one.
+    fn tell_replaced(&mut self, term: u64, own: u64)
+        ensures { self.new.course ≡ self.old.course }
+    {
+        if !self.is_news(Unreached::Replaced(term)) {
+            return;
+        }
+        let mut text = String::new(self.alloc);
+        if write!(text, "term {term} is there, and {own} here").is_ok() {
             self.reporter.tell_parted(text.as_str());
         }
     }

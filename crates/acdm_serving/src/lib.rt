@@ -8,12 +8,14 @@ mod following;
 mod handed;
 mod host;
 mod partners;
+mod peer;
 mod reconnecting;
 mod ticks;
 
 pub use handed::{KeptSession, latest_receipt};
 pub use host::Host;
 pub use partners::{Listener, PatientWriter, ServedPartners, serve_on, serve_partners};
+pub use peer::{Peer, peer_term};
 pub use reconnecting::{
     Answering, FileKeeper, FirstBoardPlace, KeptReplyWriter, Operation, Partners, Reading, Ticking,
     follow_first, serve_reconnecting,

@@ -15,13 +15,16 @@ use crate::confirming::{Confirming, ConfirmingKeeper};
 use crate::following::{BoardAddress, Connects, FirstBoardAt, FollowedStream, StopFlags};
 use crate::host::Host;
 use crate::partners::{Listener, REPLIES_HELD, ServedPartners, announce, tell};
+use crate::peer::{Peer, PeerWatch, begin_watch};
 use crate::ticks::{Ticks, Timer};
 use acdm_board::Desk;
 use acdm_confirming::Confirmed;
 use acdm_failures::{Failure, ServeError};
 use acdm_following::follow;
 use acdm_headline::serve_sessions;
-use acdm_keeping::{EntryKeeper, Named, Opening, Paths, Replies, SharedKeeper, Synced, Waiter};
+use acdm_keeping::{
+    BoardTerm, EntryKeeper, Named, Opening, Paths, Replies, SharedKeeper, Synced, Waiter,
+};
 use acdm_milestones::Role;
 use acdm_partners::{
     Acceptor, Arriving, Connection, Control, Door, FollowedBoard, Followers, LineOutcome,
@@ -126,6 +129,10 @@ pub struct Operation<'r, J: Opening, Rt: Host> {
     pub confirmed: Option<&'r Arc<Confirmed>>,
     /// The path of the file in which it logs what its operator is told, if it does.
     pub log: Option<String>,
+    /// Its term.
+    pub term: BoardTerm,
+    /// The board that may take over, which is asked for its term again and again, if there is one.
+    pub peer: Option<Peer>,
 }
 
 impl<J: Opening, Rt: Host> Operation<'_, J, Rt> {
@@ -256,6 +263,7 @@ struct Tally<K: Drop> {
     row: Arc<Row>,
     kept: Option<Named>,
     confirmed: Option<Arc<Confirmed>>,
+    term: BoardTerm,
     ticks: Option<u32>,
 }
 
@@ -311,6 +319,14 @@ impl<K: Paths + Wait + Drop> Standing for Tally<K> {
 
     fn ticks(&self) -> Option<u32> {
         self.ticks
+    }
+
+    fn term(&self) -> u64 {
+        self.term.own()
+    }
+
+    fn replaced_by(&self) -> Option<u64> {
+        self.term.replaced_by()
     }
 
     fn followers(&self) -> Option<Followers> {
@@ -503,6 +519,8 @@ fn acceptor_of<J: Opening, Rt: Host>(
         kept,
         confirmed,
         log,
+        term,
+        peer,
         ..
     } = operation;
     let (doors, ticks) = addresses;
@@ -514,9 +532,19 @@ fn acceptor_of<J: Opening, Rt: Host>(
             Some(confirmed) => Some(Arc::try_clone(confirmed)?),
             None => None,
         },
+        term,
         ticks,
     };
     let reporter = reporter_of(rt, alloc, log)?;
+    if let Some(
+        Peer {
+            unreached: Some(why),
+            ..
+        },
+    ) = peer
+    {
+        reporter.tell_unreached(why.as_str());
+    }
     Acceptor::new(reporter, doors, control, tally, None, closing)
 }
 
@@ -536,6 +564,29 @@ fn receive<J: Opening, Rt: Host>(
     match Reception::begin(rt, acceptor) {
         Ok(reception) => Ok(reception),
         Err(_) => Err(ServeError::Memory),
+    }
+}
+
+// Has the peer asked for its term, if there is one, while partners are served. Its thread is not waited for, since a
+// connection may take seconds.
+fn watch_peer<J: Opening, Rt: Host>(
+    rt: &Rt,
+    alloc: Global,
+    operation: &Operation<'_, J, Rt>,
+) -> Result<(), ServeError>
+    ensures fails { IfErr result IsOfAccepting }
+{
+    let Some(peer) = &operation.peer else {
+        return Ok(());
+    };
+    let (term, closing) = (&operation.term, &operation.closing);
+    let Ok(watch) = PeerWatch::new(rt, alloc, peer.address, term, closing) else {
+        return Err(ServeError::Memory);
+    };
+    if begin_watch(rt, watch) {
+        Ok(())
+    } else {
+        Err(ServeError::Memory)
     }
 }
 
@@ -622,6 +673,7 @@ fn follower_of<'r, J: Opening, Rt: Host>(
         row: Arc::try_clone(row)?,
         kept,
         confirmed: None,
+        term: operation.term.copy(alloc)?,
         ticks: None,
     };
     let reporter = reporter_of(rt, alloc, text_of(alloc, &operation.log)?)?;
@@ -646,6 +698,7 @@ fn follower_of<'r, J: Opening, Rt: Host>(
         address: place.address,
         flags: flags.copy()?,
         confirming: Arc::try_clone(&confirming)?,
+        term: operation.term.copy(alloc)?,
     };
     let board = FirstBoardAt::new(rt, alloc, own, address, same);
     Ok(Follower {
@@ -656,11 +709,31 @@ fn follower_of<'r, J: Opening, Rt: Host>(
     })
 }
 
+// A board that was promoted goes on in its next term. `Keep` where that can't be written, and why is known by the name of
+// the file then.
+fn take_over<J: Opening, Rt: Host>(
+    rt: &Rt,
+    alloc: Global,
+    operation: &Operation<'_, J, Rt>,
+) -> Result<(), Failure>
+    ensures { IfErr result FailsToFollow }
+{
+    match operation.term.take_over(rt, alloc) {
+        Ok(()) => Ok(()),
+        Err(error) => {
+            if let Some(kept) = &operation.kept {
+                kept.fail(&error);
+            }
+            Err(Failure::Keep)
+        }
+    }
+}
+
 /// Follows a board, by a desk whose journal is kept, until it is asked at the control address that this one serves or
 /// closes, or until its file does not stand any more where it was. Says whether it was asked to serve. All that came by
-/// then is in the desk, and kept.
+/// then is in the desk, and kept. It goes on in the term of the board that it follows, and serves in the next one.
 ///
-/// `Keep` where keeping failed, `Room` where the desk has no place for an entry that came; `Memory` where it was refused,
+/// `Keep` where keeping failed, or the next term could not be written, `Room` where the desk has no place for an entry that came; `Memory` where it was refused,
 /// or no thread could be made.
 pub fn follow_first<'r, J: Opening + Send + Sync, Rt: Host, H: Helpers + Drop>(
     rt: &'r Rt,
@@ -694,7 +767,14 @@ pub fn follow_first<'r, J: Opening + Send + Sync, Rt: Host, H: Helpers + Drop>(
     board.end();
     operation.control = reception.end(rt);
     match followed {
-        Ok(()) => Ok(flags.is_promoted()),
+        Ok(()) => {}
+        Err(failure) => return Err(failure),
+    }
+    if !flags.is_promoted() {
+        return Ok(false);
+    }
+    match take_over(rt, alloc, operation) {
+        Ok(()) => Ok(true),
         Err(failure) => Err(failure),
     }
 }
@@ -778,6 +858,10 @@ pub fn serve_reconnecting<
         ended: AtomicUsize::new(0),
         closing,
     };
+    match watch_peer(rt, alloc, &operation) {
+        Ok(()) => {}
+        Err(error) => return Err(error),
+    }
     let reception = receive(rt, alloc, (doors, ticks), operation, desk.row())?;
     let served = serve_sessions(rt, alloc, desk, sessions, &places);
     let _control = reception.end(rt);

@@ -38,12 +38,13 @@ kind_of key =
     else (if bytes_eq key (codes "control") then Some Words
     else (if bytes_eq key (codes "keep") then Some Words
     else (if bytes_eq key (codes "log") then Some Words
+    else (if bytes_eq key (codes "peer") then Some Words
     else (if bytes_eq key (codes "save") then Some Words
     else (if bytes_eq key (codes "tables") then Some Words
     else (if bytes_eq key (codes "watch") then Some Words
     else (if bytes_eq key (codes "web") then Some Words
     else (if bytes_eq key (codes "web-name") then Some Words
-    else (if bytes_eq key (codes "partners") then Some Partners else None))))))))))))))))
+    else (if bytes_eq key (codes "partners") then Some Partners else None)))))))))))))))))
 
 -- the option of a key, and with a value behind it
 abbrev pub option_of : List ℕ → List ℕ

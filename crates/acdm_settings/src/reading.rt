@@ -57,6 +57,8 @@ fn kind_of(key: &str) -> Option<ValueKind>
         Some(ValueKind::Words)
     } else if key == "log" {
         Some(ValueKind::Words)
+    } else if key == "peer" {
+        Some(ValueKind::Words)
     } else if key == "save" {
         Some(ValueKind::Words)
     } else if key == "tables" {

@@ -276,6 +276,7 @@ fn asks_to_serve(alloc: Global, words: &[&str], wanted: usize, words_wanted: &[&
                     log: None,
                     second: None,
                     strict: false,
+                    peer: None,
                     partners,
                 },
                 ..
@@ -440,5 +441,51 @@ fn boards_follow_a_journal_that_is_kept_and_shown(rt: HostRuntime) {
     let words = [
         "acdm", "serve", "--keep", "day", "--watch", "4100", "--strict", "APT=4001",
     ];
+    assert!(rt; is_refused(alloc, &words));
+}
+
+// Whether these words ask to serve beside this peer.
+fn asks_beside(alloc: Global, words: &[&str], wanted: &str) -> bool {
+    match parse(alloc, words) {
+        Ok(
+            Line {
+                subcommand: Subcommand::Serve {
+                    peer: Some(peer),
+                    ..
+                },
+                ..
+            },
+        ) => peer == wanted,
+        _ => false,
+    }
+}
+
+// A peer may have taken over the journal that is kept, so there has to be one.
+#[test]
+fn a_peer_is_named_beside_a_file(rt: HostRuntime) {
+    let alloc = rt.alloc();
+    let words = [
+        "acdm",
+        "serve",
+        "--keep",
+        "day",
+        "--peer",
+        "10.0.0.2:4100",
+        "APT=4001",
+    ];
+    assert!(rt; asks_beside(alloc, &words, "10.0.0.2:4100"));
+    let words = [
+        "acdm",
+        "follow",
+        "10.0.0.1:4100",
+        "--keep",
+        "day",
+        "--peer=[::1]:4100",
+        "APT=4001",
+    ];
+    assert!(rt; asks_beside(alloc, &words, "[::1]:4100"));
+    let words = ["acdm", "serve", "--peer", "10.0.0.2:4100", "APT=4001"];
+    assert!(rt; is_refused(alloc, &words));
+    let words = ["acdm", "run", "--keep", "day", "--peer", "10.0.0.2:4100"];
     assert!(rt; is_refused(alloc, &words));
 }

@@ -103,7 +103,7 @@ fn a_run_ends_with_its_status(rt: HostRuntime) {
 }
 
 // Each failure, and the line that tells it.
-static FAILURES: [(Failure, &str); 14] = [
+static FAILURES: [(Failure, &str); 17] = [
     (Failure::Read, "acdm: read failed\n"),
     (Failure::Write, "acdm: write failed\n"),
     (Failure::Untold, "acdm: write failed\n"),
@@ -114,6 +114,8 @@ static FAILURES: [(Failure, &str); 14] = [
     (Failure::Accept(12), "acdm: accept 12\n"),
     (Failure::Watch, "acdm: watch address\n"),
     (Failure::Control, "acdm: control address\n"),
+    (Failure::Follow, "acdm: follow address\n"),
+    (Failure::Peer, "acdm: peer address\n"),
     (Failure::Log, "acdm: log file\n"),
     (Failure::Keep, "acdm: keep failed\n"),
     (Failure::InUse, "acdm: the kept journal is in use\n"),
@@ -121,6 +123,7 @@ static FAILURES: [(Failure, &str); 14] = [
         Failure::Room,
         "acdm: the kept journal needs a larger --journal\n",
     ),
+    (Failure::Replaced, "acdm: another board has taken over\n"),
 ];
 
 fn complains(rt: &impl Abort, alloc: Global, failure: Failure, line: &str) {

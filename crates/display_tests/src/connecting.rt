@@ -2,6 +2,7 @@
 use crate::feeding::{NAMED, NAMED_BEHIND_ONE};
 use crate::following::{TICKS, tick, ticked};
 use acdm_displays::{DisplayKind, DisplayListener, Displays};
+use acdm_keeping::BoardTerm;
 use bpf_helpers::{Bank, Helpers};
 use std::alloc::Global;
 use std::io::{Read, Write};
@@ -20,12 +21,13 @@ const PLACES: usize = 64;
 const PATIENCE: u64 = 400;
 
 // Displays of the journal that connect at this socket.
-fn journals_at(socket: TcpListener) -> DisplayListener<'static> {
+fn journals_at(socket: TcpListener, term: BoardTerm) -> DisplayListener<'static> {
     DisplayListener {
         kind: DisplayKind::Journal,
         socket,
         name: None,
         confirmed: None,
+        term,
     }
 }
 
@@ -48,7 +50,8 @@ fn shown<
         .ok()
         .expect(rt, "a port");
     let address = socket.local_addr().ok().expect(rt, "an address");
-    let listener = journals_at(socket);
+    let term = BoardTerm::first(alloc).expect(rt, "a term");
+    let listener = journals_at(socket, term);
     let displays = Displays::start(rt, alloc, listener, desk.row(), None)
         .ok()
         .expect(rt, "displays");
@@ -123,7 +126,8 @@ fn opened<
 >(rt: &Rt, alloc: Global, helpers: H, address: &str) -> Option<Displays> {
     let mut desk = ticked(rt, alloc, helpers, 10);
     assert!(rt; tick(&mut desk, 9));
-    let listener = journals_at(TcpListener::bind(rt, address).ok()?);
+    let term = BoardTerm::first(alloc).ok()?;
+    let listener = journals_at(TcpListener::bind(rt, address).ok()?, term);
     let displays = Displays::start(rt, alloc, listener, desk.row(), None).ok();
     drop(desk);
     displays
@@ -202,6 +206,29 @@ fn each_is_sent_what_it_asked_for(rt: HostRuntime) {
     assert!(rt; has_ended(&mut gone));
     displays.close(&rt);
     assert!(rt; has_ended(&mut silent));
+    assert!(rt; has_ended(&mut resuming));
+}
+
+// The board's term is sent to who asks for it first, and then what that one asks for next; alone it asks for nothing.
+#[test]
+fn the_term_is_sent_first(rt: HostRuntime) {
+    let alloc = rt.alloc();
+    let bank = Bank::new(alloc).expect(&rt, "a bank");
+    let (displays, address) = shown(&rt, alloc, bank);
+    let mut resuming = connected(&rt, address);
+    let mut asking = connected(&rt, address);
+    let mut again = connected(&rt, address);
+    assert!(rt; resuming.write_all(b"term\nfrom 1\n").is_ok());
+    assert!(rt; asking.write_all(b"term\n").is_ok());
+    assert!(rt; again.write_all(b"term\nterm\n").is_ok());
+    assert!(rt; is_sent(&mut resuming, "term 1\n"));
+    assert!(rt; is_sent(&mut resuming, NAMED_BEHIND_ONE));
+    assert!(rt; is_sent(&mut resuming, &TICKS[19..]));
+    assert!(rt; is_sent(&mut asking, "term 1\n"));
+    assert!(rt; is_let_go(&mut asking));
+    assert!(rt; is_sent(&mut again, "term 1\n"));
+    assert!(rt; is_let_go(&mut again));
+    displays.close(&rt);
     assert!(rt; has_ended(&mut resuming));
 }
 

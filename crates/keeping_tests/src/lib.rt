@@ -13,3 +13,5 @@ mod files;
 mod following;
 #[cfg(test)]
 mod sharing;
+#[cfg(test)]
+mod term;

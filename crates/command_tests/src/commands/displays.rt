@@ -2,6 +2,7 @@
 use crate::commands::serve::{Morning, Partner, listening, served_at, talk};
 use acdm_board::Desk;
 use acdm_displays::{DisplayKind, DisplayListener, Displays, Entries, Shown, follow};
+use acdm_keeping::BoardTerm;
 use acdm_lines::Sink;
 use acdm_milestones::Role;
 use acdm_row::Row;
@@ -50,6 +51,7 @@ fn started<Rt: SystemClock + Threads + Wait + Abort + Clone + Drop + Send + 'sta
         socket,
         name: None,
         confirmed: None,
+        term: BoardTerm::first(alloc).expect(rt, "a term"),
     };
     Displays::start(rt, alloc, listener, row, None)
         .ok()

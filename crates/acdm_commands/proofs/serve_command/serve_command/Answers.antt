@@ -26,12 +26,12 @@ returns-after-begin g c =
           rw (w.output-is, w.saving-is, w.work-is)
           (told_illegal sigs c.args.setup.capacity kept named c.args.output.now w.tell-work.new.writer
           c.in-Ok.saving.file c.in-Ok.saving.file w.in-Err-Illegal.finding w.tell-work.result
-          (subst (FailsToBegin kept) w.in-Err-Illegal.field-0-is w.in-Err-Illegal.ensures.fails)
+          (subst (FailsToBegin kept named.peered) w.in-Err-Illegal.field-0-is w.in-Err-Illegal.ensures.fails)
           w.tell-work.ensures)
       | in-Err-Failed w ↦
           rw (w.output-is, w.saving-is, w.work-is)
           (not_begun sigs c.args.setup.capacity kept named c.args.output.now c.in-Ok.saving.file
-          w.in-Err-Failed.failure (subst (FailsToBegin kept) w.in-Err-Failed.field-0-is w.in-Err-Failed.ensures.fails))
+          w.in-Err-Failed.failure (subst (FailsToBegin kept named.peered) w.in-Err-Failed.field-0-is w.in-Err-Failed.ensures.fails))
     ]) c.settle.ensures c.ended.ensures
 
 pub returns-in-Err : goal.returns-in-Err
