@@ -1,17 +1,24 @@
 #!/usr/bin/env python3
-"""Tries the resource agent of examples/pacemaker as a cluster manager calls it, for two boards on loopback.
+"""Tries the resource agent of examples/pacemaker as a cluster manager calls it: on loopback, and on two machines.
 
     python3 bench/hostile/cluster.py [--program PATH]
 
-Two machines are two folders, each with its own parameters. Both boards are begun, one is promoted, killed, and the other
-one promoted in its place; the old one follows then, where its file is a beginning of the other's journal, and is refused
-else; a planned switch; both begun anew; a board that does not answer, and one that ends at once; wrong parameters; the
-description of the agent. No Pacemaker is there, and none of the shell's functions of OCF: what the agent tells of
-promotion is written down by a program in their place. The last line is `N cases, M failed`; status 1 where one failed.
+Two machines are two folders, each with its own parameters. Both boards are begun, one is promoted, killed, and the
+other one promoted in its place. The old one follows then, where its file is a beginning of the other's journal, and is
+refused else. A planned switch; both begun anew; a board that does not answer, and one that ends at once; wrong
+parameters; the description of the agent; another board that is silent, or sends a byte now and then.
+
+Then the agent runs on two namespaces of the network (link.py) with a link between them. The link is cut both ways: the
+first board is killed, as by fencing, or serves on and has entries of its own, while the second one has none, or others.
+It is cut in one way only, in silence. Seen are the status and the reason of each action on both machines, the terms, and
+that neither file changes by the other board. No action may take longer than 30 seconds. Where no such machines can be
+made this is left out, with a line.
+
+No Pacemaker is there, and none of the shell's functions of OCF: what the agent tells of promotion is written down by a
+program in their place. The last line is `N cases, M failed`; status 1 where one failed.
 """
 
 import contextlib
-import functools
 import os
 import pathlib
 import pwd
@@ -22,151 +29,39 @@ import socket
 import subprocess
 import sys
 import tempfile
+import threading
 import time
+import traceback
 import xml.etree.ElementTree
 from concurrent.futures import ThreadPoolExecutor
 
-from again import Partner
-from cases import ALERTS, PLAN, SCHEDULE, TOP, Cases, ran, words
+from cases import ALERTS, PLAN, SCHEDULE, Cases, ran, words
+from clustered import (
+    AGENT,
+    BAD,
+    BAD_HERE,
+    ERROR,
+    LIMIT,
+    MISSING,
+    NOT_RUNNING,
+    OK,
+    PROMOTED,
+    UNKNOWN,
+    are,
+    begun,
+    ends,
+    follows,
+    gets,
+    is_later,
+    is_same,
+    two_boards,
+    two_machines,
+)
+from follow import TICK
+from link import FIRST, SECOND, reason_against
+from terms import file_of, term_of
 
-AGENT = TOP / "examples" / "pacemaker" / "acdm"
-TICK = '{"cmd":"tick"}'
-OK, ERROR, BAD_HERE, UNKNOWN, MISSING, BAD, NOT_RUNNING, PROMOTED = 0, 1, 2, 3, 5, 6, 7, 8
 ACTIONS = {"start", "stop", "monitor", "promote", "demote", "meta-data", "validate-all"}
-LIMIT = 60
-# The bound of memory that the agent has where none is given.
-MEMORY = "2097152"
-
-
-@functools.cache
-def bears_a_bound(program):
-    """Whether a program can be begun with a bound of memory: a build with the checks of a sanitizer can't."""
-    command = ["sh", "-c", f'ulimit -v {MEMORY}; exec "$0" --help', str(program)]
-    return subprocess.run(command, capture_output=True, check=False).returncode == 0
-
-
-# A hundred ports of this run alone, below those that the system gives to connections.
-PORTS = list(range(15000 + os.getpid() % 170 * 100, 15100 + os.getpid() % 170 * 100))
-
-
-def new_port():
-    """A port at which nobody listens, for one board alone."""
-    while True:
-        port = PORTS.pop()
-        try:
-            socket.create_server(("127.0.0.1", port)).close()
-            return port
-        except OSError:
-            continue
-
-
-class Machine:
-    """A machine of the cluster: a folder with the file of its board, and the parameters of the agent there."""
-
-    def __init__(self, room, name, program, watches, user=None):
-        self.name, self.room = name, room / name
-        self.room.mkdir()
-        self.kept, self.control, self.ports = self.room / "day.journal", new_port(), [new_port(), new_port()]
-        self.words = self.room / "board.words"
-        roles = " ".join(f"{role}=127.0.0.1:{port}" for role, port in zip(("APT", "NM"), self.ports))
-        self.words.write_text(f"# the words of both machines\n--again --sync # partners come and go\n{roles}\n")
-        self.state = self.room / "state"
-        self.peer = " ".join(f"{other}=127.0.0.1:{port}" for other, port in zip(watches, reversed(watches.values())))
-        self.parameters = {
-            "binary": str(program),
-            "keep": str(self.kept),
-            "control": str(self.control),
-            "peer": self.peer,
-            "watch": " ".join(f"{it}=127.0.0.1:{port}" for it, port in watches.items()),
-            "words": str(self.words),
-            "user": user or pwd.getpwuid(os.geteuid()).pw_name,
-            "memory": MEMORY if bears_a_bound(program) else "unlimited",
-            "CRM_meta_on_node": name,
-        }
-        commands = self.room / "commands"
-        commands.mkdir()
-        told = commands / "crm_attribute"
-        told.write_text('#!/bin/sh\nprintf "%s\\n" "$*" >>"$TOLD"\n')
-        told.chmod(0o755)
-        self.told = self.room / "told"
-        self.environment = {
-            "PATH": f"{commands}:{pathlib.Path(sys.executable).parent}:{os.environ['PATH']}",
-            "OCF_ROOT": str(self.room / "nothing"),
-            "OCF_RESOURCE_INSTANCE": "board",
-            "HA_RSCTMP": str(self.state),
-            "TOLD": str(self.told),
-        }
-
-    def act(self, action, **other):
-        """The status of an action, and what it says."""
-        given = {f"OCF_RESKEY_{name}": value for name, value in (self.parameters | other).items() if value is not None}
-        done = subprocess.run(
-            [str(AGENT), action], env=self.environment | given, capture_output=True, text=True, timeout=LIMIT, check=False
-        )
-        return done.returncode, done.stdout + done.stderr
-
-    def score(self):
-        """How gladly it is promoted, as was told last."""
-        told = self.told.read_text().splitlines() if self.told.exists() else ["-p board -D"]
-        found = re.fullmatch(r"-p board (?:-v (\d+)|-D)", told[-1])
-        return found and found[1] and int(found[1])
-
-    def status(self):
-        """What is answered at the control address; nothing where nobody is there."""
-        try:
-            with socket.create_connection(("127.0.0.1", self.control), timeout=20) as stream:
-                stream.sendall(b"status\n")
-                return stream.recv(65536).decode()
-        except OSError:
-            return ""
-
-    def comes(self, holds, seconds=10):
-        end = time.monotonic() + seconds
-        while not holds():
-            if time.monotonic() > end:
-                return False
-            time.sleep(0.05)
-        return True
-
-    def has(self, count):
-        return self.comes(lambda: self.kept.exists() and self.kept.read_bytes().count(b"\n") == count)
-
-    def keeps(self, program, count):
-        """Makes a file of so many entries."""
-        lines = [f"1 29000580 APT {SCHEDULE}", *[f"1 29000580 APT {TICK}"] * count][:count]
-        ran(program, ["run", "--keep", str(self.kept)], "".join(f"{it}\n" for it in lines).encode())
-
-    def partner(self, session):
-        return Partner(self.ports[session - 1])
-
-    def process(self):
-        return int((self.state / "acdm-board.pid").read_text())
-
-    def signal(self, number):
-        os.kill(self.process(), number)
-
-    def end(self):
-        """Ends what is left of the board, whatever the agent did."""
-        try:
-            number = self.process()
-            if str(self.kept) in pathlib.Path(f"/proc/{number}/cmdline").read_text().split("\0"):
-                os.kill(number, signal.SIGKILL)
-        except (OSError, ValueError):
-            pass
-
-
-@contextlib.contextmanager
-def two_boards(room, program, name, **how):
-    """Two machines of a folder, each with the other one as its peer; at the end nothing of their boards is left."""
-    place = room / name
-    place.mkdir()
-    watches = {"one": new_port(), "two": new_port()}
-    machines = [Machine(place, it, program, watches, **how) for it in watches]
-    try:
-        yield machines
-    finally:
-        for machine in machines:
-            machine.end()
 
 
 def described(cases, program, room):
@@ -209,15 +104,6 @@ def refuses(cases, two, nothing):
     for name in ("binary", "words"):
         ends = [two.act(it, **{name: nothing})[0] for it in ("monitor", "stop")]
         cases.expect(f"without its {name} nothing is there", ends == [NOT_RUNNING, OK], ends)
-
-
-def follows(machine):
-    return machine.status().startswith(f"following {dict(it.split('=') for it in machine.peer.split())[machine.name]}\n")
-
-
-def gets(machine, score):
-    """Whether monitors find a board that follows, and come to tell how gladly it is promoted."""
-    return machine.comes(lambda: machine.act("monitor")[0] == OK and machine.score() == score)
 
 
 def day(cases, program, room):
@@ -443,15 +329,304 @@ def as_nobody(cases, program, room):
         cases.expect("it is stopped", one.act("stop")[0] == OK and one.act("monitor")[0] == NOT_RUNNING)
 
 
+def fenced(cases, program, room):
+    """The link is cut, the first board is killed, and the second promoted; then all is whole again; a switch back."""
+    with two_machines(cases, program, room, "fenced") as (link, one, two):
+        term = begun(cases, one, two)
+        link.set("down")
+        are(cases, "as the link is cut", one, two, (PROMOTED, OK))
+        cases.expect("the second finds it cut", two.says("^parted "))
+        are(cases, "some time later", one, two, (PROMOTED, OK))
+        cases.expect("the second may be promoted as before", two.score() == 100, two.score())
+        one.signal(signal.SIGKILL)
+        cases.expect("it is promoted", two.act("promote")[0] == OK)
+        are(cases, "the first is killed", one, two, (NOT_RUNNING, PROMOTED))
+        cases.expect("a partner goes on", two.partner(1).asks(TICK) == "ok 2")
+        term = is_later(cases, "the second is promoted", two, term)
+        link.set("up")
+        status, text = one.act("start")
+        cases.expect("the first is begun again", status == OK, (status, text))
+        cases.expect("it follows, and has all", one.has(3) and follows(one) and gets(one, 100), (one.status(), text))
+        are(cases, "it is not promoted beside the second", one, two, (OK, PROMOTED))
+        is_same(cases, "begun again", one, term)
+        cases.expect("the second is demoted", two.act("demote")[0] == OK and follows(two), two.status())
+        cases.expect("and the first promoted", one.act("promote")[0] == OK)
+        term = is_later(cases, "switched back", one, term)
+        cases.expect("a partner goes on there", one.partner(1).asks(TICK) == "ok 3")
+        cases.expect("the second has that", two.has(4) and gets(two, 100) and follows(two), two.status())
+        is_same(cases, "switched back", two, term)
+        are(cases, "switched back", one, two, (PROMOTED, OK))
+        cases.expect("both files are the same", one.kept.read_bytes() == two.kept.read_bytes())
+
+
+@contextlib.contextmanager
+def both_serving(cases, program, room, name, *entered):
+    """The link is cut, and the second board promoted, while the first one has an entry of its own, and is not fenced.
+
+    A partner of the second one enters these lines. Yields the link, the machines and the term of the second one. At the
+    end the first one's file is as it was, and the second one's goes on from what it was.
+    """
+    with two_machines(cases, program, room, name) as (link, one, two):
+        term = begun(cases, one, two)
+        link.set("down")
+        cases.expect("the first one serves on", one.partner(1).asks(TICK) == "ok 2")
+        cases.expect("the second is promoted", two.act("promote")[0] == OK)
+        replies = [two.partner(1).asks(it) for it in entered]
+        cases.expect("and serves", all(it.split()[1].isdigit() for it in replies), replies)
+        are(cases, "both serve", one, two, (PROMOTED, PROMOTED))
+        later = is_later(cases, "the second is promoted", two, term)
+        files = [it.kept.read_bytes() for it in (one, two)]
+        yield link, one, two, later
+        cases.expect(f"{name}: the first file is as it was", one.kept.read_bytes() == files[0])
+        cases.expect(f"{name}: its term too", term_of(one.kept) == term, term_of(one.kept))
+        cases.expect(f"{name}: the second file goes on from its own", two.kept.read_bytes().startswith(files[1]))
+
+
+def second_demoted(cases, program, room):
+    """Both boards have entries of their own. The manager demotes the second one."""
+    with both_serving(cases, program, room, "second-demoted", ALERTS) as (link, one, two, _):
+        link.set("up")
+        cases.expect("who serves is promoted already", one.act("promote") == two.act("promote") == (OK, ""))
+        ends(cases, "the second one's demotion fails", two.act("demote"), BAD_HERE, "entry 2 is another one")
+        ends(cases, "and its start", two.act("start"), BAD_HERE, "entry 2 is another one")
+        are(cases, "it has ended", one, two, (PROMOTED, NOT_RUNNING))
+
+
+def unfenced(cases, program, room):
+    """Both boards have entries of their own. The link is whole again, and the manager demotes the first one."""
+    with both_serving(cases, program, room, "unfenced", ALERTS) as (link, one, two, _):
+        link.set("up")
+        time.sleep(2)
+        are(cases, "the link is whole", one, two, (PROMOTED, PROMOTED))
+        ends(cases, "the first one's demotion fails", one.act("demote"), BAD_HERE, "entry 2 is another one")
+        are(cases, "it has ended", one, two, (NOT_RUNNING, PROMOTED))
+        cases.expect("and is not to be promoted", one.score() is None, one.score())
+        ends(cases, "its promotion fails", one.act("promote"), NOT_RUNNING, "ocf-exit-reason:there is no board")
+        ends(cases, "its start fails", one.act("start"), BAD_HERE, "entry 2 is another one")
+        cases.expect("the second one serves on", two.partner(1).asks(TICK) == "ok 3")
+        are(cases, "in the end", one, two, (NOT_RUNNING, PROMOTED))
+
+
+def demoted_in_a_cut(cases, program, room):
+    """The same, but for a manager that demotes the first one while the link is cut."""
+    with both_serving(cases, program, room, "demoted", ALERTS) as (link, one, two, _):
+        ends(cases, "the first one is demoted", one.act("demote"), OK, "nobody is followed")
+        are(cases, "the first waits", one, two, (OK, PROMOTED))
+        cases.expect("it is not to be promoted", one.score() is None, one.score())
+        link.set("up")
+        ends(cases, "its promotion fails", one.act("promote"), BAD_HERE, "entry 2 is another one")
+        ends(cases, "and so does a monitor", one.act("monitor"), BAD_HERE, "entry 2 is another one")
+        cases.expect("it has not served", one.status().startswith("following 127.0.0.1:0\n"), one.status())
+        cases.expect("the second one serves on", two.partner(1).asks(TICK) == "ok 3")
+
+
+def replaced(cases, program, room):
+    """The second board has taken over, and has no entry of its own: the first one's file goes on from that."""
+    with both_serving(cases, program, room, "replaced") as (link, one, two, term):
+        link.set("up")
+        time.sleep(2)
+        told = f"replaced {term}: 3 entries, and 2 there"
+        ends(cases, "the first one is demoted, and says that it waits", one.act("demote"), OK, told)
+        are(cases, "the first waits", one, two, (OK, PROMOTED))
+        ends(cases, "it is not promoted", one.act("promote"), ERROR, f"has taken over: {told}")
+        cases.expect("and told not to be", one.score() is None, one.score())
+        are(cases, "the first waits on", one, two, (OK, PROMOTED))
+        ends(cases, "the second one is demoted", two.act("demote"), OK)
+        parted = two.says(rf"^parted term \d+ is there, and {term} here ")
+        cases.expect("it does not follow one of an earlier term", parted, two.status())
+        are(cases, "both wait", one, two, (OK, OK))
+        scores = one.score(), two.score()
+        cases.expect("neither is to be promoted", scores == (None, None), scores)
+        done = two.act("promote", CRM_meta_timeout="30000")
+        ends(cases, "a promotion of the second one ends", done, ERROR, "it has not all: part: 2 entries, and 3 there")
+        cases.expect("and says why", f": parted term {term_of(one.kept)} is there, and {term} here " in done[1], done)
+        ends(cases, "the first one is not promoted still", one.act("promote"), ERROR, f"replaced {term}")
+        mended_by_hand(cases, one, two, term)
+
+
+def mended_by_hand(cases, one, two, term):
+    """A person keeps the first one's file elsewhere: it follows the second one, which can be promoted then."""
+    cases.expect("the first one is stopped", one.act("stop")[0] == OK)
+    moved, own = one.kept.with_name("kept-elsewhere"), two.kept.read_bytes()
+    for file in (one.kept, file_of(one.kept)):
+        file.rename(file_of(moved) if file.suffix == ".term" else moved)
+    cases.expect("without its file it is begun", one.act("start")[0] == OK and gets(one, 100), one.status())
+    cases.expect("it has the other one's journal", one.kept.read_bytes() == own, one.status())
+    is_same(cases, "mended", one, term)
+    cases.expect("the second one may be promoted", gets(two, 100) and two.act("promote")[0] == OK, two.status())
+    cases.expect("a partner goes on", two.partner(1).asks(TICK) == "ok 2" and one.has(3), one.status())
+    is_later(cases, "mended", two, term)
+    are(cases, "mended", one, two, (OK, PROMOTED))
+    cases.expect("it is stopped once more", one.act("stop")[0] == OK)
+    for file in (moved, file_of(moved)):
+        file.rename(file_of(one.kept) if file.suffix == ".term" else one.kept)
+
+
+def told_before(cases, program, room):
+    """A board that follows is told of a later term, in which it can't be, before the link is cut: it keeps that."""
+    with two_machines(cases, program, room, "told") as (link, one, two):
+        term = begun(cases, one, two)
+        link.set("down")
+        one.signal(signal.SIGKILL)
+        # (as from an old copy of its disk)
+        one.kept.write_bytes(one.kept.read_bytes().splitlines(True)[0])
+        begins = one.act("start"), one.act("promote")
+        cases.expect("one with an older file is promoted by hand", [it[0] for it in begins] == [OK, OK], begins)
+        later = is_later(cases, "by hand", one, term)
+        link.set("up")
+        cases.expect("the second is told that it is behind", two.says("^parted there are only 1 entries "))
+        cases.expect("and is not to be promoted", gets(two, None), two.score())
+        link.set("down")
+        own, begins = two.kept.read_bytes(), one.kept.read_bytes()
+        ends(cases, "nor is it, where nobody is reached", two.act("promote"), ERROR, f": replaced {later}")
+        are(cases, "it follows on", one, two, (PROMOTED, OK))
+        link.set("up")
+        time.sleep(2)
+        ends(cases, "nor where it is", two.act("promote"), ERROR, f": replaced {later}: 2 entries, and 1 there")
+        cases.expect("neither file is another one", [it.kept.read_bytes() for it in (one, two)] == [begins, own])
+        cases.expect("nor its term", two.term() == term, two.term())
+
+
+def silenced(cases, one, two, lose, find):
+    """What one machine sends the other is lost in silence: the second is promoted, and then the first again."""
+    term = begun(cases, one, two)
+    lose()
+    are(cases, "as it begins", one, two, (PROMOTED, OK))
+    cases.expect("the second finds nobody", two.says("^parted "))
+    are(cases, "nobody is found", one, two, (PROMOTED, OK))
+    cases.expect("the second may be promoted as before", two.score() == 100, two.score())
+    cases.expect("it is promoted", two.act("promote")[0] == OK)
+    are(cases, "both serve, where nobody fences", one, two, (PROMOTED, PROMOTED))
+    cases.expect("who serves is promoted already", one.act("promote") == two.act("promote") == (OK, ""))
+    term = is_later(cases, "the second is promoted", two, term)
+    find()
+    cases.expect("the first one is demoted", one.act("demote")[0] == OK)
+    cases.expect("it follows the second", gets(one, 100) and follows(one), one.status())
+    is_same(cases, "demoted", one, term)
+    cases.expect("a partner goes on", two.partner(1).asks(TICK) == "ok 2" and one.has(3), one.status())
+    cases.expect("the first has all", gets(one, 100), one.status())
+    lose()
+    cases.expect("the first finds nobody", one.says("^parted "))
+    ends(cases, "the second one is demoted meanwhile", two.act("demote"), OK, "nobody is followed")
+    cases.expect("and waits", two.act("monitor")[0] == OK and two.score() is None, two.score())
+    cases.expect("the first one is promoted", one.act("promote")[0] == OK)
+    cases.expect("a partner goes on there", one.partner(1).asks(TICK) == "ok 3")
+    are(cases, "switched in silence", one, two, (PROMOTED, OK))
+    find()
+    cases.expect("the second one follows then", gets(two, 100) and follows(two) and two.has(4), two.status())
+    term = is_later(cases, "switched in silence", one, term)
+    is_same(cases, "switched in silence", two, term)
+    cases.expect("both files are the same", one.kept.read_bytes() == two.kept.read_bytes())
+
+
+def first_unheard(cases, program, room):
+    with two_machines(cases, program, room, "first-unheard") as (link, one, two):
+        silenced(cases, one, two, lambda: link.near.lose(SECOND), lambda: link.near.find(SECOND))
+
+
+def second_unheard(cases, program, room):
+    with two_machines(cases, program, room, "second-unheard") as (link, one, two):
+        silenced(cases, one, two, lambda: link.far.lose(FIRST), lambda: link.far.find(FIRST))
+
+
+def hung(cases, program, room):
+    """The other machine takes connections, and is silent: each action ends all the same."""
+    with two_boards(room, program, "hung") as (one, two):
+        begun(cases, one, two)
+        one.signal(signal.SIGSTOP)
+        cases.expect("the second finds nobody", two.says("^parted "))
+        cases.expect("a monitor ends", two.act("monitor")[0] == OK and two.score() == 100, two.score())
+        cases.expect("it is promoted", two.act("promote")[0] == OK)
+        ends(cases, "it is demoted, and waits", two.act("demote"), OK, "nobody is followed")
+        cases.expect("that takes a part of its time", two.longest[0] < LIMIT / 2, two.longest)
+        one.signal(signal.SIGCONT)
+        cases.expect("the first one serves on", one.act("monitor")[0] == PROMOTED)
+        parted = gets(two, None) and two.says("^parted term ")
+        cases.expect("and is not followed, of an earlier term", parted, two.status())
+
+
+def slow_one(cases, program, room):
+    """In the other board's place is one that sends a byte now and then, for ever: a promotion ends all the same."""
+    with two_boards(room, program, "slow") as (one, two):
+        begun(cases, one, two)
+        one.signal(signal.SIGKILL)
+        cases.expect("the first one is gone", one.comes(lambda: one.act("monitor")[0] == NOT_RUNNING))
+        host, _, port = one.parameters["watch"].split()[0].partition("=")[2].rpartition(":")
+        with socket.create_server((host, int(port))) as server, contextlib.ExitStack() as at_end:
+            threading.Thread(target=dribble, args=(server, at_end), daemon=True).start()
+            ends(cases, "the second is promoted", two.act("promote"), OK)
+            cases.expect("and serves", two.act("monitor")[0] == PROMOTED, two.status())
+            cases.expect("in time", two.longest[0] < LIMIT / 2, two.longest)
+
+
+def dribble(server, at_end):
+    """Sends each who connects a byte a second."""
+
+    def send(stream):
+        with contextlib.suppress(OSError):
+            while True:
+                stream.sendall(b"t")
+                time.sleep(1)
+
+    with contextlib.suppress(OSError):
+        while True:
+            stream = at_end.enter_context(server.accept()[0])
+            threading.Thread(target=send, args=(stream,), daemon=True).start()
+
+
+# A program that is no board: it answers nothing, or as a board that follows, whatever it is asked, with --answers.
+NO_BOARD = r"""#!/usr/bin/env python3
+import socket, sys, time
+if "--answers" not in sys.argv:
+    time.sleep(1000)
+with socket.create_server(("127.0.0.1", int(sys.argv[sys.argv.index("--control") + 1]))) as server:
+    while True:
+        with server.accept()[0] as stream:
+            asked = stream.makefile("rb").readline()
+            stream.sendall(b"following nobody\nlast none\n" if asked == b"status\n" else b"promoting\n")
+"""
+
+
+def never_ready(cases, program, room):
+    """Boards that never answer, or never serve: the action ends before its time is over, and says why."""
+    with two_boards(room, program, "never") as (one, two):
+        begins = {"CRM_meta_timeout": "12000"}
+        for machine in (one, two):
+            no_board = machine.room / "no-board"
+            no_board.write_text(NO_BOARD)
+            no_board.chmod(0o755)
+            machine.parameters["binary"] = str(no_board)
+        ends(cases, "a start ends", one.act("start", **begins), ERROR, "does not answer yet")
+        cases.expect("in time", one.longest[0] < 12, one.longest)
+        cases.expect("a monitor tells it", one.act("monitor")[0] == ERROR)
+        ends(cases, "a promotion says so", one.act("promote"), ERROR, "ocf-exit-reason:there is no board")
+        cases.expect("it is stopped", one.act("stop")[0] == OK and one.act("monitor")[0] == NOT_RUNNING)
+        with two.words.open("a") as file:
+            file.write("--answers\n")
+        cases.expect("one that answers is begun", two.act("start")[0] == OK)
+        ends(cases, "its promotion ends", two.act("promote", **begins), ERROR, "does not serve: promoting")
+        ends(cases, "it is stopped, and killed", two.act("stop", CRM_meta_timeout="20000"), OK, "killed")
+        cases.expect("each in time", two.longest[0] < 20, two.longest)
+
+
+ON_LOOPBACK = (day, down, other_histories, silent, described, as_nobody, hung, slow_one, never_ready)
+ON_MACHINES = (fenced, unfenced, second_demoted, demoted_in_a_cut, replaced, told_before, first_unheard, second_unheard)
+
+
 def main():
     asked = words(__doc__).parse_args()
-    program, cases = asked.program.resolve(), Cases()
-    parts = {it: Cases() for it in (day, down, other_histories, silent, described, as_nobody)}
-    with tempfile.TemporaryDirectory() as made, ThreadPoolExecutor() as pool:
+    program, cases, why = asked.program.resolve(), Cases(), reason_against()
+    if why:
+        print(f"left out: all that takes two machines: {why}")
+    parts = {it: Cases() for it in (*ON_LOOPBACK, *(() if why else ON_MACHINES))}
+    with tempfile.TemporaryDirectory() as made, ThreadPoolExecutor(len(parts)) as pool:
         room = pathlib.Path(made)
         room.chmod(0o755)
-        for part in [pool.submit(part, counted, program, room) for part, counted in parts.items()]:
-            part.result()
+        running = [pool.submit(part, counted, program, room) for part, counted in parts.items()]
+        for (part, counted), it in zip(parts.items(), running):
+            fault = it.exception()
+            seen = fault and "".join(traceback.format_exception(fault))
+            counted.expect(f"{part.__name__}: to the end", not fault, seen)
     for part in parts.values():
         cases.count += part.count
         cases.failed += part.failed
