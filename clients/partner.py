@@ -46,6 +46,15 @@ QUESTION = {"cmd": "show", "flight": 1}
 REPLY = re.compile(rb"(?:(?:ok|no|rec|alerts|migrated) \d+|bad \d+)(?: [ -~]*)?\n")
 # (4,096 flights with all alerts have less)
 LONGEST_REPLY = 1 << 22
+# Of a machine that vanished nothing is told: a connection is given up after so many seconds without an answer,
+# where the system does that. By itself it would be after a quarter of an hour.
+SILENT = 10
+GIVEN_UP = {
+    "TCP_KEEPIDLE": SILENT // 4,
+    "TCP_KEEPINTVL": SILENT // 4,
+    "TCP_KEEPCNT": 3,
+    "TCP_USER_TIMEOUT": 1000 * SILENT,
+}
 INSTANT = re.compile(
     r"(\d{4})-?(\d\d)-?(\d\d)[Tt ](\d\d)(?::?(\d\d)(?::?\d\d(?:[.,]\d+)?)?)?"
     r"(?:[Zz]|([+-])(\d\d)(?::?(\d\d))?)(?:\[.*)?",
@@ -154,6 +163,7 @@ class Connection:
                 # (the answer may be long in coming: a board of many partners begins when all are there)
                 self.stream, self.is_new = socket.create_connection(self.where, timeout=5), True
                 self.stream.settimeout(None)
+                give_up_late(self.stream)
                 self.replies = self.stream.makefile("rb")
             except OSError as error:
                 why = fault_of(self.where, error)
@@ -196,6 +206,14 @@ class Connection:
             with contextlib.suppress(Unsent):
                 reply = self.exchange(line)
         return reply
+
+
+def give_up_late(stream: socket.socket) -> None:
+    """Has a connection break where the machine on its other side does not answer any more."""
+    stream.setsockopt(socket.SOL_SOCKET, socket.SO_KEEPALIVE, 1)
+    for name, value in GIVEN_UP.items():
+        if hasattr(socket, name):
+            stream.setsockopt(socket.IPPROTO_TCP, getattr(socket, name), value)
 
 
 def has_ended(stream: socket.socket) -> bool:
