@@ -26,7 +26,7 @@ END = 120
 # (a line of a session ends with the first 200 bytes of a bad line, each of which may take six)
 LONGEST = 4096
 LINE = re.compile(
-    rb"(following |session \d+ [A-Z]+ (here|gone|ticks)|followers |entries \d+ of \d+|version |last )[ -~]*\n"
+    rb"(following |session \d+ [A-Z]+ (here|gone|ticks)|followers |entries \d+ of \d+|term \d+|version |last )[ -~]*\n"
 )
 
 
@@ -69,6 +69,9 @@ def promote(stream: socket.socket, lines: BinaryIO) -> str:
     answer = lines.readline(LONGEST)
     if answer == b"serving\n":
         raise Fault("follows no board: it serves already")
+    if answer.startswith(b"replaced "):
+        term = answer.decode("ascii", "replace").strip().partition(" ")[2]
+        raise Fault(f"is not promoted: a board with another journal and the later term {term} has taken over")
     if answer != b"promoting\n":
         raise Fault("did not say that the board serves")
     return answer.decode("ascii")

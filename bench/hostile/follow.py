@@ -57,8 +57,8 @@ class First(Board):
 class Second(Board):
     """A board that follows another one: it listens for partners once it was promoted."""
 
-    def __init__(self, program, first, kept, *arguments):
-        self.kept, self.port, self.watch = pathlib.Path(kept), free_port(), free_port()
+    def __init__(self, program, first, kept, *arguments, watch=None):
+        self.kept, self.port, self.watch = pathlib.Path(kept), free_port(), watch or free_port()
         self.ports, self.said, self.lines = [free_port() for _ in ROLES], [], []
         command = [str(program), "follow", f"127.0.0.1:{first}", "--keep", str(kept), "--control", str(self.port)]
         command += ["--watch", f"127.0.0.1:{self.watch}", *arguments]
@@ -97,10 +97,11 @@ class Second(Board):
 
 
 class Server:
-    """Sends each that connects what it is handed, cut off behind so many bytes, and hears what was sent first."""
+    """Sends each that connects what it is handed, cut off behind so many bytes, and hears what was sent first, but for a
+    line that asks for its term, which it sends, where it has one."""
 
-    def __init__(self, answers):
-        self.answers, self.heard = list(answers), []
+    def __init__(self, answers, term=1):
+        self.answers, self.heard, self.term = list(answers), [], term
         self.listener = socket.create_server(("127.0.0.1", 0))
         self.port = self.listener.getsockname()[1]
         self.thread = threading.Thread(target=self.serve, daemon=True)
@@ -115,7 +116,11 @@ class Server:
             stream.settimeout(5)
             answer = self.answers.pop(0) if len(self.answers) > 1 else self.answers[0]
             try:
-                self.heard.append(stream.makefile("rb").readline())
+                with stream.makefile("rb") as lines:
+                    self.heard.append(lines.readline())
+                    if self.heard[-1] == b"term\n" and self.term is not None:
+                        stream.sendall(f"term {self.term}\n".encode())
+                        self.heard[-1] = lines.readline()
                 given = answer(self.heard[-1]) if callable(answer) else answer
                 stream.sendall(given.encode() if isinstance(given, str) else given)
                 if self.answers == [answer]:
@@ -126,6 +131,9 @@ class Server:
             stream.close()
 
     def close(self):
+        # (before its number is another socket's, for which the thread would accept then)
+        self.listener.shutdown(socket.SHUT_RDWR)
+        self.thread.join(10)
         self.listener.close()
 
 
@@ -258,9 +266,16 @@ def others(cases, program, room):
     good, begun = text(JOURNAL[:2]), room / "begun"
     other = [JOURNAL[0], "1 2 29000580 NM 0 0 alerts", *JOURNAL[2:]]
     faulty = [*JOURNAL[:2], "2 1 29000580 APT 0 0 alerts 7", *JOURNAL[3:]]
+    no_board = "no board's term is sent there"
     for name, answer, why in (
-        ("HTTP", "HTTP/1.1 400 Bad Request\r\nConnection: close\r\n\r\n", "no journal is sent there"),
-        ("a partner's address", "bad 101\n", "no journal is sent there"),
+        ("HTTP", "HTTP/1.1 400 Bad Request\r\nConnection: close\r\n\r\n", no_board),
+        ("a partner's address", "bad 101\n", no_board),
+        ("the control address", "unknown\n", no_board),
+        ("no number", "term two\n", no_board),
+        ("a long number", f"term {'1' * 40}\n", no_board),
+        ("half a term", "term 1", no_board),
+        ("nothing at all", "", no_board),
+        ("a board of before, without terms", head(JOURNAL, 2), no_board),
         ("a journal without its line", text(JOURNAL[2:]), "no journal is sent there"),
         ("one that says nothing", "", "the connection has ended"),
         ("half a line", head(JOURNAL, 2)[:40], "the connection has ended"),
@@ -275,7 +290,7 @@ def others(cases, program, room):
         ("a line without an end", head(JOURNAL, 2) + "2 1 " + "x" * 8_000_000, r"entry 2: .+"),
     ):
         begun.write_text(good)
-        server = Server([answer] * 4 + [""])
+        server = Server([answer] * 4 + [""], None if why == no_board else 1)
         second = Second(program, server.port, begun)
         cases.expect(f"{name}: told", second.says(rf"parted {why} {MOMENT}"), second.said)
         cases.expect(f"{name}: nothing is kept of it", begun.read_text() == good and second.entries() == 2, begun.read_text())

@@ -5,8 +5,9 @@
 
 The link is cut both ways, for a while and until the first board lets the second one go. It is cut in one way only, in
 silence. It is slow, and narrow. The second board is promoted while it is cut. The first machine vanishes and comes
-back. Replies wait for the second board over a link that is cut, and over a slow one. The second file is held against the
-first one, byte by byte. Where no such machines can be made this is left out, with a line. The last line is `N cases, M failed`; status 1 where one failed.
+back. Replies wait for the second board over a link that is cut, for the entries of a busy hour too, and over a slow one.
+The second file is held against the first one, byte by byte. Where no such machines can be made this is left out, with a
+line. The last line is `N cases, M failed`; status 1 where one failed.
 """
 
 import contextlib
@@ -36,9 +37,11 @@ NUMBERS = itertools.count()
 
 # So many entries are there before a link is cut; so many are made meanwhile, or where that is not the matter, some.
 BEFORE, MANY, SOME = 100, 3_000, 1_000
+# A day of 69,883 lines has so many in a busy hour.
+HOUR = 5_000
 # Up to this number go the flights of the partners of a board that was promoted.
 OTHERS = 10_000
-SHOW = f'{{"cmd":"show","flight":{OTHERS}}}'
+SHOW, SHOW_FIRST = [f'{{"cmd":"show","flight":{it}}}' for it in (OTHERS, 1)]
 # For so many seconds a link is cut. Where nothing comes for 10 the second board connects anew.
 CUT, SILENT = 7, 10
 # The first board lets a display go that takes nothing for 30 seconds. For that a link is cut for so many.
@@ -207,13 +210,17 @@ class Link:
             if not self.kept.read_bytes().startswith(copy):
                 self.faults.append(copy[-200:])
 
-    def enter(self, count):
-        """So many lines of the partner, each of which becomes an entry."""
-        for line in itertools.islice(self.lines, count):
+    def enter(self, count, lines=None):
+        """So many lines of the partner, each of which becomes an entry. Answers the longest time until one was replied."""
+        longest = 0
+        for line in itertools.islice(lines or self.lines, count):
+            asked = time.monotonic()
             reply = self.airport.asks(line)
-            if reply != f"ok {self.count}":
+            longest = max(longest, time.monotonic() - asked)
+            if not re.match(rf"(ok|rec) {self.count}(?: |$)", reply):
                 raise ValueError(f"entry {self.count} was replied as {reply}")
             self.count += 1
+        return longest
 
     def enter_surely(self, count):
         """The same, where each reply is to have its entry in the second file by then: those that have none."""
@@ -529,25 +536,33 @@ def strict_over_a_cut(cases, link):
     cases.expect_all(link, "further on", THEN)
 
 
+def turns(board):
+    """What a board said of others: that they are late, one of which may still be connected, or how many are back."""
+    return ["late" if it.startswith("late ") else it.rsplit(" ", 1)[0] for it in board.said if it.startswith(("late ", "back "))]
+
+
 def alone_over_a_cut(cases, link):
-    """One reply waits where the link is cut, the others go alone; the second board has them all once the link is whole."""
+    """One reply waits where the link is cut, those of a busy hour go alone; the second board has all once it is whole."""
     link.follow()
     lost = link.enter_surely(BEFORE)
     cases.expect("each reply has its entry there", not lost, lost)
     link.set("down")
-    began = time.monotonic()
-    link.enter(1)
-    took = time.monotonic() - began
+    took = link.enter(1)
     cases.expect("the first reply waits, and comes", 4.5 <= took <= 12, took)
-    began = time.monotonic()
-    link.enter(SOME)
-    cases.expect("the others come at once", time.monotonic() - began < 4, time.monotonic() - began)
+    had, began = link.copy.read_bytes(), time.monotonic()
+    # (a board has room for fewer flights)
+    longest = link.enter(HOUR, itertools.chain.from_iterable(zip(link.lines, itertools.repeat(SHOW_FIRST))))
+    cases.expect("none of the others waits", longest < 4, longest)
+    cases.expect("and none of them comes there", link.copy.read_bytes() == had)
     link.set("up")
-    cases.expect_all(link, "after the cut", 3 * THEN)
-    back = link.first.waits_for(lambda: [it[:4] for it in link.first.said if it[:4] in ("late", "back")] == ["late", "back"], 3 * THEN)
+    mended = time.monotonic()
+    cases.expect_all(link, "after the cut", mended - began + 3 * THEN, mended)
+    back = link.first.waits_for(lambda: turns(link.first) == ["late", "back 1 of 1"], 3 * THEN)
     cases.expect("it says that it was late, and is back", back, link.first.said)
     lost = link.enter_surely(BEFORE)
     cases.expect("and each reply has its entry again", not lost, lost)
+    cases.expect("nobody is late then", turns(link.first) == ["late", "back 1 of 1"], link.first.said)
+    cases.expect_all(link, "further on", THEN)
 
 
 def sure_over_a_slow_one(cases, link):

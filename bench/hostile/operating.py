@@ -98,7 +98,7 @@ def many(cases, program):
             text += piece
     lines = text.decode().splitlines()
     wanted = "{" + "\xff" * 199
-    cases.expect("status of 64 sessions is whole", len(lines) == 67 and all(json.loads(it.split(" last ")[1]) == wanted for it in lines[:64]), len(text))
+    cases.expect("status of 64 sessions is whole", len(lines) == 68 and all(json.loads(it.split(" last ")[1]) == wanted for it in lines[:64]), len(text))
     for it in partners:
         it.close()
     cases.expect("ends", board.close()[1] == 0)

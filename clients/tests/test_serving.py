@@ -51,15 +51,16 @@ class Control(unittest.TestCase):
             done = ran("control.py", board.control, "status")
             caller.close()
         lines = done.stdout.splitlines()
-        self.assertEqual((0, "", 5), (done.returncode, done.stderr, len(lines)))
+        self.assertEqual((0, "", 6), (done.returncode, done.stderr, len(lines)))
         none = "lines 0 entries 0 refused - bad -"
         self.assertEqual([f"session 1 APT gone {none}", "entries 1 of 5000"], [lines[0], lines[2]])
         one = r"lines 1 entries 1 refused 201:1 bad -"
         self.assertRegex(
             lines[1], rf"^session 2 NM here 127\.0\.0\.1:\d+ since \d{{4}}-\d\d-\d\dT\d\d:\d\d:\d\dZ {one}$"
         )
-        self.assertRegex(lines[3], r"^version \d+\.\d+\.\d+$")
-        self.assertRegex(lines[4], r"^last \d{4}-\d\d-\d\dT\d\d:\d\d:00Z$")
+        self.assertEqual("term 1", lines[3])
+        self.assertRegex(lines[4], r"^version \d+\.\d+\.\d+$")
+        self.assertRegex(lines[5], r"^last \d{4}-\d\d-\d\dT\d\d:\d\d:00Z$")
 
     def test_a_start_right_after_the_close(self) -> None:
         """The same words again, with a display that holds the end up, and a kept journal."""

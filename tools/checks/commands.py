@@ -39,6 +39,7 @@ LONG = "takes minutes to hours, and has a script or the gate of its own"
 WAITS = "ends only with the board that it looks at"
 PROVES = "proves, which the gate does"
 CHANGES = "changes the machine"
+TWO_MACHINES = "is of two machines; bench/hostile/two_machines.py tries it"
 # How a command begins, and why it is not run.
 NOT_RUN = {
     "./acdm prove": PROVES,
@@ -81,8 +82,10 @@ NOT_RUN = {
     "echo 'a long pass-word'": "needs the settings of a desk, with which desk/tests tries it",
     "curl --cert swiss.pem": "needs a partner's certificate, with which desk/tests tries it",
     "clients/board.py ADDRESS": "says which words there are",
-    "./acdm serve --watch 10.": "is of two machines; bench/hostile/link.py tries it",
-    "./acdm follow 10.": "is of two machines; bench/hostile/link.py tries it",
+    "./acdm serve --peer 10.": TWO_MACHINES,
+    "./acdm follow 10.": TWO_MACHINES,
+    "clients/partner.py 10.": TWO_MACHINES,
+    "mkdir replaced": TWO_MACHINES,
     "clients/control.py 4199 promote": "needs a board that follows another one; bench/hostile/follow.py tries it",
     "clients/newday.py": "ends the board of its page, and begins another; bench/journal/newday.py tries it",
     "clients/check.py 'LINE'": "says which words there are",
@@ -97,6 +100,7 @@ STATUS = {
 }
 # The board that a page supposes to be there, since another one starts it.
 SUPPOSED = {
+    "docs/OPERATING.md": "./acdm serve --again --control 4199 APT=127.0.0.1:4001",
     "clients/README.md": "./acdm serve --again --control 4199 --changes 127.0.0.1:4100 APT=127.0.0.1:4003",
     "docs/CONNECT.md": "./acdm serve --again --changes 127.0.0.1:4100 ATC=127.0.0.1:4002",
 }
