@@ -203,6 +203,40 @@ def closed(cases, program, room):
     second.close()
 
 
+def promoted(cases, program, room):
+    """A board that follows asks its peer only once it serves, and closes where that has a later term."""
+    kept, server = room / "kept", Server([""], LAST)
+    kept.write_text(text(JOURNAL))
+    board = Second(program, free_ports(1)[0], kept, "--peer", f"127.0.0.1:{server.port}")
+    time.sleep(1.5)
+    cases.expect("while it follows it asks nobody", board.ran.poll() is None and server.heard == [], server.heard)
+    answer, told = board.promote()
+    cases.expect("it is promoted", answer == "promoting\n" and told, answer)
+    status, lines = board.ended()
+    cases.expect("and closes, since its peer is later", (status, lines[-1:]) == (0, [f"closed {len(JOURNAL)}"]), (status, lines))
+    cases.expect("which it says", any(re.fullmatch(rf"replaced {LAST} {MOMENT}", it) for it in board.said), board.said)
+    server.close()
+
+
+def by_words(cases, program, room):
+    """A peer of a later term, named by the words and by a file of settings; and numbers in other forms than boards write."""
+    kept, config = room / "day", room / "board.toml"
+    kept.write_text(text(JOURNAL))
+    for own, term, is_later in (("", 2, True), ("", 1, False), ("term 7\n", 8, True), ("term 7\n", 7, False), ("term +7\n", 8, True), ("term 007\n", 8, True)):
+        server = Server([""], term)
+        peer = f"127.0.0.1:{server.port}"
+        config.write_text(f'keep = "{kept}"\npeer = "{peer}"\nagain = true\npartners = ["APT=nowhere"]\n')
+        file_of(kept).unlink(missing_ok=True)
+        if own:
+            file_of(kept).write_text(own)
+        for given in (["--again", "--keep", str(kept), "--peer", peer, "APT=nowhere"], ["--config", str(config)]):
+            done = ran(program, ["serve", *given])
+            wanted = TAKEN_OVER if is_later else "acdm: address 1\n"
+            cases.expect(f"{own!r} beside {term}, {given[0]}", done.returncode == 2 and done.stderr.decode().startswith(wanted), done.stderr)
+        server.close()
+    cases.expect("the journal stays", kept.read_text() == text(JOURNAL))
+
+
 def behind(cases, program, room):
     """A first board that has entries which the second one has not is not in its term by following it."""
     kept = room / "ahead"
@@ -352,7 +386,7 @@ def main():
     program, cases = given.program, Cases()
     with tempfile.TemporaryDirectory() as made:
         room = pathlib.Path(made)
-        for tried in (takes_over, stale, closed, behind, apart, files, peers):
+        for tried in (takes_over, stale, closed, promoted, by_words, behind, apart, files, peers):
             (room / tried.__name__).mkdir()
             tried(cases, program, room / tried.__name__)
         chance = random.Random(5)
