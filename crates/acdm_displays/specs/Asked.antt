@@ -1,7 +1,7 @@
 -- What the first line of a display asks for (this project's profile).
 use Rattle.std.specs.Prelude.{ℕ, ◌≡◌, ◌==◌, Bool, List, ◌++◌, codes, Option, Some, None}
 use Rattle.std.specs.List.{after_first, before_first}
-use Rattle.acdm_web.specs.Wanted.{IsNamed}
+use Rattle.acdm_lines.specs.Numbers.{NamesNumber}
 use Rattle.acdm_displays.specs.declared.asked.DisplayRequest.{DisplayRequest}
 use Rattle.acdm_displays.specs.declared.asked.DisplayRequest.TheVariants as asks
 use Rattle.acdm_displays.specs.declared.asked.FollowerStart.{FollowerStart}
@@ -10,7 +10,7 @@ use Rattle.acdm_displays.specs.declared.asked.Start.TheVariants as starts
 
 -- `from N`, or `board`
 abbrev pub Names : List ℕ → Start → Type 0
-Names line (starts.Entry n) = (text : List ℕ) × (line ≡ codes "from " ++ text) × IsNamed text n
+Names line (starts.Entry n) = (text : List ℕ) × (line ≡ codes "from " ++ text) × NamesNumber text n
 Names line starts.Board = line ≡ codes "board"
 
 -- `from N as M`
@@ -19,12 +19,12 @@ is_space b = b == 32
 
 abbrev pub NamesFollower : List ℕ → FollowerStart → Type 0
 NamesFollower line start =
-    (text name : List ℕ) × (line ≡ codes "from " ++ text) × IsNamed (before_first is_space text) start.from
-    × (after_first is_space text ≡ codes "as " ++ name) × IsNamed name start.name
+    (text name : List ℕ) × (line ≡ codes "from " ++ text) × NamesNumber (before_first is_space text) start.from
+    × (after_first is_space text ≡ codes "as " ++ name) × NamesNumber name start.name
 
 -- `kept N`
 abbrev pub NamesKept : List ℕ → ℕ → Type 0
-NamesKept line n = (text : List ℕ) × (line ≡ codes "kept " ++ text) × IsNamed text n
+NamesKept line n = (text : List ℕ) × (line ≡ codes "kept " ++ text) × NamesNumber text n
 
 -- no line is silence, and who is taken to have asked for something has sent its line
 abbrev pub IsAskedBy : List ℕ → DisplayRequest → Type 0

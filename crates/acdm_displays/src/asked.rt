@@ -3,9 +3,8 @@ ghost use Rattle.std.specs.Prelude.{◌≡◌, ◌==◌, IfSome, if◌then◌els
 ghost use Rattle.acdm_displays.specs.Asked.{IsAskedBy, Names, NamesFollower, feed_start};
 ghost use Rattle.acdm_displays.specs.declared.asked.DisplayRequest.TheVariants.{Silence, Unknown};
 
-use crate::leaving::is_passing;
 use acdm_keeping::term_text;
-use acdm_web::number_in;
+use acdm_lines::{is_passing, number_in};
 use std::alloc::Global;
 use std::io::{Read, Write};
 

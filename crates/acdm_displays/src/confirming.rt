@@ -4,7 +4,7 @@ ghost use Rattle.acdm_displays.specs.Asked.{NamesKept};
 
 use acdm_confirming::Confirmed;
 use acdm_keeping::Reach;
-use acdm_web::number_in;
+use acdm_lines::number_in;
 use std::io::{self, ErrorKind, Read};
 use std::net::TcpStream;
 use std::sync::Wait;

@@ -1,17 +1,9 @@
 //! Whether a display has left.
 ghost use Rattle.std.specs.Prelude.{◌↔◌, IsTrue};
-ghost use Rattle.std.specs.IoError.{error_kind};
-ghost use Rattle.acdm_displays.specs.Leaving.{IsPassing, TellsLeaving};
+ghost use Rattle.acdm_displays.specs.Leaving.{TellsLeaving};
 
-use std::io::{self, ErrorKind, Read};
-
-/// Whether a call that failed so is made once more: nothing came in its time, or a signal came in
-/// between.
-pub(crate) fn is_passing(error: &io::Error) -> bool
-    ensures { IsTrue result ↔ IsPassing (error_kind error.now) }
-{
-    error.kind() == ErrorKind::WouldBlock || error.kind() == ErrorKind::Interrupted
-}
+use acdm_lines::is_passing;
+use std::io::{self, Read};
 
 // Whether a read tells that a display has left.
 fn tells_leaving(heard: &io::Result<usize>) -> bool

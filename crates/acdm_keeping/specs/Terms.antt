@@ -1,13 +1,11 @@
 -- The line of a term, and the file that has it (this project's profile).
 use Rattle.std.specs.Prelude.{ℕ, ◌≡◌, List, [], ◌∷◌, ◌++◌, codes}
 use Rattle.std.specs.Fmt.{decimal}
-use Rattle.std.specs.Str.Parse.{IsNumeral, digits_value, without_leading_plus}
+use Rattle.acdm_lines.specs.Numbers.{NamesNumber}
 
 -- `term N`
 abbrev pub NamesTerm : List ℕ → ℕ → Type 0
-NamesTerm line n =
-    (text : List ℕ) × (line ≡ codes "term " ++ text) × IsNumeral 10 (without_leading_plus text)
-    × (digits_value 10 (without_leading_plus text) ≡ n)
+NamesTerm line n = (text : List ℕ) × (line ≡ codes "term " ++ text) × NamesNumber text n
 
 -- the same as a line, of a number that is written in decimal
 abbrev pub term_line : ℕ → List ℕ

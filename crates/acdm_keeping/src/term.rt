@@ -1,10 +1,10 @@
 //! The term of a board: since when it serves from its journal, by which it is known which of two boards has taken over.
 ghost use Rattle.std.specs.Prelude.{◌≡◌, ◌+◌, ◌-◌, ◌^◌, ◌≤◌, IfSome, IsNone, IfOk, if◌then◌else◌, nat_lt};
 ghost use Rattle.std.specs.Prelude.{None, Some, option_map, string_bytes};
-ghost use Rattle.std.specs.Arc.{arc_value};
 ghost use Rattle.acdm_keeping.specs.Terms.{NamesTerm, term_line, term_path};
 
 use crate::named::Paths;
+use acdm_lines::number_in;
 use std::alloc::{AllocError, Global};
 use std::fs::{self, File, Files};
 use std::io::{self, ErrorKind, Read, Write};
@@ -18,7 +18,8 @@ pub const FIRST_TERM: u64 = 1;
 // How many bytes the file of a term has at most.
 const LONGEST_FILE: usize = 32;
 
-/// The term that a line names, without its line feed: `term N`, of a decimal number below 2^64. No other line names one.
+/// The term that a line names, without its line feed: `term N`, of a decimal number below 2^64 with no sign and no zero
+/// before it. No other line names one.
 pub fn term_named(line: &[u8]) -> Option<u64>
     ensures { IfSome result (NamesTerm line.now) }
 {
@@ -26,10 +27,7 @@ pub fn term_named(line: &[u8]) -> Option<u64>
         return None;
     };
     let digits = line.strip_prefix("term ")?;
-    match digits.parse::<u64>() {
-        Ok(term) => Some(term),
-        Err(_) => None,
-    }
+    number_in(digits.as_bytes())
 }
 
 /// The line of a term, with its line feed. `Err` only where memory was refused.
@@ -163,9 +161,7 @@ impl BoardTerm {
 
     /// The same once more, for another thread. `Err` only where memory was refused.
     pub fn copy(&self, alloc: Global) -> Result<BoardTerm, AllocError>
-        ensures path { IfOk result (λ term. option_map string_bytes term.path ≡ option_map string_bytes self.now.path) }
-        ensures own { IfOk result (λ term. arc_value term.own ≡ arc_value self.now.own) }
-        ensures met { IfOk result (λ term. arc_value term.met ≡ arc_value self.now.met) }
+        ensures { IfOk result (λ term. option_map string_bytes term.path ≡ option_map string_bytes self.now.path) }
     {
         let path = match &self.path {
             Some(path) => Some(String::from_str(alloc, path.as_str())?),

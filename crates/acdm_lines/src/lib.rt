@@ -6,6 +6,8 @@ mod faults;
 mod kept_line;
 mod lines;
 mod log;
+mod number;
+mod passing;
 mod reply_writer;
 mod run_error;
 mod sink;
@@ -16,6 +18,8 @@ mod writing;
 
 pub use kept_line::KeptLine;
 pub use lines::{Ending, Lines};
+pub use number::number_in;
+pub use passing::is_passing;
 pub use reply_writer::ReplyWriter;
 pub use run_error::RunError;
 pub use sink::Sink;

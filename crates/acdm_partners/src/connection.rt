@@ -3,7 +3,8 @@ ghost use Rattle.std.specs.Prelude.{◌≤◌, length};
 
 use crate::held_place::Arrived;
 use crate::places::PartnerPlace;
-use std::io::{self, ErrorKind, Read};
+use acdm_lines::is_passing;
+use std::io::{self, Read};
 use std::net::TcpStream;
 use std::sync::{Arc, Wait};
 
@@ -21,11 +22,6 @@ pub struct Connection<'r, Rt> {
     given: usize,
     // Whether a line was begun and has not ended.
     in_line: bool,
-}
-
-/// Whether a call that failed so is made once more: nothing came in its time, or a signal came.
-pub(crate) fn is_passing(error: &io::Error) -> bool {
-    error.kind() == ErrorKind::WouldBlock || error.kind() == ErrorKind::Interrupted
 }
 
 impl<'r, Rt: Wait> Connection<'r, Rt> {

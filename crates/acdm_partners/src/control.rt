@@ -2,10 +2,10 @@
 //! follows another one serve.
 ghost use Rattle.std.specs.Prelude.{◌≡◌, ◌<◌, vec_len};
 
-use crate::connection::is_passing;
 use crate::doors::Door;
 use crate::request::{ControlRequest, control_request};
 use crate::stamp::moment_text;
+use acdm_lines::is_passing;
 use std::alloc::{AllocError, Global};
 use std::io::{self, ErrorKind, Read, Write};
 use std::net::{Net, SocketAddr, TcpListener, TcpStream};

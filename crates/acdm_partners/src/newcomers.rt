@@ -1,6 +1,6 @@
 //! Who has connected at an address and is not served yet.
-use crate::connection::is_passing;
 use crate::first_line::{FirstLine, judge_first};
+use acdm_lines::is_passing;
 use std::alloc::{AllocError, Global};
 use std::io::{Read, Write};
 use std::net::{Shutdown, SocketAddr, TcpStream};

@@ -1,25 +1,14 @@
 -- What a browser asks for by the head of a request (RFC 9112; the HTML standard, "Server-sent events"; the paths
 -- and the ids: this project's profile).
-use Rattle.std.specs.Prelude.{ℕ, ◌≡◌, ◌+◌, ◌==◌, ◌≢◌, ◌<◌, ◌^◌, nat_le, Bool, true, false, ◌&&◌, ◌||◌, not, IsUtf8}
+use Rattle.std.specs.Prelude.{ℕ, ◌≡◌, ◌+◌, ◌==◌, ◌≢◌, nat_le, Bool, true, false, ◌&&◌, ◌||◌, not}
 use Rattle.std.specs.Prelude.{List, [], ◌∷◌, length, take, drop, Option, Some, None, if◌then◌else◌, codes, map, ⊤}
 use Rattle.std.specs.Str.{str_eq_ignore_ascii_case}
-use Rattle.std.specs.Str.Parse.{IsNumeral, digits_value, without_leading_plus}
 use Rattle.httparse.specs.Grammar.{ReadsRequest, RequestHead}
 use Rattle.httparse.specs.Spans.{RequestOverflows, name_and_value}
+use Rattle.acdm_lines.specs.Numbers.{NamesNoNumber, NamesNumber}
 use Rattle.acdm_web.specs.declared.request.BrowserRequest.{BrowserRequest}
 use Rattle.acdm_web.specs.declared.request.Wanted.{Wanted}
 use Rattle.acdm_web.specs.declared.request.Wanted.TheVariants.{Page, Events, Nothing, OtherMethod, Misdirected, NoRequest, Busy}
-
--- a text with no sign before its digits, and no zero but that of 0
-abbrev pub is_plain : List ℕ → Bool
-is_plain [] = true
-is_plain (b ∷ []) = true
-is_plain (b ∷ c ∷ cs) = not (b == 43 || b == 48)
-
--- the number that a text names: its digits, with nothing before them
-abbrev pub IsNamed : List ℕ → ℕ → Type 0
-IsNamed text n = (is_plain text ≡ true) × IsNumeral 10 (without_leading_plus text)
-    × (digits_value 10 (without_leading_plus text) ≡ n)
 
 -- two names are one, in whatever case
 abbrev pub is_name : List ℕ → List ℕ → Bool
@@ -30,14 +19,10 @@ abbrev pub value_of : List ℕ → List (List ℕ × List ℕ) → Option (List 
 value_of name [] = None
 value_of name (f ∷ fields) = if is_name f.0 name then Some f.1 else value_of name fields
 
--- no number below 2^64 is named by a text
-abbrev pub NamesNone : List ℕ → Type 0
-NamesNone text = (n : ℕ) → n < 2 ^ 64 → IsUtf8 text → IsNamed text n → ⊥
-
 -- the number that such a value names, if there is a value and it names one
 abbrev pub IsLast : Option (List ℕ) → Option ℕ → Type 0
-IsLast (Some text) (Some n) = IsNamed text n
-IsLast (Some text) None = NamesNone text
+IsLast (Some text) (Some n) = NamesNumber text n
+IsLast (Some text) None = NamesNoNumber text
 IsLast None (Some n) = ⊥
 IsLast None None = ⊤
 

@@ -3,9 +3,9 @@ ghost use Rattle.std.specs.Prelude.{◌≡◌, [], IfSome, option_map};
 ghost use Rattle.acdm_web.specs.Wanted.{Wants};
 
 use crate::request::{BrowserRequest, wanted_in};
-use acdm_lines::Source;
+use acdm_lines::{Source, is_passing};
 use std::alloc::Global;
-use std::io::{ErrorKind, Read};
+use std::io::Read;
 
 /// How many bytes the head of a request has at most.
 const LONGEST_HEAD: usize = 8_192;
@@ -48,7 +48,7 @@ pub fn first_wanted<R: Read, L: TimeLimit>(
                     return None;
                 }
             }
-            Err(error) if is_passing(error.kind()) => continue,
+            Err(error) if is_passing(&error) => continue,
             Err(_) => return None,
         }
         if bytes.len() > LONGEST_HEAD {
@@ -59,9 +59,4 @@ pub fn first_wanted<R: Read, L: TimeLimit>(
         }
     }
     None
-}
-
-// Whether a read that failed so is made again.
-fn is_passing(kind: ErrorKind) -> bool {
-    kind == ErrorKind::WouldBlock || kind == ErrorKind::Interrupted
 }

@@ -11,4 +11,4 @@ pub use answer::push_answer;
 pub use event::push_event;
 pub use hearing::{TimeLimit, first_wanted};
 pub use page::PAGE;
-pub use request::{BrowserRequest, Wanted, number_in, wanted_in};
+pub use request::{BrowserRequest, Wanted, wanted_in};

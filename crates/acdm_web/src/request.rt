@@ -2,11 +2,12 @@
 ghost use Rattle.std.specs.Prelude.{◌≡◌, All, IfSome, IsNone, codes, length, map, option_map};
 ghost use Rattle.httparse.specs.Grammar.{HasNoRequest, RequestHead};
 ghost use Rattle.httparse.specs.Spans.{IsHeaderWithin, IsRequestAt, IsRequestWithin, header_bytes};
-ghost use Rattle.acdm_web.specs.Wanted.{Asks, IsLast, IsNamed, NamesNone, Wants};
+ghost use Rattle.acdm_web.specs.Wanted.{Asks, IsLast, Wants};
 ghost use Rattle.acdm_web.specs.Wanted.{is_at, is_bracketed, is_given, is_meant, is_name, is_numeric, is_own};
-ghost use Rattle.acdm_web.specs.Wanted.{before, host_of, is_own_host, is_plain, is_same_site, last_of, path_of, value_of};
+ghost use Rattle.acdm_web.specs.Wanted.{before, host_of, is_own_host, is_same_site, last_of, path_of, value_of};
 ghost use Rattle.acdm_web.specs.Wanted.{IsAt};
 
+use acdm_lines::number_in;
 use httparse::Status;
 use httparse::spans::{EMPTY_HEADER_SPAN, HeaderSpan, RequestSpans, parse_request};
 
@@ -39,33 +40,6 @@ pub struct BrowserRequest {
     pub wanted: Wanted,
     /// Whether the method is `HEAD`.
     pub is_head: bool,
-}
-
-// Whether no sign stands before the digits of a text, and no zero but that of 0.
-fn is_plain(text: &[u8]) -> bool
-    ensures { result ≡ is_plain text.now }
-{
-    match text.split_first() {
-        Some((first, rest)) if !rest.is_empty() => *first != b'+' && *first != b'0',
-        _ => true,
-    }
-}
-
-/// The number below 2^64 that a text names by its digits, with no sign and no zero before them.
-pub fn number_in(text: &[u8]) -> Option<u64>
-    ensures named { IfSome result (IsNamed text.now) }
-    ensures none { IsNone result → NamesNone text.now }
-{
-    if !is_plain(text) {
-        return None;
-    }
-    let Ok(text) = str::from_utf8(text) else {
-        return None;
-    };
-    match text.parse::<u64>() {
-        Ok(number) => Some(number),
-        Err(_) => None,
-    }
 }
 
 // Whether two names are one, in whatever case.
