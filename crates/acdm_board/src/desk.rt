@@ -57,7 +57,7 @@ impl<H: Helpers + Drop> Desk<H> {
     {
         let sigs = helpers.sigs()?;
         let book = Box::new(alloc, Book::new(alloc, sigs, capacity)?)?;
-        let passes = Passes::new(alloc, Arc::try_clone(book.row())?)?;
+        let passes = Passes::new(alloc, Arc::try_clone(book.row())?);
         Ok(Desk {
             helpers,
             book,
@@ -251,6 +251,14 @@ impl<H: Helpers + Drop> Desk<H> {
             return Err(error);
         }
         self.enter(pass, moment, command)
+    }
+
+    /// Takes the place of the passes of all sessions and roles, at most 384, for a run that keeps one for each pair that
+    /// it meets. `Err` only where memory was refused; nothing has changed then.
+    pub fn keep_passes(&mut self) -> Result<(), AllocError>
+        ensures { self.new ≡ self.old }
+    {
+        self.passes.take_place()
     }
 
     /// The same for a session, from 1 to 64, in a role, by a pass that the desk keeps for the two.

@@ -11,7 +11,7 @@ use std::sync::Arc;
 // One for each of 64 sessions in each of six roles.
 const MOST_PASSES: usize = 384;
 
-/// Passes of one row, at most one for each session and role. Room for all is taken at first.
+/// Passes of one row, at most one for each session and role.
 #[derive(Drop)]
 pub(crate) struct Passes {
     row: Arc<Row>,
@@ -32,14 +32,22 @@ impl Model for Passes {
 }
 
 impl Passes {
-    /// None yet, with room for all. `Err` only where memory was refused.
-    pub(crate) fn new(alloc: Global, row: Arc<Row>) -> Result<Passes, AllocError>
-        ensures { IfOk result (λ passes. passes ≡ arc_value row) }
+    /// None yet. It takes no memory.
+    pub(crate) fn new(alloc: Global, row: Arc<Row>) -> Passes
+        ensures { result ≡ arc_value row }
     {
-        match Vec::with_capacity(alloc, MOST_PASSES) {
-            Ok(items) => Ok(Passes { row, items }),
-            Err(error) => Err(error),
+        Passes {
+            row,
+            items: Vec::new(alloc),
         }
+    }
+
+    /// Takes the place of all of them. `Err` only where memory was refused.
+    pub(crate) fn take_place(&mut self) -> Result<(), AllocError>
+        ensures { self.new ≡ self.old }
+    {
+        self.items
+            .reserve(MOST_PASSES.saturating_sub(self.items.len()))
     }
 
     // Where the pass of a session in a role stands.

@@ -88,8 +88,8 @@ pub(crate) fn serve_lines<R: Read, W: Write, A: Answerer, N: Announcer<W>>(
 /// ended. A line of more than 70,000 bytes takes no more memory than one of them.
 ///
 /// `Read` where the reader failed, or where 2^40 reads did not reach its end; `Write` where the
-/// writer failed; `Memory` where there was no room for the buffers that a run begins with, and
-/// then nothing was read.
+/// writer failed; `Memory` where there was no room for the buffers and the passes that a run begins
+/// with, and then nothing was read.
 pub fn run<R: Read, W: Write, H: Helpers + Drop>(
     alloc: Global,
     reader: &mut Source<R>,
@@ -101,7 +101,10 @@ pub fn run<R: Read, W: Write, H: Helpers + Drop>(
     ensures { AnswersLines serving_desk reader.old reader.new writer.old writer.new desk.old desk.new
         result }
 {
-    serve_lines::<R, W, Desk<H>, Silent>(alloc, reader, writer, desk)
+    match desk.keep_passes() {
+        Ok(()) => serve_lines::<R, W, Desk<H>, Silent>(alloc, reader, writer, desk),
+        Err(_) => Err(RunError::Memory),
+    }
 }
 
 /// Answers each line as `run` does, on a writer that is told of which entry a reply tells before it takes the reply.
@@ -121,5 +124,8 @@ pub fn run_announced<R: Read, W: ReplyWriter, H: Helpers + Drop>(
     ensures told { TellsMade (numbers_to (length desk.old.history)) (numbers_to (length desk.new.history))
         writer.old.told writer.new.told }
 {
-    serve_lines::<R, W, Desk<H>, Aloud>(alloc, reader, writer, desk)
+    match desk.keep_passes() {
+        Ok(()) => serve_lines::<R, W, Desk<H>, Aloud>(alloc, reader, writer, desk),
+        Err(_) => Err(RunError::Memory),
+    }
 }
