@@ -3,5 +3,7 @@
 #![tactic(auto)]
 
 mod command_line;
+mod options;
+mod subcommands;
 
 pub use command_line::{Line, Subcommand, asked, parse};

@@ -1,0 +1,304 @@
+//! The subcommands of the program, each with the options that it takes.
+ghost use Rattle.std.specs.Prelude.{◌≡◌, false, true, IfOk};
+ghost use Rattle.clap.specs.Words.{app_of, rule_of, with_subcommand};
+ghost use Rattle.clap.specs.declared.builder.Command.TheViews.{out-Command as fields_of};
+ghost use Rattle.acdm_command_line.specs.CommandLine.{program, file_app, keeping_app, program_app, bare_app};
+ghost use Rattle.acdm_command_line.specs.CommandLine.{follow_app, following_app, run_app, running_app, serve_app};
+ghost use Rattle.acdm_command_line.specs.CommandLine.{held_app, serving_app, showing_app, watching_app, journal_app};
+ghost use Rattle.acdm_command_line.specs.CommandLine.{lasting_app, logging_app, seconded_app, peered_app, Answers};
+
+use crate::options::{
+    again, changes, control, file, first, journal, keep, kept, length, log, pace, partners, peer,
+    save, second, strict, sync, tables, tick, watch, web, web_name,
+};
+use clap::{Arg, Command};
+use std::alloc::{AllocError, Global};
+
+// A subcommand that has a journal, which is kept by this option.
+fn with_journal<'a>(
+    alloc: Global,
+    name: &'a str,
+    about: &'a str,
+    keep: Arg<'a>,
+) -> Result<Command<'a>, AllocError>
+    requires local { keep.global ≡ false }
+    ensures shape { IfOk result (λ c. app_of c ≡ journal_app name.now (rule_of keep.entry)) }
+    ensures local { IfOk result (λ c. (fields_of c).has_globals ≡ false) }
+{
+    Command::new(alloc, name)
+        .about(about)
+        .arg(journal(alloc))?
+        .arg(save(alloc))?
+        .arg(keep)?
+        .arg(sync(alloc))
+}
+
+// One that takes tables too.
+fn keeping<'a>(
+    alloc: Global,
+    name: &'a str,
+    about: &'a str,
+    keep: Arg<'a>,
+) -> Result<Command<'a>, AllocError>
+    requires local { keep.global ≡ false }
+    ensures shape { IfOk result (λ c. app_of c ≡ keeping_app name.now (rule_of keep.entry)) }
+    ensures local { IfOk result (λ c. (fields_of c).has_globals ≡ false) }
+{
+    with_journal(alloc, name, about, keep)?.arg(tables(alloc))
+}
+
+fn run_command<'a>(alloc: Global) -> Result<Command<'a>, AllocError>
+    ensures shape { IfOk result (λ c. app_of c ≡ run_app) }
+    ensures local { IfOk result (λ c. (fields_of c).has_globals ≡ false) }
+{
+    let about = "Answers the lines of standard input on standard output";
+    keeping(alloc, "run", about, keep(alloc))
+}
+
+// A subcommand that serves, with what is sent to displays of lines.
+#[tactic(auto, unfolding(crate::specs::CommandLine::watching_app))]
+fn watching<'a>(
+    alloc: Global,
+    name: &'a str,
+    about: &'a str,
+    keep: Arg<'a>,
+) -> Result<Command<'a>, AllocError>
+    requires local { keep.global ≡ false }
+    ensures shape { IfOk result (λ c. app_of c ≡ watching_app name.now (rule_of keep.entry)) }
+    ensures local { IfOk result (λ c. (fields_of c).has_globals ≡ false) }
+{
+    keeping(alloc, name, about, keep)?
+        .arg(watch(alloc))?
+        .arg(changes(alloc))
+}
+
+// The same with what browsers have.
+#[tactic(auto, unfolding(crate::specs::CommandLine::showing_app))]
+fn showing<'a>(
+    alloc: Global,
+    name: &'a str,
+    about: &'a str,
+    keep: Arg<'a>,
+) -> Result<Command<'a>, AllocError>
+    requires local { keep.global ≡ false }
+    ensures shape { IfOk result (λ c. app_of c ≡ showing_app name.now (rule_of keep.entry)) }
+    ensures local { IfOk result (λ c. (fields_of c).has_globals ≡ false) }
+{
+    watching(alloc, name, about, keep)?
+        .arg(web(alloc))?
+        .arg(web_name(alloc))
+}
+
+// The same with what holds it open, and closes it.
+#[tactic(auto, unfolding(crate::specs::CommandLine::held_app))]
+fn held<'a>(
+    alloc: Global,
+    name: &'a str,
+    about: &'a str,
+    keep: Arg<'a>,
+) -> Result<Command<'a>, AllocError>
+    requires local { keep.global ≡ false }
+    ensures shape { IfOk result (λ c. app_of c ≡ held_app name.now (rule_of keep.entry)) }
+    ensures local { IfOk result (λ c. (fields_of c).has_globals ≡ false) }
+{
+    showing(alloc, name, about, keep)?
+        .arg(again(alloc))?
+        .arg(control(alloc))
+}
+
+// The same with its pace and its ticks.
+#[tactic(auto, unfolding(crate::specs::CommandLine::lasting_app))]
+fn lasting<'a>(
+    alloc: Global,
+    name: &'a str,
+    about: &'a str,
+    keep: Arg<'a>,
+) -> Result<Command<'a>, AllocError>
+    requires local { keep.global ≡ false }
+    ensures shape { IfOk result (λ c. app_of c ≡ lasting_app name.now (rule_of keep.entry)) }
+    ensures local { IfOk result (λ c. (fields_of c).has_globals ≡ false) }
+{
+    held(alloc, name, about, keep)?
+        .arg(pace(alloc))?
+        .arg(tick(alloc))
+}
+
+// The same with its log.
+#[tactic(auto, unfolding(crate::specs::CommandLine::logging_app))]
+fn logging<'a>(
+    alloc: Global,
+    name: &'a str,
+    about: &'a str,
+    keep: Arg<'a>,
+) -> Result<Command<'a>, AllocError>
+    requires local { keep.global ≡ false }
+    ensures shape { IfOk result (λ c. app_of c ≡ logging_app name.now (rule_of keep.entry)) }
+    ensures local { IfOk result (λ c. (fields_of c).has_globals ≡ false) }
+{
+    lasting(alloc, name, about, keep)?.arg(log(alloc))
+}
+
+// The same with the boards that replies wait for.
+#[tactic(auto, unfolding(crate::specs::CommandLine::seconded_app))]
+fn seconded<'a>(
+    alloc: Global,
+    name: &'a str,
+    about: &'a str,
+    keep: Arg<'a>,
+) -> Result<Command<'a>, AllocError>
+    requires local { keep.global ≡ false }
+    ensures shape { IfOk result (λ c. app_of c ≡ seconded_app name.now (rule_of keep.entry)) }
+    ensures local { IfOk result (λ c. (fields_of c).has_globals ≡ false) }
+{
+    logging(alloc, name, about, keep)?
+        .arg(second(alloc))?
+        .arg(strict(alloc))
+}
+
+// The same with the other board that may have taken over.
+#[tactic(auto, unfolding(crate::specs::CommandLine::peered_app))]
+fn peered<'a>(
+    alloc: Global,
+    name: &'a str,
+    about: &'a str,
+    keep: Arg<'a>,
+) -> Result<Command<'a>, AllocError>
+    requires local { keep.global ≡ false }
+    ensures shape { IfOk result (λ c. app_of c ≡ peered_app name.now (rule_of keep.entry)) }
+    ensures local { IfOk result (λ c. (fields_of c).has_globals ≡ false) }
+{
+    seconded(alloc, name, about, keep)?.arg(peer(alloc))
+}
+
+fn serve_command<'a>(alloc: Global) -> Result<Command<'a>, AllocError>
+    ensures shape { IfOk result (λ c. app_of c ≡ serve_app) }
+    ensures local { IfOk result (λ c. (fields_of c).has_globals ≡ false) }
+{
+    let about =
+        "Accepts a partner at each address, and serves all at once; --config FILE puts in its place the words of a file in TOML";
+    peered(alloc, "serve", about, keep(alloc))?.arg(partners(alloc))
+}
+
+fn follow_command<'a>(alloc: Global) -> Result<Command<'a>, AllocError>
+    ensures shape { IfOk result (λ c. app_of c ≡ follow_app) }
+    ensures local { IfOk result (λ c. (fields_of c).has_globals ≡ false) }
+{
+    let about =
+        "Keeps the journal of another board as it grows, and serves as that board did once it is promoted";
+    peered(alloc, "follow", about, kept(alloc))?
+        .arg(first(alloc))?
+        .arg(partners(alloc))
+}
+
+// A subcommand on a file.
+fn on_file<'a>(
+    alloc: Global,
+    name: &'a str,
+    about: &'a str,
+    help: &'a str,
+) -> Result<Command<'a>, AllocError>
+    ensures shape { IfOk result (λ c. app_of c ≡ file_app name.now) }
+    ensures local { IfOk result (λ c. (fields_of c).has_globals ≡ false) }
+{
+    Command::new(alloc, name)
+        .about(about)
+        .arg(tables(alloc))?
+        .arg(file(alloc, help))
+}
+
+// A subcommand on a program, with `--length`.
+fn on_program<'a>(alloc: Global, name: &'a str, about: &'a str) -> Result<Command<'a>, AllocError>
+    ensures shape { IfOk result (λ c. app_of c ≡ program_app name.now) }
+    ensures local { IfOk result (λ c. (fields_of c).has_globals ≡ false) }
+{
+    Command::new(alloc, name)
+        .about(about)
+        .arg(length(alloc))?
+        .arg(tables(alloc))?
+        .arg(file(alloc, "The raw bytes of a BPF program"))
+}
+
+// The program before it has subcommands, of which one is wanted.
+fn bare_program<'a>(alloc: Global) -> Command<'a>
+    ensures shape { app_of result ≡ bare_app }
+    ensures local { (fields_of result).has_globals ≡ false }
+{
+    Command::new(alloc, "acdm")
+        .about("The shared board of an A-CDM airport")
+        .subcommand_required(true)
+}
+
+// The program with the subcommand `run` alone.
+fn run_program<'a>(alloc: Global) -> Result<Command<'a>, AllocError>
+    ensures shape { IfOk result (λ c. app_of c ≡ running_app) }
+    ensures local { IfOk result (λ c. (fields_of c).has_globals ≡ false) }
+{
+    let run = run_command(alloc)?;
+    bare_program(alloc).subcommand(run)
+}
+
+// The program with the first two subcommands that keep a journal.
+fn serving_program<'a>(alloc: Global) -> Result<Command<'a>, AllocError>
+    ensures shape { IfOk result (λ c. app_of c ≡ serving_app) }
+    ensures local { IfOk result (λ c. (fields_of c).has_globals ≡ false) }
+{
+    let serve = serve_command(alloc)?;
+    run_program(alloc)?.subcommand(serve)
+}
+
+// The program with the three.
+fn following_program<'a>(alloc: Global) -> Result<Command<'a>, AllocError>
+    ensures shape { IfOk result (λ c. app_of c ≡ following_app) }
+    ensures local { IfOk result (λ c. (fields_of c).has_globals ≡ false) }
+{
+    let follow = follow_command(alloc)?;
+    serving_program(alloc)?.subcommand(follow)
+}
+
+// The program with one more subcommand, on a file.
+fn with_file<'a>(
+    alloc: Global,
+    program: Command<'a>,
+    name: &'a str,
+    about: &'a str,
+    help: &'a str,
+) -> Result<Command<'a>, AllocError>
+    requires { (fields_of program).has_globals ≡ false }
+    ensures shape { IfOk result (λ c. app_of c
+        ≡ with_subcommand (app_of program.entry) (file_app name.now).top) }
+    ensures local { IfOk result (λ c. (fields_of c).has_globals ≡ false) }
+{
+    let command = on_file(alloc, name, about, help)?;
+    program.subcommand(command)
+}
+
+// The program with one more subcommand, on a program.
+fn with_program<'a>(
+    alloc: Global,
+    program: Command<'a>,
+    name: &'a str,
+    about: &'a str,
+) -> Result<Command<'a>, AllocError>
+    requires { (fields_of program).has_globals ≡ false }
+    ensures shape { IfOk result (λ c. app_of c
+        ≡ with_subcommand (app_of program.entry) (program_app name.now).top) }
+    ensures local { IfOk result (λ c. (fields_of c).has_globals ≡ false) }
+{
+    let command = on_program(alloc, name, about)?;
+    program.subcommand(command)
+}
+
+pub(crate) fn program<'a>(alloc: Global) -> Result<Command<'a>, AllocError>
+    ensures shape { IfOk result (λ c. app_of c ≡ program) }
+    ensures local { IfOk result (λ c. (fields_of c).has_globals ≡ false) }
+{
+    let verifies = "Lists a BPF program that may run, or tells its first fault";
+    let audits = "Judges a saved journal by itself, or tells its first fault";
+    let explains = "Lists a BPF program with what is known before each slot, and why it is refused";
+    let tells = "Tells what each entry of a saved journal says and changes, as lines of JSON";
+    let saved = "A journal that was saved as text";
+    let judging = with_program(alloc, following_program(alloc)?, "verify", verifies)?;
+    let judging = with_file(alloc, judging, "audit", audits, saved)?;
+    let judging = with_program(alloc, judging, "explain", explains)?;
+    with_file(alloc, judging, "tell", tells, saved)
+}
