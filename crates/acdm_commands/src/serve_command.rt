@@ -16,6 +16,7 @@ ghost use Rattle.acdm_serving.specs.Partners.{starts_of};
 ghost use Rattle.acdm_tables.specs.Helpers.{helpers_by};
 
 use crate::addresses::few_partners;
+use crate::cause::Noting;
 use crate::context::Context;
 use crate::outlets::{Outlets, ShownRow, close_all, outlets_at};
 use crate::request::{KeepIn, ServeRequest, Setup};
@@ -40,7 +41,7 @@ use acdm_tables::KnownHelpers;
 use bpf_helpers::Helpers;
 use std::alloc::{AllocError, Global};
 use std::fs::{File, Files};
-use std::io::{self, ErrorKind, Write};
+use std::io::{self, BufWriter, ErrorKind, Write};
 use std::marker::Brand;
 use std::net::SocketAddr;
 use std::sync::Arc;
@@ -88,7 +89,14 @@ pub(crate) fn serve_command<'a, Rt: Host + Files<File = File>, W: Write, E: Writ
     match saving_in(context, request.files) {
         Ok(mut saving) => {
             let work = match begin(context, setup, request) {
-                Ok(begun) => serve_begun(context, request, begun, output, &mut saving.file),
+                // (`Brand`: the proof says what the desk of this start and its keeper began with)
+                Ok(begun) => serve_desk::<Brand, Rt, KnownHelpers, W, BufWriter<Noting<'a, File>>>(
+                    context,
+                    request,
+                    begun,
+                    output,
+                    &mut saving.file,
+                ),
                 Err(BeginError::Illegal(finding)) => finding.tell(output),
                 Err(BeginError::Failed(failure)) => Err(failure),
             };
@@ -154,23 +162,8 @@ fn begin<Rt: Host + Files<File = File>>(
     }
 }
 
-// Serves partners by a board, and saves what they made.
-fn serve_begun<Rt: Host + Files<File = File>, H: Helpers + Drop + Send, W: Write, F: Write + Drop>(
-    context: &Context<'_, Rt>,
-    request: &ServeRequest<'_>,
-    begun: BoardStart<Rt, H>,
-    output: &mut Sink<W>,
-    saved: &mut Option<Sink<F>>,
-) -> Result<u8, Failure>
-    requires new { IfSome begun.keeper (IsNewKeeper begun.desk) }
-    ensures { ServesLed (is_some begun.keeper) begun.desk (named_of request.now) output.old output.new saved.old
-        saved.new result }
-{
-    serve_desk::<Brand, Rt, H, W, F>(context, request, begun, output, saved)
-}
-
-// The same, by a keeper that is shared, if there is one: displays are shown what is kept. They are disconnected once
-// the journal is saved, so that none of them delays it.
+// Serves partners by a board, and saves what they made. Its keeper, if there is one, is shared, and displays are shown what
+// is kept. They are disconnected once the journal is saved, so that none of them delays it.
 fn serve_desk<
     J: Opening + Send + Sync,
     Rt: Host + Files<File = File>,
@@ -199,35 +192,28 @@ fn serve_desk<
         count,
         term,
     } = begun;
-    let JournalTerm { term, peer, .. } = term;
-    let peer = match peer {
-        Some(peer) => Some(peer.again()),
-        None => None,
-    };
     let Ok(mut buffer) = buffer_for(alloc, saved) else {
-        return Err(Failure::Memory);
-    };
-    let Ok(closing) = Arc::new(alloc, AtomicBool::new(false)) else {
-        return Err(Failure::Memory);
-    };
-    let Ok(same) = copy_of(alloc, &named) else {
         return Err(Failure::Memory);
     };
     let Operator { control, log } = match operator_of(context, &request.options, &request.files) {
         Ok(operator) => operator,
         Err(failure) => return Err(failure),
     };
-    let shared: Option<FileKeeper<J, Rt>> = match share(
-        context.rt, alloc, keeper, count, &desk, &closing,
-    ) {
+    let shared: SharedParts<J, Rt> = match share(context, request, keeper, count, &named, &desk) {
         Ok(shared) => shared,
         Err(_) => return Err(Failure::Memory),
     };
-    let Ok(reach) = reach_of(&shared) else {
-        return Err(Failure::Memory);
-    };
-    let Ok(confirmed) = confirmed_by(alloc, request.options, &closing) else {
-        return Err(Failure::Memory);
+    let SharedParts {
+        keeper: shared,
+        reach,
+        named: same,
+        confirmed,
+        closing,
+    } = shared;
+    let JournalTerm { term, peer, .. } = term;
+    let peer = match peer {
+        Some(peer) => Some(peer.again()),
+        None => None,
     };
     let shown = ShownRow {
         row: desk.row(),
@@ -300,8 +286,63 @@ fn note_kept<Rt>(context: &Context<'_, Rt>, keep: Option<KeepIn<'_>>, named: &Op
     }
 }
 
-// Shares the keeper of a desk, if there is one.
+/// What the threads of a board share beside its row: the keeper of its journal, how far that is kept and the name of its file,
+/// if it is kept; what other boards keep, where replies wait for that; and whether the board closes.
+#[derive(Drop)]
+struct SharedParts<J: Opening, Rt: Host> {
+    keeper: Option<FileKeeper<J, Rt>>,
+    reach: Option<Reach>,
+    named: Option<Named>,
+    confirmed: Option<Arc<Confirmed>>,
+    closing: Arc<AtomicBool>,
+}
+
+// Shares the keeper of a desk, if there is one. `Memory` where that was refused.
 fn share<J: Opening, Rt: Host, H: Helpers + Drop>(
+    context: &Context<'_, Rt>,
+    request: &ServeRequest<'_>,
+    keeper: Option<Keeper<Synced<Rt>>>,
+    count: KeptCount,
+    named: &Option<Named>,
+    desk: &Desk<H>,
+) -> Result<SharedParts<J, Rt>, Failure>
+    requires desk { row_of desk.now ≡ J.desk_row }
+    requires opening { seen_by keeper ≡ J.opening }
+    requires table { count ≡ J.table }
+    requires new { IfSome keeper (IsNewKeeper desk.now) }
+    ensures shared { IfOk result (λ s. is_some s.keeper ≡ is_some keeper) }
+    ensures confirmed { IfOk result (λ s. option_map (λ c. terms_of (arc_value c)) s.confirmed
+        ≡ terms_by request.now.options.second request.now.options.is_strict) }
+    ensures fails { IfErr result (λ failure. failure ≡ Memory) }
+{
+    let alloc = context.alloc;
+    let Ok(closing) = Arc::new(alloc, AtomicBool::new(false)) else {
+        return Err(Failure::Memory);
+    };
+    let Ok(named) = copy_of(alloc, named) else {
+        return Err(Failure::Memory);
+    };
+    let Ok(confirmed) = confirmed_by(alloc, request.options, &closing) else {
+        return Err(Failure::Memory);
+    };
+    let keeper = match shared_keeper(context.rt, alloc, keeper, count, desk, &closing) {
+        Ok(keeper) => keeper,
+        Err(_) => return Err(Failure::Memory),
+    };
+    match reach_of(&keeper) {
+        Ok(reach) => Ok(SharedParts {
+            keeper,
+            reach,
+            named,
+            confirmed,
+            closing,
+        }),
+        Err(_) => Err(Failure::Memory),
+    }
+}
+
+// The keeper of a desk for all threads, if there is one.
+fn shared_keeper<J: Opening, Rt: Host, H: Helpers + Drop>(
     rt: &Rt,
     alloc: Global,
     keeper: Option<Keeper<Synced<Rt>>>,

@@ -18,10 +18,10 @@ returns-after-begin g c =
     (elim c.match-begin.branch [
       | in-Ok-begin w ↦
           rw (w.output-is, w.saving-is, w.work-is)
-          (serves_begun sigs c.args.setup.capacity kept named c.args.output.now w.serve_begun-work.new.output
-          c.in-Ok.saving.file w.serve_begun-work.new.saved (is_some w.in-Ok-begin.begun.keeper)
-          w.in-Ok-begin.begun.desk w.serve_begun-work.result w.in-Ok-begin.ensures.kept
-          w.in-Ok-begin.ensures.begins w.serve_begun-work.ensures)
+          (serves_begun sigs c.args.setup.capacity kept named c.args.output.now w.serve_desk-work.new.output
+          c.in-Ok.saving.file w.serve_desk-work.new.saved (is_some w.in-Ok-begin.begun.keeper)
+          w.in-Ok-begin.begun.desk w.serve_desk-work.result w.in-Ok-begin.ensures.kept
+          w.in-Ok-begin.ensures.begins w.serve_desk-work.ensures)
       | in-Err-Illegal w ↦
           rw (w.output-is, w.saving-is, w.work-is)
           (told_illegal sigs c.args.setup.capacity kept named c.args.output.now w.tell-work.new.writer

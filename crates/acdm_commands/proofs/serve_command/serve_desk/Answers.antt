@@ -7,20 +7,11 @@ use Rattle.acdm_commands.proofs.serve_command.serve_desk.Goals as goal
 pub returns-in_default : goal.returns-in_default
 returns-in_default g c = led_stopped _ _ _ _ _ _ _ (inl (inr (inl tt)))
 
-pub returns-in_default-new : goal.returns-in_default-new
-returns-in_default-new g c = led_stopped _ _ _ _ _ _ _ (inl (inr (inl tt)))
-
-pub returns-in_default-copy_of : goal.returns-in_default-copy_of
-returns-in_default-copy_of g c = led_stopped _ _ _ _ _ _ _ (inl (inr (inl tt)))
-
 pub returns-in-Err : goal.returns-in-Err
 returns-in-Err g c = led_stopped _ _ _ _ _ _ _ (inl (inr (inr (inr c.in-Err.ensures))))
 
 pub returns-in-Err-share : goal.returns-in-Err-share
 returns-in-Err-share g c = led_stopped _ _ _ _ _ _ _ (inl (inr (inl tt)))
-
-pub returns-in_default-reach_of : goal.returns-in_default-reach_of
-returns-in_default-reach_of g c = led_stopped _ _ _ _ _ _ _ (inl (inr (inl tt)))
 
 pub returns-in-Err-opened : goal.returns-in-Err-opened
 returns-in-Err-opened g c = led_stopped _ _ _ _ _ _ _ (inl c.in-Err-opened.ensures.fails)
