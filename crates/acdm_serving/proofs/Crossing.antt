@@ -31,7 +31,7 @@ use Rattle.acdm_keeping.specs.declared.writing.Opening as opening
 use Rattle.acdm_serving.specs.contracts.reconnecting.Answering as answering
 use Rattle.acdm_serving.specs.contracts.reconnecting.Reading as either
 use Rattle.acdm_serving.specs.contracts.peer.PeerWatch as watch
-use Rattle.acdm_serving.specs.contracts.reconnecting.Tally as tally
+use Rattle.acdm_serving.specs.contracts.tally.Tally as tally
 use Rattle.acdm_serving.specs.contracts.ticks.Ticks as ticks
 use Rattle.acdm_serving.specs.contracts.ticks.Ticks.TheInside as ticks_inside
 use Rattle.acdm_serving.specs.contracts.ticks.Timer as timer

@@ -3,10 +3,11 @@ ghost use Rattle.std.specs.Prelude.{◌≡◌, is_some};
 ghost use Rattle.acdm_following.specs.Courses.{asked, parted_as};
 
 use crate::confirming::Confirming;
-use crate::peer::{PAUSE, PAUSES_BETWEEN, connected_to, hear_term, is_passing};
+use crate::peer::{PAUSE, PAUSES_BETWEEN, connected_to, hear_term};
 use acdm_following::{Course, FirstBoard, Parting};
 use acdm_journal::push_entry;
 use acdm_keeping::{BoardTerm, Paths, is_replaced};
+use acdm_lines::is_passing;
 use acdm_partners::Reporter;
 use acdm_row::Row;
 use std::alloc::{AllocError, Global};

@@ -4,20 +4,23 @@
 #![tactic(auto)]
 
 mod confirming;
+mod first_board;
 mod following;
 mod handed;
 mod host;
 mod partners;
 mod peer;
 mod reconnecting;
+mod tally;
 mod ticks;
 
+pub use first_board::{FirstBoardPlace, follow_first};
 pub use handed::{KeptSession, latest_receipt};
 pub use host::Host;
 pub use partners::{Listener, PatientWriter, ServedPartners, serve_on, serve_partners};
 pub use peer::{Peer, peer_term};
 pub use reconnecting::{
-    Answering, FileKeeper, FirstBoardPlace, KeptReplyWriter, Operation, Partners, Reading, Ticking,
-    follow_first, serve_reconnecting,
+    Answering, FileKeeper, KeptReplyWriter, Operation, Partners, Reading, Ticking,
+    serve_reconnecting,
 };
 pub use ticks::{Beat, Ticks, Timer};

@@ -1,5 +1,6 @@
 //! Another board, as it is asked for its term.
 use acdm_keeping::{BoardTerm, term_named};
+use acdm_lines::is_passing;
 use std::alloc::{AllocError, Global};
 use std::io::{self, ErrorKind, Read, Write};
 use std::net::{Net, SocketAddr, TcpListener, TcpStream};
@@ -21,11 +22,6 @@ const CONNECTING: u64 = 2_000;
 const LONGEST_TERM: usize = 32;
 
 const TERM_PAUSES: u64 = 80;
-
-/// Whether a call that failed so is made once more: nothing came in its time, or a signal came.
-pub(crate) fn is_passing(error: &io::Error) -> bool {
-    error.kind() == ErrorKind::WouldBlock || error.kind() == ErrorKind::Interrupted
-}
 
 // That something else was sent than the term that was asked for.
 fn no_term() -> io::Error {

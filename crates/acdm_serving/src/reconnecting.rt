@@ -6,29 +6,22 @@ ghost use Rattle.acdm_serving.specs.Partners.{Announces, FailsToTell, IsOfAccept
 ghost use Rattle.acdm_serving.specs.Partners.{session_text, starts_of, tick_starts};
 ghost use Rattle.acdm_sessions.specs.Sessions.{ServesSessions, new_session, session_start};
 ghost use Rattle.acdm_sessions.specs.Sessions.{session_told};
-ghost use Rattle.acdm_following.specs.Follows.{Grows};
-ghost use Rattle.acdm_serving.specs.Following.{FailsToFollow};
 ghost use Rattle.acdm_serving.specs.Outcomes.{outcome_of};
-ghost use Rattle.acdm_step.specs.History.{IsLegal};
 
-use crate::confirming::{Confirming, ConfirmingKeeper};
-use crate::following::{BoardAddress, Connects, FirstBoardAt, FollowedStream, StopFlags};
 use crate::host::Host;
 use crate::partners::{Listener, REPLIES_HELD, ServedPartners, announce, tell};
 use crate::peer::{Peer, PeerWatch, begin_watch};
+use crate::tally::Tally;
 use crate::ticks::{Ticks, Timer};
 use acdm_board::Desk;
 use acdm_confirming::Confirmed;
-use acdm_failures::{Failure, ServeError};
-use acdm_following::follow;
+use acdm_failures::ServeError;
 use acdm_headline::serve_sessions;
-use acdm_keeping::{
-    BoardTerm, EntryKeeper, Named, Opening, Paths, Replies, SharedKeeper, Synced, Waiter,
-};
+use acdm_keeping::{BoardTerm, Named, Opening, Replies, SharedKeeper, Synced, Waiter};
 use acdm_milestones::Role;
 use acdm_partners::{
-    Acceptor, Arriving, Connection, Control, Door, FollowedBoard, Followers, LineOutcome,
-    LineQueue, PartnerPlace, PartnerReplies, Reception, Reporter, Standing, Terms, WholeLines,
+    Acceptor, Arriving, Connection, Control, Door, LineOutcome, LineQueue, PartnerPlace,
+    PartnerReplies, Reception, Reporter, Terms, WholeLines,
 };
 use acdm_row::Row;
 use acdm_sessions::{Answer, Clock, Closed, Gate, Session, Sink, Source};
@@ -37,7 +30,7 @@ use acdm_wire::LONGEST_REQUEST;
 use bpf_helpers::Helpers;
 use std::alloc::{AllocError, Global};
 use std::io::{self, Read, Write};
-use std::net::{SocketAddr, TcpListener};
+use std::net::TcpListener;
 use std::sync::atomic::{AtomicBool, AtomicUsize, Ordering};
 use std::sync::{Arc, Wait};
 use std::time::Clock as SystemClock;
@@ -256,89 +249,6 @@ impl<Rt: Wait> Gate for PartnerPlaces<'_, Rt> {
     }
 }
 
-// What is told of the journal in a row, and of the file in which it is kept, if there is one.
-#[derive(Drop)]
-struct Tally<K: Drop> {
-    rt: K,
-    row: Arc<Row>,
-    kept: Option<Named>,
-    confirmed: Option<Arc<Confirmed>>,
-    term: BoardTerm,
-    ticks: Option<u32>,
-}
-
-impl<K: Paths + Drop> Tally<K> {
-    // The minute of an entry, if it is there.
-    fn moment(&self, at: usize) -> Option<u32> {
-        if at >= self.row.len() {
-            return None;
-        }
-        let mut note = self.row.note(at);
-        let published = self.row.look(at, &mut note)?;
-        Some(published.entry.moment)
-    }
-}
-
-impl<K: Paths + Wait + Drop> Standing for Tally<K> {
-    // Entries stand one behind the other: of half of those that may be the last, one look tells whether it is there.
-    fn used(&self) -> usize {
-        let mut least = 0;
-        let mut most = self.row.len();
-        for _ in 0..usize::BITS {
-            if least >= most {
-                break;
-            }
-            let middle = least + (most - least) / 2;
-            if self.moment(middle).is_some() {
-                least = middle + 1;
-            } else {
-                most = middle;
-            }
-        }
-        least
-    }
-
-    fn room(&self) -> usize {
-        self.row.len()
-    }
-
-    fn last(&self) -> Option<u32> {
-        self.moment(self.used().checked_sub(1)?)
-    }
-
-    fn stands(&self) -> bool {
-        match &self.kept {
-            Some(kept) => kept.stands(&self.rt),
-            None => true,
-        }
-    }
-
-    fn failure(&self) -> Option<io::Error> {
-        self.kept.as_ref()?.failure()
-    }
-
-    fn ticks(&self) -> Option<u32> {
-        self.ticks
-    }
-
-    fn term(&self) -> u64 {
-        self.term.own()
-    }
-
-    fn replaced_by(&self) -> Option<u64> {
-        self.term.replaced_by()
-    }
-
-    fn followers(&self) -> Option<Followers> {
-        let state = self.confirmed.as_ref()?.state(&self.rt);
-        Some(Followers {
-            count: state.followers,
-            wanted: state.wanted,
-            are_late: state.is_late,
-        })
-    }
-}
-
 // A session that reads so, and whose replies go there once their entries are kept, by whom it waits for that.
 fn session_of<'r, J: Opening, Rt: Host, C: Clock + Drop>(
     alloc: Global,
@@ -491,8 +401,8 @@ fn open_all<'r, J: Opening, Rt: Host, C: Clock + Drop>(
     Ok(sessions)
 }
 
-// What tells an operator what happens: on standard error, and in the log at a path, if there is one.
-fn reporter_of<Rt: Host>(
+/// What tells an operator what happens: on standard error, and in the log at a path, if there is one.
+pub(crate) fn reporter_of<Rt: Host>(
     rt: &Rt,
     alloc: Global,
     log: Option<String>,
@@ -616,192 +526,6 @@ fn opened<'r, J: Opening, Rt: Host, C: Clock + Drop, W: Write>(
     match add_ticks(rt, alloc, ticks, operation, &mut sessions) {
         Ok(()) => Ok(sessions),
         Err(error) => Err(error),
-    }
-}
-
-/// A board that is followed: its address, as the words name it, and as what that is.
-#[derive(Clone, Copy)]
-pub struct FirstBoardPlace<'a> {
-    /// As it is named.
-    pub name: &'a str,
-    /// What it is.
-    pub address: SocketAddr,
-}
-
-// A text once more, if there is one.
-fn text_of(alloc: Global, text: &Option<String>) -> Result<Option<String>, AllocError> {
-    match text {
-        Some(text) => Ok(Some(String::from_str(alloc, text.as_str())?)),
-        None => Ok(None),
-    }
-}
-
-// A board that is followed, and who looks after this one meanwhile.
-#[derive(Drop)]
-struct Follower<'r, Rt: Host> {
-    board: FirstBoardAt<'r, Rt, BoardAddress<'r, Rt>, FollowedStream>,
-    reception: Reception,
-    flags: StopFlags,
-    confirming: Arc<Confirming>,
-}
-
-// Starts the thread that answers at the control address while a board is followed, and looks after the file of the
-// journal. `Memory` where that was refused, or no thread could be made.
-fn follower_of<'r, J: Opening, Rt: Host>(
-    rt: &'r Rt,
-    alloc: Global,
-    place: FirstBoardPlace<'_>,
-    operation: &mut Operation<'r, J, Rt>,
-    row: &Arc<Row>,
-) -> Result<Follower<'r, Rt>, AllocError>
-    ensures keeper { operation.new ≡ record operation.old { control = operation.new.control } }
-{
-    let flags = StopFlags {
-        closing: Arc::try_clone(&operation.closing)?,
-        promoted: Arc::new(alloc, AtomicBool::new(false))?,
-    };
-    let first = FollowedBoard {
-        address: String::from_str(alloc, place.name)?,
-        promoted: Arc::try_clone(&flags.promoted)?,
-    };
-    let kept = match &operation.kept {
-        Some(kept) => Some(kept.copy(alloc)?),
-        None => None,
-    };
-    let tally = Tally {
-        rt: rt.clone()?,
-        row: Arc::try_clone(row)?,
-        kept,
-        confirmed: None,
-        term: operation.term.copy(alloc)?,
-        ticks: None,
-    };
-    let reporter = reporter_of(rt, alloc, text_of(alloc, &operation.log)?)?;
-    let own = reporter_of(rt, alloc, text_of(alloc, &operation.log)?)?;
-    let closing = Arc::try_clone(&operation.closing)?;
-    let same = flags.copy()?;
-    let control = operation.control.take();
-    let acceptor = Acceptor::new(
-        reporter,
-        Vec::new(alloc),
-        control,
-        tally,
-        Some(first),
-        closing,
-    )?;
-    let reception = Reception::begin(rt, acceptor)?;
-    let confirming = Arc::new(alloc, Confirming::new(rt, alloc))?;
-    let address = BoardAddress {
-        rt,
-        alloc,
-        row: Arc::try_clone(row)?,
-        address: place.address,
-        flags: flags.copy()?,
-        confirming: Arc::try_clone(&confirming)?,
-        term: operation.term.copy(alloc)?,
-    };
-    let board = FirstBoardAt::new(rt, alloc, own, address, same);
-    Ok(Follower {
-        board,
-        reception,
-        flags,
-        confirming,
-    })
-}
-
-// A board that was promoted goes on in its next term. `Keep` where that can't be written, and why is known by the name of
-// the file then.
-fn take_over<J: Opening, Rt: Host>(
-    rt: &Rt,
-    alloc: Global,
-    operation: &Operation<'_, J, Rt>,
-) -> Result<(), Failure>
-    ensures { IfErr result FailsToFollow }
-{
-    match operation.term.take_over(rt, alloc) {
-        Ok(()) => Ok(()),
-        Err(error) => {
-            if let Some(kept) = &operation.kept {
-                kept.fail(&error);
-            }
-            Err(Failure::Keep)
-        }
-    }
-}
-
-/// Follows a board, by a desk whose journal is kept, until it is asked at the control address that this one serves or
-/// closes, or until its file does not stand any more where it was. Says whether it was asked to serve. All that came by
-/// then is in the desk, and kept. It goes on in the term of the board that it follows, and serves in the next one.
-///
-/// `Keep` where keeping failed, or the next term could not be written, `Room` where the desk has no place for an entry that came; `Memory` where it was refused,
-/// or no thread could be made.
-pub fn follow_first<'r, J: Opening + Send + Sync, Rt: Host, H: Helpers + Drop>(
-    rt: &'r Rt,
-    alloc: Global,
-    place: FirstBoardPlace<'_>,
-    operation: &mut Operation<'r, J, Rt>,
-    desk: &mut Desk<H>,
-) -> Result<bool, Failure>
-    ensures grows { Grows desk.old desk.new }
-    ensures legal { IsLegal desk.new.sigs desk.new.history }
-    ensures operation { operation.new ≡ record operation.old { control = operation.new.control } }
-    ensures fails { IfErr result FailsToFollow }
-{
-    // (it says that the journal is legal)
-    let _core = desk.core();
-    let Ok(follower) = follower_of(rt, alloc, place, operation, desk.row()) else {
-        return Err(Failure::Memory);
-    };
-    let Follower {
-        mut board,
-        reception,
-        flags,
-        confirming,
-    } = follower;
-    let mut keeper = ConfirmingKeeper {
-        rt,
-        keeper: Waiter::new(rt, operation.keeper, None),
-        confirming,
-    };
-    let followed = follow_by(alloc, &mut board, &mut keeper, desk);
-    board.end();
-    operation.control = reception.end(rt);
-    match followed {
-        Ok(()) => {}
-        Err(failure) => return Err(failure),
-    }
-    if !flags.is_promoted() {
-        return Ok(false);
-    }
-    match take_over(rt, alloc, operation) {
-        Ok(()) => Ok(true),
-        Err(failure) => Err(failure),
-    }
-}
-
-// Follows a board over any connections, by a desk whose journal is kept.
-fn follow_by<
-    'r,
-    K: EntryKeeper,
-    Rt: Host,
-    M: Connects<C> + Drop,
-    C: Read + Drop,
-    H: Helpers + Drop,
->(
-    alloc: Global,
-    board: &mut FirstBoardAt<'r, Rt, M, C>,
-    keeper: &mut K,
-    desk: &mut Desk<H>,
-) -> Result<(), Failure>
-    ensures grows { Grows desk.old desk.new }
-    ensures legal { IsLegal desk.new.sigs desk.new.history }
-    ensures fails { IfErr result FailsToFollow }
-{
-    match follow(alloc, board, keeper, desk) {
-        Ok(()) => Ok(()),
-        Err(Failure::Memory) => Err(Failure::Memory),
-        Err(Failure::Room) => Err(Failure::Room),
-        Err(_) => Err(Failure::Keep),
     }
 }
 
