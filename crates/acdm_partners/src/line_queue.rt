@@ -82,8 +82,9 @@ fn write_held<K: Wait, T: Target<K>>(
     ensures { IsEmptyRoom text.new }
 {
     let mut left = lost.saturating_add(shared.held.lock(rt).take(text));
+    let mut is_written = true;
     if !text.is_empty() {
-        let is_written = target.write(rt, text.as_str());
+        is_written = target.write(rt, text.as_str());
         shared.has_failed.store(!is_written, Ordering::SeqCst);
         if !is_written {
             left = left.saturating_add(lines_of(text.as_str()));
@@ -91,6 +92,9 @@ fn write_held<K: Wait, T: Target<K>>(
     }
     text.clear();
     if left > 0 && target.write_lost(rt, alloc, left) {
+        if is_written {
+            shared.has_failed.store(false, Ordering::SeqCst);
+        }
         return 0;
     }
     left
