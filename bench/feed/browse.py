@@ -205,6 +205,14 @@ def told(board):
 def let_go(board):
     with board.browser(b"GET / HTTP/1.1\r\n" + b"A: " + b"x" * 9000) as it:
         yield "a head of more than 8 KiB", is_let_go(it, 5)
+    for size in (8192, 8193):
+        head = get("/nope", "A: ")
+        head = head.replace(b"A: ", b"A: " + b"x" * (size - len(head)))
+        try:
+            said = board.answer(head)
+        except ConnectionError:
+            said = b""
+        yield f"a head of {size} bytes", said.startswith(b"HTTP/1.1 404 ") == (size == 8192)
     with board.browser(b"GET / HTTP/1.1\r\n") as it:
         began = time.monotonic()
         yield "a head that does not come", is_let_go(it, 20)

@@ -118,9 +118,37 @@ def let_go(cases, port):
         stream.close()
 
 
-def ended_at_once(port):
-    """What one is sent whose sending side ends at once."""
-    it = Reader(port)
+def as_long_as_may_be(cases, port, journal):
+    """A first line of 32 bytes, which is the most that one has, and one of 33."""
+    for first, wanted in ((b"from 100 as 18446744073709551615\n", journal.head(100)), (b"from 1000 as 18446744073709551615\n", b"")):
+        stream = connect(port, first)
+        stream.settimeout(5)
+        with stream.makefile("rb") as lines:
+            try:
+                came = lines.readline()
+            except OSError:
+                came = b""
+        cases.same(f"a first line of {len(first) - 1} bytes", came.decode(), wanted.decode())
+        stream.close()
+
+
+def silent(cases, port):
+    """A client that says nothing is waited for a quarter of a second, and sent nothing in that time. (The machine may be late.)"""
+    took = []
+    for _ in range(5):
+        begun = time.monotonic()
+        stream = connect(port)
+        stream.settimeout(5)
+        stream.recv(1)
+        took.append(time.monotonic() - begun)
+        stream.close()
+    # (each of ten waits of 25 milliseconds may end a little sooner, by the system's clock)
+    cases.case("who says nothing is waited for", "" if 0.22 <= min(took) <= 1 else f"{took}")
+
+
+def ended_at_once(port, first=b""):
+    """What one is sent whose sending side ends at once, or behind this."""
+    it = Reader(port, first)
     it.stream.shutdown(socket.SHUT_WR)
     it.join(10)
     return it.data
@@ -153,26 +181,31 @@ def main():
         server = subprocess.Popen(command + [f"APT=127.0.0.1:{ports[0]}", f"NM=127.0.0.1:{ports[1]}"], stdout=subprocess.DEVNULL)
         streams = [connect(it) for it in ports]
         cases.same("an empty journal: nothing for who has ended", str(ended_at_once(port)), "b''")
-        silent, early = [Reader(port)], {it: Reader(port, asking(it)) for it in (0, 1, 30, 2**64 - 1)}
+        still, early = [Reader(port)], {it: Reader(port, asking(it)) for it in (0, 1, 30, 2**64 - 1)}
         # (each has asked before there is an entry)
         time.sleep(0.5)
         cut = Cut(port, random.Random(57), 40)
         playing = threading.Thread(target=play, args=(streams, count, 0.002))
         playing.start()
         time.sleep(0.2)
-        silent.append(Reader(port))
+        still.append(Reader(port))
         let_go(cases, port)
         playing.join()
         last = {it: Reader(port, asking(it)) for it in (0, 1, 30, count - 1, count, count + 1, 2**64 - 1)}
         now = ended_at_once(port)
+        sent = Journal(now)
+        for first in (b"f", b"from 1", b"term"):
+            cases.same(f"{first!r} without its end is let go", str(ended_at_once(port, first)), "b''")
+        as_long_as_may_be(cases, port, sent)
+        silent(cases, port)
         for it in streams:
             it.close()
-        for it in (*silent, *early.values(), *last.values(), cut):
+        for it in (*still, *early.values(), *last.values(), cut):
             it.join(30)
         cases.same("status", str(server.wait(60)), "0")
         journal = Journal(saved.read_bytes())
     cases.same("all lines were entered", str(len(journal.lines)), str(count))
-    for name, data in (("silent from the start", silent[0].data), ("silent later", silent[1].data), ("ended at once", now)):
+    for name, data in (("silent from the start", still[0].data), ("silent later", still[1].data), ("ended at once", now)):
         cases.same(f"{name}: the text alone", data.decode("ascii"), journal.text.decode("ascii"))
     for number, it in early.items():
         # (of a journal of no entry, so that it begins with the first one)

@@ -250,6 +250,10 @@ def probes(cases, program):
         it.sendall(b"nothing\nstatus\r\nx")
         cases.expect("control answers each line", it.recv(65536).startswith(b"unknown\n"))
     with socket.create_connection(("127.0.0.1", board.port), timeout=20) as it:
+        it.sendall(b"status\r\n")
+        came = it.recv(65536)
+        cases.expect("and passes over a carriage return", came.startswith(b"session 1 APT here "), came)
+    with socket.create_connection(("127.0.0.1", board.port), timeout=20) as it:
         it.sendall(b"x" * 1000)
         try:
             left = it.recv(1) == b""
@@ -336,13 +340,20 @@ def once(cases, program):
     airport = board.connect(1)
     cases.expect("close without a partner", board.close()[1:] == (0, ["session 1 0 end", "session 2 0 end", "closed 0"]))
     cases.expect("who was there sees the end", airport.reads_end())
-    board = Board([program], ["--control", "PORT"], ["APT", "NM"])
+    board = Board([program], [], ["APT", "NM"])
     airport, manager = board.connect(1), board.connect(2)
+    cases.expect("a partner is served", airport.asks(SCHEDULE) == "ok 0")
+    airport.close(reset=True)
+    manager.close()
+    cases.expect("that it could not be read is told", board.ended() == (0, ["session 1 1 read", "session 2 0 end", "closed 1"]))
+    board = Board([program], ["--control", "PORT"], ["APT", "NM"])
+    airport, manager, silent = board.connect(1), board.connect(2), board.connect(2)
     airport.send(f"{SCHEDULE}\n{ALERTS}")
     airport.socket.shutdown(socket.SHUT_WR)
     cases.expect("a last line needs no line feed", airport.replies.read() == "ok 0\nalerts 1 7:CDM13\n")
     cases.expect("others go on", manager.asks(ALERTS) == "alerts 2 7:CDM13")
     cases.expect("a second connection is refused", is_refused("127.0.0.1", board.ports[1]))
+    cases.expect("and one that waits there is closed", silent.reads_end())
     cases.expect("and the first one goes on still", manager.asks(ALERTS) == "alerts 3 7:CDM13")
     cases.expect("nor is there one behind an end", is_refused("127.0.0.1", board.ports[0]))
     manager.send('{"cmd":"al')

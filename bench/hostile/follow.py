@@ -11,6 +11,7 @@ and files that are refused; `close`. The last line is
 """
 
 import hashlib
+import json
 import os
 import pathlib
 import random
@@ -100,9 +101,9 @@ class Server:
     """Sends each that connects what it is handed, cut off behind so many bytes, and hears what was sent first, but for a
     line that asks for its term, which it sends, where it has one."""
 
-    def __init__(self, answers, term=1):
+    def __init__(self, answers, term=1, port=0):
         self.answers, self.heard, self.term = list(answers), [], term
-        self.listener = socket.create_server(("127.0.0.1", 0))
+        self.listener = socket.create_server(("127.0.0.1", port))
         self.port = self.listener.getsockname()[1]
         self.thread = threading.Thread(target=self.serve, daemon=True)
         self.thread.start()
@@ -162,13 +163,27 @@ def audited(cases, program, name, kept, count):
     cases.expect(f"{name}: legal", done.stdout.decode() == f"legal {count}\n", done.stdout.decode() + done.stderr.decode())
 
 
+def logged(cases, second, log, watch):
+    """The log of a board that followed: each event as it was said, and its members."""
+    found = [json.loads(line) for line in log.read_text().splitlines()]
+    moments = [it.pop("at") for it in found]
+    parted = [re.fullmatch(rf"parted (.*) {MOMENT}", line) for line in second.said]
+    owed = [
+        {"event": "following", "address": f"127.0.0.1:{watch}", "next": 0},
+        *({"event": "parted", "why": it[1]} for it in parted if it),
+        {"event": "promoted", "entries": 3},
+    ]
+    cases.expect("its log has what it said", found[: len(owed)] == owed and len(owed) == 4, (found, owed))
+    cases.expect("with its moments", all(re.fullmatch(MOMENT, it) for it in moments), moments)
+
+
 def day(cases, program, room):
     """A day is followed; the first board is killed, and the second goes on."""
-    kept, copy = room / "first", room / "second"
+    kept, copy, log = room / "first", room / "second", room / "second.log"
     first = First(program, kept)
     airport, network = first.connect(1), first.connect(2)
     cases.expect("the first replies", airport.asks(SCHEDULE) == "ok 0")
-    second = Second(program, first.watch, copy)
+    second = Second(program, first.watch, copy, "--log", str(log))
     cases.expect("it says that it follows", second.says(rf"following 127\.0\.0\.1:{first.watch} 0 {MOMENT}"), second.said)
     cases.expect("status says so too", second.ask("status").startswith(f"following 127.0.0.1:{first.watch}\nentries "))
     cases.expect("it has what was there", second.has(1))
@@ -196,6 +211,7 @@ def day(cases, program, room):
     cases.expect("it goes on", second.connect(2).asks(ALERTS).startswith("alerts 4 "))
     _, status, lines = second.close()
     cases.expect("it ends in good order", (status, lines) == (0, ["session 1 1 end", "session 2 1 end", "closed 5"]), lines)
+    logged(cases, second, log, first.watch)
     audited(cases, program, "its file", copy, 5)
     cases.expect("which begins with the first one's", copy.read_bytes().startswith(kept.read_bytes()))
     again = First(program, copy)
@@ -251,7 +267,7 @@ def cuts(cases, program, room):
     server = Server([*answers, from_line(JOURNAL)])
     copy = room / "cuts"
     second = Second(program, server.port, copy)
-    cases.expect("after all cuts it has all", second.waits_for(lambda: second.entries() == 5, 60), (second.entries(), second.said[-3:]))
+    cases.expect("after all cuts it has all", second.waits_for(lambda: second.has(5), 60), (second.entries(), second.said[-3:]))
     cases.expect("each was asked for once", copy.read_text() == text(JOURNAL), copy.read_text())
     asked = [int(it.split()[1]) for it in server.heard]
     # (before each connection the entry before the next one is asked for)
@@ -306,6 +322,37 @@ def others(cases, program, room):
     server.close()
 
 
+def reasons(cases, program, room):
+    """Why it does not follow is said once, and again where it is another reason."""
+    begun, port = room / "reasons", free_port()
+    begun.write_text(text(JOURNAL[:2]))
+    second = Second(program, port, begun)
+    nobody, differs = rf"parted .*refused.* {MOMENT}", rf"parted another journal is sent there: entry 1 is another one {MOMENT}"
+    cases.expect("nobody is there, which is said", second.says(nobody), second.said)
+    server = Server([from_line([JOURNAL[0], "1 2 29000580 NM 0 0 alerts"])], port=port)
+    cases.expect("then another journal is there, which is said too", second.says(differs), second.said)
+    time.sleep(2.5)
+    server.close()
+    told = lambda pattern: sum(re.fullmatch(pattern, it) is not None for it in second.said)
+    cases.expect("then nobody again", second.waits_for(lambda: told(nobody) == 2), second.said)
+    time.sleep(2.5)
+    cases.expect("each is said once", (told(nobody), told(differs), len(second.said)) == (2, 1, 3), second.said)
+    second.close()
+
+
+def followed_on(cases, program, room):
+    """A connection that ends is said, and so is the next one."""
+    server = Server([from_line(JOURNAL[:2]), from_line(JOURNAL)])
+    second = Second(program, server.port, room / "followed-on")
+    cases.expect("by the next connection it has all", second.has(len(JOURNAL)), second.said)
+    following = rf"following 127\.0\.0\.1:{server.port}"
+    wanted = [f"{it} {MOMENT}" for it in (f"{following} 0", "parted the connection has (?:ended|failed)", f"{following} 2")]
+    said = second.waits_for(lambda: len(second.said) == 3) and all(map(re.fullmatch, wanted, second.said))
+    cases.expect("which it says", said, second.said)
+    second.close()
+    server.close()
+
+
 def paced(cases, program, room):
     """A first board that ends each connection at once, and one that is not there: it is tried again a second later, and no sooner."""
     other = [JOURNAL[0], "1 2 29000580 NM 0 0 alerts"]
@@ -319,6 +366,25 @@ def paced(cases, program, room):
         cases.expect(f"{name}: tried again, and not at each moment", 2 <= len(server.heard) <= most, len(server.heard))
         second.close()
         server.close()
+
+
+def silent(cases, program, room):
+    """A connection is made anew ten seconds behind what came last, and nothing is printed of that."""
+    begun, server = room / "silent", Server([from_line(JOURNAL[:-1])])
+    second = Second(program, server.port, begun)
+    cases.expect("silence: it has what came", second.has(len(JOURNAL) - 1), second.said)
+    heard = len(server.heard)
+    time.sleep(8)
+    server.answers = [from_line(JOURNAL)]
+    server.last.sendall(text(JOURNAL[-1:]).encode())
+    began = time.monotonic()
+    cases.expect("silence: it has what came eight seconds later", second.has(len(JOURNAL)), second.said)
+    cases.expect("silence: it connects anew", second.waits_for(lambda: len(server.heard) > heard, 25), server.heard)
+    took = time.monotonic() - began
+    cases.expect("silence: after ten seconds", 9 < took < 15, took)
+    cases.expect("silence: and nothing is printed of it", [it.split(" ")[0] for it in second.said] == ["following"], second.said)
+    second.close()
+    server.close()
 
 
 def taken(cases, program, room):
@@ -456,7 +522,10 @@ def main():
         day(cases, program, room)
         cuts(cases, program, room)
         others(cases, program, room)
+        reasons(cases, program, room)
+        followed_on(cases, program, room)
         paced(cases, program, room)
+        silent(cases, program, room)
         taken(cases, program, room)
         again(cases, program, room)
         switched(cases, program, room)

@@ -5,11 +5,12 @@
 
 Lines, entries, refusals and bad lines by their codes, with a bad line of each byte; 64 sessions whose bad lines are told as long as can
 be; each event in the log; the log moved away while partners come and go, also by logrotate, where that is installed; a log whose disk is full, and has room again (where root may
-mount one); and files that can't be a log. The last line is `N cases, M failed`; status 1 where one failed.
+mount one), and one that fails for a second time; and files that can't be a log. The last line is `N cases, M failed`; status 1 where one failed.
 """
 
 import errno
 import grp
+import itertools
 import json
 import os
 import pathlib
@@ -153,6 +154,10 @@ def bounded(cases, program, room):
     time.sleep(2.5)
     board.connect(1).asks(TICK)
     board.waits_for(lambda: "untold" in [it["event"] for it in events(log)])
+    # (and of these a few while the board serves, and the others as it ends)
+    for turn in range(60, 80):
+        manager.asks(json.dumps({"cmd": "none", "turn": turn}))
+        time.sleep(0.03)
     manager.close()
     cases.expect("ends", board.close()[1] == 0)
     found = events(log)
@@ -161,10 +166,12 @@ def bounded(cases, program, room):
     cases.expect("of who comes 30 in a minute are logged", 30 <= len(here) <= 34, len(here))
     cases.expect("and the others counted", len(here) + sum(it["connections"] for it in untold) == 46, (len(here), untold))
     cases.expect("by their session", all((it["session"], it["role"]) == (1, "APT") for it in untold), untold)
+    owed = [f".. {it['connections']} connections of 1 not told" for it in untold]
+    cases.expect("as on standard error", [it for it in board.said if it.startswith("..")] == owed, (board.said[-5:], owed))
     bad = [it for it in found if it["event"] == "bad"]
-    cases.expect("of bad lines 30 in a minute are logged", 1 < len(bad) <= 34, len(bad))
-    cases.expect("and all counted", sum(it["lines"] for it in bad) == 60, bad)
-    cases.expect("the last of them is logged", bad and json.loads(bad[-1]["line"]) == {"cmd": "none", "turn": 59}, bad[-1:])
+    cases.expect("of bad lines 30 in a minute are logged", 1 < len(bad) <= 36, len(bad))
+    cases.expect("and all counted, also those just before the end", sum(it["lines"] for it in bad) == 80, bad[-3:])
+    cases.expect("the last of them is logged", bad and json.loads(bad[-1]["line"]) == {"cmd": "none", "turn": 79}, bad[-1:])
 
 
 def plain(cases, program, room):
@@ -322,6 +329,39 @@ def full_disk(cases, program, room):
         subprocess.run(["umount", str(disk)], capture_output=True, check=False)
 
 
+def fails_again(cases, program, room):
+    """A log that can't be written, can be, and can't be again: each time it is said once, and what was lost is counted, also
+    where nothing else is written between."""
+    folder, away = room / "there", room / "away"
+    folder.mkdir()
+    board = Board([program], ["--again", "--control", "PORT", "--log", str(folder / "log")], ["APT"])
+
+    came = itertools.count()
+
+    def comes():
+        turn = next(came)
+        partner = board.connect(1)
+        cases.expect(f"partner {turn} is served, with a log or without", partner.asks(TICK) == f"ok {turn}")
+        partner.close()
+        board.waits_for(lambda: board.told(1, "gone") == turn + 1)
+        return 2
+
+    owed = 0
+    for turn, is_quiet in enumerate((False, True, False), 1):
+        folder.rename(away)
+        owed += comes()
+        failed = board.waits_for(lambda turn=turn: sum(it.startswith("log failed ") for it in board.said) == turn)
+        cases.expect(f"that the log fails is said, time {turn}", failed, board.said)
+        away.rename(folder)
+        owed += 0 if is_quiet else comes()
+        found = board.waits_for(lambda: sum(it.get("lines", 1) for it in events(folder / "log")) == owed)
+        cases.expect(f"what was lost is counted, time {turn}", found, events(folder / "log"))
+        # (until the board has looked whether it can be written again)
+        time.sleep(0.2)
+    cases.expect("ends", board.close()[1] == 0)
+    cases.expect("it is said each time, and once", sum(it.startswith("log failed ") for it in board.said) == 3, board.said)
+
+
 def bounded_file(cases, program, room):
     """A log that may grow no further in the middle of a line: what stands there is whole lines, and partners are served on."""
     log = room / "bounded-log"
@@ -388,7 +428,7 @@ def main():
     counted(cases, asked.program)
     many(cases, asked.program)
     with tempfile.TemporaryDirectory() as room:
-        for try_it in (each_event, bounded, plain, kept, limited, moved, rotated, full_disk, bounded_file, refused):
+        for try_it in (each_event, bounded, plain, kept, limited, moved, rotated, full_disk, fails_again, bounded_file, refused):
             own = pathlib.Path(room) / try_it.__name__
             own.mkdir()
             try_it(cases, asked.program, own)

@@ -414,6 +414,7 @@ def wrong_tables(cases, program, room):
     for given, told in (
         ("[turn_round]\nother 60\n", "line 2: not TOML"),
         ("turn_round.other = 60\n[[taxi]]\nfrom = 0\nminutes = \xe4\n", "line 4: not TOML"),
+        ("taxi = []\ntaxi = [\n  {from = 0, minutes = 5},\n]\n", "line 2: not TOML"),
         ("[turnround]\n", "turnround: no such key"),
         ("[turn_round.types]\nA320 = 1441\n", "turn_round.types.A320: not minutes from 1 to 1440"),
         ("[turn_round.types]\nA320NEO = 45\n", "turn_round.types.A320NEO: not a type of 1 to 4 printable characters"),
@@ -436,6 +437,25 @@ def wrong_tables(cases, program, room):
         cases.expect(f"tables of {path}", done == (2, "", READ + cause(path, number)), done)
     done = came(ran(program, ["run", "--tables", "/dev/zero"]))
     cases.expect("tables without an end", done == (2, "", "acdm: /dev/zero: more than 1000000 bytes\n"), done)
+
+
+# As many types and steps as there may be, of the first and the last stand, with the least and the most minutes; and types
+# of the first and the last byte that one may have.
+MOST_TABLES = (
+    "[turn_round]\nother = 1440\n[turn_round.types]\n'!' = 1\n'~~~~' = 1440\n"
+    + text(f"{k:04} = 5" for k in range(998))
+    + text(f"[[taxi]]\nfrom = {k}\nminutes = {1 + k % 60}" for k in range(1_000))
+)
+
+
+def most_tables(cases, program, room):
+    """Tables at all of their limits are right: a rule is judged beside them, and asks for the taxi time from stand 12."""
+    tables = room.folder / "most.toml"
+    tables.write_text(MOST_TABLES)
+    done = came(ran(program, ["verify", "--tables", tables, room.code]))
+    cases.expect("verify beside tables at their limits", done == (0, LISTING, ""), done)
+    done = came(ran(program, ["run", "--tables", tables], text(DAY).encode()))
+    cases.expect("run beside them", done == (0, text([*DAY_REPLIES[:4], "alerts 4 7:LOC00,LOC02,LOC03"]), ""), done)
 
 
 def settings(cases, program, room):
@@ -482,6 +502,7 @@ def settings(cases, program, room):
         cases.expect(f"refused: {words_[1:]}", done[0] == 2 and done[1] == "" and told in done[2], done)
     for wrong, told in (
         ("again = true\njournal 5\n", "line 2: not TOML"),
+        ("partners = []\npartners = [\n  'APT=127.0.0.1:0',\n]\n", "line 2: not TOML"),
         ("again = true\nfoo = 1\n", "foo: no such key"),
         ("config = 'a.toml'\n", "config: no such key"),
         ("sync = 'yes'\n", "sync: not true or false"),
@@ -523,8 +544,11 @@ def causes_of_files(cases, program, room):
     cases.expect("another board keeps its journal", other.stdout.readline() == b"ok 0\n")
     own, many = room.folder / "own-tables.toml", room.folder / "many"
     own.write_text(OWN)
-    for number in ("", *range(1, 100)):
+    for number in ("", *range(1, 99)):
         many.with_name(f"many.part{number}").touch()
+    done = came(ran(program, ["run", "--save", many], day))
+    cases.expect("the last name beside a file is free", done == (0, text(DAY_REPLIES), "") and many.exists(), done)
+    many.with_name("many.part99").touch()
     for command in (["run"], ["serve", "APT=127.0.0.1:0"]):
         for words_, first, reason in (
             (["--keep", no_folder], KEEP, errno.ENOENT),
@@ -623,6 +647,7 @@ def main():
         without_end(cases, program, room)
         own_tables(cases, program, room)
         wrong_tables(cases, program, room)
+        most_tables(cases, program, room)
         settings(cases, program, room)
         causes_of_files(cases, program, room)
         causes_of_addresses(cases, program, room)

@@ -35,6 +35,8 @@ from keep import limited
 LEAST_LATE, MOST_LATE = 4.5, 12
 # Within so many seconds a reply comes that waits for no board: sooner than boards are late.
 AT_ONCE = 4
+# Who sends entries to a board looks each 25 milliseconds for more where no reply waits; most replies come sooner.
+A_LOOK = 0.02
 # For so many seconds nothing is to come.
 SHORT, LONG = 2, 8
 # All of it ends after so many seconds, and so many more for each kill, whatever hangs.
@@ -58,13 +60,13 @@ class Tried(Cases):
 
 
 def replies_timed(caller, count):
-    """The replies to so many lines, one after the other, and the longest time until one came."""
-    replies, longest = [], 0
+    """The replies to so many lines, one after the other, and how long each took, the shortest time first."""
+    replies, times = [], []
     for _ in range(count):
         began = time.monotonic()
         replies.append(caller.asks(TICK))
-        longest = max(longest, time.monotonic() - began)
-    return replies, longest
+        times.append(time.monotonic() - began)
+    return replies, sorted(times)
 
 
 def expect_late(cases, name, caller, wanted):
@@ -78,10 +80,10 @@ def expect_late(cases, name, caller, wanted):
 
 def expect_soon(cases, name, caller, first, count, *files):
     """Replies come soon, with these numbers, and the entries stand in these files."""
-    replies, longest = replies_timed(caller, count)
+    replies, times = replies_timed(caller, count)
     lengths = [it.stat().st_size for it in files]
     cases.expect(f"{name}: replies come", replies == [f"ok {it}" for it in range(first, first + count)], replies)
-    cases.expect(f"{name}: and soon", longest < AT_ONCE, longest)
+    cases.expect(f"{name}: and soon", times[-1] < AT_ONCE, times)
     for file, length in zip(files, lengths):
         told = [(1, replies[-1] or "", length)]
         cases.expect(f"{name}: they stand in {file.name}", not missing(told, file), file.read_bytes()[-200:])
@@ -106,17 +108,19 @@ def alone(cases, boards):
     cases.expect("status has no word of it", first.followers() == "followers 1 of 1", first.followers())
     count = 21 + len(replies)
     expect_soon(cases, "with another board", airport, count, 10, copy)
+    replies, times = replies_timed(airport, 20)
+    cases.expect("most replies wait for no look", replies[-1] == f"ok {count + 29}" and times[10] < A_LOOK, (replies[-1], times))
     second.kill()
-    expect_late(cases, "it is gone", airport, f"ok {count + 10}")
+    expect_late(cases, "it is gone", airport, f"ok {count + 30}")
     cases.expect("it says so again", first.waits_for(lambda: first.turns()[2:] == ["late 0 of 1"]), first.said[-3:])
-    expect_soon(cases, "without it", airport, count + 11, 3)
+    expect_soon(cases, "without it", airport, count + 31, 3)
     cases.expect("closed", first.close()[:2] == ("closing\n", 0))
     events = [json.loads(it) for it in log.read_text().splitlines()]
     told = [(it["event"], it["followers"], it["wanted"]) for it in events if it["event"] in ("late", "back")]
     cases.expect("the log", told == [("late", 0, 1), ("back", 1, 1), ("late", 0, 1)], told)
     moments = [it["at"] for it in events]
     cases.expect("its moments", moments == sorted(moments) and all(re.fullmatch(MOMENT, it) for it in moments), moments)
-    audited(cases, boards.program, "its file", first.kept, count + 14)
+    audited(cases, boards.program, "its file", first.kept, count + 34)
 
 
 def at_that_moment(cases, boards):
@@ -277,6 +281,22 @@ def closes_soon(cases, boards):
     cases.expect("it closes", (answer, status, lines[-1:]) == ("closing\n", 0, ["closed 1"]), (answer, status, lines))
     cases.expect("within 15 seconds", took < 15, took)
     cases.expect("the reply is sent, or not, but not in part", airport.rest() in (b"ok 0\n", b""), airport.held)
+
+
+def closes_answering(cases, boards):
+    """A board closes while a reply waits, and who follows says within the time that it keeps the entry: the line is answered."""
+    first = boards.first("first", "--second", "1", "--strict")
+    airport, second = first.caller(1), boards.second(first, "copy")
+    expect_soon(cases, "before", airport, 0, 3, second.kept)
+    second.ran.send_signal(signal.SIGSTOP)
+    airport.send(f"{TICK}\n")
+    cases.expect("a reply waits", airport.is_silent(1), airport.held)
+    goes_on = threading.Timer(1, second.ran.send_signal, (signal.SIGCONT,))
+    goes_on.start()
+    answer, status, lines = first.close(2 * MOST)
+    goes_on.join()
+    cases.expect("it closes", (answer, status, lines[-1:]) == ("closing\n", 0, ["closed 4"]), (answer, status, lines))
+    cases.expect("and the line in hand is answered", airport.rest() == b"ok 3\n", airport.held)
 
 
 def closes_loaded(cases, boards):
@@ -658,8 +678,8 @@ def beside_readers(cases, boards, first, airport, callers):
 
 
 TRIES = (
-    *(alone, at_that_moment, switched, strictly, closes_soon, closes_loaded, full, promoted, two, stopped, unheard, junk, named, chain),
-    *(refused, readers),
+    *(alone, at_that_moment, switched, strictly, closes_soon, closes_answering, closes_loaded, full, promoted, two, stopped),
+    *(unheard, junk, named, chain, refused, readers),
 )
 
 

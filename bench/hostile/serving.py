@@ -5,7 +5,9 @@
 
 A partner that reads late and little, under each word that keeps partners; a second connection at an address that is taken; `close` with
 2,000 lines in hand; replies that an older connection has not taken; a pace after silence; levels of rooms that do not divide; moments
-beside the machine's clock; a display that reads late, and one that reads nothing; ticks of the board's own, also where it slept. The last line is `N cases, M failed`; status 1 where one failed.
+beside the machine's clock; a display that reads late, one that reads nothing, and those that connect at the end; a partner that reads,
+and a display that does not, once the board closes; ticks of the board's own, also where it slept. The last line is `N cases, M failed`;
+status 1 where one failed.
 """
 
 import datetime
@@ -203,6 +205,26 @@ def close_in_hand(cases, program, given):
         )
 
 
+def taken_late(cases, program):
+    """A partner that takes nothing until three seconds after the close has each reply that is owed: it is cut off after five."""
+    board, _ = opened(program, ["--again", "--control", "PORT"], ["APT", "NM"])
+    late, other = board.connect(1, small=True), board.connect(2)
+    cases.expect("flights are there", fill_board(late))
+    sender = sends(late, [ALERTS] * MANY)
+    cases.expect("it takes no more replies", is_held_up(other))
+    begun = time.monotonic()
+    cases.expect("close is answered", board.ask("close") == "closing\n")
+    time.sleep(3)
+    lines = rest_of(late.socket).decode().split("\n")
+    status, ends = board.ended()
+    took = time.monotonic() - begun
+    cases.expect("the board has waited for it", status == 0 and 3 < took < 8, (status, took))
+    calls = int(ends[0].split(" ")[2]) - len(FLIGHTS)
+    whole = all(it.startswith("alerts ") and it.endswith(" " + FULL) for it in lines[:-1])
+    cases.expect("each entry has its reply, whole", lines[-1] == "" and whole and len(lines) - 1 == calls, (len(lines), calls, ends))
+    sender.join(20)
+
+
 def older_replies(cases, program):
     """A newer connection gets the replies to its own lines, however many an older one has not taken."""
     board, _ = opened(program, ["--again", "--control", "PORT"], ["APT", "NM"])
@@ -350,6 +372,35 @@ def late_display(cases, program):
         cases.expect("a late display has each line whole", lines == told, (len(data), len(told)))
 
 
+def last_display(cases, program):
+    """A display that takes nothing at the end is waited for five seconds, and what it was sent is a beginning of all."""
+    with tempfile.TemporaryDirectory() as room:
+        saved = pathlib.Path(room) / "saved"
+        given = ["--again", "--control", "PORT", "--save", str(saved), "--changes", "DISPLAY"]
+        board, port = opened(program, given, ["APT"])
+        partner = board.connect(1)
+        for _ in range(12):
+            sends(partner, [SCHEDULE] * MANY)
+            for _ in range(MANY):
+                partner.replies.readline()
+        display = socket.socket()
+        # (what it is sent, 17 MB, is more than the system holds of a connection, 4 MB and some, so that the board has to wait)
+        display.setsockopt(socket.SOL_SOCKET, socket.SO_RCVBUF, 65536)
+        display.settimeout(20)
+        display.connect(("127.0.0.1", port))
+        display.sendall(b"from 0\n")
+        time.sleep(3)
+        partner.close()
+        begun = time.monotonic()
+        cases.expect("close is answered", board.ask("close") == "closing\n")
+        status, _ = board.ended()
+        took = time.monotonic() - begun
+        cases.expect("the board has waited for the display", status == 0 and 4.5 < took < 15, (status, took))
+        lines = rest_of(display).partition(b"\n")[2]
+        told = ran(program, ["tell", str(saved)]).stdout
+        cases.expect("which was sent a beginning", told.startswith(lines) and b"" < lines < told, (len(lines), len(told)))
+
+
 def own_ticks(cases, program):
     """A board that ticks by itself: in a session of its own, in role APT, each so many seconds, until all others have ended."""
     for options in (["--again", "--control", "PORT"], ["--control", "PORT"], ["--keep"]):
@@ -448,6 +499,24 @@ def stopped_display(cases, program):
         cases.expect("the other display has all", heard == [text], [len(it) for it in heard])
 
 
+def late_callers(cases, program):
+    """Displays that have just connected as the only partner leaves are sent all, however many they are."""
+    texts = []
+    for _ in range(12):
+        board, port = opened(program, ["--watch", "DISPLAY"], ["APT"])
+        partner = board.connect(1)
+        partner.asks(TICK)
+        partner.asks(SHOW)
+        displays = [socket.create_connection(("127.0.0.1", port), timeout=20) for _ in range(8)]
+        partner.close()
+        for it in displays:
+            texts.append(rest_of(it))
+            it.close()
+        ended = board.ended()
+        cases.expect("the board ends", ended == (0, ["session 1 2 end", "closed 2"]), ended)
+    cases.expect("who has just connected is sent all", all(it.count(b"\n") == 2 for it in texts), [it for it in texts if it.count(b"\n") != 2])
+
+
 def tried(make, cases, *given):
     """Makes cases; a fault of the script itself is a case that failed."""
     try:
@@ -472,10 +541,13 @@ def main():
         tried(second_connection, cases, program, given)
     for given in ([], ["--again"]):
         tried(close_in_hand, cases, program, given)
-    for it in (older_replies, levels, moments):
+    for it in (older_replies, levels, moments, late_callers):
         tried(it, cases, program)
     for it in waiting:
         it.join()
+    # (by themselves, since they look at the time)
+    for it in (taken_late, last_display):
+        tried(it, cases, program)
     return cases.end()
 
 

@@ -11,6 +11,7 @@ line is `N cases, M failed`; status 1 where one failed.
 """
 
 import contextlib
+import fcntl
 import itertools
 import os
 import pathlib
@@ -23,7 +24,7 @@ import tempfile
 import threading
 import time
 
-from cases import KEPT_ELSEWHERE, NO_PLAIN_FILE, PLAN, SCHEDULE, Cases, cause, ran, text, words
+from cases import KEPT_ELSEWHERE, KEPT_THERE, NO_PLAIN_FILE, PLAN, SCHEDULE, Cases, cause, ran, text, words
 
 TICK = '{"cmd":"tick"}'
 WORDS = ["--again", "--control", "--pace", "--keep"]
@@ -129,11 +130,41 @@ def newcomers(program, cases):
     came = replied(newer)
     cases.expect("a whole one does", came.startswith("ok 3\n"), came)
     cases.expect("and the older connection ends", partner.recv(10) == b"")
-    for connection in [*probes, partner, newer]:
+    came += "" if came.count("\n") == 2 else replied(newer)
+    cases.expect("and its next line is answered", came == "ok 3\nok 4\n", came)
+    longest = board.connect()
+    longest.sendall(b"{" + b"x" * 69_999)
+    time.sleep(0.5)
+    cases.expect("70,000 bytes of a line take no place", asked(newer, TICK) == "ok 5\n")
+    longest.sendall(b"x")
+    try:
+        came = newer.recv(10)
+    except OSError as error:
+        came = error
+    cases.expect("one more does", came == b"", came)
+    cases.expect("and its line is too long", asked(longest, "") == "bad 105\n")
+    for connection in [*probes, partner, newer, longest]:
         connection.close()
     cases.expect("the board closes", board.close() == 0)
     told = [line for line in board.said if line.startswith("here ")]
-    cases.expect("who took no place is not told", len(told) == 2, told)
+    cases.expect("who took no place is not told", len(told) == 3, told)
+
+
+def ninth(program, cases):
+    """At most eight newcomers wait at an address: for a ninth the one that has waited longest is closed, and no other."""
+    board = Board(program, ["--again", "--control", "PORT"])
+    waiting = [board.connect(timeout=5) for _ in range(9)]
+    try:
+        came = waiting[0].recv(10)
+    except OSError as error:
+        came = error
+    cases.expect("for a ninth newcomer the first one is closed", came == b"", came)
+    for number, at in enumerate([8, 7, 1]):
+        came = asked(waiting[at], TICK)
+        cases.expect(f"newcomer {at + 1} of nine is served", came == f"ok {number}\n", came)
+    for connection in waiting:
+        connection.close()
+    cases.expect("the board closes", board.close() == 0)
 
 
 def alone(program, cases, room):
@@ -191,6 +222,41 @@ def full_pipe(program, cases):
     cases.expect("each line that was written is whole", all(re.match(r"(here|gone) \d+ |\.\. \d+ lines not written", line) for line in said[:-1]))
 
 
+def late_terminal(program, cases, room):
+    """Of a standard error that is read late: the lines that are there, and those that are counted, are all that was told."""
+    log = room / "log"
+    board = Board(program, ["--again", "--control", "PORT", "--log", log], ("APT",) * 64, is_heard=False)
+    # (with the least pipe, what is told of 64 places finds no room in it and in what is held)
+    fcntl.fcntl(board.process.stderr, fcntl.F_SETPIPE_SZ, 4096)
+    for _ in range(31):
+        with contextlib.ExitStack() as opened:
+            partners = [opened.enter_context(board.connect(at)) for at in range(64)]
+            for partner in partners:
+                partner.sendall(TICK.encode() + b"\n")
+            for partner in partners:
+                replied(partner)
+    began = time.monotonic()
+    while " here " in board.ask("status") and time.monotonic() - began < 20:
+        time.sleep(0.1)
+    time.sleep(0.5)
+    threading.Thread(target=board.hear, daemon=True).start()
+
+    def counted():
+        """How many lines were read, how many were counted, and how many events were logged."""
+        lost = [re.fullmatch(r"\.\. (\d+) lines not written", line) for line in board.said]
+        counts = sum(int(it[1]) for it in lost if it)
+        return sum(it is None for it in lost), counts, log.read_bytes().count(b"\n")
+
+    began = time.monotonic()
+    while sum(counted()[:2]) < counted()[2] and time.monotonic() - began < 20:
+        time.sleep(0.1)
+    # (what is counted is counted once)
+    time.sleep(0.5)
+    written, lost, told = counted()
+    cases.expect("lines that were not written are counted", lost > 0 and written + lost == told, (written, lost, told))
+    cases.expect("and the board closes", board.close() == 0)
+
+
 def held_control(program, cases):
     board = Board(program, ["--again", "--control", "PORT"])
     silent = [socket.create_connection(("127.0.0.1", board.control), timeout=30) for _ in range(8)]
@@ -204,15 +270,54 @@ def held_control(program, cases):
                 came += piece
             cases.expect(f"a caller that begins with {line!r} is let go", came == b"unknown\n", came)
     cases.expect("and does not close the board", board.process.poll() is None)
-    with socket.create_connection(("127.0.0.1", board.control), timeout=30) as caller:
+    with contextlib.ExitStack() as opened:
+        asker, caller = (opened.enter_context(socket.create_connection(("127.0.0.1", board.control), timeout=6)) for _ in range(2))
         began = time.monotonic()
         caller.sendall(b"stat")
-        caller.recv(1)
+        try:
+            caller.recv(1)
+        except TimeoutError:
+            asker.sendall(b"status\n")
+            cases.expect("another caller is answered meanwhile", b"entries 0 of" in asker.recv(4096))
+            caller.recv(1)
         took = time.monotonic() - began
         cases.expect("half a line is waited for ten seconds", 9 < took < 13, took)
+        try:
+            asker.sendall(b"status\n")
+            came = asker.recv(4096)
+        except OSError:
+            came = b""
+        cases.expect("who has sent a whole line has ten seconds for the next", b"entries 0 of" in came, came)
+    for size, wanted in ((64, b"unknown\n"), (65, b"")):
+        with socket.create_connection(("127.0.0.1", board.control), timeout=10) as caller:
+            caller.sendall(b"x" * size + b"\n")
+            try:
+                came = caller.recv(100)
+            except ConnectionError:
+                came = b""
+            cases.expect(f"a line of {size} bytes", came == wanted, came)
     for caller in silent:
         caller.close()
+    longest_idle(board, cases)
     cases.expect("the board closes", board.close() == 0)
+
+
+def longest_idle(board, cases):
+    """Of eight callers the first one asks for something: for a ninth the second one is disconnected, and no other."""
+    time.sleep(0.2)
+    callers = [socket.create_connection(("127.0.0.1", board.control), timeout=5) for _ in range(8)]
+    time.sleep(0.4)
+    callers[0].sendall(b"status\n")
+    cases.expect("the first of eight callers is answered", b"entries 0 of" in callers[0].recv(4096))
+    callers.append(socket.create_connection(("127.0.0.1", board.control), timeout=5))
+    for number, caller in enumerate(callers, 1):
+        try:
+            caller.sendall(b"status\n")
+            came = caller.recv(4096)
+        except OSError:
+            came = b""
+        cases.expect(f"caller {number} of nine", (b"entries 0 of" in came) == (number != 2), came)
+        caller.close()
 
 
 def pace(program, cases):
@@ -291,9 +396,17 @@ def files(program, cases, room):
     for word in ["--save", "--keep"]:
         done = ran(program, ["run", "--tables", tables, word, tables], line)
         cases.expect(f"tables are left alone by {word}", (done.returncode, tables.read_bytes()) == (2, before))
+    pipes = {"stdin": subprocess.PIPE, "stdout": subprocess.PIPE, "stderr": subprocess.PIPE}
+    saving = subprocess.Popen([program, "run", "--save", room / "held"], **pipes)
+    saving.stdin.write(line)
+    saving.stdin.flush()
+    cases.expect("a run begins that saves", saving.stdout.readline() == b"ok 0\n")
     board = Board(program, ["--control", "PORT", "--keep", room / "held"])
     with board.connect() as partner:
         first = asked(partner, TICK)
+        told = "acdm: save failed\n" + cause(f"--save {room / 'held'}", KEPT_THERE)
+        ended = (*saving.communicate(timeout=60), saving.returncode)
+        cases.expect("what a board has begun to keep meanwhile is not saved over", ended == (b"", told.encode(), 2), ended)
         done = ran(program, ["run", "--save", room / "held"], line)
         cases.expect("what another board keeps is not saved over", (done.returncode, done.stdout) == (2, b""), done)
         done = ran(program, ["run", "--keep", room / "held"], line)
@@ -344,13 +457,14 @@ def main():
     signal.signal(signal.SIGALRM, lambda *_: sys.exit("strangers: took too long"))
     signal.alarm(600)
     newcomers(program, cases)
+    ninth(program, cases)
     silent_terminal(program, cases)
     full_pipe(program, cases)
     held_control(program, cases)
     pace(program, cases)
     levels(program, cases)
     web(program, cases)
-    for part in (alone, files, going_on):
+    for part in (late_terminal, alone, files, going_on):
         with tempfile.TemporaryDirectory(prefix="acdm-") as room:
             part(program, cases, pathlib.Path(room))
     return cases.end()

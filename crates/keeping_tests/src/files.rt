@@ -1,7 +1,9 @@
 //! What is written to a file in which a journal is kept, where flushes wait for the disk and where they
 //! do not. The file is in the folder that tests run in.
-use acdm_keeping::{Named, Paths, Synced, copy_bytes, open};
+use acdm_keeping::{Found, Named, Paths, Synced, copy_bytes, open};
 use acdm_lines::{Sink, Source};
+use std::alloc::Global;
+use std::cell::RefCell;
 use std::fs::{self, File, Files};
 use std::io::{self, ErrorKind, Write};
 use std::process::Abort;
@@ -9,6 +11,8 @@ use std::process::Abort;
 const KEPT: &str = "kept-by-a-writer.txt";
 
 const TAKEN: &str = "taken-from-a-writer.txt";
+
+const WRITTEN: &str = "written-meanwhile.txt";
 
 // Whether a file was not opened since somebody else has.
 fn is_in_use(opened: io::Result<File>) -> bool {
@@ -58,6 +62,45 @@ fn a_file_that_is_not_as_written_fails(rt: HostRuntime) {
         assert!(rt; matches!(same.failure(), Some(error) if error.kind() == ErrorKind::NotFound));
     }
     let _ = fs::remove_file(&rt, TAKEN);
+}
+
+// The system, of which a file is asked just before one more line is written to it.
+#[derive(Drop)]
+struct BeforeWrite<'a, Rt: Drop> {
+    rt: &'a Rt,
+    writer: RefCell<Synced<Rt>>,
+}
+
+impl<Rt: Paths + Drop> Paths for BeforeWrite<'_, Rt> {
+    fn file_at(&self, path: &str) -> Option<Found> {
+        let found = self.rt.file_at(path);
+        if let Ok(mut writer) = self.writer.try_borrow_mut() {
+            let _ = writer.write(b"more\n");
+        }
+        found
+    }
+
+    fn put_text(&self, alloc: Global, path: &str, text: &[u8]) -> io::Result<()> {
+        self.rt.put_text(alloc, path, text)
+    }
+}
+
+// A file to which more is written while it is looked at stands as before.
+#[test]
+fn a_file_stands_while_it_is_written(rt: HostRuntime) {
+    let alloc = rt.alloc();
+    let _ = fs::remove_file(&rt, WRITTEN);
+    let file = open(&rt, WRITTEN).ok().expect(&rt, "the file");
+    let named = Named::new(alloc, WRITTEN, &file).ok().expect(&rt, "a name");
+    let same = named.copy(alloc).expect(&rt, "a name");
+    let own = rt.clone().expect(&rt, "a runtime");
+    let looking = BeforeWrite {
+        rt: &rt,
+        writer: RefCell::new(Synced::new(own, file, named, false)),
+    };
+    assert!(rt; same.stands(&looking));
+    assert!(rt; rt.file_at(WRITTEN).map(|found| found.bytes) == Some(5));
+    let _ = fs::remove_file(&rt, WRITTEN);
 }
 
 // What is copied of a text of so many bytes, where so many are asked for.
