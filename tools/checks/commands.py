@@ -7,8 +7,8 @@ A command is a line of an indented or fenced block that begins as a shell would 
 that runs a program of this checkout with words behind it. Each page has a copy of this checkout, in which its
 commands run by bash, one after the other. A board (`./acdm serve`) is seen to listen at each of its ports, and serves
 the commands that follow. It is ended before the next board, before a run that keeps its journal, or at the end of its
-page: by its control address, else by SIGTERM. A port that is taken is replaced by a free one, in all commands of the
-page.
+page: by its control address, else by SIGTERM. Where a command closes it, its end is waited for. A port that is taken
+is replaced by a free one, in all commands of the page.
 
 ./acdm is the proved program where these sources are proved; else that of --program, or a build that is not proved
 (tools/unproved.py). Without any, the commands that need it are left out, and counted; so are those that need clang or
@@ -135,6 +135,7 @@ RUNS_PROGRAM = re.compile(
     r"|bench/explain/page\.py"
 )
 NEEDS_BOARD = re.compile(r"clients/(?:partner|board|control|load)\.(?:py|mjs)\b.*\b\d{4,5}\b")
+CLOSES_BOARD = re.compile(r"clients/control\.py \S+ close\b")
 # The tools that a command needs beside this checkout, and the files that it makes.
 NEEDS_TOOL = re.compile(r"(?:^|\| )(clang|llvm-objcopy|llvm-objdump|xxd|node|openssl|psql)\b")
 NEEDS_CLANG = re.compile(r"clients/load\.py \S+\.c\b|bench/explain/page\.py")
@@ -425,6 +426,9 @@ class Page:
             self.fault(command, f"did not end within {SECONDS} s")
         elif status != (STATUS[key] if key else 0):
             self.fault(command, f"ended with {status}: {said.rpartition(chr(10))[2][:160]}")
+        elif CLOSES_BOARD.search(command):
+            # (a board that was told to close runs on for a while, and hears no more)
+            self.end_board()
 
 
 def run_page(page: Path, shared: Shared, program: Path | None) -> Counts:

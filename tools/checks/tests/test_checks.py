@@ -225,6 +225,24 @@ class Commands(Folder):
             page.counts.faults, ["README.md: `./acdm serve APT=127.0.0.1:4000` ended with 2: acdm: address 1"]
         )
 
+    def test_a_board_that_a_command_closed_has_ended_before_the_next_command(self) -> None:
+        served = (
+            "import socket, time",
+            "asked = socket.create_server(('127.0.0.1', {port}))",
+            "asked.accept()[0].recv(64)",
+            "asked.close()",
+            "time.sleep(0.5)",
+        )
+        self.write("acdm", '#!/bin/sh\nexec python3 -c "$(sed "s/{port}/$4/" served)"\n').chmod(0o755)
+        self.write("served", "\n".join(served))
+        closes = "import socket, sys\nsocket.create_connection(('127.0.0.1', int(sys.argv[1]))).sendall(b'close')\n"
+        self.write("clients/control.py", f"#!/usr/bin/env python3\n{closes}").chmod(0o755)
+        page = commands.Page(commands.TOP / "docs/OPERATING.md", self.top, commands.Shared(), self.top)
+        with mock.patch.dict(commands.SUPPOSED, {page.name: "./acdm serve --again --control 4199"}):
+            page.run("clients/control.py 4199 close")
+            page.run("clients/control.py 4199 close")
+        self.assertEqual((page.counts.ran, page.counts.faults), (2, []))
+
     def test_a_command_that_fails_in_the_middle_of_a_pipe_is_a_fault(self) -> None:
         page = commands.Page(commands.TOP / "README.md", self.top, commands.Shared(), self.top)
         page.run("false | cat")
