@@ -19,7 +19,7 @@ CRATES = pathlib.Path(__file__).resolve().parents[2] / "crates"
 PUBLIC = re.compile(r" *pub (?:const )?fn (\w+)")
 # Each public function of a crate has a clause and an edit, but for these, of which bench/gate/README.md says why.
 LACKING = {
-    "acdm_board": {"Desk::core", "Desk::row", "Desk::sigs"},
+    "acdm_board": {"Desk::core", "Desk::keep_passes", "Desk::row", "Desk::sigs"},
     "acdm_commands": {"Cause::new", "Cause::note", "Noting::new", "standard_streams::is_error_file"},
     "acdm_confirming": {"Confirmed::confirm", "Confirmed::join", "Confirmed::leave", "Confirmed::wait_for_more"},
     "acdm_displays": {"Displays::close", "Displays::start"},

@@ -39,7 +39,7 @@ NUMBERS = (
         (
             ("docs/ARCHITECTURE.md", r"`passes`, at most #,"),
             ("docs/where.toml", r"its # is 64 sessions"),
-            ("docs/DECISIONS.md", r"that the desk keeps, at most #\."),
+            ("docs/DECISIONS.md", r"takes the place of its passes, at most #,"),
         ),
     ),
     Number(
