@@ -196,7 +196,7 @@ def ahead(cases, program, one, two):
     status, text = two.act("start")
     cases.expect("it is begun", status == OK, text)
     cases.expect("and says that it follows nobody", "nobody is followed" in text and "5 entries, and 4 there" in text, text)
-    cases.expect("nor does it", two.status().startswith("following 127.0.0.1:0\n"), two.status())
+    cases.expect("nor does it", two.status().startswith("following 127.0.0.1:0 parted\n"), two.status())
     cases.expect("it waits", two.act("monitor")[0] == OK and two.score() is None, two.score())
     cases.expect("the first gets another entry", one.partner(1).asks(ALERTS).startswith("alerts 4 "))
     status, text = two.act("monitor")
@@ -416,7 +416,7 @@ def demoted_in_a_cut(cases, program, room):
         link.set("up")
         ends(cases, "its promotion fails", one.act("promote"), BAD_HERE, "entry 2 is another one")
         ends(cases, "and so does a monitor", one.act("monitor"), BAD_HERE, "entry 2 is another one")
-        cases.expect("it has not served", one.status().startswith("following 127.0.0.1:0\n"), one.status())
+        cases.expect("it has not served", one.status().startswith("following 127.0.0.1:0 parted\n"), one.status())
         cases.expect("the second one serves on", two.partner(1).asks(TICK) == "ok 3")
 
 

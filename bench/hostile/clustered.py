@@ -203,7 +203,8 @@ def two_machines(cases, program, room, name):
 
 def follows(machine):
     peers = dict(it.split("=") for it in machine.peer.split())
-    return machine.status().startswith(f"following {peers[machine.name]}\n")
+    told = f"following {peers[machine.name]}"
+    return machine.status().startswith((f"{told}\n", f"{told} parted\n"))
 
 
 def gets(machine, score):

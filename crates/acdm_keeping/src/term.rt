@@ -1,7 +1,7 @@
 //! The term of a board: since when it serves from its journal, by which it is known which of two boards has taken over.
 ghost use Rattle.std.specs.Prelude.{◌≡◌, ◌+◌, ◌-◌, ◌^◌, ◌≤◌, IfSome, IsNone, IfOk, if◌then◌else◌, nat_lt};
 ghost use Rattle.std.specs.Prelude.{None, Some, option_map, string_bytes};
-ghost use Rattle.acdm_keeping.specs.Terms.{NamesTerm, term_line, term_path};
+ghost use Rattle.acdm_keeping.specs.Terms.{NamesNoTerm, NamesTerm, term_line, term_path};
 
 use crate::named::Paths;
 use acdm_lines::number_in;
@@ -21,7 +21,8 @@ const LONGEST_FILE: usize = 32;
 /// The term that a line names, without its line feed: `term N`, of a decimal number below 2^64 with no sign and no zero
 /// before it. No other line names one.
 pub fn term_named(line: &[u8]) -> Option<u64>
-    ensures { IfSome result (NamesTerm line.now) }
+    ensures named { IfSome result (NamesTerm line.now) }
+    ensures none { IsNone result → NamesNoTerm line.now }
 {
     let Ok(line) = str::from_utf8(line) else {
         return None;

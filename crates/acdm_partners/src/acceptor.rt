@@ -1,5 +1,5 @@
 //! The thread that accepts partners, and answers at the control address.
-use crate::control::{BoardState, Control, Standing};
+use crate::control::{BoardState, Control, FollowedBoard, Standing};
 use crate::doors::Door;
 use crate::reporter::Reporter;
 use crate::times::PAUSE;
@@ -12,16 +12,6 @@ use std::time::{Clock, Duration};
 
 /// At how many looks it is looked once for the file of the journal: at about every half second.
 const LOOKS_A_FILE: u64 = 16;
-
-/// A board that is followed: where it is, as the words name it, and the word that says that it is not followed any more,
-/// since it was asked at the control address that this board serves.
-#[derive(Drop)]
-pub struct FollowedBoard {
-    /// Its address.
-    pub address: String,
-    /// Whether this board was promoted.
-    pub promoted: Arc<AtomicBool>,
-}
 
 /// Who accepts partners at all addresses, looks after the file of the journal, tells who comes and leaves and when the journal is nearly full,
 /// and answers at the control address.
@@ -122,17 +112,13 @@ impl<K: Wait + Clock + Drop, S: Standing + Drop> Acceptor<K, S> {
         self.look_at_peer();
         // Where the clock tells no time nobody is too late.
         let now = self.reporter.passed().unwrap_or(0);
-        let first = match &self.first {
-            Some(first) => Some(first.address.as_str()),
-            None => None,
-        };
         if let Some(control) = &mut self.control {
             let state = BoardState {
                 rt: &self.reporter.rt,
                 alloc: self.reporter.alloc,
                 doors: self.doors.as_slice(),
                 standing: &self.standing,
-                first,
+                first: self.first.as_ref(),
             };
             let asked = control.look(&state, now);
             if asked.closes {

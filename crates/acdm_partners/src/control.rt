@@ -9,7 +9,8 @@ use acdm_lines::is_passing;
 use std::alloc::{AllocError, Global};
 use std::io::{self, ErrorKind, Read, Write};
 use std::net::{Net, SocketAddr, TcpListener, TcpStream};
-use std::sync::Wait;
+use std::sync::atomic::{AtomicBool, Ordering};
+use std::sync::{Arc, Wait};
 
 /// How many may be connected there at once. For one more, the one that has asked for nothing for the longest
 /// time is let go.
@@ -72,6 +73,31 @@ impl Followers {
     }
 }
 
+/// A board that is followed: where it is, as the words name it, whether it is connected to, and the word that says that it
+/// is not followed any more, since it was asked at the control address that this board serves.
+#[derive(Drop)]
+pub struct FollowedBoard {
+    /// Its address.
+    pub address: String,
+    /// Whether there is a connection to it.
+    pub is_connected: Arc<AtomicBool>,
+    /// Whether this board was promoted.
+    pub promoted: Arc<AtomicBool>,
+}
+
+impl FollowedBoard {
+    // What an operator is told of it.
+    fn add_status(&self, text: &mut String) -> Result<(), AllocError> {
+        let address = self.address.as_str();
+        if self.is_connected.load(Ordering::SeqCst) {
+            writeln!(text, "following {address}")?;
+        } else {
+            writeln!(text, "following {address} parted")?;
+        }
+        Ok(())
+    }
+}
+
 /// The board, as it is told of at the control address.
 #[derive(Drop)]
 pub(crate) struct BoardState<'a, K, S> {
@@ -80,7 +106,7 @@ pub(crate) struct BoardState<'a, K, S> {
     pub(crate) doors: &'a [Door],
     pub(crate) standing: &'a S,
     // The board that it follows, if it does.
-    pub(crate) first: Option<&'a str>,
+    pub(crate) first: Option<&'a FollowedBoard>,
 }
 
 /// What was asked for at the control address since the last look.
@@ -121,7 +147,7 @@ fn status<K: Wait, S: Standing>(state: &BoardState<'_, K, S>) -> Result<String, 
     let standing = state.standing;
     let mut text = String::new(alloc);
     if let Some(first) = state.first {
-        writeln!(text, "following {first}")?;
+        first.add_status(&mut text)?;
     }
     for door in state.doors {
         door.add_status(state.rt, alloc, &mut text)?;

@@ -26,11 +26,11 @@ mod stamp;
 mod stopwatch;
 mod times;
 
-pub use acceptor::{Acceptor, FollowedBoard, Reception};
+pub use acceptor::{Acceptor, Reception};
 pub use arrivals::Arrivals;
 pub use arriving::Arriving;
 pub use connection::Connection;
-pub use control::{Control, Followers, Standing};
+pub use control::{Control, FollowedBoard, Followers, Standing};
 pub use counts::LineOutcome;
 pub use doors::Door;
 pub use first_line::{FirstLine, judge_first};

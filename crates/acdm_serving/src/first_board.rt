@@ -63,8 +63,10 @@ fn follower_of<'r, J: Opening, Rt: Host>(
         closing: Arc::try_clone(&operation.closing)?,
         promoted: Arc::new(alloc, AtomicBool::new(false))?,
     };
+    let is_connected = Arc::new(alloc, AtomicBool::new(false))?;
     let first = FollowedBoard {
         address: String::from_str(alloc, place.name)?,
+        is_connected: Arc::try_clone(&is_connected)?,
         promoted: Arc::try_clone(&flags.promoted)?,
     };
     let kept = match &operation.kept {
@@ -103,7 +105,7 @@ fn follower_of<'r, J: Opening, Rt: Host>(
         confirming: Arc::try_clone(&confirming)?,
         term: operation.term.copy(alloc)?,
     };
-    let board = FirstBoardAt::new(rt, alloc, own, address, same);
+    let board = FirstBoardAt::new(rt, alloc, own, address, same, is_connected);
     Ok(Follower {
         board,
         reception,

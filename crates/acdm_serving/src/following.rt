@@ -317,6 +317,8 @@ pub(crate) struct FirstBoardAt<'r, Rt: Drop, M: Drop, C: Drop> {
     flags: StopFlags,
     // A connection that was made, until it is handed over.
     made: Option<C>,
+    // Whether there is a connection, as an operator is told.
+    is_connected: Arc<AtomicBool>,
     // The number of the entry that was asked for last.
     next: u64,
     told: LastTold,
@@ -340,13 +342,15 @@ fn parting_text(alloc: Global, why: Parting) -> Result<String, AllocError> {
 }
 
 impl<'r, Rt: Clock + Wait + Drop, M: Connects<C> + Drop, C: Drop> FirstBoardAt<'r, Rt, M, C> {
-    /// The board at this place, until one of these flags is set. What is told of it goes to the reporter.
+    /// The board at this place, until one of these flags is set. What is told of it goes to the reporter, and the last word
+    /// says whether there is a connection.
     pub(crate) fn new(
         rt: &'r Rt,
         alloc: Global,
         reporter: Reporter<Rt>,
         place: M,
         flags: StopFlags,
+        is_connected: Arc<AtomicBool>,
     ) -> FirstBoardAt<'r, Rt, M, C> {
         FirstBoardAt {
             rt,
@@ -355,6 +359,7 @@ impl<'r, Rt: Clock + Wait + Drop, M: Connects<C> + Drop, C: Drop> FirstBoardAt<'
             place,
             flags,
             made: None,
+            is_connected,
             next: 0,
             told: NOTHING_TOLD,
             course: Course::new(),
@@ -387,6 +392,7 @@ impl<'r, Rt: Clock + Wait + Drop, M: Connects<C> + Drop, C: Drop> FirstBoardAt<'
             }
             match self.place.reach(next) {
                 Ok(ConnectOutcome::Board(connection)) => {
+                    self.is_connected.store(true, Ordering::SeqCst);
                     self.tell_following(next);
                     self.made = Some(connection);
                     return;
@@ -519,6 +525,7 @@ impl<Rt: Clock + Wait + Drop, M: Connects<C> + Drop, C: Read + Drop> FirstBoard
         ensures course { self.new.course ≡ parted_as self.old.course given.now.parted why }
     {
         self.course.part(given, why);
+        self.is_connected.store(false, Ordering::SeqCst);
         if self.flags.is_over() {
             return;
         }
