@@ -24,27 +24,32 @@ why_text NoNumber = codes "not a whole number"
 why_text NoText = codes "not a text"
 why_text NoPartners = codes "not a list of texts as APT=127.0.0.1:4001"
 
+-- the keys that have true or false
+abbrev pub is_flag : List ℕ → Bool
+is_flag key = bytes_eq key (codes "again") || bytes_eq key (codes "strict") || bytes_eq key (codes "sync")
+
+-- a whole number
+abbrev pub is_number : List ℕ → Bool
+is_number key = bytes_eq key (codes "journal") || bytes_eq key (codes "pace") || bytes_eq key (codes "second")
+    || bytes_eq key (codes "tick")
+
+-- the name of a file
+abbrev pub is_file : List ℕ → Bool
+is_file key = bytes_eq key (codes "keep") || bytes_eq key (codes "log") || bytes_eq key (codes "save")
+    || bytes_eq key (codes "tables")
+
+-- an address, or the name by which browsers may ask there
+abbrev pub is_address : List ℕ → Bool
+is_address key = bytes_eq key (codes "changes") || bytes_eq key (codes "control") || bytes_eq key (codes "peer")
+    || bytes_eq key (codes "watch") || bytes_eq key (codes "web") || bytes_eq key (codes "web-name")
+
 -- which value a key has, if there is such a key: each but `partners` is the name of an option of `serve`
 abbrev pub kind_of : List ℕ → Option ValueKind
 kind_of key =
-    if bytes_eq key (codes "again") then Some Flag
-    else (if bytes_eq key (codes "strict") then Some Flag
-    else (if bytes_eq key (codes "sync") then Some Flag
-    else (if bytes_eq key (codes "journal") then Some Number
-    else (if bytes_eq key (codes "pace") then Some Number
-    else (if bytes_eq key (codes "second") then Some Number
-    else (if bytes_eq key (codes "tick") then Some Number
-    else (if bytes_eq key (codes "changes") then Some Words
-    else (if bytes_eq key (codes "control") then Some Words
-    else (if bytes_eq key (codes "keep") then Some Words
-    else (if bytes_eq key (codes "log") then Some Words
-    else (if bytes_eq key (codes "peer") then Some Words
-    else (if bytes_eq key (codes "save") then Some Words
-    else (if bytes_eq key (codes "tables") then Some Words
-    else (if bytes_eq key (codes "watch") then Some Words
-    else (if bytes_eq key (codes "web") then Some Words
-    else (if bytes_eq key (codes "web-name") then Some Words
-    else (if bytes_eq key (codes "partners") then Some Partners else None)))))))))))))))))
+    if is_flag key then Some Flag
+    else (if is_number key then Some Number
+    else (if is_file key || is_address key then Some Words
+    else (if bytes_eq key (codes "partners") then Some Partners else None)))
 
 -- the option of a key, and with a value behind it
 abbrev pub option_of : List ℕ → List ℕ

@@ -6,6 +6,7 @@ ghost use Rattle.toml.specs.Data.{as_integer};
 ghost use Rattle.acdm_settings.specs.declared.reading.ValueKind.TheVariants.{Partners};
 ghost use Rattle.toml.specs.View.{array_view, table_view, view};
 ghost use Rattle.acdm_settings.specs.Settings.{GivesView, IsWrong, Reads, add_kind, add_setting, is_partner};
+ghost use Rattle.acdm_settings.specs.Settings.{is_address, is_file, is_flag, is_number};
 ghost use Rattle.acdm_settings.specs.Settings.{flag_words, kind_of, natural, option_of, partner_word, partners_from, with_value, words_from};
 
 use crate::fault::{SettingFault, SettingsError};
@@ -31,43 +32,48 @@ pub(crate) enum ValueKind {
     Partners,
 }
 
+// Whether a key has true or false.
+fn is_flag(key: &str) -> bool
+    ensures { result ≡ is_flag key.now }
+{
+    key == "again" || key == "strict" || key == "sync"
+}
+
+// Whether it has a whole number.
+fn is_number(key: &str) -> bool
+    ensures { result ≡ is_number key.now }
+{
+    key == "journal" || key == "pace" || key == "second" || key == "tick"
+}
+
+// Whether it has the name of a file.
+fn is_file(key: &str) -> bool
+    ensures { result ≡ is_file key.now }
+{
+    key == "keep" || key == "log" || key == "save" || key == "tables"
+}
+
+// Whether it has an address, or the name by which browsers may ask there.
+fn is_address(key: &str) -> bool
+    ensures { result ≡ is_address key.now }
+{
+    key == "changes"
+        || key == "control"
+        || key == "peer"
+        || key == "watch"
+        || key == "web"
+        || key == "web-name"
+}
+
 // Which value a key has, if there is such a key.
 fn kind_of(key: &str) -> Option<ValueKind>
     ensures { result ≡ kind_of key.now }
 {
-    if key == "again" {
+    if is_flag(key) {
         Some(ValueKind::Flag)
-    } else if key == "strict" {
-        Some(ValueKind::Flag)
-    } else if key == "sync" {
-        Some(ValueKind::Flag)
-    } else if key == "journal" {
+    } else if is_number(key) {
         Some(ValueKind::Number)
-    } else if key == "pace" {
-        Some(ValueKind::Number)
-    } else if key == "second" {
-        Some(ValueKind::Number)
-    } else if key == "tick" {
-        Some(ValueKind::Number)
-    } else if key == "changes" {
-        Some(ValueKind::Words)
-    } else if key == "control" {
-        Some(ValueKind::Words)
-    } else if key == "keep" {
-        Some(ValueKind::Words)
-    } else if key == "log" {
-        Some(ValueKind::Words)
-    } else if key == "peer" {
-        Some(ValueKind::Words)
-    } else if key == "save" {
-        Some(ValueKind::Words)
-    } else if key == "tables" {
-        Some(ValueKind::Words)
-    } else if key == "watch" {
-        Some(ValueKind::Words)
-    } else if key == "web" {
-        Some(ValueKind::Words)
-    } else if key == "web-name" {
+    } else if is_file(key) || is_address(key) {
         Some(ValueKind::Words)
     } else if key == "partners" {
         Some(ValueKind::Partners)
