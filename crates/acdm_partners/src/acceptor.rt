@@ -185,19 +185,27 @@ impl<K: Wait + Clock + Drop, S: Standing + Drop> Acceptor<K, S> {
         }
     }
 
-    // Has all sessions end: nobody is accepted and nothing is read any more, and who has not taken his
-    // replies after 5 seconds is cut off.
-    fn close(&mut self) {
+    fn shut_doors(&mut self) {
         for door in self.doors.as_mut_slice() {
             door.shut();
             door.place().close(&self.reporter.rt);
         }
+    }
+
+    fn look_after_doors(&mut self) {
+        for door in self.doors.as_mut_slice() {
+            door.look_after(&self.reporter);
+        }
+    }
+
+    // Has all sessions end: nobody is accepted and nothing is read any more, and who has not taken his
+    // replies after 5 seconds is cut off.
+    fn close(&mut self) {
+        self.shut_doors();
         for _ in 0..u64::MAX {
             // What tells the end is read before the last look.
             let is_last = self.is_done();
-            for door in self.doors.as_mut_slice() {
-                door.look_after(&self.reporter);
-            }
+            self.look_after_doors();
             self.look_at_followers();
             if is_last {
                 return;

@@ -141,26 +141,35 @@ fn address_of(text: &str) -> Option<SocketAddr> {
     }
 }
 
-// What is told of the board: who is here, the entries, the version, and the moment of the last entry.
-fn status<K: Wait, S: Standing>(state: &BoardState<'_, K, S>) -> Result<String, AllocError> {
-    let alloc = state.alloc;
-    let standing = state.standing;
-    let mut text = String::new(alloc);
+// Adds who is here.
+fn add_sessions<K: Wait, S: Standing>(
+    state: &BoardState<'_, K, S>,
+    text: &mut String,
+) -> Result<(), AllocError> {
     if let Some(first) = state.first {
-        first.add_status(&mut text)?;
+        first.add_status(text)?;
     }
     for door in state.doors {
-        door.add_status(state.rt, alloc, &mut text)?;
+        door.add_status(state.rt, state.alloc, text)?;
     }
-    if let Some(seconds) = standing.ticks() {
+    if let Some(seconds) = state.standing.ticks() {
         let number = state.doors.len().saturating_add(1);
         writeln!(text, "session {number} APT ticks each {seconds} s")?;
     }
-    if let Some(followers) = standing.followers() {
+    if let Some(followers) = state.standing.followers() {
         let Followers { count, wanted, .. } = followers;
         let late = if followers.are_late { " late" } else { "" };
         writeln!(text, "followers {count} of {wanted}{late}")?;
     }
+    Ok(())
+}
+
+// Adds the entries, the term, the version, and the moment of the last entry.
+fn add_entries<S: Standing>(
+    standing: &S,
+    alloc: Global,
+    text: &mut String,
+) -> Result<(), AllocError> {
     let used = standing.used();
     let room = standing.room();
     writeln!(text, "entries {used} of {room}")?;
@@ -169,10 +178,17 @@ fn status<K: Wait, S: Standing>(state: &BoardState<'_, K, S>) -> Result<String, 
     match standing.last() {
         Some(minute) => {
             let moment = moment_text(alloc, u64::from(minute) * 60)?;
-            writeln!(text, "last {moment}")?;
+            writeln!(text, "last {moment}")
         }
-        None => writeln!(text, "last none")?,
+        None => writeln!(text, "last none"),
     }
+}
+
+// What is told of the board.
+fn status<K: Wait, S: Standing>(state: &BoardState<'_, K, S>) -> Result<String, AllocError> {
+    let mut text = String::new(state.alloc);
+    add_sessions(state, &mut text)?;
+    add_entries(state.standing, state.alloc, &mut text)?;
     Ok(text)
 }
 
