@@ -3,10 +3,12 @@
 
     python3 bench/hostile/again.py [--program PATH]
 
-A partner that comes back 100 times in the middle of lines while 63 others work; newer connections at one address; probes
-before the day and during it; an absent partner; partners that never read, which are let go after 30 seconds or when the
-board closes; `status` and `close`; a bounded pace; SIGTERM and Ctrl-C through the script `acdm`; a journal that is
-nearly full, which is told; and, with none of these words, sessions whose connections are closed as they end. The last line is `N cases, M failed`; status 1 where one failed.
+A partner that comes back 100 times in the middle of lines while 63 others work; newer connections at one address;
+probes before the day and during it; an absent partner; partners that never read, which are let go after 30 seconds or
+when the board closes; `status` and `close`, at an address of either kind; lines whose ends come late; a bounded pace;
+SIGTERM and Ctrl-C through the script `acdm`; a journal that is nearly full, which is told; and, with none of these
+words, sessions whose connections are closed as they end. The last line is `N cases, M failed`; status 1 where one
+failed.
 """
 
 import contextlib
@@ -127,6 +129,13 @@ class Partner:
         """The reply to a line; nothing where the connection has ended."""
         try:
             self.send(f"{line}\n")
+        except OSError:
+            return ""
+        return self.hears()
+
+    def hears(self):
+        """The next reply; nothing where none comes."""
+        try:
             return self.replies.readline().rstrip("\n")
         except OSError:
             return ""
@@ -139,6 +148,10 @@ class Partner:
             return True
         except OSError:
             return False
+
+    def address(self):
+        """Its own address, as a board tells it."""
+        return "{}:{}".format(*self.socket.getsockname())
 
     def close(self, reset=False):
         if reset:
@@ -228,6 +241,19 @@ def two_at_one(cases, program):
     cases.expect("ends", board.close()[1:] == (0, ["session 1 9 end", "session 2 2 end", "closed 11"]))
 
 
+def states_of(board, *parts):
+    """How often the state of a board is answered to one caller, who sends these parts of lines one after the other."""
+    count = 0
+    with socket.create_connection(("127.0.0.1", board.port), timeout=5) as it, it.makefile("rb") as answers:
+        for part in parts:
+            it.sendall(part)
+            time.sleep(0.2)
+        with contextlib.suppress(OSError):
+            while count < 3 and (line := answers.readline()):
+                count += line.startswith(b"last ")
+    return count
+
+
 def probes(cases, program):
     """Probes before the day and during it, an absent partner, and the state of the board."""
     board = Board([program], ["--again", "--control", "PORT"], ["APT", "NM", "GH"])
@@ -253,6 +279,15 @@ def probes(cases, program):
         it.sendall(b"status\r\n")
         came = it.recv(65536)
         cases.expect("and passes over a carriage return", came.startswith(b"session 1 APT here "), came)
+    came = states_of(board, b"status\nstatus\nsta", b"tus\n")
+    cases.expect("and answers two lines at once, and one in two parts", came == 3, came)
+    with socket.create_connection(("127.0.0.1", board.port), timeout=5) as it, it.makefile("rb") as answer:
+        it.sendall(b"stat")
+        it.shutdown(socket.SHUT_WR)
+        came = None
+        with contextlib.suppress(TimeoutError):
+            came = answer.read()
+        cases.expect("control lets a caller go that has ended", came == b"", came)
     with socket.create_connection(("127.0.0.1", board.port), timeout=20) as it:
         it.sendall(b"x" * 1000)
         try:
@@ -263,6 +298,18 @@ def probes(cases, program):
     cases.expect("ends", board.close()[1:] == (0, ["session 1 2 end", "session 2 0 end", "session 3 0 end", "closed 2"]))
 
 
+def is_held_up(other):
+    """Waits until no line of another partner is entered any more, since it takes no replies; says whether that came."""
+    last, still, end = -10, 0, time.monotonic() + 240
+    # (more than once in a row: a write that waits gives up after a while, with what was taken until then)
+    while still < 3 and time.monotonic() < end:
+        number = int(other.asks(SHOW).split(" ")[1])
+        still = still + 1 if number == last + 1 else 0
+        last = number
+        time.sleep(0.7)
+    return still == 3
+
+
 def never_reads(cases, program, again):
     """A partner that never reads is cut off when the board closes."""
     board = Board([program], [*again, "--control", "PORT"], ["APT", "NM"])
@@ -270,9 +317,13 @@ def never_reads(cases, program, again):
     replies = [airport.asks(SCHEDULE), airport.asks('{"cmd":"al')] if again else [airport.asks(SCHEDULE)]
     cases.expect("served beside", replies[0] == "ok 0", replies)
     threading.Thread(target=fill, args=(deaf,), daemon=True).start()
-    time.sleep(2)
+    cases.expect("it takes no more replies", is_held_up(airport))
     begun = time.monotonic()
-    answer, status, lines = board.close()
+    answer = board.ask("close")
+    # (five seconds are left for who has not taken its replies)
+    refused = board.waits_for(lambda: is_refused("127.0.0.1", board.ports[0]), 3)
+    cases.expect("a board that closes accepts nobody", refused)
+    status, lines = board.ended()
     took = time.monotonic() - begun
     ends = [it.split()[3] for it in lines[:-1]]
     cases.expect("who never reads holds nothing up", (answer, status, ends) == ("closing\n", 0, ["end", "end"]), (status, lines))
@@ -286,24 +337,27 @@ def fill(partner):
         pass
 
 
-def let_go(cases, program, again):
-    """A partner that takes nothing is let go after 30 seconds."""
-    board = Board([program], [*again, "--control", "PORT"] if again else [], ["APT", "NM"])
+def let_go(cases, program, given, most):
+    """A partner that takes nothing is let go after 30 seconds, and within so many once it took its last."""
+    board = Board([program], given, ["APT", "NM"])
     airport, deaf = board.connect(1), board.connect(2, small=True)
     cases.expect("served beside", airport.asks(SCHEDULE) == "ok 0")
     threading.Thread(target=fill, args=(deaf,), daemon=True).start()
     begun = time.monotonic()
-    if again:
-        gone = board.waits_for(lambda: board.told(2, "gone") == 1, 50)
-        took = time.monotonic() - begun
-        cases.expect("who takes nothing is let go", gone and 25 < took < 45, (gone, took, board.said))
+    cases.expect("it takes no more replies", is_held_up(airport))
+    held = time.monotonic()
+    if "--again" in given:
+        gone = board.waits_for(lambda: board.told(2, "gone") == 1, most + 5)
+        took = held - begun, time.monotonic() - held
+        cases.expect("who takes nothing is let go", gone and 25 < sum(took) and took[1] < most, (gone, took, board.said))
         cases.expect("and may come back", number_of(board.connect(2).asks(ALERTS)) is not None)
         cases.expect("ends", board.close()[1] == 0)
     else:
         airport.close()
-        status, lines = board.ended(50)
-        took = time.monotonic() - begun
-        cases.expect("its session ends", status == 0 and lines[1].endswith(" write") and 25 < took < 45, (status, lines, took))
+        status, lines = board.ended(most + 5)
+        took = held - begun, time.monotonic() - held
+        is_cut = status == 0 and lines[1].endswith(" write")
+        cases.expect(f"its session ends, {given}", is_cut and 25 < sum(took) and took[1] < most, (status, lines, took))
 
 
 def paced(cases, program):
@@ -329,6 +383,15 @@ def paced(cases, program):
     begun = time.monotonic()
     answer, status, lines = board.close()
     cases.expect("no further line is taken at the end", status == 0 and time.monotonic() - begun < 5, (status, lines))
+    board = Board([program], ["--again", "--control", "PORT", "--pace", "1"], ["APT"])
+    airport = board.connect(1)
+    cases.expect("a line is taken", airport.asks(ALERTS) == "alerts 0 -")
+    airport.send(f"{ALERTS}\n")
+    # (so that this line waits for the pace, which takes none for a minute)
+    time.sleep(0.5)
+    ended = board.close(20)[1:]
+    cases.expect("a line that waits for its pace holds up no end", ended == (0, ["session 1 1 end", "closed 1"]), ended)
+    cases.expect("and has no reply", airport.reads_end())
     for bad in ("0", "x", "-1", "4294967296"):
         done = ran(program, ["serve", "--pace", bad, "APT=127.0.0.1:0"])
         cases.expect(f"a pace of {bad} is refused", done.returncode == 2 and not done.stdout, done)
@@ -369,9 +432,53 @@ def once(cases, program):
     manager.close()
     status, lines = board.ended()
     cases.expect("ends", (status, lines, board.said) == (0, ["session 1 2 end", "session 2 2 end", "closed 4"], []), lines)
+    slow_end(cases, program)
     done = ran(program, ["serve", "--control", "nowhere", "APT=127.0.0.1:0"])
     told = "acdm: control address\n" + cause("--control nowhere", "neither an IP address with a port nor a port")
     cases.expect("a bad control address", (done.returncode, done.stderr) == (2, told.encode()), done)
+
+
+def slow_end(cases, program):
+    """Without --again, connections whose ends come some time behind what they sent: nothing, and lines without a line feed."""
+    board = Board([program], ["--control", "PORT"], ["APT"])
+    probe = board.connect(1)
+    probe.socket.shutdown(socket.SHUT_WR)
+    cases.expect("who sends nothing is closed, and sent nothing", probe.reads_end())
+    airport = board.connect(1)
+    airport.send(ALERTS)
+    time.sleep(0.3)
+    airport.socket.shutdown(socket.SHUT_WR)
+    came = airport.hears()
+    cases.expect("a first line without a line feed is answered at its end", came == "alerts 0 -", came)
+    cases.expect("and its board ends", board.ended() == (0, ["session 1 1 end", "closed 1"]))
+    board = Board([program], ["--control", "PORT"], ["APT"])
+    airport = board.connect(1)
+    cases.expect("a first line", airport.asks(ALERTS) == "alerts 0 -")
+    for part in (ALERTS[:9], f"{ALERTS[9:]}\n{ALERTS[:9]}", ALERTS[9:]):
+        airport.send(part)
+        time.sleep(0.1)
+    airport.socket.shutdown(socket.SHUT_WR)
+    came = [airport.hears() for _ in range(3)]
+    cases.expect("so is a later one behind a line feed, and nothing else", came == ["alerts 1 -", "alerts 2 -", ""], came)
+    cases.expect("and its board ends too", board.ended() == (0, ["session 1 3 end", "closed 3"]))
+
+
+def controlled_at(cases, program):
+    """A control address with an IP address of either kind is that one, and no other."""
+    for host in ("127.0.0.2", "::1"):
+        port = free_port()
+        address = f"[{host}]:{port}" if ":" in host else f"{host}:{port}"
+        try:
+            socket.create_server((host, 0), family=socket.AF_INET6 if ":" in host else socket.AF_INET).close()
+        except OSError:
+            print(f"left out: there is no address {host} here")
+            continue
+        board = Board([program], ["--again", "--control", address], ["APT"])
+        cases.expect(f"nobody answers elsewhere, {host}", is_refused("127.0.0.1", port))
+        with socket.create_connection((host, port), timeout=20) as it:
+            it.sendall(b"close\n")
+            cases.expect(f"it is answered at {host}", it.recv(64) == b"closing\n")
+        cases.expect(f"and closes the board, {host}", board.ended() == (0, ["session 1 0 end", "closed 0"]))
 
 
 def by_script(cases, program, number):
@@ -409,7 +516,9 @@ def main():
     asked = words(__doc__).parse_args()
     program, cases = str(asked.program.resolve()), Cases()
     with tempfile.TemporaryDirectory() as room:
-        slow = [threading.Thread(target=let_go, args=(cases, program, it)) for it in ([], ["--again"])]
+        control = ["--control", "PORT"]
+        given = (([], 45), (control, 120), (["--again", *control], 45))
+        slow = [threading.Thread(target=let_go, args=(cases, program, *it)) for it in given]
         for it in slow:
             it.start()
         comes_back(cases, program, pathlib.Path(room))
@@ -417,6 +526,7 @@ def main():
         probes(cases, program)
         paced(cases, program)
         once(cases, program)
+        controlled_at(cases, program)
         for number in (signal.SIGTERM, signal.SIGINT):
             by_script(cases, program, number)
         nearly_full(cases, program)

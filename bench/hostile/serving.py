@@ -3,11 +3,11 @@
 
     python3 bench/hostile/serving.py [--program PATH]
 
-A partner that reads late and little, under each word that keeps partners; a second connection at an address that is taken; `close` with
-2,000 lines in hand; replies that an older connection has not taken; a pace after silence; levels of rooms that do not divide; moments
-beside the machine's clock; a display that reads late, one that reads nothing, and those that connect at the end; a partner that reads,
-and a display that does not, once the board closes; ticks of the board's own, also where it slept. The last line is `N cases, M failed`;
-status 1 where one failed.
+A partner that reads late and little, under each word that keeps partners, of a program that is stopped meanwhile; a second connection
+at an address that is taken; `close` with 2,000 lines in hand; replies that an older connection has not taken; a pace after silence;
+levels of rooms that do not divide; moments beside the machine's clock; a display that reads late, one that reads nothing, and those
+that connect at the end; a partner that reads, and a display that does not, once the board closes; ticks of the board's own, also where
+it slept. The last line is `N cases, M failed`; status 1 where one failed.
 """
 
 import datetime
@@ -20,7 +20,7 @@ import tempfile
 import threading
 import time
 
-from again import Board, free_port
+from again import Board, free_port, is_held_up
 from cases import ALERTS, SCHEDULE, Cases, cause, ran, words
 
 SHOW = '{"cmd":"show","flight":7}'
@@ -84,20 +84,6 @@ def rest_of(connection):
     return b"".join(pieces)
 
 
-def is_held_up(other):
-    """Waits until no line of another partner is entered any more, since it takes no replies; says whether that came."""
-    last, end = -10, time.monotonic() + 60
-    while time.monotonic() < end:
-        number = int(other.asks(SHOW).split(" ")[1])
-        if number == last + 1:
-            # (a write that waits gives up after a while, with what was taken until then)
-            time.sleep(1)
-            return True
-        last = number
-        time.sleep(0.7)
-    return False
-
-
 def shape(reply):
     """A reply without what is the same in all replies of its kind: its word and its number."""
     return " ".join(reply.split(" ")[:2])
@@ -113,6 +99,10 @@ def late_reader(cases, program, given):
         cases.expect(f"flights are there, {given}", fill_board(late))
         sender = sends(late, [ALERTS] * MANY)
         cases.expect(f"others go on beside a late reader, {given}", is_held_up(other))
+        # (each stop of the program is told to the write that waits)
+        for number in (signal.SIGSTOP, signal.SIGCONT) * 3:
+            board.ran.send_signal(number)
+            time.sleep(0.1)
         data = b""
         count = 0
         while count < MANY:
@@ -306,6 +296,25 @@ def levels(cases, program):
         cases.expect(f"the levels of {room} entries", not wrong, wrong)
         partner.close()
         cases.expect(f"a board of {room} ends", board.close()[1] == 0)
+
+
+def two_at_once(cases, program):
+    """Of two lines that come at once the second one's reply does not wait until the first one's has arrived."""
+    for given in ([], ["--again", "--control", "PORT"]):
+        board, _ = opened(program, given, ["APT"])
+        partner = board.connect(1)
+        took = []
+        for _ in range(60):
+            begun = time.monotonic()
+            partner.send(f"{TICK}\n" * 2)
+            replies = [partner.replies.readline() for _ in range(2)]
+            took.append(time.monotonic() - begun)
+            time.sleep(0.01)
+        cases.expect(f"both are answered, {given}", replies == ["ok 118\n", "ok 119\n"], replies)
+        # (a system holds back what it has received of a reply for some 40 milliseconds, once a connection has been used)
+        cases.expect(f"at once, {given}", min(took) < 0.015, min(took))
+        partner.close()
+        cases.expect(f"the board ends, {given}", (board.close()[1] if given else board.ended()[0]) == 0)
 
 
 def moments(cases, program):
@@ -541,7 +550,7 @@ def main():
         tried(second_connection, cases, program, given)
     for given in ([], ["--again"]):
         tried(close_in_hand, cases, program, given)
-    for it in (older_replies, levels, moments, late_callers):
+    for it in (older_replies, levels, two_at_once, moments, late_callers):
         tried(it, cases, program)
     for it in waiting:
         it.join()

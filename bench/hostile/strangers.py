@@ -119,6 +119,12 @@ def newcomers(program, cases):
         stranger.sendall(TICK.encode())
         stranger.shutdown(socket.SHUT_WR)
         cases.expect("half a line is not answered", stranger.recv(100) == b"")
+    with board.connect() as stranger:
+        stranger.sendall(TICK.encode())
+        time.sleep(0.3)
+        stranger.shutdown(socket.SHUT_WR)
+        came = replied(stranger)
+        cases.expect("nor one whose end comes later", came == "", came)
     probes = [board.connect() for _ in range(20)]
     cases.expect("strangers do not take its place", asked(partner, TICK) == "ok 1\n")
     cases.expect("and nothing of theirs is entered", "entries 2 of" in board.ask("status"))
