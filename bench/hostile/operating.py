@@ -3,9 +3,11 @@
 
     python3 bench/hostile/operating.py [--program PATH]
 
-Lines, entries, refusals and bad lines by their codes, with a bad line of each byte; 64 sessions whose bad lines are told as long as can
-be; each event in the log; the log moved away while partners come and go, also by logrotate, where that is installed; a log whose disk is full, and has room again (where root may
-mount one), and one that fails for a second time; and files that can't be a log. The last line is `N cases, M failed`; status 1 where one failed.
+Lines, entries, refusals and bad lines by their codes, with a bad line of each byte; 64 sessions whose bad lines are told as long as
+can be; each event in the log, bad lines that come one by one, a partner that is there at the close, and rooms that are full at the
+first look, or by the last lines; the log moved away while partners come and go, also by logrotate, where that is installed; a log
+whose disk is full, and has room again (where root may mount one), and one that fails for a second time; and files that can't be a log.
+The last line is `N cases, M failed`; status 1 where one failed.
 """
 
 import errno
@@ -25,7 +27,7 @@ import tempfile
 import threading
 import time
 
-from again import Board
+from again import Board, free_port
 from cases import ALERTS, NO_PLAIN_FILE, SCHEDULE, TAKEN, TARGET, TOP, Cases, cause, ran, words
 
 SHOW = '{"cmd":"show","flight":9}'
@@ -145,6 +147,9 @@ def bounded(cases, program, room):
     for turn in range(45):
         partner = board.connect(1)
         cases.expect(f"partner {turn} is served", partner.asks(TICK) == f"ok {turn}")
+        if turn == 44:
+            line, address = board.ask("status").splitlines()[0], partner.address()
+            cases.expect("who is not logged is here all the same", line.startswith(f"session 1 APT here {address} since "), line)
         partner.close()
     manager = board.connect(2)
     for turn in range(60):
@@ -172,6 +177,114 @@ def bounded(cases, program, room):
     cases.expect("of bad lines 30 in a minute are logged", 1 < len(bad) <= 36, len(bad))
     cases.expect("and all counted, also those just before the end", sum(it["lines"] for it in bad) == 80, bad[-3:])
     cases.expect("the last of them is logged", bad and json.loads(bad[-1]["line"]) == {"cmd": "none", "turn": 79}, bad[-1:])
+    cases.expect("and nothing behind the close", found[-1]["event"] == "close", found[-2:])
+
+
+def one_by_one(cases, program, room):
+    """Bad lines that come one after the other, behind a silence: each is logged by itself, and at once."""
+    log = room / "log"
+    board = Board([program], ["--again", "--control", "PORT", "--log", str(log)], ["APT"])
+    airport = board.connect(1)
+    airport.asks(TICK)
+
+    def bad():
+        return [(it["lines"], it["code"]) for it in events(log) if it["event"] == "bad"]
+
+    # (so long that a board which counts its looks would have counted a minute's thirty)
+    time.sleep(1)
+    begun = time.monotonic()
+    for turn in range(20):
+        airport.asks("{}" if turn % 2 else "{")
+        if not board.waits_for(lambda turn=turn: len(bad()) > turn, 5):
+            break
+    took = time.monotonic() - begun
+    cases.expect("20 bad lines are logged one by one", bad() == [(1, 101), (1, 102)] * 10, bad())
+    cases.expect("within seconds", took < 20, took)
+    airport.close()
+    cases.expect("ends", board.close()[1] == 0)
+
+
+def present(cases, program, room):
+    """A partner that is there as the board closes: by its address, since one moment, and as gone before the close."""
+    log = room / "log"
+    board = Board([program], ["--again", "--control", "PORT", "--log", str(log)], ["APT", "NM"])
+    manager = board.connect(2)
+    cases.expect("served", manager.asks(ALERTS) == "alerts 0 -")
+    address, first = manager.address(), board.ask("status").splitlines()[1]
+    cases.expect("status has its own address", first.startswith(f"session 2 NM here {address} since "), first)
+    time.sleep(1.1)
+    then = board.ask("status").splitlines()[1]
+    cases.expect("and the same moment a second later", then == first, (first, then))
+    cases.expect("ends", board.close()[1] == 0)
+    shape = [re.sub(MOMENT, "MOMENT", it) for it in board.said]
+    cases.expect("standard error has it here and gone", shape == [f"here 2 {address} MOMENT", "gone 2 MOMENT"], board.said)
+    session = {"session": 2, "role": "NM"}
+    owed = [{"event": "here", **session, "address": address}, {"event": "gone", **session}, {"event": "close", "by": "control", "entries": 1}]
+    cases.expect("and so has the log, before the close", events(log) == owed, events(log))
+    manager.close()
+
+
+def filled_at_end(cases, program, room):
+    """A room that is filled by the last lines before the end: both levels are told all the same, before the close."""
+    # (where nobody looks again between these lines and the end, which comes often, and not always)
+    for turn in range(8):
+        log = room / f"log{turn}"
+        board = Board([program], ["--journal", "5", "--log", str(log)], ["APT"])
+        partner = board.connect(1)
+        partner.send(f"{TICK}\n" * 5)
+        partner.socket.shutdown(socket.SHUT_WR)
+        cases.expect(f"it ends with its partner, {turn}", board.ended() == (0, ["session 1 5 end", "closed 5"]))
+        told = [it.split(" ")[:2] for it in board.said]
+        cases.expect(f"both levels are told, {turn}", told == [["room", "80"], ["room", "95"]], board.said)
+        kinds = [(it["event"], it.get("percent")) for it in events(log) if it["event"] in ("room", "close")]
+        cases.expect(f"and logged before the close, {turn}", kinds == [("room", 80), ("room", 95), ("close", None)], kinds)
+        partner.close()
+
+
+def filled_before(cases, program, room):
+    """A board that goes on from a journal beyond both levels says so as it begins, and once."""
+    log, day = room / "log", room / "day"
+    done = ran(program, ["run", "--keep", day], f"1 29000580 APT {TICK}\n".encode() * 19)
+    cases.expect("19 entries are kept", done.stdout.count(b"ok ") == 19, done)
+    board = Board([program], ["--journal", "20", "--again", "--control", "PORT", "--keep", str(day), "--log", str(log)], ["APT"])
+    owed = [["room", level, "19", "of", "20"] for level in ("80", "95")]
+    told = board.waits_for(lambda: [it.split(" ")[:5] for it in board.said] == owed)
+    cases.expect("both levels are told, and nobody is here", told, board.said)
+    partner = board.connect(1)
+    cases.expect("it goes on", partner.asks(TICK) == "ok 19")
+    partner.close()
+    cases.expect("ends", board.close()[1] == 0)
+    rooms = [(it["percent"], it["entries"], it["room"]) for it in events(log) if it["event"] == "room"]
+    cases.expect("and are logged once", rooms == [(80, 19, 20), (95, 19, 20)], rooms)
+    cases.expect("and told once", sum(it.startswith("room ") for it in board.said) == 2, board.said)
+
+
+def unreached(cases, program, room):
+    """A peer that is not there: the log has what standard error says of it."""
+    log, peer, watch = room / "log", f"127.0.0.1:{free_port()}", f"127.0.0.1:{free_port()}"
+    given = ["--peer", peer, "--watch", watch, "--keep", str(room / "day"), "--log", str(log), "--again", "--control", "PORT"]
+    board = Board([program], given, ["APT"])
+    cases.expect("it is logged", board.waits_for(lambda: "unreached" in [it["event"] for it in events(log)]), events(log))
+    cases.expect("ends", board.close()[1] == 0)
+    said = [re.fullmatch(rf"unreached ({re.escape(peer)}: .+) {MOMENT}", it) for it in board.said]
+    owed = [{"event": "unreached", "why": it[1]} for it in said if it]
+    found = [it for it in events(log) if it["event"] == "unreached"]
+    cases.expect("by the reason that is said", len(owed) == 1 and found == owed, (found, board.said))
+
+
+def follower(cases, program, room):
+    """A board that follows another one, which is not there, and is closed: the log says by what, as that of one that serves."""
+    log, port, first = room / "log", free_port(), f"127.0.0.1:{free_port()}"
+    given = ["--keep", str(room / "day"), "--control", str(port), "--log", str(log)]
+    with subprocess.Popen([program, "follow", first, *given, "APT=127.0.0.1:0"], stderr=subprocess.PIPE) as board:
+        said = board.stderr.readline().decode()
+        cases.expect("it could not reach the other one", said.startswith("parted "), said)
+        with socket.create_connection(("127.0.0.1", port), timeout=20) as it:
+            it.sendall(b"close\n")
+            cases.expect("it closes", it.recv(64) == b"closing\n")
+        cases.expect("ends", board.wait(20) == 0)
+    found = [{name: it for name, it in event.items() if name != "why"} for event in events(log)]
+    cases.expect("its log has both", found == [{"event": "parted"}, {"event": "close", "by": "control", "entries": 0}], found)
 
 
 def plain(cases, program, room):
@@ -189,12 +302,14 @@ def plain(cases, program, room):
     cases.expect("who came and left is logged", kinds == [("close", 0), ("gone", 1), ("gone", 2), ("here", 1), ("here", 2)], found)
     cases.expect("and that they closed it", found[-1] == {"event": "close", "by": "partners", "entries": 2}, found[-1:])
     before = log.read_bytes()
-    again = Board([program], ["--log", str(log)], ["APT"])
+    again = Board([program], ["--control", "PORT", "--log", str(log)], ["APT"])
     partner = again.connect(1)
     partner.asks(TICK)
     partner.close()
     again.ended()
     cases.expect("the next board goes on in it", log.read_bytes().startswith(before) and len(events(log)) == len(found) + 3, events(log))
+    last = {"event": "close", "by": "partners", "entries": 1}
+    cases.expect("and its partners closed it, not its control address", events(log)[-1] == last, events(log)[-1])
 
 
 def kept(cases, program, room):
@@ -428,7 +543,10 @@ def main():
     counted(cases, asked.program)
     many(cases, asked.program)
     with tempfile.TemporaryDirectory() as room:
-        for try_it in (each_event, bounded, plain, kept, limited, moved, rotated, full_disk, fails_again, bounded_file, refused):
+        for try_it in (
+            each_event, bounded, one_by_one, present, filled_at_end, filled_before, unreached, follower, plain, kept,
+            limited, moved, rotated, full_disk, fails_again, bounded_file, refused,
+        ):  # fmt: skip
             own = pathlib.Path(room) / try_it.__name__
             own.mkdir()
             try_it(cases, asked.program, own)
