@@ -6,8 +6,8 @@
 A partner that reads late and little, under each word that keeps partners, of a program that is stopped meanwhile; a second connection
 at an address that is taken; `close` with 2,000 lines in hand; replies that an older connection has not taken; a pace after silence;
 levels of rooms that do not divide; moments beside the machine's clock; a display that reads late, one that reads nothing, and those
-that connect at the end; a partner that reads, and a display that does not, once the board closes; ticks of the board's own, also where
-it slept. The last line is `N cases, M failed`; status 1 where one failed.
+that connect at the end; a partner that reads, and a display that does not, once the board closes; who stays at the end; ticks of the
+board's own, also seldom ones and where it slept. The last line is `N cases, M failed`; status 1 where one failed.
 """
 
 import datetime
@@ -454,6 +454,17 @@ def own_ticks(cases, program):
     cases.expect("63 partners and ticks end", (answer, status) == ("closing\n", 0), (answer, status))
 
 
+def seldom(cases, program):
+    """A board that ticks each four seconds enters the first tick after four."""
+    began = time.monotonic()
+    board, _ = opened(program, ["--tick", "4", "--again", "--control", "PORT"], ["GH"])
+    before = int(board.ask("status").split("entries ")[-1].split(" ")[0])
+    cases.expect("a board ticks", board.waits_for(lambda: "entries 0 of" not in board.ask("status")))
+    took = time.monotonic() - began
+    cases.expect("after four seconds", before == 0 and 3.9 < took < 12, (before, took))
+    cases.expect("it ends", board.close()[1] == 0)
+
+
 def slept(cases, program):
     """A board that slept: the ticks that it has missed are one."""
     board, _ = opened(program, ["--tick", "1", "--again", "--control", "PORT"], ["GH"])
@@ -508,6 +519,22 @@ def stopped_display(cases, program):
         cases.expect("the other display has all", heard == [text], [len(it) for it in heard])
 
 
+def staying(cases, program):
+    """At the end a display that was sent all, and stays, has a second, and a browser that has asked for nothing has none."""
+    for word, kind, sent in (("--watch", "display", b""), ("--changes", "client of the feed", b"from 0\n"), ("--web", "browser", b"GET / HTTP/1.1\r\n")):
+        board, port = opened(program, ["--again", "--control", "PORT", word, "DISPLAY"], ["APT"])
+        board.connect(1).asks(TICK)
+        with socket.create_connection(("127.0.0.1", port), timeout=20) as viewer:
+            viewer.sendall(sent)
+            came = word == "--web" or received(viewer, 1000) != b""
+            begun = time.monotonic()
+            answer, status, lines = board.close()
+            took = time.monotonic() - begun
+        cases.expect(f"a {kind} is there", came)
+        cases.expect(f"a board ends beside a {kind}", (answer, status, lines[-1:]) == ("closing\n", 0, ["closed 1"]), (answer, status, lines))
+        cases.expect(f"soon, although the {kind} stays", took < 4, took)
+
+
 def late_callers(cases, program):
     """Displays that have just connected as the only partner leaves are sent all, however many they are."""
     texts = []
@@ -535,7 +562,7 @@ def tried(make, cases, *given):
 
 
 # They wait more than they work, and are made at once.
-TOGETHER = (pace_after_silence, late_display, own_ticks, slept, stopped_display)
+TOGETHER = (pace_after_silence, late_display, own_ticks, seldom, slept, stopped_display)
 
 
 def main():
@@ -555,7 +582,7 @@ def main():
     for it in waiting:
         it.join()
     # (by themselves, since they look at the time)
-    for it in (taken_late, last_display):
+    for it in (taken_late, last_display, staying):
         tried(it, cases, program)
     return cases.end()
 
