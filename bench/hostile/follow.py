@@ -5,9 +5,10 @@
 
 A day that is followed, its first board killed and the second promoted, N times; connections that are cut at each byte; a
 follower that is killed and begun again; a chain of two; a first board that comes back; addresses that are no board's; other
-journals, boards that are behind, lines that are not legal; attempts a second apart; a file that is taken away while it follows; words
-and files that are refused; `close`. The last line is
-`N cases, M failed`; status 1 where one failed.
+journals, boards that are behind, lines that are not legal; last entries that differ late; the names of two followers; what is
+said again; a promotion and a close while it is connected, and both at once; attempts a second apart; a file that is taken
+away while it follows; words and files that are refused; `close`. The last line is `N cases, M failed`; status 1 where one
+failed.
 """
 
 import hashlib
@@ -278,6 +279,40 @@ def cuts(cases, program, room):
     server.close()
 
 
+def names(cases, program, room):
+    """Two boards that begin to follow at once: each has a name of its own, the nanoseconds of a second, at each connection."""
+    server = Server([*(from_line(JOURNAL[:count]) for count in (1, 2, 3, 4)), from_line(JOURNAL)])
+    boards = [Second(program, server.port, room / f"named{number}") for number in range(2)]
+    cases.expect("both have all", all(it.has(len(JOURNAL)) for it in boards), [it.said for it in boards])
+    found = [it.split()[3] for it in list(server.heard) if b" as " in it]
+    cases.expect("they have two names", len(set(found)) == 2 < len(found), found)
+    cases.expect("which are nanoseconds", all(int(it) < 10**9 for it in found), found)
+    for it in boards:
+        it.close()
+    server.close()
+
+
+def compared(cases, program, room):
+    """The last entry is compared, also where the other one comes a second late, or is another one at its end alone."""
+    mine, other = (f"1 1 29000580 APT 0 0 load 9 alert {'b700000000000000' * 3000}b70000000{end}0000009500000000000000" for end in (1, 2))
+    differing = [JOURNAL[0], "1 2 29000580 NM 0 0 alerts", *JOURNAL[2:]]
+
+    def late(heard):
+        time.sleep(1)
+        return from_line(differing)(heard)
+
+    for name, own, answer in (("late", JOURNAL[:2], late), ("long", [JOURNAL[0], mine], from_line([JOURNAL[0], other]))):
+        begun = room / f"compared {name}"
+        begun.write_text(text(own))
+        server = Server([answer])
+        second = Second(program, server.port, begun)
+        why = "another journal is sent there: entry 1 is another one"
+        cases.expect(f"{name}: another last entry is told", second.says(rf"parted {why} {MOMENT}"), second.said)
+        cases.expect(f"{name}: nothing is kept of it", begun.read_text() == text(own) and second.entries() == 2)
+        second.close()
+        server.close()
+
+
 def others(cases, program, room):
     """Who is no board, another journal, a board that is behind, and lines that are not legal."""
     good, begun = text(JOURNAL[:2]), room / "begun"
@@ -339,6 +374,68 @@ def reasons(cases, program, room):
     time.sleep(2.5)
     cases.expect("each is said once", (told(nobody), told(differs), len(second.said)) == (2, 1, 3), second.said)
     second.close()
+
+
+def changed(cases, program, room):
+    """The same reason is said again where something else was said between, and so is that it follows."""
+    begun, behind = room / "changed", head(JOURNAL, 1)
+    begun.write_text(text(JOURNAL[:2]))
+    server = Server([behind] * 100 + [""])
+    second = Second(program, server.port, begun)
+    only, nobody, following = "parted there are only 1 entries", "parted nobody", f"following 127.0.0.1:{server.port} 2"
+
+    def told():
+        """What was said, without the moments; it may be said in two ways that nobody is there."""
+        found = [it.rsplit(" ", 1)[0] for it in second.said]
+        return [nobody if re.search(r"refused|reset", it) else it for it in found]
+
+    cases.expect("a board that is behind is told", second.waits_for(lambda: told()[-2:] == [only, following]), second.said)
+    server.close()
+    cases.expect("then nobody is there", second.waits_for(lambda: nobody in told()), second.said)
+    server = Server([behind] * 100 + [""], port=server.port)
+    cases.expect("then it is told again that it is behind", second.waits_for(lambda: told().count(only) == 2), second.said)
+    said = told()
+    cases.expect("and before that it followed again", said[said.index(nobody) :][:3] == [nobody, following, only], second.said)
+    cases.expect("nothing is kept", begun.read_text() == text(JOURNAL[:2]), begun.read_text())
+    second.close()
+    server.close()
+
+
+def ends_following(cases, program, room):
+    """A board that is promoted or closed while it is connected has not parted from anybody, and is not held up by who is silent."""
+    for name, answer, count in (("connected", from_line(JOURNAL), len(JOURNAL)), ("silent", lambda heard: "", 2)):
+        begun, server = room / f"ends {name}", Server([answer])
+        begun.write_text(text(JOURNAL[:2]))
+        second = Second(program, server.port, begun)
+        heard = second.waits_for(lambda server=server, second=second, count=count: server.heard and second.entries() == count)
+        cases.expect(f"{name}: it has what came", heard, second.said)
+        began = time.monotonic()
+        reply, told = second.promote()
+        took = time.monotonic() - began
+        cases.expect(f"{name}: it is promoted", reply == "promoting\n" and told, reply)
+        cases.expect(f"{name}: soon", took < 4, took)
+        cases.expect(f"{name}: which it says", second.says(rf"promoted {count} {MOMENT}"), second.said)
+        cases.expect(f"{name}: and nothing of parting", not any(it.startswith("parted ") for it in second.said), second.said)
+        cases.expect(f"{name}: it closes", second.close()[:2] == ("closing\n", 0))
+        server.close()
+
+
+def closed_at_once(cases, program, room):
+    """A board is promoted and closed before it has seen either: it closes, and never serves."""
+    kept = room / "at once"
+    kept.write_text(text(JOURNAL))
+    # (it waits here for a term, which does not come)
+    with socket.create_server(("127.0.0.1", 0)) as listener:
+        second = Second(program, listener.getsockname()[1], kept)
+        with socket.create_connection(("127.0.0.1", second.port), timeout=20) as control:
+            control.sendall(b"promote\nclose\n")
+            answer = b""
+            while b"closing\n" not in answer and (part := control.recv(100)):
+                answer += part
+        status, lines = second.ended()
+    cases.expect("promoted and closed at once, both are answered", answer == b"promoting\nclosing\n", answer)
+    cases.expect("and it closes, without a word", (status, lines) == (0, []), (status, lines))
+    cases.expect("in the term that it had", not kept.with_name("at once.term").exists())
 
 
 def followed_on(cases, program, room):
@@ -489,6 +586,7 @@ def saved(cases, program, room):
     second = Second(program, server.port, copy, "--save", str(end))
     second.has(5)
     cases.expect("closed", second.close() == ("closing\n", 0, []))
+    cases.expect("it has not parted from anybody", [it.split(" ")[0] for it in second.said] == ["following"], second.said)
     cases.expect("what it had is saved", end.read_text() == copy.read_text() == text(JOURNAL))
     small = Second(program, server.port, room / "small", "--journal", "3")
     status, lines = small.ended()
@@ -523,8 +621,13 @@ def main():
         room = pathlib.Path(made)
         day(cases, program, room)
         cuts(cases, program, room)
+        names(cases, program, room)
+        compared(cases, program, room)
         others(cases, program, room)
         reasons(cases, program, room)
+        changed(cases, program, room)
+        ends_following(cases, program, room)
+        closed_at_once(cases, program, room)
         followed_on(cases, program, room)
         paced(cases, program, room)
         silent(cases, program, room)
