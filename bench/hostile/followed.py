@@ -39,8 +39,13 @@ def free_ports(count):
 class Caller:
     """A connection on which lines are sent, and are read as they come, each within some seconds."""
 
-    def __init__(self, port):
-        self.stream = socket.create_connection(("127.0.0.1", port), timeout=MOST)
+    def __init__(self, port, small=False):
+        self.stream = socket.socket()
+        if small:
+            self.stream.setsockopt(socket.SOL_SOCKET, socket.SO_RCVBUF, 4096)
+            self.stream.setsockopt(socket.IPPROTO_TCP, socket.TCP_MAXSEG, 536)
+        self.stream.settimeout(MOST)
+        self.stream.connect(("127.0.0.1", port))
         self.stream.setsockopt(socket.IPPROTO_TCP, socket.TCP_NODELAY, 1)
         self.held, self.is_ended = b"", False
 

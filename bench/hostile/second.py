@@ -7,8 +7,8 @@ Nobody follows: the first reply waits, the others do not, until a board is back.
 the file of the board that follows, at the moment at which it was read. The first board is killed N times under them, and
 the other one goes on. With `--strict` none is sent without a board that follows, nor when it closes. Two boards, of which
 one is late; one that is stopped; one whose word is lost, or whose disk is full; one that is promoted too early; a chain of
-three. Clients that say what they do not keep, readers that say nothing, and words that are refused. The last line is
-`N cases, M failed`; status 1 where one failed.
+three. Clients that say what they do not keep, or are cut off while they are sent to, readers that say nothing, the board's
+own ticks, and words that are refused. The last line is `N cases, M failed`; status 1 where one failed.
 """
 
 import json
@@ -19,6 +19,7 @@ import re
 import shutil
 import signal
 import socket
+import struct
 import subprocess
 import sys
 import tempfile
@@ -27,7 +28,7 @@ import time
 import traceback
 
 from cases import ALERTS, Cases, ran, words
-from follow import CLIENT, MOMENT, TICK, audited, schedules
+from follow import CLIENT, JOURNAL, MOMENT, TICK, audited, schedules
 from followed import MOST, ROLES, SHOW, Boards, Caller, Load, free_ports, missing, number_of
 from keep import limited
 
@@ -39,6 +40,8 @@ AT_ONCE = 4
 A_LOOK = 0.02
 # For so many seconds nothing is to come.
 SHORT, LONG = 2, 8
+# So many boards may follow at once.
+MOST_FOLLOWERS = 8
 # All of it ends after so many seconds, and so many more for each kill, whatever hangs.
 LIMIT, LIMIT_A_KILL = 900, 30
 # So many entries have room; after so many kills files begin anew.
@@ -386,6 +389,37 @@ def stopped(cases, boards):
     expect_soon(cases, "then", airport, 7, 10, second.kept)
 
 
+def reset(cases, boards):
+    """Clients that follow are gone at once, while entries are sent to them: the places of all of them are free again."""
+    # (so many are more than the system holds of a connection with small windows and segments that nobody reads)
+    lines = [f"{number} {JOURNAL[0].partition(' ')[2]}" for number in range(3000)]
+    (boards.folder / "first").write_text("".join(f"{it}\n" for it in lines))
+    first = boards.first("first", "--second", "1")
+    for number in range(MOST_FOLLOWERS):
+        client = Caller(first.watch, small=True)
+        client.send(f"from 0 as {number}\n")
+        cases.expect(f"client {number} is sent something", client.hears(MOST), client.held)
+        client.stream.setsockopt(socket.SOL_SOCKET, socket.SO_LINGER, struct.pack("ii", 1, 0))
+        client.close()
+    second = boards.second(first, "copy")
+    cases.expect("there is a place for a board", first.waits_for(lambda: first.followers() == "followers 1 of 1"), first.followers())
+    cases.expect("which has it all", second.has(len(lines)), second.said)
+    expect_soon(cases, "then", first.caller(1), len(lines), 3, second.kept)
+
+
+def ticking(cases, boards):
+    """The ticks of a board wait for no other board, also where its partners do."""
+    first = boards.first("first", "--second", "1", "--strict", "--tick", "1")
+    airport = first.caller(1)
+    airport.send(f"{ALERTS}\n")
+    cases.expect("ticks are entered", first.waits_for(lambda: first.kept.read_bytes().count(b" tick\n") >= 3), first.kept.read_bytes())
+    cases.expect("a reply waits", airport.is_silent(0.1), airport.held)
+    answer, status, lines = first.close(2 * MOST)
+    ticks = first.kept.read_bytes().count(b" tick\n")
+    cases.expect("it closes", (answer, status) == ("closing\n", 0), (answer, status))
+    cases.expect("its ticks end as they should", lines[-2:] == [f"session 3 {ticks} end", f"closed {ticks + 1}"], lines)
+
+
 class Between:
     """A port in front of another one. What the second board says behind its first line may be lost there."""
 
@@ -565,6 +599,8 @@ def chain(cases, boards):
     cases.expect("it is promoted", second.promote(), second.said)
     expect_soon(cases, "the second one", second.caller(1), 5, 10, third.kept)
     cases.expect("it tells of the third", second.followers() == "followers 1 of 1", second.followers())
+    term = Caller(second.watch).asks("term")
+    cases.expect("who asks is told its new term", f"\n{term}\n" in second.ask("status") and term != "term 1", term)
     third.kill()
     airport = second.caller(1)
     airport.send(f"{TICK}\n")
@@ -679,7 +715,7 @@ def beside_readers(cases, boards, first, airport, callers):
 
 TRIES = (
     *(alone, at_that_moment, switched, strictly, closes_soon, closes_answering, closes_loaded, full, promoted, two, stopped),
-    *(unheard, junk, named, chain, refused, readers),
+    *(reset, ticking, unheard, junk, named, chain, refused, readers),
 )
 
 
