@@ -6,10 +6,13 @@
 A second board takes over; the first one refuses to go on beside it, goes on where that is not reached, and follows it. One
 that serves meanwhile closes, as soon as it can be told. A board that was replaced is not promoted; one of an earlier term is not followed. A chain of two; two that took over without
 each other; files of terms that are none, can't be written, or are cut off by a crash at the promotion, N times; peers that
-are no boards. The last line is `N cases, M failed`; status 1 where one failed.
+are no boards, or slow; how often a peer is asked. The last line is `N cases, M failed`; status 1 where one failed.
 """
 
+import contextlib
+import errno
 import json
+import os
 import pathlib
 import random
 import re
@@ -18,11 +21,12 @@ import socket
 import subprocess
 import sys
 import tempfile
+import threading
 import time
 
 from again import is_refused
 from cases import SCHEDULE, Cases, cause, ran, words
-from follow import JOURNAL, MOMENT, OTHER, TICK, First, Second, Server, head, text
+from follow import JOURNAL, MOMENT, OTHER, TICK, First, Second, Server, from_line, head, text
 from followed import free_ports
 
 TAKEN_OVER = "acdm: another board has taken over\n"
@@ -264,6 +268,67 @@ def behind(cases, program, room):
         server.close()
 
 
+def unwritten(cases, program, room):
+    """A later term that can't be written: the board does not follow before it can, and says why."""
+    kept, server = room / "day", Server([head(JOURNAL, 1)] * 500 + [""])
+    kept.write_text(text(JOURNAL[:2]))
+    board = Second(program, server.port, kept)
+    cases.expect("at first it is told of a board that is behind", board.says(rf"parted there are only 1 entries {MOMENT}"), board.said)
+    file_of(kept).mkdir()
+    server.term = 7
+    # (one that it has connected to before is done with)
+    heard = len(server.heard)
+    board.waits_for(lambda: len(server.heard) >= heard + 3, 30)
+    server.answers = [from_line(JOURNAL)]
+    why = re.escape(os.strerror(errno.EISDIR))
+    cases.expect("why is said", board.says(rf"parted .*{why}.* {MOMENT}"), board.said)
+    said = len(board.said)
+    # (for two attempts more)
+    asked_for = len(server.heard)
+    board.waits_for(lambda: len(server.heard) >= asked_for + 4)
+    cases.expect("it does not follow meanwhile", kept.read_text() == text(JOURNAL[:2]) and told_by(board) == 1, board.said)
+    cases.expect("nor says so", len(board.said) == said, board.said)
+    file_of(kept).rmdir()
+    cases.expect("then it follows", board.has(len(JOURNAL)) and term_of(kept) == told_by(board) == 7, board.said)
+    board.close()
+    server.close()
+
+
+def asks_on(cases, program, room):
+    """A peer is asked about once a second while the board serves, and not more often."""
+    kept, server = room / "day", Server([""])
+    began = time.monotonic()
+    board = First(program, kept, "--peer", f"127.0.0.1:{server.port}")
+    cases.expect("a peer is asked again and again", board.waits_for(lambda: len(server.heard) >= 5), server.heard)
+    count, took = len(server.heard), time.monotonic() - began
+    # (it is asked as the board begins, and at once as it serves)
+    cases.expect("about once a second", count <= took + 2, (count, took))
+    board.close()
+    server.close()
+
+
+def slow_peer(cases, program, room):
+    """A peer that takes a second to say its term, byte by byte, is heard."""
+    kept = room / "day"
+    kept.write_text(text(JOURNAL))
+    with socket.create_server(("127.0.0.1", 0)) as listener:
+
+        def say():
+            stream, _ = listener.accept()
+            with contextlib.suppress(OSError), stream:
+                time.sleep(1.2)
+                for byte in b"term 7\n":
+                    stream.sendall(bytes([byte]))
+                    time.sleep(0.01)
+
+        saying = threading.Thread(target=say, daemon=True)
+        saying.start()
+        peer = f"127.0.0.1:{listener.getsockname()[1]}"
+        done = ran(program, ["serve", "--again", "--keep", str(kept), "--peer", peer, "APT=nowhere"])
+        saying.join(10)
+    cases.expect("a term that comes after a second is heard", (done.returncode, done.stderr.decode()[: len(TAKEN_OVER)]) == (2, TAKEN_OVER), done)
+
+
 def apart(cases, program, room):
     """Two boards that took over from one, neither with the term of the other: one of them does not go on beside the other."""
     boards = []
@@ -304,7 +369,8 @@ def files(cases, program, room):
     answer = second.ask("promote")
     status, lines = second.ended()
     cases.expect("where it can't be written nobody is served", (answer, status, lines) == ("promoting\n", 2, []), (answer, status, lines))
-    cases.expect("which is said", "acdm: keep failed" in second.said, second.said)
+    wanted = "acdm: keep failed\n" + cause(f"--keep {kept}", errno.EISDIR)
+    cases.expect("which is said", text(second.said).endswith(wanted), second.said)
     cases.expect("and no partner is listened for", is_refused("127.0.0.1", second.ports[0]))
     file_of(kept).rmdir()
 
@@ -388,7 +454,7 @@ def main():
     program, cases = given.program, Cases()
     with tempfile.TemporaryDirectory() as made:
         room = pathlib.Path(made)
-        for tried in (takes_over, stale, closed, promoted, by_words, behind, apart, files, peers):
+        for tried in (takes_over, stale, closed, promoted, by_words, behind, unwritten, asks_on, slow_peer, apart, files, peers):
             (room / tried.__name__).mkdir()
             tried(cases, program, room / tried.__name__)
         chance = random.Random(5)
