@@ -392,7 +392,7 @@ def stopped(cases, boards):
 def reset(cases, boards):
     """Clients that follow are gone at once, while entries are sent to them: the places of all of them are free again."""
     # (so many are more than the system holds of a connection with small windows and segments that nobody reads)
-    lines = [f"{number} {JOURNAL[0].partition(' ')[2]}" for number in range(3000)]
+    lines = [f"{number} {JOURNAL[0].partition(' ')[2]}" for number in range(2000)]
     (boards.folder / "first").write_text("".join(f"{it}\n" for it in lines))
     first = boards.first("first", "--second", "1")
     for number in range(MOST_FOLLOWERS):
