@@ -1,13 +1,21 @@
-/* Has a sync of the program that it is preloaded before fail with EIO, and records calls, by words of the environment:
-   - FAIL_FDATASYNC, FAIL_FSYNC: the call of this number, from 1;
+/* Has a call of the program that it is preloaded before fail, and records calls, by words of the environment:
+   - FAIL_FDATASYNC, FAIL_FSYNC: the call of this number, from 1, fails with EIO;
+   - FAIL_READ: each read of the file of this path fails with EIO;
+   - FAIL_OPEN: each opening of this path fails with ENOENT;
+   - FAIL_FLOCK: each lock fails with ENOLCK, as on a file system that has none;
+   - PUT: the file of this path takes the place of the one of the path OVER before the first lock is taken;
    - CALLS_TO: a descriptor, to which a line is written for each call: `write FILE` before it is made; `fdatasync FILE`,
-     `fsync FILE` and `rename FILE FILE` after it, with ` failed` where it did. Standard output is the file `1`. */
+     `fsync FILE`, `rename FILE FILE`, `fchmod FILE` and `flock FILE` after it, with ` failed` where it did. Standard
+     output is the file `1`. */
 #define _GNU_SOURCE
 #include <errno.h>
 #include <fcntl.h>
 #include <limits.h>
+#include <stdarg.h>
 #include <stdio.h>
 #include <stdlib.h>
+#include <string.h>
+#include <sys/stat.h>
 #include <sys/syscall.h>
 #include <unistd.h>
 
@@ -25,13 +33,18 @@ static void record(const char *call, const char *file, const char *more, int fai
     errno = held;
 }
 
-static void record_file(const char *call, int file, int failed) {
-    char link[64], path[PATH_MAX + 1] = "1";
+static void name_file(int file, char path[PATH_MAX + 1]) {
+    char link[64];
     int held = errno;
     snprintf(link, sizeof link, "/proc/self/fd/%d", file);
-    ssize_t size = file == 1 ? 1 : readlink(link, path, PATH_MAX);
+    ssize_t size = readlink(link, path, PATH_MAX);
     path[size < 0 ? 0 : size] = 0;
     errno = held;
+}
+
+static void record_file(const char *call, int file, int failed) {
+    char path[PATH_MAX + 1] = "1";
+    if (file != 1) name_file(file, path);
     record(call, path, "", failed);
 }
 
@@ -62,4 +75,48 @@ int rename(const char *from, const char *to) {
 ssize_t write(int file, const void *bytes, size_t count) {
     if (file != 2) record_file("write", file, 0);
     return syscall(SYS_write, file, bytes, count);
+}
+
+ssize_t read(int file, void *bytes, size_t count) {
+    const char *failing = getenv("FAIL_READ");
+    char path[PATH_MAX + 1];
+    if (failing) {
+        name_file(file, path);
+        if (strcmp(path, failing) == 0) {
+            errno = EIO;
+            return -1;
+        }
+    }
+    return syscall(SYS_read, file, bytes, count);
+}
+
+int open(const char *path, int how, ...) {
+    va_list more;
+    va_start(more, how);
+    mode_t mode = how & O_CREAT ? va_arg(more, mode_t) : 0;
+    va_end(more);
+    const char *failing = getenv("FAIL_OPEN");
+    if (failing && strcmp(path, failing) == 0) {
+        errno = ENOENT;
+        return -1;
+    }
+    return (int)syscall(SYS_openat, AT_FDCWD, path, how, mode);
+}
+
+int fchmod(int file, mode_t mode) {
+    int failed = syscall(SYS_fchmod, file, mode) != 0;
+    record_file("fchmod", file, failed);
+    return failed ? -1 : 0;
+}
+
+int flock(int file, int operation) {
+    static int count;
+    const char *put = getenv("PUT"), *over = getenv("OVER");
+    if (__atomic_add_fetch(&count, 1, __ATOMIC_SEQ_CST) == 1 && put && over)
+        if (syscall(SYS_renameat, AT_FDCWD, put, AT_FDCWD, over) != 0) abort();
+    int failed = getenv("FAIL_FLOCK") != NULL;
+    if (failed) errno = ENOLCK;
+    else failed = syscall(SYS_flock, file, operation) != 0;
+    record_file("flock", file, failed);
+    return failed ? -1 : 0;
 }

@@ -5,11 +5,13 @@
 
 Linux holds a page of a file whose writing failed as if it were on the disk, and later syncs succeed. So a board goes on
 from a kept journal in a new file. First part: each of the first syncs fails once, by failing_disk.c, preloaded; the
-board ends, and the calls of one that goes on have the order that a power cut can't harm. Second part, where file
-systems may be mounted: `run --keep FILE --sync` on ext4 in an image that loses its room, until a sync fails and the
-board ends; there is room again, the board goes on by the same words, and then the power is cut (a copy of the image at
-that moment) or the file system is unmounted and mounted. FILE has the entry of every reply that was read. A part that
-is left out is told, and is no failure. The last line is `N cases, M failed`; status 1 where one failed.
+board ends, and the calls of one that goes on have the order that a power cut can't harm, also those of a promotion and
+of `--save`. Reads fail, there are no locks, and another file takes the place of the journal before it is locked. Second
+part, where file systems may be mounted: `run --keep FILE --sync` on ext4 in an image that loses its room, until a sync
+fails and the board ends; there is room again, the board goes on by the same words, and then the power is cut (a copy of
+the image at that moment) or the file system is unmounted and mounted. FILE has the entry of every reply that was read.
+And files of one number on two disks are two. A part that is left out is told, and is no failure. The last line is
+`N cases, M failed`; status 1 where one failed.
 """
 
 import errno
@@ -21,10 +23,11 @@ import socket
 import subprocess
 import sys
 import tempfile
+import time
 import types
 from collections.abc import Sequence
 
-from cases import Cases, cause, ran, words
+from cases import KEPT_ELSEWHERE, Cases, cause, ran, words
 from keep import legal, whole_of
 
 HERE = pathlib.Path(__file__).resolve().parent
@@ -36,15 +39,21 @@ LINES_BEFORE = [(0,), (5,), (150,), (300, 20)]
 MOST_LINES = 1_000
 LINES_AFTER = 200
 FIRST_MINUTE = 29_000_580
-KEEP_FAILED, SAVE_FAILED = "acdm: keep failed\n", "acdm: save failed\n"
-# What comes before the first reply of a board that goes on from the file `day`, in this order.
-GOING_ON = ["fsync .", "write day.part", "fsync day.part", "rename day.part day", "fsync ."]
+KEEP_FAILED, SAVE_FAILED, READ_FAILED = "acdm: keep failed\n", "acdm: save failed\n", "acdm: read failed\n"
+IN_USE = "acdm: the kept journal is in use\n"
+
+
+def put(name: str) -> list[str]:
+    """The calls by which a file takes its place, whole: no power cut leaves a part of it."""
+    return [f"write {name}.part", f"fsync {name}.part", f"rename {name}.part {name}", "fsync ."]
+
+
+# What comes before the first reply of a board that goes on from the file `day`, in this order. The new file has the
+# rights of the old one before it has its text, and nobody else keeps a journal there once it has the name.
+OPENED = ["flock day", "fsync ."]
+GOING_ON = [*OPENED, "fchmod day.part", "flock day.part", *put("day")]
 # The same where its tables do not stand beside it yet.
-GOING_ON_FIRST = [
-    *GOING_ON[:1],
-    *("write day.tables.part", "fsync day.tables.part", "rename day.tables.part day.tables", "fsync ."),
-    *GOING_ON[1:],
-]
+GOING_ON_FIRST = [*OPENED, *put("day.tables"), *GOING_ON[len(OPENED) :]]
 FOLDER_AT_FIRST, TABLES, FOLDER_OF_TABLES, NEW_FILE, FOLDER_AT_LAST = 1, 2, 3, 4, 5
 # How often an image is copied at most, until two copies are the same.
 MOST_COPIES = 20
@@ -86,10 +95,13 @@ class Board:
         arguments: Sequence[str],
         env: dict[str, str] | None = None,
         pass_fds: Sequence[int] = (),
+        folder: pathlib.Path | None = None,
     ) -> None:
         command, pipe = [str(program), *arguments], subprocess.PIPE
         # pylint: disable-next=consider-using-with
-        self.process = subprocess.Popen(command, stdin=pipe, stdout=pipe, stderr=pipe, env=env, pass_fds=pass_fds)
+        self.process = subprocess.Popen(
+            command, stdin=pipe, stdout=pipe, stderr=pipe, env=env, pass_fds=pass_fds, cwd=folder
+        )
 
     def __enter__(self) -> "Board":
         return self
@@ -262,7 +274,9 @@ def fault(cases: Cases, name: str, program: pathlib.Path, disk: Disk, day: Day, 
     done = ran(program, keeping(disk.file), line(day.sent).encode() + b"\n")
     ended = (done.returncode, done.stdout, done.stderr)
     cases.expect(f"{name}: no board goes on without room", ended in without, ended)
-    cases.expect(f"{name}: and it leaves nothing beside but its tables", disk.names() == ["day", "lost+found"], disk.names())
+    cases.expect(
+        f"{name}: and it leaves nothing beside but its tables", disk.names() == ["day", "lost+found"], disk.names()
+    )
     disk.make_room()
 
 
@@ -311,6 +325,28 @@ def without_room(cases: Cases, program: pathlib.Path, rounds: int, mounts: Mount
                 mounts.end()
 
 
+def two_disks(cases: Cases, program: pathlib.Path, mounts: Mounts, room: pathlib.Path) -> None:
+    """Files of one number on two disks are two files, of which one is kept and the other one saved."""
+    kept, old = room / "one" / "day", room / "other" / "old"
+    try:
+        for file in (kept, old):
+            mounts.mount(file.parent, "-t", "tmpfs", "-o", "size=1m", "tmpfs")
+            file.write_bytes(entry(0, 0) + b"\n")
+        if kept.stat().st_ino != old.stat().st_ino:
+            print("left out: files of one number on two disks (the numbers differ)", flush=True)
+            return
+        done = ran(program, ["run", "--keep", str(kept), "--save", str(old)], line(1).encode() + b"\n")
+        ended = (done.returncode, done.stdout, done.stderr)
+        cases.expect("files of one number on two disks are two", ended == (0, b"ok 1\n", b""), ended)
+        cases.expect(
+            "each has the journal", kept.read_bytes() == old.read_bytes() == b"%b\n%b\n" % (entry(0, 0), entry(1, 1))
+        )
+    except OSError as error:
+        print(f"left out: files of one number on two disks ({error})", flush=True)
+    finally:
+        mounts.end()
+
+
 class Recorded:
     """Begins boards behind failing_disk.c, which has a call fail once, and reads what they called."""
 
@@ -324,11 +360,15 @@ class Recorded:
         shutil.rmtree(self.folder, ignore_errors=True)
         self.folder.mkdir()
 
-    def begin(self, *arguments: str, **env: str) -> Board:
-        """A board by these words, by those of `keeping` where there are none."""
+    def names(self) -> list[str]:
+        """What stands in the folder."""
+        return sorted(path.name for path in self.folder.iterdir())
+
+    def begin(self, *arguments: str, folder: pathlib.Path | None = None, **env: str) -> Board:
+        """A board by these words, by those of `keeping` where there are none, begun in this folder."""
         with open(self.record, "wb") as calls:
             env |= {"LD_PRELOAD": str(self.shim), "CALLS_TO": str(calls.fileno()), "PATH": os.environ["PATH"]}
-            return Board(self.program, arguments or keeping(self.file), env, (calls.fileno(),))
+            return Board(self.program, arguments or keeping(self.file), env, (calls.fileno(),), folder)
 
     def calls(self) -> list[str]:
         """The calls so far, with names that begin in the folder; writes to one file in a row are one."""
@@ -374,7 +414,7 @@ def failed_begin(cases: Cases, recorded: Recorded, number: int) -> None:
         ended = board.end()
     cases.expect(f"{name}: nothing is answered", (reply, ended) == ("", failed(recorded.file)), (reply, ended))
     cases.expect(f"{name}: the journal stays", recorded.file.read_bytes() == text, recorded.file.read_bytes())
-    names = sorted(path.name for path in recorded.folder.iterdir())
+    names = recorded.names()
     left = ["day"] if number < FOLDER_OF_TABLES else ["day", "day.tables"]
     cases.expect(f"{name}: nothing is left beside but tables that are named", names == left, names)
     wanted = [*GOING_ON_FIRST[: GOING_ON_FIRST.index("fsync day.part")], "fsync day.part failed"]
@@ -392,6 +432,110 @@ def without_sync(cases: Cases, recorded: Recorded) -> None:
     cases.expect("a board goes on without --sync", (reply, ended) == ("ok 1", (0, b"", b"")), (reply, ended))
     called = recorded.before_reply()
     cases.expect("its first reply comes behind a new file", called == [*GOING_ON_FIRST, "write day"], called)
+
+
+def without_folder(cases: Cases, recorded: Recorded) -> None:
+    """A file that is named by its name alone: it is the folder where the board was begun that is synced."""
+    recorded.renew()
+    recorded.file.write_bytes(entry(0, 0) + b"\n")
+    with recorded.begin("run", "--keep", "day", "--sync", folder=recorded.folder) as board:
+        reply = board.ask(line(1))
+        ended = board.end()
+    cases.expect("a board goes on by a name alone", (reply, ended) == ("ok 1", (0, b"", b"")), (reply, ended))
+    wanted, called = [*GOING_ON_FIRST, "write day", "fdatasync day"], recorded.before_reply()
+    cases.expect("its first reply comes behind its folder", called == wanted, called)
+
+
+def without_entries(cases: Cases, recorded: Recorded) -> None:
+    """A line that makes no entry waits for no sync."""
+    recorded.renew()
+    with recorded.begin() as board:
+        replies = [board.ask(given) for given in (line(0), "1 29000580 APT {}", "", line(1))]
+        ended = board.end()
+    cases.expect("lines are answered", replies == ["ok 0", "bad 102", "bad 100", "ok 1"], replies)
+    count = recorded.calls().count("fdatasync day")
+    cases.expect("a sync for each entry, and one at the end at most", count in (2, 3) and ended[0] == 0, (count, ended))
+
+
+def not_gone_on(cases: Cases, recorded: Recorded, name: str, told: str, **env: str) -> None:
+    """A board does not go on from a file where this fails: it says so, and the file stays."""
+    recorded.renew()
+    text = entry(0, 0) + b"\n"
+    recorded.file.write_bytes(text)
+    for words_ in (["run"], ["serve", "APT=127.0.0.1:0"]):
+        with recorded.begin(words_[0], "--keep", str(recorded.file), *words_[1:], folder=None, **env) as board:
+            reply = board.ask(line(1)) if words_ == ["run"] else ""
+            ended = board.end()
+        cases.expect(f"{name}, {words_[0]}", (reply, ended) == ("", (2, b"", told.encode())), (reply, ended))
+    cases.expect(f"{name}: the journal stays", recorded.file.read_bytes() == text, recorded.file.read_bytes())
+    cases.expect(f"{name}: nothing is left beside", recorded.names() == ["day"], recorded.names())
+
+
+def unusable(cases: Cases, recorded: Recorded) -> None:
+    """A file that can't be read, and one on a file system that has no locks."""
+    word = f"--keep {recorded.file}"
+    told = READ_FAILED + cause(word, errno.EIO)
+    not_gone_on(cases, recorded, "a file that can't be read", told, FAIL_READ=str(recorded.file))
+    told = KEEP_FAILED + cause(word, errno.ENOLCK)
+    not_gone_on(cases, recorded, "no locks", told, FAIL_FLOCK="1")
+
+
+def without_null_device(cases: Cases, recorded: Recorded) -> None:
+    """Where nothing could take the place of a closed standard stream nothing is done, closed or not."""
+    recorded.renew()
+    for words_ in (["run", "--keep", str(recorded.file)], ["audit", str(recorded.file)]):
+        with recorded.begin(*words_, FAIL_OPEN="/dev/null") as board:
+            ended = board.end()
+        cases.expect(f"no null device, {words_[0]}", ended == (2, b"", b"acdm: no null device\n"), ended)
+    cases.expect("no null device: no file is made", recorded.names() == [], recorded.names())
+
+
+def replaced(cases: Cases, recorded: Recorded) -> None:
+    """Another board puts its new file in the place of one that is just opened: that file is left to it."""
+    recorded.renew()
+    other, text = recorded.folder / "other", b"%b\n%b\n" % (entry(0, 0), entry(1, 1))
+    recorded.file.write_bytes(text[: text.index(b"\n") + 1])
+    other.write_bytes(text)
+    with recorded.begin(PUT=str(other), OVER=str(recorded.file)) as board:
+        reply = board.ask(line(2))
+        ended = board.end()
+    told = (IN_USE + cause(f"--keep {recorded.file}", KEPT_ELSEWHERE)).encode()
+    cases.expect("a file that was just replaced is in use", (reply, ended) == ("", (2, b"", told)), (reply, ended))
+    cases.expect("and the other one stays", recorded.file.read_bytes() == text, recorded.file.read_bytes())
+    cases.expect("with nothing beside", recorded.names() == ["day"], recorded.names())
+
+
+def answered(port: int, given: str) -> str:
+    """What is answered at a control address, which may not be listened at yet."""
+    last = time.monotonic() + 30
+    while True:
+        try:
+            with socket.create_connection(("127.0.0.1", port), timeout=30) as caller:
+                caller.sendall(given.encode() + b"\n")
+                return caller.makefile().readline()
+        except ConnectionRefusedError:
+            if time.monotonic() > last:
+                return "nobody listens"
+            time.sleep(0.05)
+
+
+def promoted(cases: Cases, recorded: Recorded) -> None:
+    """The term of a board that is promoted is on the disk, whole, before it listens for partners."""
+    recorded.renew()
+    with socket.create_server(("127.0.0.1", 0)) as control, socket.create_server(("127.0.0.1", 0)) as nobody:
+        ports = control.getsockname()[1], nobody.getsockname()[1]
+    following = ["follow", f"127.0.0.1:{ports[1]}", "--keep", str(recorded.file), "--control", str(ports[0])]
+    with recorded.begin(*following, "--again", "APT=127.0.0.1:0") as board:
+        answer = answered(ports[0], "promote")
+        listening = board.read()
+        called = [call for call in recorded.before_reply() if "socket:" not in call]
+        answered(ports[0], "close")
+        ended = board.end()
+    cases.expect("a board is promoted", (answer, listening[:9]) == ("promoting\n", "listen 1 "), (answer, listening))
+    cases.expect(
+        "its term is put in its place before", called == [*OPENED, *put("day.tables"), *put("day.term")], called
+    )
+    cases.expect("and it ends", ended[0] == 0, ended)
 
 
 def replied(port: str, count: int) -> list[str]:
@@ -427,27 +571,37 @@ def served(cases: Cases, recorded: Recorded) -> None:
 
 
 def saved(cases: Cases, recorded: Recorded) -> None:
-    """A saved journal is on the disk before it takes the place of an older one; where its sync fails the older one stays."""
+    """A saved journal is on the disk before it takes the place of an older one, and its tables are before that."""
     file = recorded.folder / "saved"
-    for failing in ("", "1"):
-        recorded.renew()
-        file.write_bytes(b"older\n")
-        with recorded.begin("run", "--save", str(file), **({"FAIL_FSYNC": failing} if failing else {})) as board:
-            reply = board.ask(line(0))
-            status, _, errors = board.end()
-        if failing:
-            told = (SAVE_FAILED + cause(f"--save {file}", errno.EIO)).encode()
-            seen = (reply, status, errors)
-            cases.expect("a save whose sync fails is told", seen == ("ok 0", 2, told), seen)
-            cases.expect("and the older file stays", file.read_bytes() == b"older\n", file.read_bytes())
-            continue
-        called = recorded.calls()
-        cases.expect("a journal is saved", (reply, status, file.read_bytes()) == ("ok 0", 0, entry(0, 0) + b"\n"), status)
-        written, synced, renamed = (
-            called.index(it) if it in called else -1
-            for it in ("write saved.part", "fsync saved.part", "rename saved.part saved")
-        )
-        cases.expect("it is synced before it takes the place", -1 < written < synced < renamed, called)
+    recorded.renew()
+    file.write_bytes(b"older\n")
+    with recorded.begin("run", "--save", str(file)) as board:
+        reply = board.ask(line(0))
+        status, _, errors = board.end()
+    seen = (reply, status, errors, file.read_bytes())
+    cases.expect("a journal is saved", seen == ("ok 0", 0, b"", entry(0, 0) + b"\n"), seen)
+    called = recorded.calls()
+    called = called[called.index("write saved.part") :] if "write saved.part" in called else called
+    wanted = [*put("saved")[:1], *put("saved.tables"), *put("saved")[1:]]
+    cases.expect(
+        "its tables take their place, and then it does", [it for it in called if it in wanted] == wanted, called
+    )
+
+
+def failed_save(cases: Cases, recorded: Recorded, number: int, left: list[str]) -> None:
+    """The sync of this number fails, of the tables, of their folder or of the journal: the older journal stays."""
+    name, file = f"sync {number} of a save fails", recorded.folder / "saved"
+    recorded.renew()
+    file.write_bytes(b"older\n")
+    with recorded.begin("run", "--save", str(file), FAIL_FSYNC=str(number)) as board:
+        reply = board.ask(line(0))
+        status, _, errors = board.end()
+    told = (SAVE_FAILED + cause(f"--save {file}", errno.EIO)).encode()
+    cases.expect(f"{name}: it is told", (reply, status, errors) == ("ok 0", 2, told), (reply, status, errors))
+    cases.expect(f"{name}: the older file stays", file.read_bytes() == b"older\n", file.read_bytes())
+    cases.expect(
+        f"{name}: nothing is left beside but tables that are named", recorded.names() == left, recorded.names()
+    )
 
 
 def failing_calls(cases: Cases, program: pathlib.Path, room: pathlib.Path) -> None:
@@ -460,9 +614,20 @@ def failing_calls(cases: Cases, program: pathlib.Path, room: pathlib.Path) -> No
         failed_sync(cases, recorded, number)
     for number in (FOLDER_AT_FIRST, TABLES, FOLDER_OF_TABLES, NEW_FILE, FOLDER_AT_LAST):
         failed_begin(cases, recorded, number)
-    without_sync(cases, recorded)
-    served(cases, recorded)
-    saved(cases, recorded)
+    for try_it in (
+        without_sync,
+        without_folder,
+        without_entries,
+        without_null_device,
+        unusable,
+        replaced,
+        promoted,
+        served,
+        saved,
+    ):
+        try_it(cases, recorded)
+    for number, left in ((1, ["saved"]), (2, ["saved", "saved.tables"]), (3, ["saved", "saved.tables"])):
+        failed_save(cases, recorded, number, left)
 
 
 def stop(number: int, _: types.FrameType | None) -> None:
@@ -491,6 +656,7 @@ def main() -> int:
         room = pathlib.Path(folder).resolve()
         try:
             failing_calls(cases, program, room)
+            two_disks(cases, program, mounts, room)
             without_room(cases, program, given.rounds, mounts, room)
         finally:
             ignore_endings()
