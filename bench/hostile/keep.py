@@ -6,11 +6,13 @@
 `run --keep FILE` over a stream, killed at N moments by chance and begun again each time: every reply that was read has its entry in
 FILE, FILE is a legal journal with the rest of a line at most behind it, and the numbers go on. Then a file system that takes no
 more after so many bytes, at many places; journals with each kind of fault, cut lines, another that has the file, too little room;
-`--save`, which leaves what was there until all of it is on the disk; files that are standard streams too, in which nothing is
-saved or kept; and the tables by which a journal was made, beside it, where a command has others. The last line is `N cases, M failed`; status 1 where one failed.
+`--save`, which leaves what was there until all of it is on the disk, and nothing beside it, and writes into a pipe; files that are
+standard streams too, in which nothing is saved or kept; and the tables by which a journal was made, beside it, where a command has
+others. The last line is `N cases, M failed`; status 1 where one failed.
 """
 
 import errno
+import os
 import pathlib
 import random
 import resource
@@ -218,11 +220,13 @@ def saved(cases, program, room):
     cases.expect("a write fault", seen == (2, told, old), seen)
     done = came(ran(program, ["serve", "--save", file, "XX=127.0.0.1:0"]))
     cases.expect("a wrong role", done[0] == 2 and file.read_text() == old, done)
+    cases.expect("what failed leaves nothing beside", not [*room.glob("old.part*")], [*room.glob("old.part*")])
     done = came(ran(program, ["run", "--save", "/dev/null"], text(DAY).encode()))
     cases.expect("a device", done == (0, text(DAY_REPLIES), ""), done)
     done = came(ran(program, ["run", "--save", file], text(DAY).encode(), preexec_fn=limited(20)))
     told = "acdm: save failed\n" + cause(f"--save {file}", errno.EFBIG)
     cases.expect("a full disk", done[0] == 2 and done[2] == told and file.read_text() == old, done)
+    cases.expect("nor does a full disk", not [*room.glob("old.part*")], [*room.glob("old.part*")])
 
 
 def by_tables(cases, program, room):
@@ -308,6 +312,23 @@ def onto_streams(cases, program, room):
     cases.expect("a device", subprocess.run([str(program), "run", "--save", "/dev/null"], check=False, **null).returncode == 0)
     done = came(ran(program, ["run", "--save", "/dev/stdout"], text(DAY).encode()))
     cases.expect("a pipe", done[0] == 0 and done[1].endswith(text(DAY_JOURNAL)), done)
+    by_pipe(cases, program, room)
+
+
+def by_pipe(cases, program, room):
+    """A pipe that has a name is written into, for whoever reads there."""
+    pipe, heard = room / "by-pipe", []
+    os.mkfifo(pipe)
+    reader = threading.Thread(target=lambda: heard.append(pipe.read_text()), daemon=True)
+    reader.start()
+    try:
+        done = came(ran(program, ["run", "--save", pipe], text(DAY).encode(), timeout=30))
+    except subprocess.TimeoutExpired as late:
+        done = str(late)
+    reader.join(10)
+    cases.expect("a pipe that has a name", (done, heard) == ((0, text(DAY_REPLIES), ""), [text(DAY_JOURNAL)]), (done, heard))
+    beside = sorted(it.name for it in room.glob("by-pipe*"))
+    cases.expect("and nothing is beside it", beside == ["by-pipe"], beside)
 
 
 def main():

@@ -6,8 +6,9 @@
 `serve --keep FILE` under 8 partners, killed at N moments by chance, a quarter of them with `--sync`, and begun again each time with
 the same words: every reply that a partner read has its entry in FILE, FILE is a legal journal with the rest of a line at most behind
 it, and the numbers go on. Then a file system that takes no more after so many bytes: no reply without its entry, the board closes by
-itself, with status 2 and its line; journals with each kind of fault, another that has the file, too little room, a journal that is nearly full; and `--watch` beside
-it, which sends the same text. The last line is `N cases, M failed`; status 1 where one failed.
+itself, with status 2 and its line, and displays are sent what stands in FILE; a board that follows without room; journals with each
+kind of fault, another that has the file, too little room, a journal that is nearly full; and `--watch` beside it, which sends the
+same text. The last line is `N cases, M failed`; status 1 where one failed.
 """
 
 import errno
@@ -22,10 +23,25 @@ import time
 
 from cases import ALERTS, DAY, DAY_JOURNAL, KEPT_ELSEWHERE, NO_ROOM, PLAN, SCHEDULE, TARGET
 from cases import Cases, cause, ran, text, words
+from follow import JOURNAL, Server, head
 from keep import FAULTY, came, legal, limited, numbers_of, whole_of
 
 PARTNERS = 8
 ROLES = ["APT", "NM", *["GH"] * (PARTNERS - 2)]
+
+
+def free_port():
+    with socket.create_server(("127.0.0.1", 0)) as it:
+        return it.getsockname()[1]
+
+
+def rest_of(display):
+    """All that a display is sent."""
+    with display:
+        sent = b""
+        while part := display.recv(65536):
+            sent += part
+        return sent
 
 
 class Board:
@@ -131,8 +147,10 @@ def kills(cases, program, room, count, seed):
 
 def full_disk(cases, program, room):
     for size in [0, 1, 60, 61, *range(200, 4000, 199)]:
-        file = room / f"full-{size}"
-        board = Board(program, file, preexec_fn=limited(size))
+        file, port = room / f"full-{size}", free_port()
+        board = Board(program, file, ["--watch", f"127.0.0.1:{port}"], preexec_fn=limited(size))
+        # (where its tables have no room either, it listens nowhere)
+        display = socket.create_connection(("127.0.0.1", port), timeout=30) if board.ports else None
         streams = board.connect()
         replies = [[] for _ in streams]
         talks = [threading.Thread(target=talk, args=(it, lines_of(role, True), got)) for it, role, got in zip(streams, ROLES, replies)]
@@ -150,6 +168,22 @@ def full_disk(cases, program, room):
         cases.expect(name, ended[0] == 2 and ended[2].endswith(owed), ended)
         cases.expect(name, all(it < kept for it in told), (kept, told[-1:]))
         cases.expect(name, legal(program, file, room), kept)
+        shown = rest_of(display) if display else b""
+        cases.expect(f"{name}: a display is sent what stands there", file.read_bytes().startswith(shown), shown[-100:])
+        cases.expect(f"{name}: all that was replied to", all(it < shown.count(b"\n") for it in told), (shown[-100:], told[-1:]))
+
+
+def follower_without_room(cases, program, room):
+    """A board that follows another one and can keep nothing ends, and says why."""
+    file = room / "copy"
+    file.write_bytes(b"")
+    (room / "copy.tables").write_text("# the tables that are built in\n")
+    server = Server([head(JOURNAL, 0) + text(JOURNAL)])
+    done = came(ran(program, ["follow", f"127.0.0.1:{server.port}", "--keep", file, "APT=127.0.0.1:0"], preexec_fn=limited(0)))
+    told = "acdm: keep failed\n" + cause(f"--keep {file}", errno.EFBIG)
+    cases.expect("a board that follows without room ends", done[:2] == (2, "") and done[2].endswith(told), done)
+    cases.expect("and keeps nothing", file.read_bytes() == b"", file.read_bytes())
+    server.close()
 
 
 def faulty(cases, program, room):
@@ -197,8 +231,7 @@ def watched(cases, program, room):
     """What displays are sent is the text of the file, from its first entry on."""
     file = room / "watched"
     file.write_text(text(DAY_JOURNAL))
-    with socket.create_server(("127.0.0.1", 0)) as it:
-        port = it.getsockname()[1]
+    port = free_port()
     board = Board(program, file, ["--watch", f"127.0.0.1:{port}", "--save", str(room / "saved")], roles=["APT", "GH"])
     display = socket.create_connection(("127.0.0.1", port), timeout=30)
     streams = board.connect()
@@ -206,10 +239,7 @@ def watched(cases, program, room):
         talk(stream, [line] * 50, [])
         stream.close()
     ended = board.end()
-    sent = b""
-    while part := display.recv(65536):
-        sent += part
-    display.close()
+    sent = rest_of(display)
     cases.expect("ended", ended[0] == 0 and ended[1].endswith(f"closed {len(DAY_JOURNAL) + 100}\n"), ended)
     cases.expect("displays are sent the file's text", sent == file.read_bytes(), len(sent))
     cases.expect("and so is what is saved", (room / "saved").read_bytes() == file.read_bytes())
@@ -238,7 +268,7 @@ def main():
     cases = Cases()
     with tempfile.TemporaryDirectory(prefix="acdm-keep-") as folder:
         room = pathlib.Path(folder)
-        for part in (faulty, in_use, watched, nearly_full, full_disk):
+        for part in (faulty, in_use, watched, nearly_full, full_disk, follower_without_room):
             part(cases, given.program, room)
         kills(cases, given.program, room, given.kills, given.seed)
     return cases.end()
