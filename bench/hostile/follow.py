@@ -25,7 +25,7 @@ import threading
 import time
 
 from again import Board, Partner, free_port
-from cases import ALERTS, PLAN, SCHEDULE, Cases, cause, ran, text, words
+from cases import ALERTS, CHANGED, PLAN, SCHEDULE, Cases, cause, ran, text, words
 
 TICK = '{"cmd":"tick"}'
 CLIENT = pathlib.Path(__file__).resolve().parents[2] / "clients" / "partner.py"
@@ -505,7 +505,8 @@ def taken(cases, program, room):
         timer.cancel()
         second.listening.join(5)
         cases.expect(f"{name}: it ends", status == 2, status)
-        cases.expect(f"{name}: and says why", "acdm: keep failed" in second.said, second.said)
+        told = ("acdm: keep failed\n" + cause(f"--keep {own / 'day'}", CHANGED)).splitlines()
+        cases.expect(f"{name}: and says why", second.said[-2:] == told, second.said)
         server.close()
 
 

@@ -225,7 +225,8 @@ def promoted(cases, program, room):
 def by_words(cases, program, room):
     """A peer of a later term, named by the words and by a file of settings."""
     kept, config = room / "day", room / "board.toml"
-    kept.write_text(text(JOURNAL))
+    # (a rest without a line feed, which a board drops that goes on)
+    cut = text(JOURNAL) + "5 1 29"
     for own, term, is_later in (("", 2, True), ("", 1, False), ("term 7\n", 8, True), ("term 7\n", 7, False)):
         server = Server([""], term)
         peer = f"127.0.0.1:{server.port}"
@@ -234,11 +235,13 @@ def by_words(cases, program, room):
         if own:
             file_of(kept).write_text(own)
         for given in (["--again", "--keep", str(kept), "--peer", peer, "APT=nowhere"], ["--config", str(config)]):
+            kept.write_text(cut)
             done = ran(program, ["serve", *given])
             wanted = TAKEN_OVER if is_later else "acdm: address 1\n"
             cases.expect(f"{own!r} beside {term}, {given[0]}", done.returncode == 2 and done.stderr.decode().startswith(wanted), done.stderr)
+            owed = cut if is_later else text(JOURNAL)
+            cases.expect(f"{own!r} beside {term}, {given[0]}: the journal", kept.read_text() == owed, kept.read_text())
         server.close()
-    cases.expect("the journal stays", kept.read_text() == text(JOURNAL))
 
 
 def behind(cases, program, room):
@@ -361,6 +364,12 @@ def files(cases, program, room):
     done = ran(program, ["serve", "--again", "--keep", str(kept), "APT=127.0.0.1:0"])
     cases.expect("a folder", (done.returncode, done.stderr.decode().splitlines()[0]) == (2, "acdm: keep failed"), done.stderr)
     file_of(kept).rmdir()
+    # (it can't be opened, whoever asks, and is there all the same)
+    file_of(kept).symlink_to(file_of(kept))
+    done = ran(program, ["serve", "--again", "--keep", str(kept), "APT=nowhere"])
+    wanted = "acdm: keep failed\n" + cause(f"the term of --keep {kept}", errno.ELOOP)
+    cases.expect("one that can't be opened", (done.returncode, done.stdout, done.stderr.decode()) == (2, b"", wanted), done)
+    file_of(kept).unlink()
     done = ran(program, ["serve", "--again", "--keep", str(kept), "--log", str(file_of(kept)), "APT=127.0.0.1:0"])
     cases.expect("it is no log", (done.returncode, done.stderr.decode().splitlines()[0]) == (2, "acdm: log file"), done.stderr)
     cases.expect("and is not made for one", not file_of(kept).exists())
