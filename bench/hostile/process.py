@@ -5,9 +5,9 @@
 
 Closed standard streams, in all combinations, for each command; words that are no text; SIGSTOP and SIGCONT while it waits for
 lines, partners, files and displays; a full disk, and readers that went away, of a board with partners too; a file
-without an end; an airport's own tables, and files of them that are wrong; files of settings; the line behind each
-failure, which names the file, the address or the stream, and why. The last line is `N cases, M failed`; status 1 where
-one failed.
+without an end; an airport's own tables, and files of them that are wrong; files of settings; words that are refused,
+and those that a command says that it takes; the line behind each failure, which names the file, the address or the
+stream, and why. The last line is `N cases, M failed`; status 1 where one failed.
 """
 
 import errno
@@ -525,6 +525,73 @@ def settings(cases, program, room):
     cases.expect("no other command has settings", done[0] == 2 and "unexpected argument" in done[2], done)
 
 
+def refused_words(cases, program, room):
+    """A value that an option does not take, and an option without the one that it needs: the line names it, and what it takes."""
+    kept, partner = str(room.folder / "kept-by-refused-words"), "APT=127.0.0.1:0"
+    numbers = (("--journal", 1_000_000), ("--pace", 4_294_967_295), ("--tick", 86_400))
+    for option, most in numbers:
+        for given in ("0", str(most + 1), "x", "-1", "", "1.0"):
+            for command in (["run"],) if option == "--journal" else (["serve", partner], ["follow", "127.0.0.1:1", "--keep", kept, partner]):
+                done = came(ran(program, [command[0], f"{option}={given}", *command[1:]]))
+                named = option in done[2] and re.search(rf"\b1 to {most}\b", done[2])
+                cases.expect(f"{command[0]} {option}={given} is refused by its name and range", done[:2] == (2, "") and named, done)
+    for word in ("verify", "explain"):
+        for given in ("0", "127", "129", "161", "0128", "x", ""):
+            done = came(ran(program, [word, f"--length={given}", room.code]))
+            named = all(it in done[2] for it in ("--length", "128", "160"))
+            cases.expect(f"{word} --length={given} is refused by its name and numbers", done[:2] == (2, "") and named, done)
+    done = came(ran(program, ["serve", "--peer", "127.0.0.1:1", partner]))
+    cases.expect("--peer alone is refused by the word that it needs", done[:2] == (2, "") and "'--keep <FILE>'" in done[2], done)
+    cases.expect("and no file is made", not pathlib.Path(kept).exists())
+
+
+# The words that a command takes, as docs/RULES.md has them, "Lines", "Partners over TCP" and "Local programs".
+OF_RUN = ["--journal <N>", "--save <FILE>", "--keep <FILE>", "--sync", "--tables <FILE>"]
+OF_SERVE = [
+    *OF_RUN,
+    *("--watch <ADDR>", "--changes <ADDR>", "--web <ADDR>", "--web-name <NAME>", "--again", "--control <ADDR>"),
+    *("--pace <N>", "--tick <SECONDS>", "--log <FILE>", "--second <N>", "--strict", "--peer <ADDR>", "<ROLE=ADDR>"),
+]
+OF_PROGRAM = ["--length <N>", "--tables <FILE>", "<FILE>"]
+WORDS_OF = {
+    **{"run": OF_RUN, "serve": OF_SERVE, "follow": [*OF_SERVE, "<ADDR>"], "audit": OF_PROGRAM[1:], "tell": OF_PROGRAM[1:]},
+    **{"verify": OF_PROGRAM, "explain": OF_PROGRAM},
+}
+# What else is said of a word: from which number to which one it is, or which ones it takes.
+SAID_OF = {
+    "--journal <N>": ["1 to 1000000", "100000"],
+    "--pace <N>": ["1 to 4294967295"],
+    "--tick <SECONDS>": ["1 to 86400"],
+    "--second <N>": ["1 to 8", "--keep", "--watch"],
+    "--strict": ["--second"],
+    "--sync": ["--keep"],
+    "--web-name <NAME>": ["With --web"],
+    "--length <N>": ["128", "160"],
+    "<ROLE=ADDR>": ["NM, ATC, APT, AO, GH or DIC"],
+}
+
+
+def helped(cases, program):
+    """Each command says by `--help` which words it takes, with their values and bounds, and no others."""
+    _, _, said = came(ran(program, ["--help"]))
+    cases.expect("all commands are named", all(re.search(rf"^ +{it}\b", said, re.M) for it in WORDS_OF), said)
+    for command, owed in WORDS_OF.items():
+        status, output, said = came(ran(program, [command, "--help"]))
+        # (each word begins a line, and what is said of it may go on in the lines behind that)
+        parts = re.split(r"^ +(?=-|\[?<)", said, flags=re.M)
+        told = {}
+        for part in parts[1:]:
+            name = re.match(r"(?:-\w, )?(--[\w-]+(?: <\w+>)?|<[\w=]+>)", part.lstrip("["))
+            if name:
+                told[name[1]] = " ".join(part.split())
+        cases.expect(f"{command} --help is told on standard error", (status, output) == (2, ""), (status, output))
+        others = {it for it in told if it not in ("--help", "--version")}
+        cases.expect(f"{command} --help names its words", others == {*owed}, others ^ {*owed})
+        for name, wanted in SAID_OF.items():
+            if name in told:
+                cases.expect(f"{command} --help, {name}", all(re.search(rf"{re.escape(it)}\b", told[name]) for it in wanted), told[name])
+
+
 def told_cause(cases, program, command, told, given=b""):
     """A command ends with status 2 and these two lines, and nothing else is told."""
     done = came(ran(program, command, given, timeout=PATIENCE))
@@ -649,6 +716,8 @@ def main():
         wrong_tables(cases, program, room)
         most_tables(cases, program, room)
         settings(cases, program, room)
+        refused_words(cases, program, room)
+        helped(cases, program)
         causes_of_files(cases, program, room)
         causes_of_addresses(cases, program, room)
         causes_of_streams(cases, program, room)
