@@ -7,8 +7,8 @@ First part: the file is removed, renamed, replaced, cut or lengthened under `run
 replied any more, the board ends within a second by itself, with `acdm: keep failed`, a line that says why, and status
 2, and what was replied stands in the file, where it was not taken away. Second part, by held_sync.c, preloaded: as long
 as a sync does not return, neither the partner nor a display of the journal, of the feed or of the events is sent the
-entry; they are once it does, and where the board is killed before, nobody has seen it. Third part: a journal that is
-standard error too has no line of the program's. The last line is `N cases, M failed`; status 1 where one failed.
+entry; they are once it does, and where the board is killed before, nobody has seen it. A line that makes no entry is
+answered meanwhile. Third part: a journal that is standard error too has no line of the program's. The last line is `N cases, M failed`; status 1 where one failed.
 """
 
 import errno
@@ -172,11 +172,12 @@ def held(program, cases, room, is_killed):
         options += [word, f"127.0.0.1:{port}"]
     held_words = {"LD_PRELOAD": str(shim), "HOLD": str(hold)}
     os.environ.update(held_words)
-    board = Board(program, options)
+    board = Board(program, options, ["APT", "NM"])
     for word in held_words:
         del os.environ[word]
-    with board.connect() as partner:
+    with board.connect() as partner, board.connect(1) as other:
         cases.expect("a reply before", asked(partner, TICK) == "ok 0\n")
+        cases.expect("and to a bad line", asked(other, "{}") == "bad 102\n")
         shown = Shown(ports)
         shown.look(0.6)
         cases.expect("an entry that is kept is shown", shown.entries() == [1, 1, 1], shown.came)
@@ -193,6 +194,7 @@ def held(program, cases, room, is_killed):
         except TimeoutError:
             early = b""
         cases.expect("and not replied", early == b"", early)
+        cases.expect("a line that makes no entry is", asked(other, "{}") == "bad 102\n")
         if is_killed:
             board.process.kill()
             board.process.wait()
@@ -210,17 +212,23 @@ def held(program, cases, room, is_killed):
 
 
 def standard_error(program, cases, room):
-    """A journal that standard error goes to as well stays as it is."""
-    file = room / "errors"
+    """A journal that standard error goes to as well stays as it is, also one with an equals sign in its name."""
+    for name in ("errors", "errors=1"):
+        standard_error_of(program, cases, room, name)
+
+
+def standard_error_of(program, cases, room, name):
+    """The same of a file of this name."""
+    file = room / name
     ran(program, ["run", "--keep", file], f"1 29000580 APT {TICK}\n".encode())
     before = file.read_bytes()
-    for arguments in (["--keep", file], ["--save", file], [f"--keep={file}"], ["--save", room / "." / "errors"]):
+    for arguments in (["--keep", file], ["--save", file], [f"--keep={file}"], ["--save", f"{room}/./{name}"]):
         with open(file, "ab") as errors:
             done = subprocess.run(
                 [program, "run", *arguments], input=b"", stdout=subprocess.PIPE, stderr=errors, timeout=60, check=False
             )
         seen = (done.returncode, done.stdout, file.read_bytes())
-        cases.expect(f"standard error is the file of {arguments[0]}", seen == (2, b"", before), seen)
+        cases.expect(f"standard error is the file {name} of {arguments[0]}", seen == (2, b"", before), seen)
     with open(file, "ab") as errors:
         done = subprocess.run([program, "audit", file], stdout=subprocess.PIPE, stderr=errors, timeout=60, check=False)
     cases.expect("an audit of it goes on", (done.returncode, done.stdout, file.read_bytes()) == (0, b"legal 1\n", before))
