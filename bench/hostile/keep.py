@@ -5,10 +5,10 @@
 
 `run --keep FILE` over a stream, killed at N moments by chance and begun again each time: every reply that was read has its entry in
 FILE, FILE is a legal journal with the rest of a line at most behind it, and the numbers go on. Then a file system that takes no
-more after so many bytes, at many places; journals with each kind of fault, cut lines, another that has the file, too little room;
-`--save`, which leaves what was there until all of it is on the disk, and nothing beside it, and writes into a pipe; files that are
-standard streams too, in which nothing is saved or kept; and the tables by which a journal was made, beside it, where a command has
-others. The last line is `N cases, M failed`; status 1 where one failed.
+more after so many bytes, at many places; journals with each kind of fault, cut lines, one of another user, another that has the file,
+too little room; `--save`, which leaves what was there until all of it is on the disk, and nothing beside it, and writes into a pipe;
+files that are standard streams too, in which nothing is saved or kept; and the tables by which a journal was made, beside it, where a
+command has others. The last line is `N cases, M failed`; status 1 where one failed.
 """
 
 import errno
@@ -16,6 +16,7 @@ import os
 import pathlib
 import random
 import resource
+import shutil
 import signal
 import subprocess
 import sys
@@ -171,6 +172,23 @@ def faulty(cases, program, room):
     done = came(ran(program, ["run", "--keep", nowhere], text(DAY).encode()))
     told = "acdm: keep failed\n" + cause(f"--keep {nowhere}", errno.ENOENT)
     cases.expect("no folder", done == (2, "", told), done)
+
+
+def of_another(cases, program, room):
+    """A journal of another user, which one may write, in a folder where one may too: it is gone on from, in a file of one's own."""
+    if os.getuid() != 0:
+        print("left out: a journal of another user (that takes root)", flush=True)
+        return
+    with tempfile.TemporaryDirectory(prefix="acdm-keep-") as folder:
+        own, file = pathlib.Path(folder) / "acdm", pathlib.Path(folder) / "day"
+        shutil.copyfile(program, own)
+        file.write_text(text(DAY_JOURNAL[:1]))
+        for it, mode in ((own, 0o755), (file, 0o666), (own.parent, 0o777)):
+            it.chmod(mode)
+        done = came(ran(own, ["run", "--keep", file], text(DAY[1:]).encode(), user=65_534, group=65_534, extra_groups=[]))
+        cases.expect("a journal of another user", done == (0, text(DAY_REPLIES[1:]), ""), done)
+        cases.expect("is gone on from", file.read_text() == text(DAY_JOURNAL), file.read_text())
+        cases.expect("in a file of one's own", file.stat().st_uid == 65_534 and file.stat().st_mode & 0o777 == 0o666, file.stat())
 
 
 def in_use(cases, program, room):
@@ -339,7 +357,7 @@ def main():
     cases = Cases()
     with tempfile.TemporaryDirectory(prefix="acdm-keep-") as folder:
         room = pathlib.Path(folder)
-        for part in (gone_on, faulty, in_use, saved, by_tables, onto_streams, full_output, full_disk):
+        for part in (gone_on, faulty, of_another, in_use, saved, by_tables, onto_streams, full_output, full_disk):
             part(cases, given.program, room)
         kills(cases, given.program, room, given.kills, given.seed)
     return cases.end()

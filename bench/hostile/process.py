@@ -631,9 +631,12 @@ def causes_of_files(cases, program, room):
             (["--save", many], SAVE, "no name is free beside it"),
             (["--tables", own, "--save", own], SAVE, TAKEN),
             (["--keep", nowhere, "--save", nowhere], SAVE, TAKEN),
+            (["--keep", nowhere, "--save", no_folder], SAVE, errno.ENOENT),
         ):  # fmt: skip
             told = first + cause(f"{words_[-2]} {words_[-1]}", reason)
             told_cause(cases, program, [command[0], *words_, *command[1:]], told, day)
+            # (with nothing changed: no file is made that is kept, nor its tables)
+            cases.expect(f"nothing is kept, {words_}", not nowhere.exists() and not nowhere.with_name("nowhere.tables").exists())
     other.stdin.close()
     cases.expect("the other board ends", other.wait(timeout=PATIENCE) == 0)
     with open(own, "rb") as given:
