@@ -53,8 +53,8 @@ impl Reach {
         }
     }
 
-    /// As far as this receipt says from now on.
+    /// As far as this receipt says from now on, where it is for more: who keeps may tell of it late.
     pub(crate) fn renew(&self, receipt: Receipt) {
-        self.kept.store(receipt.count(), Ordering::SeqCst);
+        self.kept.fetch_max(receipt.count(), Ordering::SeqCst);
     }
 }
