@@ -229,12 +229,6 @@ def standard_error_of(program, cases, room, name):
             )
         seen = (done.returncode, done.stdout, file.read_bytes())
         cases.expect(f"standard error is the file {name} of {arguments[0]}", seen == (2, b"", before), seen)
-    settings = room / "settings.toml"
-    settings.write_text(f'keep = "{file}"\npartners = ["APT=127.0.0.1:0"]\n')
-    with open(file, "ab") as errors:
-        done = subprocess.run([program, "serve", "--config", settings], stdout=subprocess.PIPE, stderr=errors, timeout=60, check=False)
-    seen = (done.returncode, done.stdout, file.read_bytes())
-    cases.expect(f"standard error is the file {name} of settings", seen == (2, b"", before), seen)
     with open(file, "ab") as errors:
         done = subprocess.run([program, "audit", file], stdout=subprocess.PIPE, stderr=errors, timeout=60, check=False)
     cases.expect("an audit of it goes on", (done.returncode, done.stdout, file.read_bytes()) == (0, b"legal 1\n", before))

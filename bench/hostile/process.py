@@ -525,6 +525,27 @@ def settings(cases, program, room):
     cases.expect("no other command has settings", done[0] == 2 and "unexpected argument" in done[2], done)
 
 
+def settings_beside_errors(cases, program, room):
+    """Nothing is written on standard error where that goes to a journal that words or settings name, also of settings that are wrong."""
+    file, journal = room.folder / "beside.toml", room.folder / "beside-errors"
+    partner = ["APT=127.0.0.1:0"]
+    for name, given, words_ in (
+        ("named by settings", f'keep = "{journal}"\n', []),
+        ("settings that are wrong", "foo = 1\n", ["--keep", journal]),
+        ("settings that are no TOML", "foo\n", [f"--keep={journal}"]),
+        ("no settings", None, ["--save", journal]),
+    ):
+        journal.write_text(text(DAY_JOURNAL))
+        file.unlink(missing_ok=True)
+        if given is not None:
+            file.write_text(given)
+        with open(journal, "ab") as errors:
+            how = {"stdout": subprocess.PIPE, "stderr": errors, "capture_output": False}
+            done = ran(program, ["serve", *words_, "--config", file, *partner], **how)
+        seen = done.returncode, done.stdout, journal.read_text()
+        cases.expect(f"standard error is the journal, {name}", seen == (2, b"", text(DAY_JOURNAL)), seen)
+
+
 def refused_words(cases, program, room):
     """A value that an option does not take, and an option without the one that it needs: the line names it, and what it takes."""
     kept, partner = str(room.folder / "kept-by-refused-words"), "APT=127.0.0.1:0"
@@ -719,6 +740,7 @@ def main():
         wrong_tables(cases, program, room)
         most_tables(cases, program, room)
         settings(cases, program, room)
+        settings_beside_errors(cases, program, room)
         refused_words(cases, program, room)
         helped(cases, program)
         causes_of_files(cases, program, room)

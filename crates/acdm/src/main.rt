@@ -64,6 +64,9 @@ fn status<
     let Ok(given) = words::texts(alloc, &words) else {
         return Failure::Memory.complain(&mut errors);
     };
+    // (what a file of settings is refused for may become a part of a journal as well)
+    let is_spared = given.iter().skip(1).any(|word| is_error_file(rt, word));
+    let mut errors = Sink::new(Spared::new(errors, is_spared));
     let settled = words_given(rt, alloc, given.as_slice(), &mut errors);
     drop(given);
     let whole = match settled {
