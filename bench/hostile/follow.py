@@ -159,6 +159,11 @@ def from_line(lines):
     return answer
 
 
+def behind(lines, answer):
+    """What a board with these entries sends who asks for the last one, and else this answer."""
+    return lambda heard: from_line(lines)(heard) if heard.startswith(f"from {len(lines) - 1}\n".encode()) else answer
+
+
 def audited(cases, program, name, kept, count):
     done = ran(program, ["audit", str(kept)])
     cases.expect(f"{name}: legal", done.stdout.decode() == f"legal {count}\n", done.stdout.decode() + done.stderr.decode())
@@ -342,7 +347,9 @@ def others(cases, program, room):
         ("a line without an end", head(JOURNAL, 2) + "2 1 " + "x" * 8_000_000, r"entry 2: .+"),
     ):
         begun.write_text(good)
-        server = Server([answer] * 4 + [""], None if why == no_board else 1)
+        # (what comes behind the last entry is heard where that is the same)
+        sent = behind(JOURNAL[:2], answer) if why.startswith("entry 2") else answer
+        server = Server([sent] * 4 + [""], None if why == no_board else 1)
         second = Second(program, server.port, begun)
         cases.expect(f"{name}: told", second.says(rf"parted {why} {MOMENT}"), second.said)
         cases.expect(f"{name}: nothing is kept of it", begun.read_text() == good and second.entries() == 2, begun.read_text())
@@ -365,38 +372,64 @@ def reasons(cases, program, room):
     second = Second(program, port, begun)
     nobody, differs = rf"parted .*refused.* {MOMENT}", rf"parted another journal is sent there: entry 1 is another one {MOMENT}"
     cases.expect("nobody is there, which is said", second.says(nobody), second.said)
+    server = Server(["unknown\n"], None, port)
+    cases.expect("then who is no board, which is said", second.says(rf"parted no board's term is sent there {MOMENT}"), second.said)
+    server.close()
+    cases.expect("then nobody", second.waits_for(lambda: len(second.said) == 3), second.said)
     server = Server([from_line([JOURNAL[0], "1 2 29000580 NM 0 0 alerts"])], port=port)
     cases.expect("then another journal is there, which is said too", second.says(differs), second.said)
     time.sleep(2.5)
     server.close()
     told = lambda pattern: sum(re.fullmatch(pattern, it) is not None for it in second.said)
-    cases.expect("then nobody again", second.waits_for(lambda: told(nobody) == 2), second.said)
+    cases.expect("then nobody again", second.waits_for(lambda: len(second.said) == 5), second.said)
     time.sleep(2.5)
-    cases.expect("each is said once", (told(nobody), told(differs), len(second.said)) == (2, 1, 3), second.said)
+    # (a connection of a server that ends is reset)
+    cases.expect("each is said once", (told(nobody) >= 2, told(differs), len(second.said)) == (True, 1, 5), second.said)
     second.close()
 
 
 def changed(cases, program, room):
     """The same reason is said again where something else was said between, and so is that it follows."""
-    begun, behind = room / "changed", head(JOURNAL, 1)
+    begun, answer = room / "changed", head(JOURNAL, 1)
     begun.write_text(text(JOURNAL[:2]))
-    server = Server([behind] * 100 + [""])
+    server = Server([answer] * 100 + [""])
     second = Second(program, server.port, begun)
-    only, nobody, following = "parted there are only 1 entries", "parted nobody", f"following 127.0.0.1:{server.port} 2"
+    only, nobody = "parted there are only 1 entries", "parted nobody"
 
     def told():
         """What was said, without the moments; it may be said in two ways that nobody is there."""
         found = [it.rsplit(" ", 1)[0] for it in second.said]
         return [nobody if re.search(r"refused|reset", it) else it for it in found]
 
-    cases.expect("a board that is behind is told", second.waits_for(lambda: told()[-2:] == [only, following]), second.said)
+    cases.expect("a board that is behind is told", second.waits_for(lambda: told() == [only]), second.said)
+    status = second.ask("status")
+    cases.expect("and that it is not followed", status.startswith(f"following 127.0.0.1:{server.port} parted\n"), status)
     server.close()
     cases.expect("then nobody is there", second.waits_for(lambda: nobody in told()), second.said)
-    server = Server([behind] * 100 + [""], port=server.port)
+    server = Server([answer] * 100 + [""], port=server.port)
     cases.expect("then it is told again that it is behind", second.waits_for(lambda: told().count(only) == 2), second.said)
-    said = told()
-    cases.expect("and before that it followed again", said[said.index(nobody) :][:3] == [nobody, following, only], second.said)
+    cases.expect("and never that it is followed", [*dict.fromkeys(told())] == [only, nobody], second.said)
     cases.expect("nothing is kept", begun.read_text() == text(JOURNAL[:2]), begun.read_text())
+    second.close()
+    server.close()
+
+
+def unlike(cases, program, room):
+    """Where the last entry is not there when it is asked for, nothing of another history is entered behind it."""
+    begun = room / "unlike"
+    begun.write_text(text(JOURNAL[:2]))
+    other = [JOURNAL[0], "1 2 29000580 NM 0 0 alerts", *JOURNAL[2:]]
+
+    def answer(heard):
+        """The first line alone where the last entry is asked for, and all of the other journal behind it else."""
+        return head(other, 1) if heard.startswith(b"from 1") else from_line(other)(heard)
+
+    server = Server([answer] * 100 + [""])
+    second = Second(program, server.port, begun)
+    cases.expect("unlike: it is told that the entry is not there", second.says(rf"parted there are only 1 entries {MOMENT}"), second.said)
+    heard = len(server.heard)
+    cases.expect("unlike: it is tried again", second.waits_for(lambda: len(server.heard) > heard + 2), server.heard)
+    cases.expect("unlike: nothing is entered", begun.read_text() == text(JOURNAL[:2]) and second.entries() == 2, second.said)
     second.close()
     server.close()
 
@@ -481,6 +514,12 @@ def silent(cases, program, room):
     took = time.monotonic() - began
     cases.expect("silence: after ten seconds", 9 < took < 15, took)
     cases.expect("silence: and nothing is printed of it", [it.split(" ")[0] for it in second.said] == ["following"], second.said)
+    # (the connection that was made stays, and says nothing)
+    server.close()
+    cases.expect("silence: then nobody is there", second.waits_for(lambda: len(second.said) == 2, 25), second.said)
+    server = Server([from_line(JOURNAL)], port=server.port)
+    again = second.waits_for(lambda: [it.split(" ")[0] for it in second.said] == ["following", "parted", "following"])
+    cases.expect("silence: and that it follows is said again", again, second.said)
     second.close()
     server.close()
 
@@ -627,6 +666,7 @@ def main():
         others(cases, program, room)
         reasons(cases, program, room)
         changed(cases, program, room)
+        unlike(cases, program, room)
         ends_following(cases, program, room)
         closed_at_once(cases, program, room)
         followed_on(cases, program, room)

@@ -1,5 +1,5 @@
 //! The following of another board, over its connections.
-ghost use Rattle.std.specs.Prelude.{◌≡◌, is_some};
+ghost use Rattle.std.specs.Prelude.{◌≡◌, ◌≤◌, IfOk, is_some, length};
 ghost use Rattle.acdm_following.specs.Courses.{asked, parted_as};
 
 use crate::confirming::Confirming;
@@ -11,7 +11,7 @@ use acdm_lines::is_passing;
 use acdm_partners::Reporter;
 use acdm_row::Row;
 use std::alloc::{AllocError, Global};
-use std::io::{self, Read, Write};
+use std::io::{self, ErrorKind, Read, Write};
 use std::net::{Net, SocketAddr, TcpListener, TcpStream};
 use std::sync::atomic::{AtomicBool, Ordering};
 use std::sync::{Arc, Wait};
@@ -64,9 +64,25 @@ pub(crate) struct FollowedStream {
     flags: StopFlags,
     // How many pauses there were in a row in which nothing came.
     silent: u64,
+    // Whether no more than its first line is read, and whether that was.
+    is_head_alone: bool,
+    has_head: bool,
 }
 
 impl FollowedStream {
+    // Reads once: a byte at a time where no more than the first line is read.
+    fn read_once(&mut self, buf: &mut [u8]) -> io::Result<usize>
+        ensures { IfOk result (λ n. n ≤ length buf.old) }
+    {
+        if !self.is_head_alone {
+            return self.stream.read(buf);
+        }
+        let most = buf.len().min(1);
+        let count = self.stream.read(&mut buf[..most])?;
+        self.has_head = buf.iter().take(count).any(|byte| *byte == b'\n');
+        Ok(count)
+    }
+
     // Whether nothing came for so long that the connection may be gone.
     fn is_silent(&self) -> bool {
         self.silent >= SILENT_PAUSES
@@ -76,10 +92,10 @@ impl FollowedStream {
 impl Read for FollowedStream {
     fn read(&mut self, buf: &mut [u8]) -> io::Result<usize> {
         for _ in 0..u64::MAX {
-            if self.flags.is_over() || self.is_silent() {
+            if self.flags.is_over() || self.is_silent() || self.has_head {
                 return Ok(0);
             }
-            match self.stream.read(buf) {
+            match self.read_once(buf) {
                 Err(error) if is_passing(&error) => self.silent = self.silent.saturating_add(1),
                 came => {
                     self.silent = 0;
@@ -130,6 +146,10 @@ fn comparison_of(line: &[u8], own: &[u8]) -> Compared {
 enum Unreached {
     /// It could not be.
     Gone,
+    /// What answers there is no board.
+    NoBoard,
+    /// The term in which it would be followed could not be written.
+    Unwritten,
     /// Its journal is another one from some entry on.
     Differs,
     /// It has this term, which is earlier than that of the board that would follow it.
@@ -141,6 +161,10 @@ enum Unreached {
 pub(crate) enum ConnectOutcome<C: Drop> {
     /// A connection by which it is followed.
     Board(C),
+    /// A connection of which nothing is entered, since the entry before is not there: by it is heard why.
+    Unlike(C),
+    /// The term in which it would be followed could not be written.
+    Unwritten(io::Error),
     /// Its journal is another one from some entry on.
     Other,
     /// It has an earlier term than this board, which has taken over from it.
@@ -167,8 +191,8 @@ pub(crate) trait Connects<C: Drop> {
     /// Where they are made.
     fn address(&self) -> SocketAddr;
 
-    /// A connection at which the entries from this number on are asked for; none where the entry before is another one
-    /// there, or where the board there has an earlier term.
+    /// A connection at which the entries from this number on are asked for, or where the one before is not there, from that
+    /// one on; none where the entry before is another one there, or where the board there has an earlier term.
     fn reach(&self, next: u64) -> io::Result<ConnectOutcome<C>>;
 
     /// Whether a connection has ended since nothing came for a while.
@@ -198,13 +222,12 @@ impl<Rt: Net<Listener = TcpListener, Stream = TcpStream>> BoardAddress<'_, Rt> {
         Ok((stream, term))
     }
 
-    // A connection at which the entries from this number on were asked for.
-    fn asked_from(&self, number: u64) -> io::Result<TcpStream> {
+    // A connection at which the entries from this number on were asked for; and the term there.
+    fn asked_from(&self, number: u64) -> io::Result<(TcpStream, u64)> {
         let mut text = String::new(self.alloc);
         writeln!(text, "term")?;
         writeln!(text, "from {number}")?;
-        let (stream, _) = self.connected(text.as_str())?;
-        Ok(stream)
+        self.connected(text.as_str())
     }
 
     // The same by the name of this board, at which it was said that it keeps all entries before; and the term there.
@@ -258,7 +281,7 @@ impl<Rt: Net<Listener = TcpListener, Stream = TcpStream>> BoardAddress<'_, Rt> {
         let Some(own) = self.own_line(number)? else {
             return Ok(Compared::Missing);
         };
-        let mut stream = self.asked_from(number)?;
+        let (mut stream, _) = self.asked_from(number)?;
         let came = self.heard(&mut stream)?;
         match second_line(came.as_slice()) {
             Some(line) => Ok(comparison_of(line, own.as_slice())),
@@ -286,20 +309,35 @@ impl<Rt: Net<Listener = TcpListener, Stream = TcpStream> + Wait + Paths> Connect
         if found == Compared::Other {
             return Ok(ConnectOutcome::Other);
         }
-        let (stream, term) = self.followed_from(next)?;
+        let is_same = found == Compared::Same;
+        // By the first line for the entry before it is found that the board there is behind this one, or another one.
+        let (stream, term) = if is_same {
+            self.followed_from(next)?
+        } else {
+            self.asked_from(next.saturating_sub(1))?
+        };
         let own = self.term.own();
         if is_replaced(term, own) {
             return Ok(ConnectOutcome::Replaced { term, own });
         }
-        if found == Compared::Same {
-            self.term.raise(self.rt, self.alloc, term)?;
+        if is_same {
+            if let Err(error) = self.term.raise(self.rt, self.alloc, term) {
+                return Ok(ConnectOutcome::Unwritten(error));
+            }
+            self.confirming.begin(self.rt, &stream, next)?;
         }
-        self.confirming.begin(self.rt, &stream, next)?;
-        Ok(ConnectOutcome::Board(FollowedStream {
+        let connection = FollowedStream {
             stream,
             flags: self.flags.copy()?,
             silent: 0,
-        }))
+            is_head_alone: !is_same,
+            has_head: false,
+        };
+        if is_same {
+            Ok(ConnectOutcome::Board(connection))
+        } else {
+            Ok(ConnectOutcome::Unlike(connection))
+        }
     }
 
     fn is_silent(&self, connection: FollowedStream) -> bool {
@@ -397,9 +435,19 @@ impl<'r, Rt: Clock + Wait + Drop, M: Connects<C> + Drop, C: Drop> FirstBoardAt<'
                     self.made = Some(connection);
                     return;
                 }
+                Ok(ConnectOutcome::Unlike(connection)) => {
+                    self.made = Some(connection);
+                    return;
+                }
                 Ok(ConnectOutcome::Other) => self.tell_other(next),
                 Ok(ConnectOutcome::Replaced { term, own }) => self.tell_replaced(term, own),
-                Err(error) => self.tell_unreached(&error),
+                Ok(ConnectOutcome::Unwritten(error)) => {
+                    self.tell_unreached(Unreached::Unwritten, &error);
+                }
+                Err(error) if error.kind() == ErrorKind::InvalidData => {
+                    self.tell_unreached(Unreached::NoBoard, &error);
+                }
+                Err(error) => self.tell_unreached(Unreached::Gone, &error),
             }
             self.pause();
         }
@@ -435,11 +483,11 @@ impl<'r, Rt: Clock + Wait + Drop, M: Connects<C> + Drop, C: Drop> FirstBoardAt<'
         true
     }
 
-    // Tells that the board was not reached.
-    fn tell_unreached(&mut self, error: &io::Error)
+    // Tells that the board was not reached, for this reason, by the system's words.
+    fn tell_unreached(&mut self, why: Unreached, error: &io::Error)
         ensures { self.new.course ≡ self.old.course }
     {
-        if !self.is_news(Unreached::Gone) {
+        if !self.is_news(why) {
             return;
         }
         if let Ok(text) = error.to_string(self.alloc) {
