@@ -553,6 +553,27 @@ def late_callers(cases, program):
     cases.expect("who has just connected is sent all", all(it.count(b"\n") == 2 for it in texts), [it for it in texts if it.count(b"\n") != 2])
 
 
+def late_browsers(cases, program):
+    """The same of browsers that asked for the events while the program was stopped, and its partner left."""
+    texts = []
+    for _ in range(4):
+        board, port = opened(program, ["--web", "DISPLAY"], ["APT"])
+        partner = board.connect(1)
+        partner.asks(TICK)
+        board.ran.send_signal(signal.SIGSTOP)
+        browsers = [socket.create_connection(("127.0.0.1", port), timeout=20) for _ in range(20)]
+        for it in browsers:
+            it.sendall(b"GET /events HTTP/1.1\r\n\r\n")
+        partner.close()
+        board.ran.send_signal(signal.SIGCONT)
+        for it in browsers:
+            texts.append(rest_of(it))
+            it.close()
+        cases.expect("the board of browsers ends", board.ended()[0] == 0)
+    short = [it for it in texts if not it.startswith(b"HTTP/1.1 200 ") or b'"flights":[' not in it]
+    cases.expect("a browser that has just asked for the events is sent the board", not short, short[:3])
+
+
 def tried(make, cases, *given):
     """Makes cases; a fault of the script itself is a case that failed."""
     try:
@@ -577,7 +598,7 @@ def main():
         tried(second_connection, cases, program, given)
     for given in ([], ["--again"]):
         tried(close_in_hand, cases, program, given)
-    for it in (older_replies, levels, two_at_once, moments, late_callers):
+    for it in (older_replies, levels, two_at_once, moments, late_callers, late_browsers):
         tried(it, cases, program)
     for it in waiting:
         it.join()

@@ -85,14 +85,16 @@ pub(crate) struct DisplayPlace {
 }
 
 impl DisplayPlace {
-    /// Takes a place, if one is left. One thread alone takes places.
+    /// Takes a place, if one is left.
     pub(crate) fn take(shared: &Arc<Shared>) -> Result<Option<DisplayPlace>, AllocError> {
         let shared = Arc::try_clone(shared)?;
-        if shared.taken.load(Ordering::SeqCst) >= MOST_DISPLAYS {
+        // (several threads may take one at once, so each counts itself first)
+        let before = shared.taken.fetch_add(1, Ordering::SeqCst);
+        let place = DisplayPlace { shared };
+        if before >= MOST_DISPLAYS {
             return Ok(None);
         }
-        shared.taken.fetch_add(1, Ordering::SeqCst);
-        Ok(Some(DisplayPlace { shared }))
+        Ok(Some(place))
     }
 }
 

@@ -25,7 +25,7 @@ pub trait TimeLimit {
 /// What a browser asks for, of a board with this name, if it has one. `None` where it ends before its head is
 /// whole, where that has more than 8,192 bytes or is not there once the time is over or after 10,000 reads, where
 /// the reader fails, and where memory is refused. A read that nothing came of in its time, or that a signal
-/// interrupted, is made again.
+/// interrupted, is made again. It is read once also where the time is over, so that what has come by then is heard.
 pub fn first_wanted<R: Read, L: TimeLimit>(
     alloc: Global,
     reader: &mut Source<R>,
@@ -37,9 +37,6 @@ pub fn first_wanted<R: Read, L: TimeLimit>(
 {
     let mut bytes = Vec::new(alloc);
     for _ in 0..MOST_READS {
-        if limit.is_over() {
-            return None;
-        }
         let mut piece = [0u8; PIECE];
         match reader.read(&mut piece) {
             Ok(0) => return None,
@@ -48,7 +45,7 @@ pub fn first_wanted<R: Read, L: TimeLimit>(
                     return None;
                 }
             }
-            Err(error) if is_passing(&error) => continue,
+            Err(error) if is_passing(&error) => {}
             Err(_) => return None,
         }
         if bytes.len() > LONGEST_HEAD {
@@ -56,6 +53,9 @@ pub fn first_wanted<R: Read, L: TimeLimit>(
         }
         if let Some(request) = wanted_in(bytes.as_slice(), name) {
             return Some(request);
+        }
+        if limit.is_over() {
+            return None;
         }
     }
     None
