@@ -180,6 +180,23 @@ def bounded(cases, program, room):
     cases.expect("and nothing behind the close", found[-1]["event"] == "close", found[-2:])
 
 
+def counted_at_end(cases, program, room):
+    """Partners that were not told are counted as the board ends, where nobody comes after them."""
+    log = room / "counted-log"
+    board = Board([program], ["--again", "--control", "PORT", "--log", str(log)], ["APT"])
+    for turn in range(40):
+        partner = board.connect(1)
+        cases.expect(f"one of many is served, {turn}", partner.asks(TICK) == f"ok {turn}")
+        partner.close()
+    cases.expect("the board of many ends", board.close()[1] == 0)
+    found = events(log)
+    here, untold = ([it for it in found if it["event"] == event] for event in ("here", "untold"))
+    cases.expect("all are told, or counted", len(here) + sum(it["connections"] for it in untold) == 40, (len(here), untold))
+    owed = [f".. {it['connections']} connections of 1 not told" for it in untold]
+    cases.expect("also on standard error", [it for it in board.said if it.startswith("..")] == owed, (board.said[-5:], owed))
+    cases.expect("and nothing is told behind the close", found[-1]["event"] == "close", found[-2:])
+
+
 def one_by_one(cases, program, room):
     """Bad lines that come one after the other, behind a silence: each is logged by itself, and at once."""
     log = room / "log"
@@ -544,7 +561,7 @@ def main():
     many(cases, asked.program)
     with tempfile.TemporaryDirectory() as room:
         for try_it in (
-            each_event, bounded, one_by_one, present, filled_at_end, filled_before, unreached, follower, plain, kept,
+            each_event, bounded, counted_at_end, one_by_one, present, filled_at_end, filled_before, unreached, follower, plain, kept,
             limited, moved, rotated, full_disk, fails_again, bounded_file, refused,
         ):  # fmt: skip
             own = pathlib.Path(room) / try_it.__name__

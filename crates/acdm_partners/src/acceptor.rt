@@ -215,9 +215,16 @@ impl<K: Wait + Clock + Drop, S: Standing + Drop> Acceptor<K, S> {
         }
     }
 
+    fn tell_rest_of_doors(&mut self) {
+        for door in self.doors.as_mut_slice() {
+            door.tell_rest(&self.reporter);
+        }
+    }
+
     // Tells what is left to be told.
     fn finish(&mut self) {
         self.look_at_room();
+        self.tell_rest_of_doors();
         if self.is_promoted() && !self.is_closing() {
             self.reporter.tell_promoted(self.standing.used());
         } else if self.reporter.has_log() {

@@ -203,6 +203,14 @@ impl Door {
         self.logged = bad_lines;
     }
 
+    /// Tells how many it was not told of, if there are any.
+    pub(crate) fn tell_rest<K: Wait + Clock + Drop>(&mut self, reporter: &Reporter<K>) {
+        if self.untold > 0 {
+            reporter.tell_untold(self.named(), self.untold);
+            self.untold = 0;
+        }
+    }
+
     /// Logs the bad lines that were not logged by now, if there are any.
     pub(crate) fn log_rest<K: Wait + Clock + Drop>(&mut self, reporter: &Reporter<K>) {
         if self.has_bad(reporter) {
@@ -236,10 +244,7 @@ impl Door {
             self.untold = self.untold.saturating_add(1);
             return false;
         }
-        if self.untold > 0 {
-            reporter.tell_untold(self.named(), self.untold);
-            self.untold = 0;
-        }
+        self.tell_rest(reporter);
         reporter.tell_here(self.named(), address);
         true
     }
