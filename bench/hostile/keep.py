@@ -304,6 +304,21 @@ def by_tables(cases, program, room):
     cases.expect("a device has none", done[0] == 0 and not pathlib.Path("/dev/null.tables").exists(), done)
 
 
+def onto_what_stands_beside(cases, program, room):
+    """A journal is not saved where the tables or the term of a kept one stand, nor is one kept where those of a saved one do."""
+    kept = room / "beside-day"
+    for save, keep in ((f"{kept}.tables", kept), (f"{kept}.term", kept), (kept, f"{kept}.tables"), (kept, f"{kept}.term")):
+        pathlib.Path(keep).write_text(text(DAY_JOURNAL))
+        done = came(ran(program, ["run", "--save", str(save), "--keep", str(keep)], b""))
+        told = "acdm: save failed\n" + cause(f"--save {save}", TAKEN)
+        if keep == f"{save}.tables":
+            # (it is read as the tables of what is to be saved)
+            told = f"acdm: {keep}: line 1: not TOML\n"
+        cases.expect(f"{pathlib.Path(save).name} beside {pathlib.Path(keep).name} is refused", done == (2, "", told), done)
+        cases.expect("and the journal stays as it is", pathlib.Path(keep).read_text() == text(DAY_JOURNAL) and not pathlib.Path(save).exists(), save)
+        pathlib.Path(keep).unlink()
+
+
 def onto_streams(cases, program, room):
     """A journal is neither saved nor kept in a file that is also a standard stream, by whatever name; nothing is answered, and it stays."""
     file, hard, soft = room / "stream", room / "hard", room / "soft"
@@ -357,7 +372,7 @@ def main():
     cases = Cases()
     with tempfile.TemporaryDirectory(prefix="acdm-keep-") as folder:
         room = pathlib.Path(folder)
-        for part in (gone_on, faulty, of_another, in_use, saved, by_tables, onto_streams, full_output, full_disk):
+        for part in (gone_on, faulty, of_another, in_use, saved, by_tables, onto_what_stands_beside, onto_streams, full_output, full_disk):
             part(cases, given.program, room)
         kills(cases, given.program, room, given.kills, given.seed)
     return cases.end()

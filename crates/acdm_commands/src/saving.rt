@@ -7,7 +7,7 @@ ghost use Rattle.acdm_commands.specs.Partners.{SavesSo};
 ghost use Rattle.acdm_commands.specs.Served.{FailsToSave, IsSaved};
 ghost use Rattle.acdm_journal.specs.Whole.{Saves};
 
-use crate::beside::note_tables;
+use crate::beside::{is_beside, note_tables};
 use crate::cause::Noting;
 use crate::context::Context;
 use crate::request::JournalFiles;
@@ -74,11 +74,21 @@ fn is_kept<Rt: Files<File = File>>(rt: &Rt, path: &str) -> bool {
     matches!(file.try_lock(), Err(TryLockError::WouldBlock))
 }
 
-// Whether a path is that of a standard stream, or of what else the words name.
+// Whether one of two journals would be what stands beside the other, of which one is kept, if there is such a one.
+fn is_beside_other(path: &str, kept: Option<&str>) -> bool {
+    match kept {
+        Some(kept) => is_beside(path, Some(kept)) || is_beside(kept, Some(path)),
+        None => false,
+    }
+}
+
+// Whether a path is that of a standard stream, or of what else the words name, or of what stands beside that.
 fn is_taken<Rt: Files<File = File>>(rt: &Rt, path: &str, files: JournalFiles<'_>) -> bool {
-    is_standard(rt, path)
-        || is_one(rt, path, files.kept_path())
-        || is_one(rt, path, files.tables.path)
+    let kept = files.kept_path();
+    if is_standard(rt, path) || is_beside_other(path, kept) {
+        return true;
+    }
+    is_one(rt, path, kept) || is_one(rt, path, files.tables.path)
 }
 
 // Makes the file to be written, where its path is that of something that a journal may take the place of.
