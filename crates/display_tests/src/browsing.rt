@@ -8,6 +8,7 @@ use bpf_helpers::{Bank, Helpers};
 use httpdate::HttpDate;
 use std::alloc::Global;
 use std::fmt::Write;
+use std::io::Read;
 use std::process::Abort;
 use std::sync::atomic::AtomicBool;
 
@@ -197,10 +198,24 @@ fn a_browser_is_heard(rt: HostRuntime) {
     let alloc = rt.alloc();
     assert!(rt; heard(alloc, b"GET / HTTP/1.1\r\n\r\n") == Some(got(Wanted::Page)));
     assert!(rt; heard(alloc, b"GET / HTTP/1.1\r\n").is_none());
-    let mut late: &[u8] = b"GET / HTTP/1.1\r\n\r\n";
-    let mut reader = Source::new(&mut late);
-    assert!(rt; first_wanted(alloc, &mut reader, None, &Over).is_none());
     assert!(rt; heard(alloc, &[b'x'; 9_000]).is_none());
+}
+
+// What is heard where the end of a request comes by a second read, of a time that is over or never is.
+fn heard_in_two<L: TimeLimit>(alloc: Global, limit: &L) -> Option<BrowserRequest> {
+    let (first, second): (&[u8], &[u8]) = (b"GET / HTTP/1.1\r\n", b"\r\n");
+    let mut reader = Source::new(first.chain(second));
+    first_wanted(alloc, &mut reader, None, limit)
+}
+
+#[test]
+fn what_has_come_is_heard_once_the_time_is_over(rt: HostRuntime) {
+    let alloc = rt.alloc();
+    let mut whole: &[u8] = b"GET / HTTP/1.1\r\n\r\n";
+    let mut reader = Source::new(&mut whole);
+    assert!(rt; first_wanted(alloc, &mut reader, None, &Over) == Some(got(Wanted::Page)));
+    assert!(rt; heard_in_two(alloc, &Never) == Some(got(Wanted::Page)));
+    assert!(rt; heard_in_two(alloc, &Over).is_none());
 }
 
 // A date that RFC 9110 (section 5.6.7) writes out, in seconds since 1970-01-01T00:00:00Z.
