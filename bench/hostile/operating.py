@@ -158,7 +158,8 @@ def bounded(cases, program, room):
     # (a line more in each two seconds is told)
     time.sleep(2.5)
     board.connect(1).asks(TICK)
-    board.waits_for(lambda: "untold" in [it["event"] for it in events(log)])
+    counted_now = board.waits_for(lambda: "untold" in [it["event"] for it in events(log)])
+    cases.expect("those who were not told are counted once somebody is told again", counted_now, events(log)[-3:])
     # (and of these a few while the board serves, and the others as it ends)
     for turn in range(60, 80):
         manager.asks(json.dumps({"cmd": "none", "turn": turn}))
@@ -171,6 +172,8 @@ def bounded(cases, program, room):
     cases.expect("of who comes 30 in a minute are logged", 30 <= len(here) <= 34, len(here))
     cases.expect("and the others counted", len(here) + sum(it["connections"] for it in untold) == 46, (len(here), untold))
     cases.expect("by their session", all((it["session"], it["role"]) == (1, "APT") for it in untold), untold)
+    told = [it["event"] for it in found if it.get("session") == 1]
+    cases.expect("and before the one that is told next", "here" in told[told.index("untold") :] if untold else False, told[-4:])
     owed = [f".. {it['connections']} connections of 1 not told" for it in untold]
     cases.expect("as on standard error", [it for it in board.said if it.startswith("..")] == owed, (board.said[-5:], owed))
     bad = [it for it in found if it["event"] == "bad"]
