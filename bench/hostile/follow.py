@@ -455,11 +455,11 @@ def ends_following(cases, program, room):
 
 def closed_at_once(cases, program, room):
     """A board is promoted and closed before it has seen either: it closes, and never serves."""
-    kept = room / "at once"
+    kept, log = room / "at once", room / "at-once.log"
     kept.write_text(text(JOURNAL))
     # (it waits here for a term, which does not come)
     with socket.create_server(("127.0.0.1", 0)) as listener:
-        second = Second(program, listener.getsockname()[1], kept)
+        second = Second(program, listener.getsockname()[1], kept, "--log", str(log))
         with socket.create_connection(("127.0.0.1", second.port), timeout=20) as control:
             control.sendall(b"promote\nclose\n")
             answer = b""
@@ -469,6 +469,10 @@ def closed_at_once(cases, program, room):
     cases.expect("promoted and closed at once, both are answered", answer == b"promoting\nclosing\n", answer)
     cases.expect("and it closes, without a word", (status, lines) == (0, []), (status, lines))
     cases.expect("in the term that it had", not kept.with_name("at once.term").exists())
+    cases.expect("nor does it say that it was promoted", not any(it.startswith("promoted ") for it in second.said), second.said)
+    last = json.loads(log.read_text().splitlines()[-1])
+    told = {name: last.get(name) for name in ("event", "by", "entries")}
+    cases.expect("its log says what closed it", told == {"event": "close", "by": "control", "entries": len(JOURNAL)}, last)
 
 
 def followed_on(cases, program, room):
