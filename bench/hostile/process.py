@@ -408,6 +408,17 @@ def own_tables(cases, program, room):
     cases.expect("explain --tables", explained == came(ran(program, ["explain", room.code])), explained)
 
 
+def sums(cases, program):
+    """The third helper answers the sum of a moment and of minutes, also of more than a day, up to 10,000 (docs/FORMATS.md, "Helpers")."""
+    for minutes in (0, 1, 1_440, 1_441, 10_000):
+        # (it asks for the moment and so many minutes, and the low 16 bits of the answer are local alerts)
+        code = f"bf31000000000000b7020000{minutes.to_bytes(4, 'little').hex()}85000000030000009500000000000000"
+        day = [it.replace(TAXI, code) for it in DAY]
+        alerts = ",".join(f"LOC{bit:02}" for bit in range(16) if 29_000_580 + minutes >> bit & 1)
+        done = came(ran(program, ["run"], text(day).encode()))
+        cases.expect(f"a sum of {minutes} minutes", done == (0, text([*DAY_REPLIES[:4], f"alerts 4 7:{alerts}"]), ""), done)
+
+
 def wrong_tables(cases, program, room):
     """A file of tables that is wrong is told by its line or its key, before anything else is done."""
     tables, kept = room.folder / "tables.toml", room.folder / "kept"
@@ -737,6 +748,7 @@ def main():
         gone_while_serving(cases, program, room)
         without_end(cases, program, room)
         own_tables(cases, program, room)
+        sums(cases, program)
         wrong_tables(cases, program, room)
         most_tables(cases, program, room)
         settings(cases, program, room)
