@@ -20,6 +20,7 @@ import pwd
 import re
 import shlex
 import shutil
+import signal
 import socket
 import subprocess
 import sys
@@ -246,13 +247,17 @@ def present(cases, program, room):
 
 def filled_at_end(cases, program, room):
     """A room that is filled by the last lines before the end: both levels are told all the same, before the close."""
-    # (where nobody looks again between these lines and the end, which comes often, and not always)
+    # (where nobody looks again between these lines and the end: they are all there once the board goes on, which was stopped)
     for turn in range(8):
         log = room / f"log{turn}"
         board = Board([program], ["--journal", "5", "--log", str(log)], ["APT"])
         partner = board.connect(1)
-        partner.send(f"{TICK}\n" * 5)
+        cases.expect(f"its first line is answered, {turn}", partner.asks(TICK) == "ok 0")
+        board.ran.send_signal(signal.SIGSTOP)
+        partner.send(f"{TICK}\n" * 4)
         partner.socket.shutdown(socket.SHUT_WR)
+        time.sleep(0.1)
+        board.ran.send_signal(signal.SIGCONT)
         cases.expect(f"it ends with its partner, {turn}", board.ended() == (0, ["session 1 5 end", "closed 5"]))
         told = [it.split(" ")[:2] for it in board.said]
         cases.expect(f"both levels are told, {turn}", told == [["room", "80"], ["room", "95"]], board.said)
