@@ -614,6 +614,7 @@ NO_NUMBER = "invalid value for '--second <N>': it is not a number from 1 to 8"
 NO_FILE = "'--second <N>' needs '--keep <FILE>'"
 NO_WATCH = "'--second <N>' needs '--watch <ADDR>'"
 NO_SECOND = "'--strict' needs '--second <N>'"
+NO_JOURNAL = "invalid value for '--journal <N>': it is not a number from 1 to 1000000"
 
 
 def refused(cases, boards):
@@ -641,6 +642,7 @@ def refused(cases, boards):
         ([*follow, "--second", "1"], "--keep"),
         (["serve", *keep, "--second"], "--second"),
         (["serve", *keep, "--strict=yes", "--second", "1"], "--strict"),
+        (["serve", *keep, "--watch", "127.0.0.1:0", "--second", "1", "--strict", "--journal", "0"], NO_JOURNAL),
     ):
         done = ran(program, [*given, partner])
         name = " ".join(given).replace(str(file), "FILE")
