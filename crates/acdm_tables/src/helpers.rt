@@ -1,9 +1,9 @@
 //! The helpers that programs may call (this project's profile).
 
-ghost use Rattle.std.specs.Prelude.{◌≡◌, IfOk, IsTrue};
+ghost use Rattle.std.specs.Prelude.{◌≡◌, ◌+◌, IfOk, IsTrue, slice_index};
 ghost use Rattle.bpf_helpers.specs.Promise.{is_call, is_promised};
 ghost use Rattle.bpf_helpers.specs.Known.{sum};
-ghost use Rattle.acdm_tables.specs.Helpers.{helpers_by, taxi_by, turn_round_by};
+ghost use Rattle.acdm_tables.specs.Helpers.{helpers_by, taxi_by, taxi_minutes, turn_round_by, turn_round_minutes};
 
 use crate::tables::{GREATEST, Tables};
 use bpf_helpers::{Helpers, NoMemory, Range, Signature, Sigs};
@@ -31,7 +31,8 @@ fn sum_signature(alloc: Global) -> Result<Signature, AllocError>
 /// The least turn-round time of an aircraft type, in minutes.
 fn turn_round_answer(tables: &Tables, arguments: [u64; 5]) -> u64
     requires { IsTrue (is_call (turn_round_by tables.now) arguments) }
-    ensures { IsTrue (is_promised (turn_round_by tables.now) arguments result) }
+    ensures promised { IsTrue (is_promised (turn_round_by tables.now) arguments result) }
+    ensures value { result ≡ turn_round_minutes tables.now (slice_index arguments 0) }
 {
     tables.turn_round_minutes(arguments[0])
 }
@@ -39,7 +40,8 @@ fn turn_round_answer(tables: &Tables, arguments: [u64; 5]) -> u64
 /// The taxi time from a stand, in minutes.
 fn taxi_answer(tables: &Tables, arguments: [u64; 5]) -> u64
     requires { IsTrue (is_call (taxi_by tables.now) arguments) }
-    ensures { IsTrue (is_promised (taxi_by tables.now) arguments result) }
+    ensures promised { IsTrue (is_promised (taxi_by tables.now) arguments result) }
+    ensures value { result ≡ taxi_minutes tables.now (slice_index arguments 0) }
 {
     tables.taxi_minutes(arguments[0])
 }
@@ -47,7 +49,8 @@ fn taxi_answer(tables: &Tables, arguments: [u64; 5]) -> u64
 /// A moment some minutes later.
 fn minutes_later(arguments: [u64; 5]) -> u64
     requires { IsTrue (is_call sum arguments) }
-    ensures { IsTrue (is_promised sum arguments result) }
+    ensures promised { IsTrue (is_promised sum arguments result) }
+    ensures value { result ≡ slice_index arguments 0 + slice_index arguments 1 }
 {
     arguments[0] + arguments[1]
 }
@@ -78,6 +81,7 @@ impl KnownHelpers {
 }
 
 impl Helpers for KnownHelpers {
+    ghost use Rattle.acdm_tables.specs.Helpers.{taxi_minutes, turn_round_minutes};
     ghost use Rattle.acdm_tables.specs.Helpers.{helpers_by};
 
     ghost entries = { λ known. helpers_by known };
