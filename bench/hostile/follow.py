@@ -524,8 +524,11 @@ def silent(cases, program, room):
     server = Server([from_line(JOURNAL)], port=server.port)
     again = second.waits_for(lambda: [it.split(" ")[0] for it in second.said] == ["following", "parted", "following"])
     cases.expect("silence: and that it follows is said again", again, second.said)
-    second.close()
     server.close()
+    cases.expect("silence: and again that nobody is there", second.waits_for(lambda: len(second.said) == 4, 25), second.said)
+    nobody = [it.rsplit(" ", 1)[0] for it in second.said[1::2]]
+    cases.expect("silence: for the same reason", len(nobody) == 2 and nobody[0] == nobody[1] and nobody[0].startswith("parted "), nobody)
+    second.close()
 
 
 def taken(cases, program, room):
