@@ -696,6 +696,9 @@ def causes_of_addresses(cases, program, room):
             ([good, f"GH={used}"], "acdm: address 2\n", f"GH={used}", errno.EADDRINUSE),
             ([f"APT={away}"], "acdm: address 1\n", f"APT={away}", errno.EADDRNOTAVAIL),
             ([*many, "GH=127.0.0.1:0"], "acdm: address 65\n", "GH=127.0.0.1:0", too_many),
+            # (of several too many the first one is named)
+            ([*many, "GH=127.0.0.1:0", "NM=127.0.0.1:0"], "acdm: address 65\n", "GH=127.0.0.1:0", too_many),
+            (["--tick", "60", *many[1:], "GH=127.0.0.1:0", "NM=127.0.0.1:0"], "acdm: address 64\n", "GH=127.0.0.1:0", too_many),
             (["--control", str(port), good], CONTROL, f"--control {port}", errno.EADDRINUSE),
         ):
             told_cause(cases, program, ["serve", *words_], first + cause(word, reason))
