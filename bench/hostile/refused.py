@@ -3,11 +3,11 @@
 
     python3 bench/hostile/refused.py [--program PATH] [--stride N] [WHAT ..]
 
-WHAT is `run`, `again`, `starved`, `files`, `serve`, `threads` or `counted`, all by default. `run`: a stream of all commands with programs loaded; the replies and
+WHAT is `run`, `again`, `starved`, `files`, `serve`, `threads`, `controlled` or `counted`, all by default. `run`: a stream of all commands with programs loaded; the replies and
 the saved journal are those of a stream that never had the lines answered `bad 501`, by the model in bench/model. `again`: a line
 answered so is sent again, and then all is as without a refusal. `starved`: each request from one on is refused. `files`: `audit`, `verify`
 and `explain`. `serve`: two partners and a display. `threads`: three partners and a display, and in turn each
-thread can't be started. `counted`: how often memory is asked for is counted, where nothing is refused: a journal of many
+thread can't be started. `controlled`: the same of two partners beside a control address. `counted`: how often memory is asked for is counted, where nothing is refused: a journal of many
 entries is saved with as many requests as one of one entry. `--stride` takes every N-th request for memory alone. What refuses is refuse.c, preloaded, so threads and the C
 library are refused memory too. The last line is `N cases, M failed`; status 1 where one failed.
 """
@@ -183,7 +183,7 @@ class Scenes:
 
     def each(self, one):
         """Calls with each number until nothing is refused; how many were."""
-        number, stride = 1, 1 if one.__name__ == "threads" else self.stride
+        number, stride = 1, 1 if one.__name__ in ("threads", "controlled") else self.stride
         while one(number):
             number += stride
         self.count += number - 1
@@ -428,6 +428,53 @@ class Scenes:
         self.cases.expect(f"{name}, the display", seen == ("" if lost == 3 else saved), seen)
 
 
+    def controlled(self, number):
+        """Two partners and a control address. The first thread tells the operator, the second one accepts partners and answers there, and
+        two are those of the sessions: at the address of one that has none, who connects is closed, and the others are served."""
+        ports = [free_port() for _ in range(3)]
+        words = ["serve", "--control", ports[2], *(f"{role}=127.0.0.1:{port}" for role, port in zip(ROLES, ports[:2]))]
+        with self.refusing.started(words, number, "REFUSE_THREAD", stdin=subprocess.DEVNULL) as process:
+            if number <= 2:
+                errors = process.communicate(timeout=PATIENCE)[1].decode()
+                self.cases.expect(f"thread {number}: nobody is served", (process.returncode, errors) == (2, NO_MEMORY), errors)
+                return process.was_refused()
+            for _ in ROLES[:2]:
+                process.stdout.readline()
+            lost, ends = number - 3, []
+            with contextlib.ExitStack() as opened:
+                for place, port in enumerate(ports[:2]):
+                    if place == lost:
+                        closed = is_turned_away(port) and is_turned_away(port)
+                        self.cases.expect(f"thread {number}: who connects is closed", closed)
+                        ends.append(f"session {place + 1} 0 start")
+                        continue
+                    stream = opened.enter_context(connected(process, port))
+                    heard = opened.enter_context(stream.makefile("rb"))
+                    answer = asked(ROLES[place], stream, heard, ALERTS)
+                    self.cases.expect(f"thread {number}: the others are served", answer[1] and answer[0][0][1].startswith("alerts "), answer)
+                    ends.append(f"session {place + 1} 1 end")
+                control = opened.enter_context(connected(process, ports[2]))
+                control.sendall(b"close\n")
+                output, errors = process.communicate(timeout=PATIENCE)
+            came = process.returncode, output.decode().splitlines(), errors.decode()
+            wanted = [*ends, f"closed {sum(it.endswith(' end') for it in ends)}"]
+            self.cases.expect(f"thread {number}: it closes", came == (0, wanted, ""), came)
+            return process.was_refused()
+
+
+def is_turned_away(port):
+    """Whether who connects and sends a line is closed, or refused, and sent nothing."""
+    try:
+        with socket.create_connection(("127.0.0.1", port), timeout=SILENCE) as stream:
+            stream.sendall(f"{ALERTS}\n".encode())
+            stream.settimeout(SILENCE)
+            return stream.recv(1) == b""
+    except (ConnectionRefusedError, ConnectionResetError, BrokenPipeError):
+        return True
+    except TimeoutError:
+        return False
+
+
 def at_one_minute(entries):
     """The lines of a journal without their minutes."""
     return [[*line.split(" ")[:2], *line.split(" ")[3:]] for line in entries.splitlines()]
@@ -493,7 +540,7 @@ def main():
     with tempfile.TemporaryDirectory(prefix="acdm-") as folder:
         scenes = Scenes(cases, Refusing(given.program.resolve(), folder), folder, given.stride)
         scenes.give_files()
-        for what in given.what or ("run", "again", "starved", "files", "serve", "threads", "counted"):
+        for what in given.what or ("run", "again", "starved", "files", "serve", "threads", "controlled", "counted"):
             scenes.each(getattr(scenes, what))
     return cases.end()
 
