@@ -51,8 +51,8 @@ def free_port():
 class Board:
     """A board with a page and five partners."""
 
-    def __init__(self, program, web):
-        words = [program, "serve", "--web", f"127.0.0.1:{web}", *(f"{role}=127.0.0.1:0" for role in ROLES)]
+    def __init__(self, program, web, room=100_000):
+        words = [program, "serve", "--web", f"127.0.0.1:{web}", "--journal", str(room), *(f"{role}=127.0.0.1:0" for role in ROLES)]
         self.server = subprocess.Popen(words, stdin=subprocess.DEVNULL, stdout=subprocess.PIPE, stderr=subprocess.DEVNULL, text=True)
         self.partners = {}
         for _ in ROLES:

@@ -346,9 +346,9 @@ def frames(board, port):
     yield "and none is a jerk", tasks[-1] < LONGEST_TASK * share
 
 
-def filled(program, port, count, first=200):
-    """A board in the place of another, with a journal of its own that has so many entries."""
-    board = Board(program, port)
+def filled(program, port, count, first=200, room=100_000):
+    """A board in the place of another, with a journal of its own that has so many entries, and room for these."""
+    board = Board(program, port, room)
     if count:
         board.ask("AO", '{"cmd":"alerts"}')
     for number in range(count - 1):
@@ -391,6 +391,11 @@ def other_journals(board, page, asked, port):
     board[0].ask("APT", board[0].schedule(400, "NEW400", 60))
     yield "and then its first", page.wait(lambda: first("NEW400") and page.driver.execute_script("return journal.length") == 32)
     yield "which is not another journal", page.text("anew") == ""
+    board[0].end()
+    board[0] = filled(asked.program, port, 7, 500, 10)
+    yield "of ten entries seven are not many", page.wait(lambda: page.text("sums").startswith("7 of 10 entries, "))
+    board[0].ask("APT", board[0].schedule(520, "NEW520", 60))
+    yield "and of eight it warns, which are 80 per cent", page.wait(lambda: page.text("sums").startswith("8 of 10 entries (nearly full), "))
 
 
 class Trace:
