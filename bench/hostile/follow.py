@@ -341,6 +341,7 @@ def others(cases, program, room):
         ("another last entry", from_line(other), "another journal is sent there: entry 1 is another one"),
         ("a board that is behind", head(JOURNAL, 1), "there are only 1 entries"),
         ("a board that is ahead", head(JOURNAL, 4) + text(JOURNAL[4:]), "entries before 4 are not sent"),
+        ("a board that is far ahead", head(JOURNAL, 10) + "10 1 29000580 APT 0 0 alerts\n", "entries before 10 are not sent"),
         ("a line that is not legal", head(JOURNAL, 2) + text(faulty[2:]), r"entry 2: .+"),
         ("an entry of another number", head(JOURNAL, 2) + text(JOURNAL[3:]), r"entry 2: .+"),
         ("bytes that are no text", head(JOURNAL, 2).encode() + b"\xff\xfe\n", r"entry 2: .+"),

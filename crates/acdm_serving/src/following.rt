@@ -131,8 +131,9 @@ fn comparison_of(line: &[u8], own: &[u8]) -> Compared {
     if line == own {
         return Compared::Same;
     }
+    // (with the space behind it: the number of a later entry may begin with it)
     let number = match own.iter().position(|byte| *byte == b' ') {
-        Some(end) => own.get(..end),
+        Some(end) => own.get(..end.saturating_add(1)),
         None => None,
     };
     match number {
