@@ -81,7 +81,6 @@ impl KnownHelpers {
 }
 
 impl Helpers for KnownHelpers {
-    ghost use Rattle.acdm_tables.specs.Helpers.{taxi_minutes, turn_round_minutes};
     ghost use Rattle.acdm_tables.specs.Helpers.{helpers_by};
 
     ghost entries = { λ known. helpers_by known };
