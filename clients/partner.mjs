@@ -1,15 +1,16 @@
 #!/usr/bin/env node
 // A partner of `acdm serve`: sends objects, and prints the reply to each.
 //
-//     clients/partner.mjs ADDRESS [--feed ADDRESS] [--patience SECONDS] < objects
+//     clients/partner.mjs ADDRESS[,ADDRESS..] [--feed ADDRESS[,ADDRESS..]] [--patience SECONDS] < objects
 //
-// ADDRESS is the partner's own, as 127.0.0.1:4002; standard input has one JSON object a line (docs/CONNECT.md). Each
-// line waits for the reply to the one before. After a break it connects again. Was a line sent and not replied, it may
-// have been entered. With --feed, the address of `serve --changes`, it is looked for there, and sent again only where
+// ADDRESS is the partner's own, as 127.0.0.1:4002, and behind commas those of boards that may take over (`acdm follow`),
+// which are tried in turn; standard input has one JSON object a line (docs/CONNECT.md). Each line waits for the reply to
+// the one before. After a break it connects again. Was a line sent and not replied, it may have been entered. With
+// --feed, the address of `serve --changes`, and those of the others, it is looked for there, and sent again only where
 // it made no entry; else its reply is that of the feed. Without --feed, or where the board has another journal by then,
-// the program stops, and names the line. A question and a tick are sent again in any case. A line is sent as it stands, and a flight's number is read as its digits: one
-// above 2^53 would lose some as a number of JavaScript's. Status 0 where each line was accepted, 1 where one was not, 2
-// where it had to stop. Needs no library. Outside what is proved.
+// the program stops, and names the line. A question and a tick are sent again in any case. A line is sent as it stands,
+// and a flight's number is read as its digits: one above 2^53 would lose some as a number of JavaScript's. Status 0
+// where each line was accepted, 1 where one was not, 2 where it had to stop. Needs no library. Outside what is proved.
 import net from "node:net";
 import { setTimeout as pause } from "node:timers/promises";
 
@@ -91,11 +92,15 @@ function open({ host, port }, seconds = 0) {
   });
 }
 
-// A connection to a partner's address, which is made again after a break.
+// A connection to a partner's address, which is made again after a break: to the first of several that is there.
 class Connection {
-  constructor(where, patience) {
+  constructor(places, patience) {
     // (whether it is not known yet which journal the lines of this connection go to)
-    Object.assign(this, { where, patience, link: null, until: null, isNew: true });
+    Object.assign(this, { places, place: 0, patience, link: null, until: null, isNew: true });
+  }
+
+  get where() {
+    return this.places[this.place];
   }
 
   // Waits before another trial, while there is patience: it counts from the first fault of a line on.
@@ -112,7 +117,9 @@ class Connection {
         this.link = await open(this.where);
         this.isNew = true;
       } catch (error) {
-        await this.wait(wait, `${named(this.where)}: ${error.message}`);
+        const why = `${named(this.where)}: ${error.message}`;
+        this.place = (this.place + 1) % this.places.length;
+        await this.wait(wait, why);
       }
     }
   }
@@ -150,9 +157,14 @@ class Connection {
 // go to. Of it, `known` is the last entry that was replied here, with its command, and `first` the first one that may
 // have the next line. `line` is the line in hand with its number, `isUncertain` whether it may have been entered.
 class Partner {
-  constructor(where, feed, patience) {
-    Object.assign(this, { connection: new Connection(where, patience), feed, known: null, first: null, line: null });
+  constructor(places, feeds, patience) {
+    Object.assign(this, { connection: new Connection(places, patience), feeds, known: null, first: null, line: null });
     Object.assign(this, { journal: "", isUncertain: false });
+  }
+
+  // The feed of the board that is connected to.
+  get feed() {
+    return this.feeds[this.connection.place] ?? null;
   }
 
   // The reply to a line, which is entered once, and how it came.
@@ -363,19 +375,25 @@ function parseAddress(text) {
   return { host: found[1] ?? found[2] ?? "127.0.0.1", port };
 }
 
+// Addresses with commas between them.
+const parseAddresses = (text) => (text ?? "").split(",").map(parseAddress);
+
 // The words of the command line.
 function given(words) {
-  const usage = "an ADDRESS is wanted, and then at most --feed ADDRESS and --patience SECONDS";
+  const usage = "an ADDRESS is wanted, or several, and then at most --feed ADDRESS and --patience SECONDS";
   const [address, ...rest] = words;
-  const options = { feed: null, patience: 60 };
+  const options = { feeds: [], patience: 60 };
   for (let place = 0; place < rest.length; place += 2) {
     const word = rest[place + 1];
-    if (rest[place] === "--feed") options.feed = parseAddress(word);
+    if (rest[place] === "--feed") options.feeds = parseAddresses(word);
     else if (rest[place] === "--patience" && Number(word) >= 0) options.patience = Number(word);
     else throw new Stop(`${rest[place]}: ${usage}`);
   }
   if (address === undefined || address.startsWith("-")) throw new Stop(usage);
-  return new Partner(parseAddress(address), options.feed, options.patience);
+  const places = parseAddresses(address);
+  if (options.feeds.length && options.feeds.length !== places.length)
+    throw new Stop("--feed has another number of addresses than the partner");
+  return new Partner(places, options.feeds, options.patience);
 }
 
 try {

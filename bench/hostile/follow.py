@@ -17,6 +17,7 @@ import os
 import pathlib
 import random
 import re
+import shutil
 import socket
 import subprocess
 import sys
@@ -28,7 +29,7 @@ from again import Board, Partner, free_port
 from cases import ALERTS, CHANGED, PLAN, SCHEDULE, Cases, cause, ran, text, words
 
 TICK = '{"cmd":"tick"}'
-CLIENT = pathlib.Path(__file__).resolve().parents[2] / "clients" / "partner.py"
+CLIENTS = pathlib.Path(__file__).resolve().parents[2] / "clients"
 MOMENT = r"\d{4}-\d\d-\d\dT\d\d:\d\d:\d\dZ"
 ROLES = ["APT", "NM"]
 # Five entries, as an audit takes them.
@@ -602,29 +603,38 @@ def schedules(count):
 
 def switched(cases, program, room):
     """A partner's client that knows both boards goes on at the second one: no line is lost, and none entered twice."""
-    kept, copy = room / "from", room / "to"
+    switched_by(cases, program, room, "partner.py", [sys.executable])
+    if shutil.which("node"):
+        switched_by(cases, program, room, "partner.mjs", ["node"])
+    else:
+        print("partner.mjs is left out: there is no node")
+
+
+def switched_by(cases, program, room, client, command):
+    """The same of one client."""
+    kept, copy = room / f"from {client}", room / f"to {client}"
     feeds, lines = [free_port(), free_port()], schedules(400)
     first = First(program, kept, "--changes", f"127.0.0.1:{feeds[0]}")
     second = Second(program, first.watch, copy, "--changes", f"127.0.0.1:{feeds[1]}", "--again")
     second.has(0)
     places = f"127.0.0.1:{first.ports[0]},127.0.0.1:{second.ports[0]}"
-    asked = [sys.executable, str(CLIENT), places, "--feed", f"127.0.0.1:{feeds[0]},127.0.0.1:{feeds[1]}"]
-    client = subprocess.Popen(asked, stdin=subprocess.PIPE, stdout=subprocess.PIPE, stderr=subprocess.PIPE, text=True)
-    client.stdin.write("".join(f"{it}\n" for it in lines[:120]))
-    client.stdin.flush()
-    replies = [client.stdout.readline() for _ in range(120)]
-    cases.expect("the second board has what was replied", second.has(120), second.entries())
+    asked = [*command, str(CLIENTS / client), places, "--feed", f"127.0.0.1:{feeds[0]},127.0.0.1:{feeds[1]}"]
+    process = subprocess.Popen(asked, stdin=subprocess.PIPE, stdout=subprocess.PIPE, stderr=subprocess.PIPE, text=True)
+    process.stdin.write("".join(f"{it}\n" for it in lines[:120]))
+    process.stdin.flush()
+    replies = [process.stdout.readline() for _ in range(120)]
+    cases.expect(f"{client}: the second board has what was replied", second.has(120), second.entries())
     first.kill()
     second.says(rf"parted the connection has (ended|failed) {MOMENT}")
     second.promote()
-    client.stdin.write("".join(f"{it}\n" for it in lines[120:]))
-    client.stdin.close()
-    replies += client.stdout.readlines()
-    said, status = client.stderr.read(), client.wait()
-    cases.expect("a client goes on at the second board", (status, len(replies)) == (0, len(lines)), (status, len(replies), said[-500:]))
+    process.stdin.write("".join(f"{it}\n" for it in lines[120:]))
+    process.stdin.close()
+    replies += process.stdout.readlines()
+    said, status = process.stderr.read(), process.wait()
+    cases.expect(f"{client} goes on at the second board", (status, len(replies)) == (0, len(lines)), (status, len(replies), said[-500:]))
     second.close()
     flights = re.findall(r" schedule (\d+) ", copy.read_text())
-    cases.expect("each line is entered once", flights == [str(number) for number in range(1, len(lines) + 1)], len(flights))
+    cases.expect(f"{client}: each line is entered once", flights == [str(number) for number in range(1, len(lines) + 1)], len(flights))
 
 
 def saved(cases, program, room):

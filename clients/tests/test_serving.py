@@ -143,12 +143,22 @@ class Elsewhere(unittest.TestCase):
                     done = ran(name, f"127.0.0.1:{server.port}", given='{"cmd":"tick"}\n')
                 self.assertEqual((2, "", 1), (done.returncode, done.stdout, done.stderr.count("\n")), done.stderr)
                 self.assertIn(f"127.0.0.1:{server.port} answers ", done.stderr)
-            for words in ("", "nowhere", "127.0.0.1:1 --feed x", "127.0.0.1:1 --wrong"):
+            for words in (
+                "",
+                "nowhere",
+                "127.0.0.1:1 --feed x",
+                "127.0.0.1:1 --wrong",
+                "127.0.0.1:1,nowhere",
+                "127.0.0.1:1,127.0.0.1:2 --feed 127.0.0.1:3",
+            ):
                 done = ran(name, *words.split())
                 self.assertEqual((2, "", 1), (done.returncode, done.stdout, done.stderr.count("\n")), done.stderr)
             done = ran(name, "127.0.0.1:1", "--patience", "0.2", given='{"cmd":"tick"}\n')
             self.assertEqual((2, ""), (done.returncode, done.stdout))
             self.assertRegex(done.stderr, rf"^{re.escape(name)}: line 1 was not sent: 127\.0\.0\.1:1: .*\n$")
+            with Sending(b"ok 0\n", stays=True) as server:
+                done = ran(name, f"127.0.0.1:1,127.0.0.1:{server.port}", given='{"cmd":"tick"}\n')
+            self.assertEqual((0, "ok 0\n", ""), (done.returncode, done.stdout, done.stderr), "the second is tried too")
 
 
 @needs_program
