@@ -100,6 +100,10 @@ class Caller:
             self.hears(end - time.monotonic())
         return self.held == wanted
 
+    def is_cut(self):
+        """Whether the other side has thrown away what was sent last, since it has closed its socket."""
+        return self.stream.getsockopt(socket.SOL_SOCKET, socket.SO_ERROR) != 0
+
     def close(self):
         self.stream.close()
 

@@ -7,8 +7,9 @@ Nobody follows: the first reply waits, the others do not, until a board is back.
 the file of the board that follows, at the moment at which it was read. The first board is killed N times under them, and
 the other one goes on. With `--strict` none is sent without a board that follows, nor when it closes. Two boards, of which
 one is late; one that is stopped; one whose word is lost, or whose disk is full; one that is promoted too early; a chain of
-three. Clients that say what they do not keep, or are cut off while they are sent to, readers that say nothing, the board's
-own ticks, and words that are refused. The last line is `N cases, M failed`; status 1 where one failed.
+three. Clients that say what they do not keep, or are cut off while they are sent to, or speak once more as the board ends;
+readers that say nothing, the board's own ticks, and words that are refused. The last line is `N cases, M failed`; status 1
+where one failed.
 """
 
 import json
@@ -42,6 +43,8 @@ A_LOOK = 0.02
 SHORT, LONG = 2, 8
 # So many boards may follow at once.
 MOST_FOLLOWERS = 8
+# How often it is tried to be in time.
+TRIALS = 3
 # All of it ends after so many seconds, and so many more for each kill, whatever hangs.
 LIMIT, LIMIT_A_KILL = 900, 30
 # So many entries have room; after so many kills files begin anew.
@@ -318,6 +321,33 @@ def closes_loaded(cases, boards):
     count = first.kept.read_bytes().count(b"\n")
     cases.expect("nothing else is in its own", lines[-1:] == [f"closed {count}"], (lines[-1:], count))
     cases.expect("who follows has all of it", second.has(count) and second.kept.read_bytes() == first.kept.read_bytes(), second.entries())
+
+
+def parted(cases, boards):
+    """A board that follows is waited for a second as the first one ends: what it says then does not cut it off."""
+    # (on a busy machine it may hear too late that no more comes, so it may try more than once)
+    waited_for = any(is_waited_for(cases, boards, f"first-{number}") for number in range(TRIALS))
+    cases.expect("who follows is still there after 0.6 seconds", waited_for)
+
+
+def is_waited_for(cases, boards, name):
+    """Whether a client that follows such a board is not cut off by what it says soon after the end of what it is sent."""
+    first = boards.first(name, "--second", "1")
+    airport, client = first.caller(1), Caller(first.watch)
+    client.send("from 0 as 5\n")
+    airport.send(f"{TICK}\n")
+    cases.expect("it is sent the entry", '"next":0,' in (client.line() or "") and client.line() is not None, client.held)
+    client.send("kept 1\n")
+    cases.expect("and the reply comes", airport.line() == "ok 0", first.said)
+    cases.expect("the board closes", first.ask("close") == "closing\n")
+    cases.expect("it is told that no more comes", client.rest() == b"", client.held)
+    time.sleep(0.6)
+    client.send("kept 1\n")
+    is_cut = client.is_cut()
+    client.close()
+    ended = first.ended(2 * MOST)
+    cases.expect("the first one ends", ended == (0, ["session 1 1 end", "session 2 0 end", "closed 1"]), ended)
+    return not is_cut
 
 
 def full(cases, boards):
@@ -716,8 +746,8 @@ def beside_readers(cases, boards, first, airport, callers):
 
 
 TRIES = (
-    *(alone, at_that_moment, switched, strictly, closes_soon, closes_answering, closes_loaded, full, promoted, two, stopped),
-    *(reset, ticking, unheard, junk, named, chain, refused, readers),
+    *(alone, at_that_moment, switched, strictly, closes_soon, closes_answering, closes_loaded, parted, full, promoted, two),
+    *(stopped, reset, ticking, unheard, junk, named, chain, refused, readers),
 )
 
 
