@@ -6,9 +6,9 @@
 A partner that comes back 100 times in the middle of lines while 63 others work; newer connections at one address;
 probes before the day and during it; an absent partner; partners that never read, which are let go after 30 seconds or
 when the board closes; `status` and `close`, at an address of either kind; lines whose ends come late; a bounded pace;
-SIGTERM and Ctrl-C through the script `acdm`; a journal that is nearly full, which is told; and, with none of these
-words, sessions whose connections are closed as they end. The last line is `N cases, M failed`; status 1 where one
-failed.
+SIGTERM and Ctrl-C through the script `acdm`, at an address of either kind too; a journal that is nearly full, which is
+told; and, with none of these words, sessions whose connections are closed as they end. The last line is `N cases, M
+failed`; status 1 where one failed.
 """
 
 import contextlib
@@ -29,6 +29,7 @@ from cases import ALERTS, PLAN, SCHEDULE, TOP, Cases, cause, ran, words
 PORTS = random.sample(range(20_000, 32_000), 12_000)
 SHOW = '{"cmd":"show","flight":7}'
 ROLES = ["NM", "ATC", "APT", "AO", "GH", "DIC"]
+HOSTS = ("127.0.0.2", "::1")
 MOMENT = r"\d{4}-\d\d-\d\dT\d\d:\d\d:\d\dZ"
 VERSION = (TOP / "VERSION").read_text(encoding="ascii").strip()
 # What runs the program by the script at the top, whether it was proved by that or by the gate.
@@ -463,17 +464,28 @@ def slow_end(cases, program):
     cases.expect("and its board ends too", board.ended() == (0, ["session 1 3 end", "closed 3"]))
 
 
+def is_here(host):
+    """Whether this machine has an address; else that is said."""
+    try:
+        socket.create_server((host, 0), family=socket.AF_INET6 if ":" in host else socket.AF_INET).close()
+        return True
+    except OSError:
+        print(f"left out: there is no address {host} here")
+        return False
+
+
+def named(host, port):
+    """An address as a command line has it."""
+    return f"[{host}]:{port}" if ":" in host else f"{host}:{port}"
+
+
 def controlled_at(cases, program):
     """A control address with an IP address of either kind is that one, and no other."""
-    for host in ("127.0.0.2", "::1"):
+    for host in HOSTS:
         port = free_port()
-        address = f"[{host}]:{port}" if ":" in host else f"{host}:{port}"
-        try:
-            socket.create_server((host, 0), family=socket.AF_INET6 if ":" in host else socket.AF_INET).close()
-        except OSError:
-            print(f"left out: there is no address {host} here")
+        if not is_here(host):
             continue
-        board = Board([program], ["--again", "--control", address], ["APT"])
+        board = Board([program], ["--again", "--control", named(host, port)], ["APT"])
         cases.expect(f"nobody answers elsewhere, {host}", is_refused("127.0.0.1", port))
         with socket.create_connection((host, port), timeout=20) as it:
             it.sendall(b"close\n")
@@ -481,15 +493,23 @@ def controlled_at(cases, program):
         cases.expect(f"and closes the board, {host}", board.ended() == (0, ["session 1 0 end", "closed 0"]))
 
 
-def by_script(cases, program, number):
-    """A signal to the script closes the board."""
+def by_script(cases, program, number, control="PORT"):
+    """A signal to the script closes the board, wherever its control address is."""
     command = [sys.executable, "-c", BY_SCRIPT, str(TOP / "acdm"), str(program)]
-    board = Board(command, ["--again", "--control", "PORT"], ["APT"])
+    board = Board(command, ["--again", "--control", control], ["APT"])
     airport = board.connect(1)
-    cases.expect("served through the script", airport.asks(SCHEDULE) == "ok 0")
+    cases.expect(f"served through the script, {control}", airport.asks(SCHEDULE) == "ok 0")
     board.ran.send_signal(number)
-    cases.expect(f"{number.name} closes", board.ended() == (0, ["session 1 1 end", "closed 1"]))
+    ended = board.ended()
+    cases.expect(f"{number.name} closes, {control}", ended == (0, ["session 1 1 end", "closed 1"]), ended)
     cases.expect("and the partner sees the end", airport.reads_end())
+
+
+def by_script_elsewhere(cases, program):
+    """The same where the control address has an IP address of either kind."""
+    for host in HOSTS:
+        if is_here(host):
+            by_script(cases, program, signal.SIGTERM, named(host, free_port()))
 
 
 def nearly_full(cases, program):
@@ -529,6 +549,7 @@ def main():
         controlled_at(cases, program)
         for number in (signal.SIGTERM, signal.SIGINT):
             by_script(cases, program, number)
+        by_script_elsewhere(cases, program)
         nearly_full(cases, program)
         for again in ([], ["--again"]):
             never_reads(cases, program, again)
