@@ -5,6 +5,7 @@ import shutil
 import socket
 import subprocess
 import tempfile
+import threading
 import time
 import unittest
 from pathlib import Path
@@ -159,6 +160,31 @@ class Elsewhere(unittest.TestCase):
             with Sending(b"ok 0\n", stays=True) as server:
                 done = ran(name, f"127.0.0.1:1,127.0.0.1:{server.port}", given='{"cmd":"tick"}\n')
             self.assertEqual((0, "ok 0\n", ""), (done.returncode, done.stdout, done.stderr), "the second is tried too")
+
+    def test_patience_counts_for_each_line(self) -> None:
+        """A break is tried anew, however long ago an earlier one was."""
+        for name in ["partner.py", "partner.mjs"] if shutil.which("node") else ["partner.py"]:
+            with self.subTest(client=name), socket.create_server(("127.0.0.1", 0)) as server:
+                threading.Thread(target=breaks_twice, args=(server, 2.5), daemon=True).start()
+                port = server.getsockname()[1]
+                done = ran(name, f"127.0.0.1:{port}", "--patience", "2", given='{"cmd":"tick"}\n' * 2)
+                self.assertEqual((0, ""), (done.returncode, done.stderr))
+                self.assertEqual(["ok 0 (sent again)", "ok 1 (sent again)"], done.stdout.splitlines())
+
+
+def breaks_twice(server: socket.socket, seconds: float) -> None:
+    """Breaks off behind each of two lines, and replies to each as it comes again: to the first one after so long."""
+    with server.accept()[0] as stream, stream.makefile("rb") as lines:
+        lines.readline()
+    with server.accept()[0] as stream, stream.makefile("rb") as lines:
+        lines.readline()
+        time.sleep(seconds)
+        stream.sendall(b"ok 0\n")
+        lines.readline()
+    with server.accept()[0] as stream, stream.makefile("rb") as lines:
+        lines.readline()
+        stream.sendall(b"ok 1\n")
+        lines.readline()
 
 
 @needs_program
