@@ -129,6 +129,16 @@ class Lines(unittest.TestCase):
         with self.assertRaisesRegex(bridge.Closed, f"journal {self.journal} ends before entry 10: it has 9"):
             self.first_of(self.lines, bridge.Place(self.journal, 11))
 
+    def test_a_feed_may_be_quiet(self) -> None:
+        """What is to come soon is the entry before the place alone."""
+        lines = self.lines[:6]
+        feed = FeedStub(lines)
+        self.addCleanup(feed.close)
+        with patch.object(bridge, "ANSWER", 2):
+            threading.Timer(4, lambda: lines.append(self.lines[6])).start()
+            found = next(bridge.feed_lines(bridge.parse_address(feed.address), bridge.Place(self.journal, 6)))
+        self.assertEqual([line["entry"] for line in found], [6])
+
     def test_another_journal_is_a_new_generation(self) -> None:
         """From entry 0 on, with one line; of a longer journal, of a shorter one, and where it has no entry yet."""
         for count in (12, 2):
