@@ -182,6 +182,9 @@ def after_a_reload(board, page):
     yield "each partner's last word", all(role in page.text("partners") for role in ROLES)
     yield "and refusals", "GH 5" in page.text("partners") and "1 refused" in page.text("partners")
     yield "the refusal in words", "the role does not own the command" in page.text("refused")
+    page.driver.execute_script("takePart([{ ...refused[0], entry: -1 }])")
+    entries = page.driver.execute_script("return refused.map((it) => it.entry)")
+    yield "an older one that is read back stands behind", len(entries) > 1 and entries == sorted(entries, reverse=True)
     page.driver.find_element(By.ID, "alerting-count").click()
     page.wait(lambda: "turn of" in page.text("alerts"))
     said = page.text("alerts")
@@ -196,6 +199,9 @@ def used(board, page):
     yield "departed ones are shown where asked for", page.wait(lambda: "DLH1001" in " ".join(order_of(page, 0))) and "OLD99" not in " ".join(order_of(page, 0))
     page.driver.execute_script("element('show').value='all';soon()")
     yield "and all", page.wait(lambda: "OLD99" in " ".join(order_of(page, 0)))
+    gone = "return [...flights.values()].filter((it) => hasDeparted(it) && it.alerts.length).length"
+    counted = f"Alerts of {page.driver.execute_script('return new Set(alertList().map((it) => it.flight.flight)).size')} flights"
+    yield "departed ones have alerts, and are not counted", page.driver.execute_script(gone) > 0 and page.text("alerting-count") == counted
     page.driver.execute_script("element('show').value='open';soon()")
     page.driver.execute_script("document.querySelectorAll('#heads button')[3].click()")
     stands = lambda: [int(it) for it in order_of(page, 3) if it != "–"]
