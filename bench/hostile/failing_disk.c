@@ -3,6 +3,7 @@
    - FAIL_READ: each read of the file of this path fails with EIO;
    - FAIL_OPEN: each opening of this path fails with ENOENT;
    - FAIL_FLOCK: each lock fails with ENOLCK, as on a file system that has none;
+   - PIECES: of writes to the file of this path each takes half of what it is handed, and a byte at least;
    - PUT: the file of this path takes the place of the one of the path OVER before the first lock is taken;
    - CALLS_TO: a descriptor, to which a line is written for each call: `write FILE` before it is made; `fdatasync FILE`,
      `fsync FILE`, `rename FILE FILE`, `fchmod FILE` and `flock FILE` after it, with ` failed` where it did. Standard
@@ -72,8 +73,17 @@ int rename(const char *from, const char *to) {
     return failed ? -1 : 0;
 }
 
+static int is_named(const char *word, int file) {
+    const char *named = getenv(word);
+    char path[PATH_MAX + 1];
+    if (!named) return 0;
+    name_file(file, path);
+    return strcmp(path, named) == 0;
+}
+
 ssize_t write(int file, const void *bytes, size_t count) {
     if (file != 2) record_file("write", file, 0);
+    if (count > 1 && is_named("PIECES", file)) count /= 2;
     return syscall(SYS_write, file, bytes, count);
 }
 

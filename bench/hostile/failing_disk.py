@@ -6,15 +6,16 @@
 Linux holds a page of a file whose writing failed as if it were on the disk, and later syncs succeed. So a board goes on
 from a kept journal in a new file. First part: each of the first syncs fails once, by failing_disk.c, preloaded; the
 board ends, and the calls of one that goes on have the order that a power cut can't harm, also those of a promotion and
-of `--save`. Reads fail, there are no locks, and another file takes the place of the journal before it is locked. Second
-part, where file systems may be mounted: `run --keep FILE --sync` on ext4 in an image that loses its room, until a sync
-fails and the board ends; there is room again, the board goes on by the same words, and then the power is cut (a copy of
-the image at that moment) or the file system is unmounted and mounted. FILE has the entry of every reply that was read.
-And files of one number on two disks are two. A part that is left out is told, and is no failure. The last line is
-`N cases, M failed`; status 1 where one failed.
+of `--save`. Reads fail, there are no locks, and another file takes the place of the journal before it is locked. Writes
+take a part, and the board goes on. Second part, where file systems may be mounted: `run
+--keep FILE --sync` on ext4 in an image that loses its room, until a sync fails and the board ends; there is room again,
+the board goes on by the same words, and then the power is cut (a copy of the image at that moment) or the file system
+is unmounted and mounted. FILE has the entry of every reply that was read. And files of one number on two disks are two.
+A part that is left out is told, and is no failure. The last line is `N cases, M failed`; status 1 where one failed.
 """
 
 import errno
+import json
 import os
 import pathlib
 import shutil
@@ -570,6 +571,26 @@ def served(cases: Cases, recorded: Recorded) -> None:
     cases.expect("serving, the board goes on", (replies, ended[0]) == (["ok 2\n"], 0), (replies, ended))
 
 
+def made_again(cases: Cases, recorded: Recorded, word: str) -> None:
+    """Writes of the journal that take a part are gone on with, and nothing is said."""
+    log, replies = recorded.room / "made_again.log", ["ok 0\n", "ok 1\n", "ok 2\n"]
+    recorded.renew()
+    log.write_bytes(b"")
+    serving = ["serve", "--keep", str(recorded.file), "--log", str(log), "APT=127.0.0.1:0"]
+    with recorded.begin(*serving, **{word: str(recorded.file)}) as board:
+        came = replied(board.read().rpartition(":")[2], 3)
+        ended = board.end()
+    seen = (came, *ended[::2])
+    cases.expect(f"{word}: each line is answered, and the board ends well", seen == (replies, 0, b""), (came, ended))
+    kept = [it[:2] + it[3:] for it in map(bytes.split, lines_of(recorded.file))]
+    wanted = [b"%d 1 APT 0 0 tick" % number for number in range(3)]
+    cases.expect(f"{word}: all is kept", [b" ".join(it) for it in kept] == wanted, kept)
+    told = [{**json.loads(it), "at": ""} for it in log.read_text(encoding="ascii").splitlines()]
+    closed = {"at": "", "event": "close", "by": "partners", "entries": 3}
+    is_all = [it["event"] for it in told] == ["here", "gone", "close"] and told[-1] == closed
+    cases.expect(f"{word}: the log says nothing else", is_all, told)
+
+
 def saved(cases: Cases, recorded: Recorded) -> None:
     """A saved journal is on the disk before it takes the place of an older one, and its tables are before that."""
     file = recorded.folder / "saved"
@@ -626,6 +647,8 @@ def failing_calls(cases: Cases, program: pathlib.Path, room: pathlib.Path) -> No
         saved,
     ):
         try_it(cases, recorded)
+    for word in ("PIECES",):
+        made_again(cases, recorded, word)
     for number, left in ((1, ["saved"]), (2, ["saved", "saved.tables"]), (3, ["saved", "saved.tables"])):
         failed_save(cases, recorded, number, left)
 
