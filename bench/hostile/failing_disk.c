@@ -4,6 +4,7 @@
    - FAIL_OPEN: each opening of this path fails with ENOENT;
    - FAIL_FLOCK: each lock fails with ENOLCK, as on a file system that has none;
    - PIECES: of writes to the file of this path each takes half of what it is handed, and a byte at least;
+   - SIGNALS: each other write to the file of this path, from the first on, fails with EINTR;
    - PUT: the file of this path takes the place of the one of the path OVER before the first lock is taken;
    - CALLS_TO: a descriptor, to which a line is written for each call: `write FILE` before it is made; `fdatasync FILE`,
      `fsync FILE`, `rename FILE FILE`, `fchmod FILE` and `flock FILE` after it, with ` failed` where it did. Standard
@@ -82,6 +83,11 @@ static int is_named(const char *word, int file) {
 }
 
 ssize_t write(int file, const void *bytes, size_t count) {
+    static int signals;
+    if (is_named("SIGNALS", file) && __atomic_add_fetch(&signals, 1, __ATOMIC_SEQ_CST) % 2 == 1) {
+        errno = EINTR;
+        return -1;
+    }
     if (file != 2) record_file("write", file, 0);
     if (count > 1 && is_named("PIECES", file)) count /= 2;
     return syscall(SYS_write, file, bytes, count);

@@ -7,7 +7,7 @@ Linux holds a page of a file whose writing failed as if it were on the disk, and
 from a kept journal in a new file. First part: each of the first syncs fails once, by failing_disk.c, preloaded; the
 board ends, and the calls of one that goes on have the order that a power cut can't harm, also those of a promotion and
 of `--save`. Reads fail, there are no locks, and another file takes the place of the journal before it is locked. Writes
-take a part, and the board goes on. Second part, where file systems may be mounted: `run
+take a part, or signals interrupt them, and the board goes on. Second part, where file systems may be mounted: `run
 --keep FILE --sync` on ext4 in an image that loses its room, until a sync fails and the board ends; there is room again,
 the board goes on by the same words, and then the power is cut (a copy of the image at that moment) or the file system
 is unmounted and mounted. FILE has the entry of every reply that was read. And files of one number on two disks are two.
@@ -572,7 +572,7 @@ def served(cases: Cases, recorded: Recorded) -> None:
 
 
 def made_again(cases: Cases, recorded: Recorded, word: str) -> None:
-    """Writes of the journal that take a part are gone on with, and nothing is said."""
+    """Writes of the journal that take a part, or that signals interrupt, are gone on with, and nothing is said."""
     log, replies = recorded.room / "made_again.log", ["ok 0\n", "ok 1\n", "ok 2\n"]
     recorded.renew()
     log.write_bytes(b"")
@@ -647,7 +647,7 @@ def failing_calls(cases: Cases, program: pathlib.Path, room: pathlib.Path) -> No
         saved,
     ):
         try_it(cases, recorded)
-    for word in ("PIECES",):
+    for word in ("PIECES", "SIGNALS"):
         made_again(cases, recorded, word)
     for number, left in ((1, ["saved"]), (2, ["saved", "saved.tables"]), (3, ["saved", "saved.tables"])):
         failed_save(cases, recorded, number, left)

@@ -5,7 +5,7 @@ ghost use Rattle.std.specs.Io.KnownBytes.{Keeps};
 use crate::disk::Disk;
 use crate::named::{Named, Paths, changed};
 use std::fs::File;
-use std::io::{self, Write};
+use std::io::{self, ErrorKind, Write};
 
 /// A file as a writer. Where it is synced, a flush returns once what was written stands on the disk. A flush
 /// fails where the path of the file does not lead to it any more, or where the file has another length than it
@@ -66,6 +66,8 @@ impl<Rt: Paths + Drop> Write for Synced<Rt> {
                 self.named.add(count);
                 Ok(count)
             }
+            // (it is made once more)
+            Err(error) if error.kind() == ErrorKind::Interrupted => Err(error),
             Err(error) => {
                 self.named.fail(&error);
                 Err(error)
