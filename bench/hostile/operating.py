@@ -502,6 +502,28 @@ def fails_again(cases, program, room):
     cases.expect("it is said each time, and once", sum(it.startswith("log failed ") for it in board.said) == 3, board.said)
 
 
+def fails_at_once(cases, program, room):
+    """Events that come at once while the log can't be written: each of them is counted as lost."""
+    folder, away = room / "at-once", room / "at-once-away"
+    folder.mkdir()
+    board = Board([program], ["--again", "--control", "PORT", "--log", str(folder / "log")], ["APT"] * 8)
+    folder.rename(away)
+    board.ran.send_signal(signal.SIGSTOP)
+    partners = [board.connect(it) for it in range(1, 9)]
+    for it in partners:
+        it.send(f"{TICK}\n")
+    board.ran.send_signal(signal.SIGCONT)
+    cases.expect("all are served beside a log that fails", sorted(it.hears() for it in partners) == [f"ok {it}" for it in range(8)])
+    told = board.waits_for(lambda: all(board.told(it, "here") for it in range(1, 9)) and any(it.startswith("log failed ") for it in board.said))
+    cases.expect("that it fails is said", told, board.said)
+    away.rename(folder)
+    counted_all = board.waits_for(lambda: sum(it.get("lines", 1) for it in events(folder / "log")) == 8)
+    cases.expect("each event that came at once is counted", counted_all, events(folder / "log"))
+    for it in partners:
+        it.close()
+    cases.expect("ends", board.close()[1] == 0)
+
+
 def bounded_file(cases, program, room):
     """A log that may grow no further in the middle of a line: what stands there is whole lines, and partners are served on."""
     log = room / "bounded-log"
@@ -570,7 +592,7 @@ def main():
     with tempfile.TemporaryDirectory() as room:
         for try_it in (
             each_event, bounded, counted_at_end, one_by_one, present, filled_at_end, filled_before, unreached, follower, plain, kept,
-            limited, moved, rotated, full_disk, fails_again, bounded_file, refused,
+            limited, moved, rotated, full_disk, fails_again, fails_at_once, bounded_file, refused,
         ):  # fmt: skip
             own = pathlib.Path(room) / try_it.__name__
             own.mkdir()
