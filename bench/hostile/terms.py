@@ -295,6 +295,8 @@ def unwritten(cases, program, room):
     cases.expect("then it follows", board.has(len(JOURNAL)) and term_of(kept) == told_by(board) == 7, board.said)
     board.close()
     server.close()
+    left = sorted(it.name for it in room.glob(f"{file_of(kept).name}?*"))
+    cases.expect("no attempt has left a file beside", not left, left)
 
 
 def asks_on(cases, program, room):
