@@ -123,8 +123,12 @@ def takes_over(cases, program, room):
     )
     cases.expect("with its own file it begins", began.stdout.readline().startswith("listen 1 APT "))
     cases.expect("in the term that it has", asked(watch) == f"term {later}\n", asked(watch))
+    late = threading.Timer(20, began.kill)
+    late.start()
+    said = began.stderr.readline()
+    late.cancel()
     began.kill()
-    said = began.communicate()[1]
+    began.communicate()
     cases.expect("and says that its peer was not reached", re.match(rf"unreached {peer}: .*refused.* {MOMENT}\n", said), said)
 
 
