@@ -367,6 +367,19 @@ def others(cases, program, room):
     server.close()
 
 
+def ahead_of_faulty(cases, program, room):
+    """A legal line that comes at once with one that is not: it is entered, and in the file, though nothing more is followed."""
+    begun = room / "ahead-of-faulty"
+    begun.write_text(text(JOURNAL[:2]))
+    server = Server([behind(JOURNAL[:2], head(JOURNAL, 2) + text([JOURNAL[2], "3 1 29000580 APT 0 0 alerts 7"]))] * 20 + [""])
+    second = Second(program, server.port, begun)
+    cases.expect("ahead of a faulty line: that one is told", second.says(rf"parted entry 3: .+ {MOMENT}"), second.said)
+    cases.expect("ahead of a faulty line: the one before is kept", second.has(3), (second.entries(), begun.read_text()))
+    cases.expect("ahead of a faulty line: and nothing else", begun.read_text() == text(JOURNAL[:3]), begun.read_text())
+    second.close()
+    server.close()
+
+
 def reasons(cases, program, room):
     """Why it does not follow is said once, and again where it is another reason."""
     begun, port = room / "reasons", free_port()
@@ -682,6 +695,7 @@ def main():
         names(cases, program, room)
         compared(cases, program, room)
         others(cases, program, room)
+        ahead_of_faulty(cases, program, room)
         reasons(cases, program, room)
         changed(cases, program, room)
         unlike(cases, program, room)
