@@ -536,6 +536,8 @@ def silent(cases, program, room):
     # (the connection that was made stays, and says nothing)
     server.close()
     cases.expect("silence: then nobody is there", second.waits_for(lambda: len(second.said) == 2, 25), second.said)
+    status = second.ask("status")
+    cases.expect("silence: which status says", status.startswith(f"following 127.0.0.1:{server.port} parted\n"), status)
     server = Server([from_line(JOURNAL)], port=server.port)
     again = second.waits_for(lambda: [it.split(" ")[0] for it in second.said] == ["following", "parted", "following"])
     cases.expect("silence: and that it follows is said again", again, second.said)
