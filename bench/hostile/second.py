@@ -287,6 +287,7 @@ def closes_soon(cases, boards):
     cases.expect("it closes", (answer, status, lines[-1:]) == ("closing\n", 0, ["closed 1"]), (answer, status, lines))
     cases.expect("within 15 seconds", took < 15, took)
     cases.expect("the reply is sent, or not, but not in part", airport.rest() in (b"ok 0\n", b""), airport.held)
+    cases.expect("that the other board is late is said as it closes", first.turns() == ["late 0 of 1"], first.said)
 
 
 def closes_answering(cases, boards):
