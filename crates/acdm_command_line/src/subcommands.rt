@@ -1,6 +1,6 @@
 //! The subcommands of the program, each with the options that it takes.
 ghost use Rattle.std.specs.Prelude.{◌≡◌, false, true, IfOk};
-ghost use Rattle.clap.specs.Words.{app_of, rule_of, with_subcommand};
+ghost use Rattle.clap.specs.Words.{App, Rule, app_of, new_app, rule_of, with_rule, with_subcommand};
 ghost use Rattle.clap.specs.declared.builder.Command.TheViews.{out-Command as fields_of};
 ghost use Rattle.acdm_command_line.specs.CommandLine.{program, file_app, keeping_app, program_app, bare_app};
 ghost use Rattle.acdm_command_line.specs.CommandLine.{follow_app, following_app, run_app, running_app, serve_app};
@@ -14,6 +14,31 @@ use crate::options::{
 use clap::{Arg, Command};
 use std::alloc::{AllocError, Global};
 
+// A subcommand that takes no option yet.
+fn bare<'a>(alloc: Global, name: &'a str, about: &'a str) -> Result<Command<'a>, AllocError>
+    ensures shape { IfOk result (λ c. app_of c ≡ new_app name.now) }
+    ensures local { IfOk result (λ c. (fields_of c).has_globals ≡ false) }
+{
+    Ok(Command::new(alloc, name).about(about))
+}
+
+// A subcommand with one option more, where it could be made so far.
+fn with<'a>(
+    command: Result<Command<'a>, AllocError>,
+    option: Arg<'a>,
+) -> Result<Command<'a>, AllocError>
+    requires local { option.global ≡ false }
+    requires locals { IfOk command (λ c. (fields_of c).has_globals ≡ false) }
+    ensures shape { (app : App) (rule : Rule) → IfOk command.entry (λ c. app_of c ≡ app)
+        → rule_of option.entry ≡ rule → IfOk result (λ c. app_of c ≡ with_rule app rule) }
+    ensures local { IfOk result (λ c. (fields_of c).has_globals ≡ false) }
+{
+    match command {
+        Ok(command) => command.arg(option),
+        Err(error) => Err(error),
+    }
+}
+
 // A subcommand that has a journal, which is kept by this option.
 fn with_journal<'a>(
     alloc: Global,
@@ -25,12 +50,9 @@ fn with_journal<'a>(
     ensures shape { IfOk result (λ c. app_of c ≡ journal_app name.now (rule_of keep.entry)) }
     ensures local { IfOk result (λ c. (fields_of c).has_globals ≡ false) }
 {
-    Command::new(alloc, name)
-        .about(about)
-        .arg(journal(alloc))?
-        .arg(save(alloc))?
-        .arg(keep)?
-        .arg(sync(alloc))
+    let command = bare(alloc, name, about);
+    let command = with(with(command, journal(alloc)), save(alloc));
+    with(with(command, keep), sync(alloc))
 }
 
 // One that takes tables too.
@@ -44,7 +66,7 @@ fn keeping<'a>(
     ensures shape { IfOk result (λ c. app_of c ≡ keeping_app name.now (rule_of keep.entry)) }
     ensures local { IfOk result (λ c. (fields_of c).has_globals ≡ false) }
 {
-    with_journal(alloc, name, about, keep)?.arg(tables(alloc))
+    with(with_journal(alloc, name, about, keep), tables(alloc))
 }
 
 fn run_command<'a>(alloc: Global) -> Result<Command<'a>, AllocError>
@@ -67,9 +89,8 @@ fn watching<'a>(
     ensures shape { IfOk result (λ c. app_of c ≡ watching_app name.now (rule_of keep.entry)) }
     ensures local { IfOk result (λ c. (fields_of c).has_globals ≡ false) }
 {
-    keeping(alloc, name, about, keep)?
-        .arg(watch(alloc))?
-        .arg(changes(alloc))
+    let command = keeping(alloc, name, about, keep);
+    with(with(command, watch(alloc)), changes(alloc))
 }
 
 // The same with what browsers have.
@@ -84,9 +105,8 @@ fn showing<'a>(
     ensures shape { IfOk result (λ c. app_of c ≡ showing_app name.now (rule_of keep.entry)) }
     ensures local { IfOk result (λ c. (fields_of c).has_globals ≡ false) }
 {
-    watching(alloc, name, about, keep)?
-        .arg(web(alloc))?
-        .arg(web_name(alloc))
+    let command = watching(alloc, name, about, keep);
+    with(with(command, web(alloc)), web_name(alloc))
 }
 
 // The same with what holds it open, and closes it.
@@ -101,9 +121,8 @@ fn held<'a>(
     ensures shape { IfOk result (λ c. app_of c ≡ held_app name.now (rule_of keep.entry)) }
     ensures local { IfOk result (λ c. (fields_of c).has_globals ≡ false) }
 {
-    showing(alloc, name, about, keep)?
-        .arg(again(alloc))?
-        .arg(control(alloc))
+    let command = showing(alloc, name, about, keep);
+    with(with(command, again(alloc)), control(alloc))
 }
 
 // The same with its pace and its ticks.
@@ -118,9 +137,8 @@ fn lasting<'a>(
     ensures shape { IfOk result (λ c. app_of c ≡ lasting_app name.now (rule_of keep.entry)) }
     ensures local { IfOk result (λ c. (fields_of c).has_globals ≡ false) }
 {
-    held(alloc, name, about, keep)?
-        .arg(pace(alloc))?
-        .arg(tick(alloc))
+    let command = held(alloc, name, about, keep);
+    with(with(command, pace(alloc)), tick(alloc))
 }
 
 // The same with its log.
@@ -135,7 +153,7 @@ fn logging<'a>(
     ensures shape { IfOk result (λ c. app_of c ≡ logging_app name.now (rule_of keep.entry)) }
     ensures local { IfOk result (λ c. (fields_of c).has_globals ≡ false) }
 {
-    lasting(alloc, name, about, keep)?.arg(log(alloc))
+    with(lasting(alloc, name, about, keep), log(alloc))
 }
 
 // The same with the boards that replies wait for.
@@ -150,9 +168,8 @@ fn seconded<'a>(
     ensures shape { IfOk result (λ c. app_of c ≡ seconded_app name.now (rule_of keep.entry)) }
     ensures local { IfOk result (λ c. (fields_of c).has_globals ≡ false) }
 {
-    logging(alloc, name, about, keep)?
-        .arg(second(alloc))?
-        .arg(strict(alloc))
+    let command = logging(alloc, name, about, keep);
+    with(with(command, second(alloc)), strict(alloc))
 }
 
 // The same with the other board that may have taken over.
@@ -167,7 +184,7 @@ fn peered<'a>(
     ensures shape { IfOk result (λ c. app_of c ≡ peered_app name.now (rule_of keep.entry)) }
     ensures local { IfOk result (λ c. (fields_of c).has_globals ≡ false) }
 {
-    seconded(alloc, name, about, keep)?.arg(peer(alloc))
+    with(seconded(alloc, name, about, keep), peer(alloc))
 }
 
 fn serve_command<'a>(alloc: Global) -> Result<Command<'a>, AllocError>
@@ -176,7 +193,7 @@ fn serve_command<'a>(alloc: Global) -> Result<Command<'a>, AllocError>
 {
     let about =
         "Accepts a partner at each address, and serves all at once; --config FILE puts in its place the words of a file in TOML";
-    peered(alloc, "serve", about, keep(alloc))?.arg(partners(alloc))
+    with(peered(alloc, "serve", about, keep(alloc)), partners(alloc))
 }
 
 fn follow_command<'a>(alloc: Global) -> Result<Command<'a>, AllocError>
@@ -185,9 +202,8 @@ fn follow_command<'a>(alloc: Global) -> Result<Command<'a>, AllocError>
 {
     let about =
         "Keeps the journal of another board as it grows, and serves as that board did once it is promoted";
-    peered(alloc, "follow", about, kept(alloc))?
-        .arg(first(alloc))?
-        .arg(partners(alloc))
+    let command = peered(alloc, "follow", about, kept(alloc));
+    with(with(command, first(alloc)), partners(alloc))
 }
 
 // A subcommand on a file.
@@ -200,10 +216,8 @@ fn on_file<'a>(
     ensures shape { IfOk result (λ c. app_of c ≡ file_app name.now) }
     ensures local { IfOk result (λ c. (fields_of c).has_globals ≡ false) }
 {
-    Command::new(alloc, name)
-        .about(about)
-        .arg(tables(alloc))?
-        .arg(file(alloc, help))
+    let command = bare(alloc, name, about);
+    with(with(command, tables(alloc)), file(alloc, help))
 }
 
 // A subcommand on a program, with `--length`.
@@ -211,11 +225,9 @@ fn on_program<'a>(alloc: Global, name: &'a str, about: &'a str) -> Result<Comman
     ensures shape { IfOk result (λ c. app_of c ≡ program_app name.now) }
     ensures local { IfOk result (λ c. (fields_of c).has_globals ≡ false) }
 {
-    Command::new(alloc, name)
-        .about(about)
-        .arg(length(alloc))?
-        .arg(tables(alloc))?
-        .arg(file(alloc, "The raw bytes of a BPF program"))
+    let command = bare(alloc, name, about);
+    let command = with(with(command, length(alloc)), tables(alloc));
+    with(command, file(alloc, "The raw bytes of a BPF program"))
 }
 
 // The program before it has subcommands, of which one is wanted.
