@@ -29,7 +29,7 @@ import time
 import traceback
 
 from cases import ALERTS, Cases, ran, words
-from follow import CLIENT, JOURNAL, MOMENT, TICK, audited, schedules
+from follow import CLIENTS, JOURNAL, MOMENT, TICK, audited, schedules
 from followed import MOST, ROLES, SHOW, Boards, Caller, Load, free_ports, missing, number_of
 from keep import limited
 
@@ -197,7 +197,7 @@ def switched(cases, boards):
     first = boards.first("from", "--second", "1", "--changes", f"127.0.0.1:{feeds[0]}")
     second = boards.second(first, "to", "--changes", f"127.0.0.1:{feeds[1]}")
     places = f"127.0.0.1:{first.ports[0]},127.0.0.1:{second.ports[0]}"
-    asked = [sys.executable, str(CLIENT), places, "--feed", f"127.0.0.1:{feeds[0]},127.0.0.1:{feeds[1]}"]
+    asked = [sys.executable, str(CLIENTS / "partner.py"), places, "--feed", f"127.0.0.1:{feeds[0]},127.0.0.1:{feeds[1]}"]
     client = subprocess.Popen(asked, stdin=subprocess.PIPE, stdout=subprocess.PIPE, stderr=subprocess.PIPE, text=True)
     timer = threading.Timer(3 * MOST, client.kill)
     timer.start()
