@@ -6,8 +6,9 @@
 At each of twelve widths from 360 to 3840 no column is cut, nothing overlaps and nothing has to be scrolled sideways. After
 a reload the page knows who reported each milestone, each partner's last word and refusals, and since when alerts stand. The
 open flight follows; the heads put in order; what is over for three hours is hidden; times are told in another zone. What
-Chromium's accessibility tree and the contrast of texts say is asserted, and the frames of 4,000 flights by its trace. At
-last boards with other journals take the place of this one: longer, shorter, and empty at first. With --files the page is
+Chromium's accessibility tree and the contrast of texts say is asserted, and the frames of 4,000 flights by its trace. Then
+boards with other journals take the place of this one: longer, shorter, and empty at first. At last the page is handed
+lines of a feed that are written by hand (by_hand.py), at a moment that stands still. With --files the page is
 that of clients/web, put before the program's events. It needs Debian's chromium, chromium-driver and
 python3-selenium, and is left out without them. The last line is `N cases, M failed`; the status is 1 where one failed.
 """
@@ -29,6 +30,7 @@ import urllib.request
 TOP = pathlib.Path(__file__).resolve().parents[2]
 sys.path.insert(0, str(TOP / "bench" / "web"))
 sys.path.insert(0, str(TOP / "clients" / "web"))
+from by_hand import by_hand  # noqa: E402
 from browser import DRIVER, FORM, ROLES, Board, By, Page, free_port, webdriver  # noqa: E402
 from embed import page as page_of_files  # noqa: E402
 
@@ -123,6 +125,11 @@ class Files(http.server.BaseHTTPRequestHandler):
                     self.wfile.write(piece)
             except OSError:
                 pass
+
+    def do_HEAD(self):  # pylint: disable=invalid-name
+        """The time alone."""
+        self.send_response(200)
+        self.end_headers()
 
     def log_message(self, *_):  # pylint: disable=arguments-differ
         """Nothing."""
@@ -469,7 +476,7 @@ def main():
     if not asked.no_frames:
         parts.append(frames(board, seen))
     if not asked.frames_alone:
-        parts.append(other_journals(boards, page, asked, port))
+        parts += [other_journals(boards, page, asked, port), by_hand(page)]
     for part in parts:
         for name, is_well in part:
             cases += 1
