@@ -226,6 +226,29 @@ CASES = {
         const filled = names.map((it) => form.elements[it].value);
         element("plan").close();
         return same([filled, form.elements.flight.readOnly], [["1", "DLH1", "A319", "DAIBC", "EGLL", "13:20", "4", "45", "5", "10"], true])""",
+    "the schedule of a flight keeps its day where its time stays": """
+        at(rec(1, { sobt: "2026-03-03T08:20:00Z", stand: 4, plan_type: "A319", last: 3 }), rec(2));
+        answers.push(["/enter", 200, { is_accepted: true, entry: 12, words: "entered" }]);
+        const form = element("plan-form"), submit = () => form.dispatchEvent(new Event("submit", { cancelable: true }));
+        plan(flights.get("1"));
+        const filled = [form.elements.time.value, form.elements.type.value, form.elements.flight.readOnly, form.elements.stand.value];
+        form.elements.stand.value = "5";
+        submit();
+        await turns();
+        form.elements.time.value = "09:00";
+        submit();
+        await turns();
+        came(13, [{ flight: "1", sobt: day("09:00"), last: 13 }]);
+        form.elements.time.value = "08:20";
+        submit();
+        await turns();
+        element("plan").close();
+        plan(flights.get("2"));
+        form.elements.time.value = "08:20";
+        submit();
+        await turns();
+        element("plan").close();
+        return same([filled, sent.map((it) => [it[1].flight, it[1].time, it[1].stand, it[1].seen])], [["08:20", "A319", true, "4"], [["1", "+0", 5, 3], ["1", "09:00", 5, 12], ["1", "08:20", 5, 12], ["2", "08:20", 0, 1]]])""",
     "a new flight is scheduled in capitals, and one that changed is asked about": """
         at();
         const form = element("plan-form"), submit = () => form.dispatchEvent(new Event("submit", { cancelable: true }));

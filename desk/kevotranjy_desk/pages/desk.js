@@ -468,6 +468,7 @@ function plan(flight) {
     })) form.elements[name].value = value;
   }
   form.dataset.seen = flight ? flight.last : "";
+  form.dataset.sobt = flight && flight.sobt || "";
   element("plan").showModal();
 }
 
@@ -478,6 +479,9 @@ async function schedule(event) {
   for (const name of ["stand", "mttt", "exit", "exot"]) asked[name] = Number(asked[name]);
   for (const name of ["callsign", "type", "reg", "dest"]) asked[name] = asked[name].toUpperCase();
   asked.seen = form.dataset.seen === "" ? -1 : Number(form.dataset.seen);
+  // (a clock time is one of the day about now: what was left as it stands keeps its own day)
+  const sobt = form.dataset.sobt, known = flights.get(asked.flight);
+  if (sobt && known && known.sobt === sobt && asked.time === clock(sobt)) asked.time = "+0";
   const [status, answer] = await post("/enter", asked), reply = element("plan-reply");
   if (status === 409) {
     const list = tag("ul");
