@@ -1,17 +1,22 @@
 """What board.py prints of a feed that is written by hand, and of servers that are no board."""
+import json
 import os
 import pty
 import subprocess
 import sys
+import tempfile
 import time
 import unittest
 from argparse import Namespace
+from pathlib import Path
 
 from boards import CLIENTS, LIMIT, Serving, free_port, needs_program, ran
-from feeds import NAME, OTHER, Sending, board_line, entry, journal_line, record
+from feeds import NAME, OTHER, Answering, Sending, board_line, entry, journal_line, record
 
 # (boards.py has put the folder of the clients on the path)
-from board import Looking  # pylint: disable=wrong-import-order
+from board import ROOM_FOR_ALERTS, Looking, columns_for, listed  # pylint: disable=wrong-import-order
+from feed import Board as Flights  # pylint: disable=wrong-import-order
+from words import REFUSALS  # pylint: disable=wrong-import-order
 
 FLIGHTS = [
     record(
@@ -84,6 +89,53 @@ class Board(unittest.TestCase):
         self.assertNotIn("\x07", done.stdout)
         self.assertIn("?[2J?X", done.stdout)
 
+    def test_the_order_of_flights(self) -> None:
+        """By TOBT, else EOBT, else SOBT; then by EOBT, then by number; those without a time last."""
+        times: dict[int, dict[str, str]] = {5: {}, 4: {"sobt": "11:00"}, 2: {"tobt": "10:00"}}
+        times |= {3: {"sobt": "09:00", "eobt": "12:00"}}
+        times |= {9: {"tobt": "10:00", "eobt": "09:00"}, 8: {"tobt": "13:00", "eobt": "09:00"}, 1: {"tobt": "10:00"}}
+        board = Flights()
+        for number, fields in times.items():
+            whole = {name: f"2025-02-20T{text}:00Z" for name, text in fields.items()}
+            board.flights[number] = record(number, alerts=["CDM01"] if number in (3, 8) else [], **whole)
+        board.flights[8]["reached"] = [16]
+        self.assertEqual([9, 1, 2, 4, 3, 5], [it["flight"] for it in board.shown()])
+        self.assertEqual([9, 1, 2, 4, 3, 8, 5], [it["flight"] for it in board.shown(departed=True)])
+        self.assertEqual([3], [it["flight"] for it in board.shown(alerted=True)])
+
+    def test_what_does_not_fit_is_counted(self) -> None:
+        """Alerts by words, as many as fit; columns that leave room for them; no line is wider than the terminal."""
+        names = [f"LOC0{number}" for number in range(4)]
+        for width, shown in (
+            (62, "local alert 00, local alert 01, local alert 02, local alert 03"),
+            (61, "local alert 00, local alert 01, local alert 02 +1"),
+            (48, "local alert 00, local alert 01 +2"),
+            (17, "local alert 00 +3"),
+            (16, "+4"),
+        ):
+            self.assertEqual(shown, "".join(text for text, _ in listed(names, width, {})))
+        self.assertEqual(["MILESTONES", "TOBT", "TSAT"], sorted(columns_for(37 + ROOM_FOR_ALERTS, 6)))
+        self.assertEqual([], columns_for(20, 6))
+        looking = Looking(Namespace(address=("127.0.0.1", 1), flight=[], names=None))
+        flights = [record(number, callsign="ABCDEFGH", alerts=names) for number in range(1, 30)]
+        looking.board.take({"journal": NAME, "next": 1, "room": 9, "flights": flights})
+        looking.top = 99
+        for width in (20, 40, 60, 80):
+            lines = looking.lines((width, 12), False)
+            self.assertEqual((12, True), (len(lines), all(len(line) <= width for line in lines)))
+            self.assertEqual(("    21", "    29"), (lines[2][:6], lines[10][:6]))
+
+    def test_names_of_local_alerts(self) -> None:
+        with tempfile.TemporaryDirectory() as folder, Sending(board_line(*FLIGHTS)) as server:
+            names = Path(folder) / "names"
+            names.write_text("LOC03 de-icing late\n", encoding="utf-8")
+            done = ran("board.py", server.port, "--once", "--names", names)
+            self.assertTrue(done.stdout.splitlines()[2].endswith(" de-icing late"), done)
+            names.write_text("LOC03 de-icing late\nLOC99 no\n", encoding="utf-8")
+            done = ran("board.py", server.port, "--once", "--names", names)
+            said = f"board.py: {names}: line 2 is none as `LOC03 de-icing late`\n"
+            self.assertEqual((2, said), (done.returncode, done.stderr))
+
     def test_servers_that_are_no_board(self) -> None:
         deep = b"[" * 100_000 + b"\n"
         wrong = [b"HTTP/1.1 400 Bad Request\r\n\r\n", b"[]\n", b"{}\n", b'{"flights":7,"next":1}\n', b"\xff\n", deep]
@@ -143,6 +195,36 @@ class Board(unittest.TestCase):
                 until(master, b"\x1b[?25h\x1b[?1049l")
                 self.assertEqual(0, process.wait(LIMIT))
             os.close(master)
+
+    def test_after_a_break(self) -> None:
+        """It tries again by itself, and has the board as it is then; by a key it has alerts alone."""
+        refused = entry(1, "09:00", "4 AO", {"cmd": "tick"}, code=201) + "\n"
+        refused += entry(2, "09:01", "5 GH", {"cmd": "tick"}, code=202) + "\n"
+        later = record(30, callsign="LATER30")
+        with Answering(board_line(*FLIGHTS) + refused.encode(), board_line(FLIGHTS[0], later)) as server:
+            master, slave = pty.openpty()
+            command = [sys.executable, str(CLIENTS / "board.py"), str(server.port)]
+            environment = {**os.environ, "TERM": "xterm", "COLUMNS": "120", "LINES": "20"}
+            with subprocess.Popen(command, stdin=slave, stdout=slave, stderr=slave, env=environment) as process:
+                os.close(slave)
+                shown = until(master, b"the server closed the connection; trying again")
+                self.assertIn(b"flights 2 of 3, alerted 2", shown)
+                os.write(master, b"a")
+                shown = until(master, b"flights 1 of 2, alerted 1")
+                self.assertNotIn(b"LATER30", shown)
+                os.write(master, b"a")
+                self.assertIn(b"LATER30", until(master, b"LATER30"))
+                os.write(master, b"q")
+                self.assertEqual(0, process.wait(LIMIT))
+            os.close(master)
+            self.assertEqual(["board", "board"], server.asked[:2])
+
+    def test_the_last_refusal_is_told(self) -> None:
+        looking = Looking(Namespace(address=("127.0.0.1", 1), flight=[], names=None))
+        for number, code in enumerate((201, 202)):
+            looking.board.take(json.loads(entry(number, "09:00", "4 AO", {"cmd": "tick"}, code=code)))
+        self.assertTrue(looking.status().endswith(f"  entry 1 of AO: {REFUSALS[202]}"), looking.status())
+        self.assertEqual({(4, "AO"): {"refused": 2, "last": "2025-02-20T09:00:00Z"}}, looking.board.partners)
 
     @needs_program
     def test_a_board_that_serves(self) -> None:

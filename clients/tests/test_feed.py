@@ -3,6 +3,7 @@ import itertools
 import tempfile
 import unittest
 from pathlib import Path
+from unittest.mock import patch
 
 from boards import LIMIT
 from feed import BadAddress, Board, NoFeed, OtherJournal, Place, alert_names, entries, parse_address, parsed
@@ -76,6 +77,14 @@ class Entries(unittest.TestCase):
             server.thread.join(LIMIT)
         self.assertEqual(([3, 4, 5], ["from 3", "from 5"], [b"", b""]), (found, server.asked, server.closed))
         self.assertEqual(Place(NAME, 6), place)
+
+    def test_pauses_between_trials(self) -> None:
+        """A second, twice as long each time, a minute at most; from an entry on a second again."""
+        slept: list[float] = []
+        answers = [b""] * 8 + [journal_line(0) + ticks(0), b"", journal_line(1) + ticks(1)]
+        with Answering(*answers) as server, patch("feed.time.sleep", slept.append):
+            self.assertEqual([0, 1], numbers_of(server, Place(), 2))
+        self.assertEqual([1, 2, 4, 8, 16, 32, 60, 60, 1, 2], slept)
 
     def test_a_journal_gets_its_name(self) -> None:
         """A board without an entry has none; the one that is told then is kept."""

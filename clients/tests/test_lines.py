@@ -14,6 +14,8 @@ RECORD = (
     "01"
     "05" + "3884ba01" * 2 + "00000000" * 14
 )
+SCHEDULE = '{"cmd":"schedule","flight":7,"callsign":"%s","type":"A320","reg":"DAIBC","dest":"EDDM",'
+SCHEDULE += '"sobt":"2025-02-20T10:00:00Z","mttt":40,"exit":5,"exot":10,"stand":%d}'
 LINES = [
     ('{"cmd":"tick"}', "fits"),
     ('1 29000700 APT {"cmd":"tick"}', "fits"),
@@ -39,6 +41,14 @@ LINES = [
     ('{"cmd":"report","flight":7,"milestone":6,"time":"2025-02-20T10:00"}', "104: 'time' is no instant"),
     ('{"cmd":"report","flight":7,"milestone":6,"time":"2025-02-29T10:00Z"}', "104: 'time' is no day"),
     ('{"cmd":"report","flight":7,"milestone":6,"time":"2025-02-20T24:00:00Z"}', "104: 'time' is no day"),
+    ('{"cmd":"report","flight":7,"milestone":6,"time":"2025-02-20T10:00:60Z"}', "fits"),
+    ('{"cmd":"report","flight":7,"milestone":6,"time":"2025-02-20T10:00:61Z"}', "104: 'time' is no day"),
+    ('64 4294967295 APT {"cmd":"tick"}', "fits"),
+    ('65 29000700 APT {"cmd":"tick"}', "100: SESSION is 65"),
+    ('1 4294967296 APT {"cmd":"tick"}', "100: MINUTE is 4294967296"),
+    (SCHEDULE % ("ABCDEFGH", 65535), "fits"),
+    (SCHEDULE % ("ABCDEFGH", 65536), "104: 'stand' is not from 0 to 65535"),
+    (SCHEDULE % ("\u00e4\u00f6\u00fc\u00df\u00e9", 1), "104: 'callsign' has 10 bytes"),
     ('{"cmd":"load","milestone":7,"kind":"alert","program":"0g"}', "104: 'program' "),
     ('{"cmd":"load","milestone":7,"kind":"alert","program":"","length":null}', "103: 'length' "),
     ('{"cmd":"deice","flight":7,"field":"ECZT","time":null}', "104: 'field' is none of eczt, eezt, aczt, aezt"),
@@ -94,6 +104,14 @@ class Record(unittest.TestCase):
         done = ran("record.py", given=f"rec 2 {digits}\n")
         self.assertIn("  ECZT                   2025-02-20 10:00\n", done.stdout)
         self.assertIn("  layout                 2\n", done.stdout)
+
+    def test_alerts_and_a_time_beyond_the_calendar(self) -> None:
+        """All alerts by rising bit, of which bit 15 is CDM07a; the last minute is one of the year 10136."""
+        done = ran("record.py", given=f"rec 2 {RECORD.replace('0300000000000000', '03000000ffffffff')}\n")
+        names = [f"CDM{number:02}" for number in range(15)] + ["CDM07a"] + [f"LOC{number:02}" for number in range(16)]
+        self.assertIn(f"  alerts                 {' '.join(names)}\n", done.stdout)
+        done = ran("record.py", given=f"rec 2 {RECORD.replace('3884ba01' * 2, 'ffffffff' * 2)}\n")
+        self.assertIn("  SOBT                   minute 4294967295\n", done.stdout)
 
     def test_what_is_no_record(self) -> None:
         for digits in ("00", "x" * 256, RECORD + "00"):

@@ -1,4 +1,5 @@
 """What report.py makes of a feed that is written by hand, of a journal, and of what is neither."""
+import re
 import tempfile
 import unittest
 from pathlib import Path
@@ -37,6 +38,85 @@ class Report(unittest.TestCase):
         ]
         for row in rows:
             self.assertIn(row, text)
+
+    def test_flights_by_name(self) -> None:
+        lines = [
+            entry(it, "09:00", "1 APT", {**SCHEDULE, "flight": it}, record(it, callsign=f"AB{it}X")) for it in (7, 8)
+        ]
+        done = ran("report.py", "-", 8, given="\n".join(lines) + "\n")
+        self.assertEqual((0, False, True), (done.returncode, "AB7X" in done.stdout, "AB8X" in done.stdout))
+
+    def test_partners_by_number_and_what_was_early(self) -> None:
+        """Session 10 stands behind session 9; seven minutes early are not within five; the middle of two is half."""
+        flights = [
+            record(number, tobt=TOBT, aobt=f"2025-02-20T{off}:00Z") for number, off in enumerate(("09:53", "10:04"), 7)
+        ]
+        text = page(
+            *(entry(number, "10:10", "9 AO", REPORT, flight) for number, flight in enumerate(flights)),
+            entry(2, "10:11", "10 AO", {**REPORT, "milestone": 9, "time": None}, code=202),
+            entry(3, "10:11", "9 AO", {"cmd": "tick"}, code=201),
+        )
+        self.assertIn('AOBT after TOBT</td><td class="number">2</td><td>-1.5</td><td>-7 to 4</td><td>50 %</td>', text)
+        self.assertIn("<td>report 7 9 no time</td>", text)
+        places = [text.index(f">{it}<") for it in ("Partners", "session 9 AO", "session 10 AO", "Punctuality")]
+        self.assertEqual(sorted(places), places)
+        bars = text[text.index("refused commands by partner") :]
+        self.assertLess(bars.index("session 9 AO"), bars.index("session 10 AO"))
+
+    def test_alerts_that_come_and_go(self) -> None:
+        """One of two stands twice, three minutes and one, and the other one stays."""
+        alerts = (["CDM01"], ["CDM01", "LOC03"], ["LOC03"], ["LOC03", "CDM01"], ["LOC03"])
+        clocks = ("09:00", "09:01", "09:03", "09:04", "09:05")
+        text = page(
+            *(
+                entry(place, clocks[place], "1 APT", REPORT, record(7, alerts=names))
+                for place, names in enumerate(alerts)
+            )
+        )
+        row = text[text.index("<td>CDM01</td>") :].partition("</tr>")[0]
+        self.assertTrue(
+            row.endswith('<td class="number">2</td><td class="number">1</td><td>2</td><td class="number">3</td>')
+        )
+        for title in ("from 09:00 to 09:03", "from 09:04 to 09:05", "from 09:01 to the end"):
+            self.assertIn(f"{title}</title>", text)
+        self.assertEqual((1, 2), (text.count(">LOC03 stays<"), text.count(">CDM01<") - text.count("<td>CDM01<")))
+
+    def test_times_of_a_flight(self) -> None:
+        """Replaced targets are strokes, an ELDT is of the milestone that set it last, a far time is at the edge."""
+        first = record(7, tobt="2025-02-20T09:40:00Z", eldt="2025-02-20T09:00:00Z", reached=[4, 9])
+        last = {
+            **first,
+            "tobt": TOBT,
+            "eldt": "2025-02-20T09:05:00Z",
+            "reached": [4, 5, 9],
+            "ctot": "2025-02-25T09:00:00Z",
+        }
+        text = page(
+            entry(0, "08:00", "1 APT", REPORT, first),
+            entry(1, "08:10", "1 APT", REPORT, last),
+            entry(2, "08:20", "4 AO", REPORT, code=201),
+        )
+        for part in (
+            "<title>TOBT was 2025-02-20 09:40</title>",
+            "<title>ELDT was 2025-02-20 09:00</title>",
+            ">5 ELDT 09:05<",
+        ):
+            self.assertIn(part, text)
+        self.assertIn("<title>entry 2, 08:20: AO report 7</title>", text)
+        places = [float(it) for it in re.findall(r'<path d="M([\d.]+) \d+V', text)]
+        self.assertEqual((True, True), (min(places) >= 20, max(places) <= 990))
+
+    def test_a_year_of_five_digits(self) -> None:
+        late = entry(0, "09:00", "1 APT", REPORT, record(7, tobt=TOBT)).replace("2025-02-20T", "10136-02-16T")
+        self.assertIn("A legal journal of 1 entries.", page(late))
+
+    def test_many_flights(self) -> None:
+        """The first two hundred stand on one axis; each has its own picture."""
+        text = page(*(entry(it, "09:00", "1 APT", {**REPORT, "flight": it}, record(it)) for it in range(1, 204)))
+        self.assertIn(" The first 200 of 203 are shown.", text)
+        whole = text[text.index("all flights") :].partition("</svg>")[0]
+        self.assertEqual((True, False), (">1<" in whole, ">203<" in whole))
+        self.assertIn('<h3 id="f203">', text)
 
     def test_texts_are_no_html(self) -> None:
         bad = record(7, callsign="<b>7</b>", plan_type='"><', alerts=["<script>1</script>"])

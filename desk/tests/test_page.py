@@ -125,7 +125,7 @@ CASES = {
         answers[0] = ["/board", 200, { next: 9, place: "9", is_live: true, others: ["4"], flights: [rec(4)] }];
         await reload();
         source.close();
-        return same([lost, [...flights.keys()], [...others], next, mark], [["connection lost, trying again", [true]], ["4"], ["4"], 9, "9"])""",
+        return same([lost, [...flights.keys()], ids(), [...others], next, mark], [["connection lost, trying again", [true]], ["4"], "4", ["4"], 9, "9"])""",
     "the fields of a flight: what this person reports, final where it is barred, taken back where that may be": """
         at();
         me = { ...me, milestones: [8, 9, 11, 16], may_deice: true };
@@ -200,6 +200,15 @@ CASES = {
         const found = [box("9").querySelector(".reply").textContent, seen, sent[0][1].flight];
         element("one").close();
         return same(found, ["", 1, "1"])""",
+    "a refusal is bad, and is no entry that was seen": """
+        at(rec(1, { last: 3 }));
+        open("1");
+        answers.push(["/enter", 200, { is_accepted: false, entry: 8, words: "TOBT refused" }]);
+        pressed("9", "Now");
+        await turns();
+        const reply = box("9").querySelector(".reply"), found = [reply.className, reply.textContent, seen];
+        element("one").close();
+        return same(found, ["reply bad", "TOBT refused", 3])""",
     "a desk that does not answer is told with what is not known": """
         at(rec(1));
         open("1");
