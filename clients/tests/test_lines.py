@@ -108,7 +108,8 @@ class Record(unittest.TestCase):
     def test_alerts_and_a_time_beyond_the_calendar(self) -> None:
         """All alerts by rising bit, of which bit 15 is the last of CDM; the last minute is one of the year 10136."""
         done = ran("record.py", given=f"rec 2 {RECORD.replace('0300000000000000', '03000000ffffffff')}\n")
-        names = [f"CDM{number:02}" for number in range(15)] + [f"CDM{7:02}a"] + [f"LOC{number:02}" for number in range(16)]
+        names = [f"CDM{number:02}" for number in range(15)] + [f"CDM{7:02}a"]
+        names += [f"LOC{number:02}" for number in range(16)]
         self.assertIn(f"  alerts                 {' '.join(names)}\n", done.stdout)
         done = ran("record.py", given=f"rec 2 {RECORD.replace('3884ba01' * 2, 'ffffffff' * 2)}\n")
         self.assertIn("  SOBT                   minute 4294967295\n", done.stdout)
