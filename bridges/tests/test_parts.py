@@ -71,7 +71,8 @@ class In(unittest.TestCase):
             with self.assertRaisesRegex(inbound.NoLine, "1 to 200 printable"):
                 inbound.checked(identity)
         self.assertEqual("a", inbound.own_id({"id": "a"}))
-        for command in ({"id": 7}, {}, {"id": None}):
+        commands: tuple[dict[str, Any], ...] = ({"id": 7}, {}, {"id": None})
+        for command in commands:
             with self.assertRaisesRegex(inbound.NoLine, "it has no id"):
                 inbound.own_id(command)
 

@@ -36,9 +36,9 @@ import checkout
 sys.exit(checkout.launcher().run_unproved(sys.argv[2:]))
 """
 BOARD = """#!{python}
-import signal, sys, time
+import os, signal, sys, time
 signal.signal(signal.SIGTERM, lambda *_: sys.exit(5))
-print(*sys.argv[1:], flush=True)
+print(*sys.argv[1:], os.getsid(0) == os.getpid(), flush=True)
 time.sleep(60)
 """
 SERVED = """
@@ -115,13 +115,13 @@ class Proved(Room):
             self.assertFalse(self.script.is_proved())
 
     def test_a_board_that_can_not_be_asked_is_ended(self) -> None:
-        """Nobody listens at its control address: a signal ends it, and its status is that of the script."""
+        """Nobody is at its control address: a signal to the script alone ends it, and the status is its own."""
         program = self.program("board", BOARD)
         for number, status in ((signal.SIGTERM, 5), (signal.SIGINT, 5), (signal.SIGHUP, 5)):
             command = [sys.executable, "-c", SERVED, str(CHECKS), str(program), "serve", "--control", "127.0.0.1:1"]
             with subprocess.Popen(command, stdout=subprocess.PIPE, text=True) as ran:
                 assert ran.stdout
-                self.assertEqual("serve --control 127.0.0.1:1\n", ran.stdout.readline())
+                self.assertEqual("serve --control 127.0.0.1:1 True\n", ran.stdout.readline())
                 ran.send_signal(number)
                 self.assertEqual(status, ran.wait(30), str(number))
 
