@@ -16,7 +16,8 @@ from kevotranjy_desk.moments import BadTime, instant
 from kevotranjy_desk.rates import Rate
 from kevotranjy_desk.records import alerted, instant_of, shown_record, unloaded
 from kevotranjy_desk.scopes import ALL, NONE, Clause, Scope
-from kevotranjy_desk.streams import Stream, Told, page_event
+from kevotranjy_desk.streams import Stream, Told, page_change, page_event, partner_event
+from kevotranjy_desk.wording import change_words, command_words, event_of, refusal_words
 
 EVENING = datetime(2025, 2, 20, 22, 30, 40, tzinfo=timezone.utc)
 
@@ -155,6 +156,71 @@ def feed_line(number: int) -> dict[str, Any]:
         "answers": [],
         "changed": [{**record, "stand": 1, "reached": [], "alerts": []}],
     }
+
+
+def told(mirror: Mirror, number: int, command: dict[str, Any], code: int = 0, **fields: Any) -> None:
+    """An entry that leaves flight 7 with these fields; without one it changes nothing."""
+    line = feed_line(number)
+    record = {**line["changed"][0], "mttt": 40, **fields}
+    outcome = {"code": code, "name": "x"} if code else "ok"
+    mirror.take({**line, "role": "AO", "command": command, "outcome": outcome, "changed": [record] if fields else []})
+
+
+REPORT = {"cmd": "report", "flight": 7, "milestone": 9, "time": "2025-02-20T10:00:00Z"}
+
+
+def test_what_became_of_a_flight_is_told_in_words() -> None:
+    mirror, tick = Mirror(("127.0.0.1", 1)), {"cmd": "tick"}
+    told(mirror, 0, {"cmd": "schedule", "flight": 7}, callsign="DLH7")
+    told(mirror, 1, REPORT, callsign="DLH7", tobt="2025-02-20T10:00:00Z", reached=[9])
+    told(mirror, 2, tick, callsign="DLH7", tobt="2025-02-20T10:00:00Z", reached=[9], alerts=["CDM01", "LOC03"])
+    told(mirror, 3, {**REPORT, "time": None}, callsign="DLH7", reached=[], alerts=["LOC03"])
+    told(mirror, 4, {**REPORT, "milestone": 6}, code=201)
+    told(mirror, 5, {"cmd": "show", "flight": 7})
+    told(mirror, 6, tick, callsign="DLH7", reached=[], alerts=[])
+    words = [change_words(it, 7) for it in mirror.events_of(7)]
+    assert words[1] == ["TOBT 10:00"] and words[4] == []
+    assert len(words[2]) == 2 and words[2][0].startswith("+ ") and words[2][1] == "+ local alert 03"
+    assert words[3][0] == "TOBT 10:00 → –" and words[3][1].startswith("− ") and len(words[3]) == 2
+    # (a question is no part of its history; an alert that comes alone is no change to ask about)
+    assert [it.number for it in mirror.events_of(7)] == [0, 1, 2, 3, 4, 6] and mirror.last_of(7) == 3
+    assert mirror.reported_of(7) == {9: "AO"} and mirror.refused == {("AO", 201): 1} and mirror.last_tick != ""
+    event = event_of(mirror.events_of(7)[4], 7, None)
+    assert (event["who"], event["refused"], event["code"]) == ("AO, session 1", refusal_words(201), 201)
+    assert event_of(mirror.events_of(7)[1], 7, "anna")["who"] == "anna"
+    assert command_words({**REPORT, "time": None}).endswith(" taken back") and command_words(tick) == "tick"
+    alone = page_event(mirror.entries[6], ALL)
+    assert alone and alone["flights"] == [{"alerts": [], "flight": "7"}]
+    end = mirror.after(7)
+    assert [it.number for it in mirror.after(4) or ()] == [4, 5, 6] and end is not None and not list(end)
+    assert mirror.after(8) is None
+
+
+def test_a_flight_that_leaves_or_enters_ones_sight() -> None:
+    """One that enters is told whole, one that leaves as gone, one that others see not at all."""
+    mirror, mine = Mirror(("127.0.0.1", 1)), Scope((Clause((), frozenset(), ((10, 19),)),))
+    for number, stand in enumerate((5, 12, 13, 20, 21)):
+        told(mirror, number, REPORT, stand=stand)
+    events = [page_event(it, mine) for it in mirror.entries]
+    assert events[0] is None and events[4] is None
+    assert events[1] and "callsign" in events[1]["flights"][0] and events[1]["gone"] == []
+    assert events[2] and events[2]["flights"] == [{"stand": 13, "flight": "7", "last": 2, "reported": {9: "AO"}}]
+    assert events[3] and (events[3]["flights"], events[3]["gone"]) == ([], ["7"])
+    assert page_change(mirror.entries[4].changes[0], mine, mirror.entries[4]) == (None, None)
+    partner = [partner_event(it, mine) for it in mirror.entries]
+    assert [it is None for it in partner] == [True, False, False, False, True]
+
+
+def test_what_is_kept_of_entries_has_a_bound(monkeypatch: pytest.MonkeyPatch) -> None:
+    monkeypatch.setattr("kevotranjy_desk.mirror.KEPT_ENTRIES", 3)
+    mirror = Mirror(("127.0.0.1", 1))
+    for number in range(5):
+        told(mirror, number, REPORT, stand=number)
+    assert (mirror.first_kept, [it.number for it in mirror.entries]) == (2, [2, 3, 4])
+    assert mirror.after(1) is None and [it.number for it in mirror.after(2) or ()] == [2, 3, 4]
+    monkeypatch.setattr("kevotranjy_desk.mirror.KEPT_CHANGES", 2)
+    told(mirror, 5, REPORT, stand=9)
+    assert [it.number for it in mirror.entries] == [4, 5]
 
 
 def test_an_entry_that_comes_while_another_is_written_is_told_at_once(monkeypatch: pytest.MonkeyPatch) -> None:
