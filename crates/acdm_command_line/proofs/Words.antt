@@ -9,7 +9,7 @@ use Rattle.acdm_command_line.specs.declared.command_line.Subcommand.{Subcommand}
 use Rattle.acdm_command_line.specs.CommandLine.{Answers, Asks, AsksNothing, AsksWith, AuditsFile}
 use Rattle.acdm_command_line.specs.CommandLine.{Explains, TellsFile}
 use Rattle.acdm_command_line.specs.CommandLine.{Follows, IsJournal, IsRight, Runs, ServesAlone, Verifies}
-use Rattle.acdm_command_line.specs.CommandLine.{held_app, lasting_app, logging_app, peered_app, program, seconded_app, showing_app, watching_app}
+use Rattle.acdm_command_line.specs.CommandLine.{board_app, program}
 use Rattle.acdm_command_line.specs.CommandLine.{tables_in, value_in, values_in}
 
 module _ {X : Type 0} (name : X → Text) (rows : X → List Row) where
@@ -49,7 +49,7 @@ values_found o name id n r e h = ap (values_in name id) e
 -- ---- what is asked for
 
 pub program_is_simple : is_simple program ≡ true
-unfolding clap_on_literals watching_app showing_app held_app lasting_app logging_app seconded_app peered_app
+unfolding clap_on_literals board_app
 program_is_simple = refl
 
 none_asked : (found : Option (Text × List Row)) → AsksNothing found

@@ -114,36 +114,25 @@ partners_rule = record (new_rule (codes "partners")) {
   required = true;
 }
 
-unfoldable pub watching_app : Text → Rule → App
-watching_app name keep = with_rule (with_rule (keeping_app name keep) watch_rule) changes_rule
-
-unfoldable pub showing_app : Text → Rule → App
-showing_app name keep = with_rule (with_rule (watching_app name keep) web_rule) web_name_rule
-
-unfoldable pub held_app : Text → Rule → App
-held_app name keep = with_rule (with_rule (showing_app name keep) again_rule) control_rule
-
-unfoldable pub lasting_app : Text → Rule → App
-lasting_app name keep = with_rule (with_rule (held_app name keep) pace_rule) tick_rule
-
-unfoldable pub logging_app : Text → Rule → App
-logging_app name keep = with_rule (lasting_app name keep) log_rule
-
-unfoldable pub seconded_app : Text → Rule → App
-seconded_app name keep = with_rule (with_rule (logging_app name keep) second_rule) strict_rule
-
-unfoldable pub peered_app : Text → Rule → App
-peered_app name keep = with_rule (seconded_app name keep) peer_rule
+-- a subcommand of this name that serves a board, without its partners
+unfoldable pub board_app : Text → Rule → App
+board_app name keep =
+    let displays = with_rule (with_rule (keeping_app name keep) watch_rule) changes_rule in
+    let browsers = with_rule (with_rule displays web_rule) web_name_rule in
+    let held = with_rule (with_rule browsers again_rule) control_rule in
+    let lasting = with_rule (with_rule held pace_rule) tick_rule in
+    let seconded = with_rule (with_rule (with_rule lasting log_rule) second_rule) strict_rule in
+    with_rule seconded peer_rule
 
 abbrev pub serve_app : App
-serve_app = with_rule (peered_app (codes "serve") keep_rule) partners_rule
+serve_app = with_rule (board_app (codes "serve") keep_rule) partners_rule
 
 -- `follow ADDR --keep FILE [..] ROLE=ADDR...`, with the other options of `serve`
 abbrev pub first_rule : Rule
 first_rule = record (new_rule (codes "first")) { value_names = 1; required = true }
 
 abbrev pub follow_app : App
-follow_app = with_rule (with_rule (peered_app (codes "follow") kept_rule) first_rule) partners_rule
+follow_app = with_rule (with_rule (board_app (codes "follow") kept_rule) first_rule) partners_rule
 
 -- a subcommand of this name on a file, as `audit [--tables FILE] FILE`
 abbrev pub file_rule : Rule

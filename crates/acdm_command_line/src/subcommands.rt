@@ -4,8 +4,7 @@ ghost use Rattle.clap.specs.Words.{App, Rule, app_of, new_app, rule_of, with_rul
 ghost use Rattle.clap.specs.declared.builder.Command.TheViews.{out-Command as fields_of};
 ghost use Rattle.acdm_command_line.specs.CommandLine.{program, file_app, keeping_app, program_app, bare_app};
 ghost use Rattle.acdm_command_line.specs.CommandLine.{follow_app, following_app, run_app, running_app, serve_app};
-ghost use Rattle.acdm_command_line.specs.CommandLine.{held_app, serving_app, showing_app, watching_app, journal_app};
-ghost use Rattle.acdm_command_line.specs.CommandLine.{lasting_app, logging_app, seconded_app, peered_app, Answers};
+ghost use Rattle.acdm_command_line.specs.CommandLine.{board_app, serving_app, journal_app};
 
 use crate::options::{
     again, changes, control, file, first, journal, keep, kept, length, log, pace, partners, peer,
@@ -77,114 +76,26 @@ fn run_command<'a>(alloc: Global) -> Result<Command<'a>, AllocError>
     keeping(alloc, "run", about, keep(alloc))
 }
 
-// A subcommand that serves, with what is sent to displays of lines.
-#[tactic(auto, unfolding(crate::specs::CommandLine::watching_app))]
-fn watching<'a>(
+// A subcommand that serves a board, without its partners.
+#[tactic(auto, unfolding(crate::specs::CommandLine::board_app))]
+fn with_board<'a>(
     alloc: Global,
     name: &'a str,
     about: &'a str,
     keep: Arg<'a>,
 ) -> Result<Command<'a>, AllocError>
     requires local { keep.global ≡ false }
-    ensures shape { IfOk result (λ c. app_of c ≡ watching_app name.now (rule_of keep.entry)) }
+    ensures shape { IfOk result (λ c. app_of c ≡ board_app name.now (rule_of keep.entry)) }
     ensures local { IfOk result (λ c. (fields_of c).has_globals ≡ false) }
 {
     let command = keeping(alloc, name, about, keep);
-    with(with(command, watch(alloc)), changes(alloc))
-}
-
-// The same with what browsers have.
-#[tactic(auto, unfolding(crate::specs::CommandLine::showing_app))]
-fn showing<'a>(
-    alloc: Global,
-    name: &'a str,
-    about: &'a str,
-    keep: Arg<'a>,
-) -> Result<Command<'a>, AllocError>
-    requires local { keep.global ≡ false }
-    ensures shape { IfOk result (λ c. app_of c ≡ showing_app name.now (rule_of keep.entry)) }
-    ensures local { IfOk result (λ c. (fields_of c).has_globals ≡ false) }
-{
-    let command = watching(alloc, name, about, keep);
-    with(with(command, web(alloc)), web_name(alloc))
-}
-
-// The same with what holds it open, and closes it.
-#[tactic(auto, unfolding(crate::specs::CommandLine::held_app))]
-fn held<'a>(
-    alloc: Global,
-    name: &'a str,
-    about: &'a str,
-    keep: Arg<'a>,
-) -> Result<Command<'a>, AllocError>
-    requires local { keep.global ≡ false }
-    ensures shape { IfOk result (λ c. app_of c ≡ held_app name.now (rule_of keep.entry)) }
-    ensures local { IfOk result (λ c. (fields_of c).has_globals ≡ false) }
-{
-    let command = showing(alloc, name, about, keep);
-    with(with(command, again(alloc)), control(alloc))
-}
-
-// The same with its pace and its ticks.
-#[tactic(auto, unfolding(crate::specs::CommandLine::lasting_app))]
-fn lasting<'a>(
-    alloc: Global,
-    name: &'a str,
-    about: &'a str,
-    keep: Arg<'a>,
-) -> Result<Command<'a>, AllocError>
-    requires local { keep.global ≡ false }
-    ensures shape { IfOk result (λ c. app_of c ≡ lasting_app name.now (rule_of keep.entry)) }
-    ensures local { IfOk result (λ c. (fields_of c).has_globals ≡ false) }
-{
-    let command = held(alloc, name, about, keep);
-    with(with(command, pace(alloc)), tick(alloc))
-}
-
-// The same with its log.
-#[tactic(auto, unfolding(crate::specs::CommandLine::logging_app))]
-fn logging<'a>(
-    alloc: Global,
-    name: &'a str,
-    about: &'a str,
-    keep: Arg<'a>,
-) -> Result<Command<'a>, AllocError>
-    requires local { keep.global ≡ false }
-    ensures shape { IfOk result (λ c. app_of c ≡ logging_app name.now (rule_of keep.entry)) }
-    ensures local { IfOk result (λ c. (fields_of c).has_globals ≡ false) }
-{
-    with(lasting(alloc, name, about, keep), log(alloc))
-}
-
-// The same with the boards that replies wait for.
-#[tactic(auto, unfolding(crate::specs::CommandLine::seconded_app))]
-fn seconded<'a>(
-    alloc: Global,
-    name: &'a str,
-    about: &'a str,
-    keep: Arg<'a>,
-) -> Result<Command<'a>, AllocError>
-    requires local { keep.global ≡ false }
-    ensures shape { IfOk result (λ c. app_of c ≡ seconded_app name.now (rule_of keep.entry)) }
-    ensures local { IfOk result (λ c. (fields_of c).has_globals ≡ false) }
-{
-    let command = logging(alloc, name, about, keep);
-    with(with(command, second(alloc)), strict(alloc))
-}
-
-// The same with the other board that may have taken over.
-#[tactic(auto, unfolding(crate::specs::CommandLine::peered_app))]
-fn peered<'a>(
-    alloc: Global,
-    name: &'a str,
-    about: &'a str,
-    keep: Arg<'a>,
-) -> Result<Command<'a>, AllocError>
-    requires local { keep.global ≡ false }
-    ensures shape { IfOk result (λ c. app_of c ≡ peered_app name.now (rule_of keep.entry)) }
-    ensures local { IfOk result (λ c. (fields_of c).has_globals ≡ false) }
-{
-    with(seconded(alloc, name, about, keep), peer(alloc))
+    let command = with(with(command, watch(alloc)), changes(alloc));
+    let command = with(with(command, web(alloc)), web_name(alloc));
+    let command = with(with(command, again(alloc)), control(alloc));
+    let command = with(with(command, pace(alloc)), tick(alloc));
+    let command = with(command, log(alloc));
+    let command = with(with(command, second(alloc)), strict(alloc));
+    with(command, peer(alloc))
 }
 
 fn serve_command<'a>(alloc: Global) -> Result<Command<'a>, AllocError>
@@ -193,7 +104,10 @@ fn serve_command<'a>(alloc: Global) -> Result<Command<'a>, AllocError>
 {
     let about =
         "Accepts a partner at each address, and serves all at once; --config FILE puts in its place the words of a file in TOML";
-    with(peered(alloc, "serve", about, keep(alloc)), partners(alloc))
+    with(
+        with_board(alloc, "serve", about, keep(alloc)),
+        partners(alloc),
+    )
 }
 
 fn follow_command<'a>(alloc: Global) -> Result<Command<'a>, AllocError>
@@ -202,7 +116,7 @@ fn follow_command<'a>(alloc: Global) -> Result<Command<'a>, AllocError>
 {
     let about =
         "Keeps the journal of another board as it grows, and serves as that board did once it is promoted";
-    let command = peered(alloc, "follow", about, kept(alloc));
+    let command = with_board(alloc, "follow", about, kept(alloc));
     with(with(command, first(alloc)), partners(alloc))
 }
 
