@@ -5,7 +5,7 @@ use Rattle.std.proofs.lemmas.List.Folds.{list_any-append}
 use Rattle.std.proofs.lemmas.Bool.{eqb-true}
 use Rattle.std.specs.List.{list_any}
 use Rattle.std.specs.Option.{option_map}
-use Rattle.std.specs.Prelude.{Option, is_some, unwrap_or}
+use Rattle.std.specs.Prelude.{Option, is_some, string_bytes, unwrap_or}
 use Rattle.indexmap.specs.IndexMap.{get}
 use Rattle.acdm_record.specs.declared.field.Field.TheVariants.{Alerts}
 use Rattle.acdm_record.specs.Fields.{Fields, number_of}
@@ -18,7 +18,7 @@ use Rattle.acdm_step.specs.Summaries.{record_of, flights, exists, with_flight}
 use Rattle.acdm_step.proofs.Flights.{and_false, has-with_flight}
 use Rattle.acdm_step.proofs.Records.{record_same}
 use Rattle.acdm_feed.specs.Told.{alerts_of}
-use Rattle.acdm_feed.specs.Knowing.{KnowsFlights, Puts, word_of}
+use Rattle.acdm_feed.specs.Knowing.{AreKnown, Knows, KnowsFlights, Puts, word_of}
 use Rattle.acdm_feed.specs.declared.known.Known.{Known}
 
 pub word_from_record : (J : History) (f : ℕ) (o : Option Fields)
@@ -295,3 +295,41 @@ knows_flight J e f old new accepted changes is puts k =
 pub none_left : (l : List ℕ) → length l ≡ 0 → l ≡ []
 none_left [] h = refl
 none_left (x ∷ xs) h = absurd (cc)
+
+-- what is known is the same, whatever else is kept beside it
+pub same_knows : (J : History) (old new : Known) → new.name ≡ old.name → new.flights ≡ old.flights
+    → new.words ≡ old.words → Knows J old → Knows J new
+same_knows J old new name flights words k = record {
+  named = ap (option_map string_bytes) name ∙ k.named;
+  of_flights = record {
+    flights_are = ap (λ v. v.items) flights ∙ k.of_flights.flights_are;
+    words = λ f. ap (λ w. get nat_eq w f) words ∙ k.of_flights.words f;
+  };
+}
+
+-- ---- alert words that stayed
+
+pub none_known : (K : History) (known : Known) → AreKnown [] K known
+none_known K known f h = absurd (cc)
+
+pub one_known : (K : History) (known : Known) (g : ℕ) (more : List ℕ) → get nat_eq known.words g ≡ word_of K g
+    → AreKnown more K known → AreKnown (g ∷ more) K known
+one_known K known g more one all f h =
+    (elim (g == f) as (λ b. (g == f) ≡ b → (b || list_any (λ x. x == f) more) ≡ true
+    → get nat_eq known.words f ≡ word_of K f) [
+      | true ↦ λ q t. subst (λ (x : ℕ). get nat_eq known.words x ≡ word_of K x) (eqb-true g f q) one
+      | false ↦ λ q t. all f t
+    ]) refl h
+
+pub still_knows : (J K : History) (known : Known) → KnowsFlights J known → flights J ≡ flights K
+    → AreKnown known.flights.items K known → KnowsFlights K known
+still_knows J K known k same all = record {
+  flights_are = k.flights_are ∙ same;
+  words = λ f. (elim (exists K f) as (λ b. exists K f ≡ b → get nat_eq known.words f ≡ word_of K f) [
+    | true ↦ λ t. all f (ap (list_any (λ g. g == f)) (k.flights_are ∙ same) ∙ t)
+    | false ↦ λ t.
+        k.words f
+        ∙ ap (λ b. cond b (Some (alerts_of J f)) None) (ap (list_any (λ g. g == f)) same ∙ t)
+        ∙ sym (ap (λ b. cond b (Some (alerts_of K f)) None) t)
+  ]) refl;
+}

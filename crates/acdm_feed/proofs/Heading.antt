@@ -24,13 +24,12 @@ object_of_two old one two three four head said b e h1 h2 h3 h4 =
     object_of_one old one three four (head ++ said) b e h1
     (h3 ∙ ap (λ l. l ++ said) h2 ∙ append_assoc one head said) h4
 
-pub journal_pieces : (next room : ℕ) (name before : List ℕ) (tokens : List Token) (line fed old new : List ℕ)
-    → before ≡ [] → tokens ≡ journal_tokens name next room → line ≡ before ++ print tokens
-    → fed ≡ line ++ 10 ∷ [] → new ≡ old ++ fed → new ≡ old ++ named_line name next room
+pub journal_pieces : (next room : ℕ) (name old before : List ℕ) (tokens : List Token) (new : List ℕ)
+    → before ≡ old → tokens ≡ journal_tokens name next room → new ≡ before ++ (print tokens ++ 10 ∷ [])
+    → new ≡ old ++ named_line name next room
 unfolding named_line
-journal_pieces next room name before tokens line fed old new none is h1 h2 h3 =
-    h3 ∙ ap (λ l. old ++ l) (h2 ∙ ap (λ l. l ++ 10 ∷ [])
-    (h1 ∙ ap (λ b. b ++ print tokens) none ∙ ap print is))
+journal_pieces next room name old before tokens new same is all =
+    all ∙ (λ i. same i ++ (print (is i) ++ 10 ∷ []))
 
 -- the line of the journal of a name is that of its entries
 pub named_text : (next room : ℕ) (J : History) (name old new : List ℕ) → name ≡ journal_name J

@@ -1,3 +1,5 @@
+pub mod Adding
+pub mod Instants
 pub mod Printable
 pub mod Following
 pub mod Finding

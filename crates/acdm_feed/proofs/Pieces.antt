@@ -27,20 +27,14 @@ object_pieces old one two three four five head said changed b e h1 h2 h3 h4 h5 =
     ∙ append_assoc (old ++ b ∷ []) (head ++ (said ++ changed)) (e ∷ [])
     ∙ append_assoc old (b ∷ []) ((head ++ (said ++ changed)) ++ e ∷ [])
 
-pub line_pieces : (J : History) (e : Entry) (before : List ℕ) (tokens : List Token)
-    (line fed old new : List ℕ) → before ≡ [] → tokens ≡ told_tokens J e
-    → line ≡ before ++ print tokens → fed ≡ line ++ 10 ∷ [] → new ≡ old ++ fed
+pub line_pieces : (J : History) (e : Entry) (old before : List ℕ) (tokens : List Token) (new : List ℕ)
+    → before ≡ old → tokens ≡ told_tokens J e → new ≡ before ++ (print tokens ++ 10 ∷ [])
     → new ≡ old ++ told J e
 unfolding told
-line_pieces J e before tokens line fed old new none is h1 h2 h3 =
-    h3 ∙ ap (λ l. old ++ l) (h2 ∙ ap (λ l. l ++ 10 ∷ [])
-    (h1 ∙ ap (λ b. b ++ print tokens) none ∙ ap print is))
+line_pieces J e old before tokens new same is all = all ∙ (λ i. same i ++ (print (is i) ++ 10 ∷ []))
 
-pub standing_pieces : (room : ℕ) (J : History) (before : List ℕ) (tokens : List Token)
-    (line fed old new : List ℕ) → before ≡ [] → tokens ≡ board_tokens room J
-    → line ≡ before ++ print tokens → fed ≡ line ++ 10 ∷ [] → new ≡ old ++ fed
+pub standing_pieces : (room : ℕ) (J : History) (old before : List ℕ) (tokens : List Token) (new : List ℕ)
+    → before ≡ old → tokens ≡ board_tokens room J → new ≡ before ++ (print tokens ++ 10 ∷ [])
     → new ≡ old ++ board_text room J
 unfolding board_text
-standing_pieces room J before tokens line fed old new none is h1 h2 h3 =
-    h3 ∙ ap (λ l. old ++ l) (h2 ∙ ap (λ l. l ++ 10 ∷ [])
-    (h1 ∙ ap (λ b. b ++ print tokens) none ∙ ap print is))
+standing_pieces room J old before tokens new same is all = all ∙ (λ i. same i ++ (print (is i) ++ 10 ∷ []))

@@ -1,6 +1,7 @@
 -- What is known of a board beside it.
-use Rattle.std.specs.Prelude.{ℕ, ◌≡◌, ◌==◌, if◌then◌else◌, nat_eq, [], ◌∷◌, ◌++◌, Option, Some, None, is_some}
+use Rattle.std.specs.Prelude.{ℕ, ◌≡◌, ◌==◌, if◌then◌else◌, nat_eq, true, List, [], ◌∷◌, ◌++◌, Option, Some, None, is_some}
 use Rattle.std.specs.Prelude.{option_map, string_bytes}
+use Rattle.std.specs.List.{list_any}
 use Rattle.indexmap.specs.IndexMap.{get}
 use Rattle.acdm_step.specs.Commands.{History}
 use Rattle.acdm_step.specs.Summaries.{flights, exists}
@@ -20,6 +21,10 @@ pub record KnowsFlights (J : History) (known : Known) : Type 0 where
 -- the name of the journal, where it has a first entry
 abbrev pub IsNamed : History → Known → Type 0
 IsNamed J known = option_map string_bytes known.name ≡ option_map name_of (first_entry J)
+
+-- the alert words of these flights
+abbrev pub AreKnown : List ℕ → History → Known → Type 0
+AreKnown fs J known = (f : ℕ) → list_any (λ g. g == f) fs ≡ true → get nat_eq known.words f ≡ word_of J f
 
 pub record Knows (J : History) (known : Known) : Type 0 where
   pub named : IsNamed J known

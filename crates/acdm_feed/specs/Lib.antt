@@ -1,4 +1,8 @@
 pub mod Minutes
+pub mod Days
+pub mod Rooms
+pub mod Lineviews
+pub mod Lines
 pub mod Names
 pub mod Commands
 pub mod Records

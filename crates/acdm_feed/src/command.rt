@@ -5,98 +5,106 @@ ghost use Rattle.acdm_feed.specs.Commands.{command_members, deice_members, load_
 ghost use Rattle.acdm_feed.specs.Commands.{plan_members, planned_members, report_members};
 ghost use Rattle.acdm_feed.specs.Commands.{schedule_members, unload_members};
 
-use crate::tokens::{push_number, push_printable, push_text, push_time};
+use crate::line::FeedLine;
+use crate::tokens::{key, push_number, push_printable, push_text, push_time, push_word};
 use acdm_milestones::Refusal;
 use acdm_step::{Command, Deice, FlightPlan, Load, Report, Schedule, Unload, Verdict};
-use json::Writer;
 use std::alloc::AllocError;
 
-fn push_plan(line: &mut Writer, plan: &FlightPlan) -> Result<(), AllocError>
+fn push_plan(line: &mut FeedLine, plan: &FlightPlan) -> Result<(), AllocError>
     ensures before { line.new.before ≡ line.old.before }
     ensures adds { OnOk result (line.new.tokens ≡ line.old.tokens ++ plan_members plan.now) }
 {
-    push_printable(line, "callsign", plan.callsign.as_bytes())?;
-    push_printable(line, "type", plan.aircraft.as_bytes())?;
-    push_printable(line, "reg", plan.registration.as_bytes())?;
-    push_printable(line, "dest", plan.destination.as_bytes())?;
+    push_printable(line, key!("callsign"), plan.callsign.as_bytes())?;
+    push_printable(line, key!("type"), plan.aircraft.as_bytes())?;
+    push_printable(line, key!("reg"), plan.registration.as_bytes())?;
+    push_printable(line, key!("dest"), plan.destination.as_bytes())?;
     Ok(())
 }
 
 // SOBT, MTTT, EXIT, EXOT and the stand.
-fn push_planned(line: &mut Writer, schedule: &Schedule) -> Result<(), AllocError>
+fn push_planned(line: &mut FeedLine, schedule: &Schedule) -> Result<(), AllocError>
     ensures before { line.new.before ≡ line.old.before }
     ensures adds { OnOk result (line.new.tokens
         ≡ line.old.tokens ++ planned_members schedule.now) }
 {
-    push_time(line, "sobt", schedule.sobt())?;
-    push_number(line, "mttt", u64::from(schedule.mttt()))?;
-    push_number(line, "exit", u64::from(schedule.exit()))?;
-    push_number(line, "exot", u64::from(schedule.exot()))?;
-    push_number(line, "stand", u64::from(schedule.stand()))?;
+    push_time(line, key!("sobt"), schedule.sobt())?;
+    push_number(line, key!("mttt"), u64::from(schedule.mttt()))?;
+    push_number(line, key!("exit"), u64::from(schedule.exit()))?;
+    push_number(line, key!("exot"), u64::from(schedule.exot()))?;
+    push_number(line, key!("stand"), u64::from(schedule.stand()))?;
     Ok(())
 }
 
-fn push_schedule(line: &mut Writer, schedule: &Schedule) -> Result<(), AllocError>
+fn push_schedule(line: &mut FeedLine, schedule: &Schedule) -> Result<(), AllocError>
     ensures before { line.new.before ≡ line.old.before }
     ensures adds { OnOk result (line.new.tokens
         ≡ line.old.tokens ++ schedule_members schedule.now) }
 {
-    push_text(line, "cmd", "schedule")?;
-    push_number(line, "flight", schedule.flight())?;
+    push_word(line, key!("cmd"), "schedule")?;
+    push_number(line, key!("flight"), schedule.flight())?;
     push_plan(line, schedule.plan())?;
     push_planned(line, schedule)?;
     Ok(())
 }
 
-fn push_report(line: &mut Writer, report: &Report) -> Result<(), AllocError>
+fn push_report(line: &mut FeedLine, report: &Report) -> Result<(), AllocError>
     ensures before { line.new.before ≡ line.old.before }
     ensures adds { OnOk result (line.new.tokens ≡ line.old.tokens ++ report_members report.now) }
 {
-    push_text(line, "cmd", "report")?;
-    push_number(line, "flight", report.flight())?;
-    push_number(line, "milestone", u64::from(report.milestone().number()))?;
-    push_time(line, "time", report.time())?;
+    push_word(line, key!("cmd"), "report")?;
+    push_number(line, key!("flight"), report.flight())?;
+    push_number(
+        line,
+        key!("milestone"),
+        u64::from(report.milestone().number()),
+    )?;
+    push_time(line, key!("time"), report.time())?;
     let Some(plan) = report.plan() else {
         return Ok(());
     };
     push_plan(line, plan)
 }
 
-fn push_deice(line: &mut Writer, deice: &Deice) -> Result<(), AllocError>
+fn push_deice(line: &mut FeedLine, deice: &Deice) -> Result<(), AllocError>
     ensures before { line.new.before ≡ line.old.before }
     ensures adds { OnOk result (line.new.tokens ≡ line.old.tokens ++ deice_members deice.now) }
 {
-    push_text(line, "cmd", "deice")?;
-    push_number(line, "flight", deice.flight.get())?;
-    push_text(line, "field", deice.which.name())?;
-    push_time(line, "time", deice.time)?;
+    push_word(line, key!("cmd"), "deice")?;
+    push_number(line, key!("flight"), deice.flight.get())?;
+    push_text(line, key!("field"), deice.which.name())?;
+    push_time(line, key!("time"), deice.time)?;
     Ok(())
 }
 
-fn push_load(line: &mut Writer, load: &Load) -> Result<(), AllocError>
+fn push_load(line: &mut FeedLine, load: &Load) -> Result<(), AllocError>
     ensures before { line.new.before ≡ line.old.before }
     ensures adds { OnOk result (line.new.tokens ≡ line.old.tokens ++ load_members load.now) }
 {
-    push_text(line, "cmd", "load")?;
-    push_number(line, "milestone", u64::from(load.milestone.number()))?;
-    push_text(line, "kind", load.kind.name())?;
-    push_number(line, "instructions", load.program.instructions())?;
+    push_word(line, key!("cmd"), "load")?;
+    push_number(line, key!("milestone"), u64::from(load.milestone.number()))?;
+    push_text(line, key!("kind"), load.kind.name())?;
+    push_number(line, key!("instructions"), load.program.instructions())?;
     let record_length = load.program.record_length();
-    push_number(line, "length", record_length.bytes() as u64)?;
+    push_number(line, key!("length"), record_length.bytes() as u64)?;
     Ok(())
 }
 
-fn push_unload(line: &mut Writer, unload: &Unload) -> Result<(), AllocError>
+fn push_unload(line: &mut FeedLine, unload: &Unload) -> Result<(), AllocError>
     ensures before { line.new.before ≡ line.old.before }
     ensures adds { OnOk result (line.new.tokens ≡ line.old.tokens ++ unload_members unload.now) }
 {
-    push_text(line, "cmd", "unload")?;
-    push_number(line, "milestone", u64::from(unload.milestone.number()))?;
-    push_text(line, "kind", unload.kind.name())?;
+    push_word(line, key!("cmd"), "unload")?;
+    push_number(
+        line,
+        key!("milestone"),
+        u64::from(unload.milestone.number()),
+    )?;
+    push_text(line, key!("kind"), unload.kind.name())?;
     Ok(())
 }
 
-fn push_members(line: &mut Writer, command: &Command) -> Result<(), AllocError>
+fn push_members(line: &mut FeedLine, command: &Command) -> Result<(), AllocError>
     ensures before { line.new.before ≡ line.old.before }
     ensures adds { OnOk result (line.new.tokens
         ≡ line.old.tokens ++ command_members command.now) }
@@ -107,21 +115,21 @@ fn push_members(line: &mut Writer, command: &Command) -> Result<(), AllocError>
         Command::Deice(deice) => push_deice(line, deice),
         Command::Load(load) => push_load(line, load),
         Command::Unload(unload) => push_unload(line, unload),
-        Command::Tick => push_text(line, "cmd", "tick"),
+        Command::Tick => push_word(line, key!("cmd"), "tick"),
         Command::Migrate => {
-            push_text(line, "cmd", "migrate")?;
-            push_number(line, "layout", 2)
+            push_word(line, key!("cmd"), "migrate")?;
+            push_number(line, key!("layout"), 2)
         }
         Command::Show(flight) => {
-            push_text(line, "cmd", "show")?;
-            push_number(line, "flight", flight.get())
+            push_word(line, key!("cmd"), "show")?;
+            push_number(line, key!("flight"), flight.get())
         }
-        Command::Alerts => push_text(line, "cmd", "alerts"),
+        Command::Alerts => push_word(line, key!("cmd"), "alerts"),
     }
 }
 
 /// Adds a command.
-pub(crate) fn push_command(line: &mut Writer, command: &Command) -> Result<(), AllocError>
+pub(crate) fn push_command(line: &mut FeedLine, command: &Command) -> Result<(), AllocError>
     ensures before { line.new.before ≡ line.old.before }
     ensures adds { OnOk result (line.new.tokens
         ≡ line.old.tokens ++ object_of (command_members command.now)) }
@@ -153,24 +161,24 @@ fn refusal_name(refusal: Refusal) -> &'static str
 }
 
 // Adds a refusal.
-fn push_refusal(line: &mut Writer, refusal: Refusal) -> Result<(), AllocError>
+fn push_refusal(line: &mut FeedLine, refusal: Refusal) -> Result<(), AllocError>
     ensures before { line.new.before ≡ line.old.before }
     ensures adds { OnOk result (line.new.tokens
         ≡ line.old.tokens ++ outcome_tokens (Verdict.Refused refusal)) }
 {
     line.begin_object()?;
-    push_number(line, "code", u64::from(refusal.code()))?;
-    push_text(line, "name", refusal_name(refusal))?;
+    push_number(line, key!("code"), u64::from(refusal.code()))?;
+    push_text(line, key!("name"), refusal_name(refusal))?;
     line.end_object()
 }
 
 /// Adds what came of a command.
-pub(crate) fn push_outcome(line: &mut Writer, verdict: Verdict) -> Result<(), AllocError>
+pub(crate) fn push_outcome(line: &mut FeedLine, verdict: Verdict) -> Result<(), AllocError>
     ensures before { line.new.before ≡ line.old.before }
     ensures adds { OnOk result (line.new.tokens ≡ line.old.tokens ++ outcome_tokens verdict) }
 {
     match verdict {
-        Verdict::Accepted => line.string("ok"),
+        Verdict::Accepted => line.plain(b"ok"),
         Verdict::Refused(refusal) => push_refusal(line, refusal),
     }
 }

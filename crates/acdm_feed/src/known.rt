@@ -1,5 +1,5 @@
 //! What is known of a board beside it: the name of its journal, which flights there are, and their alerts.
-ghost use Rattle.std.specs.Prelude.{◌≡◌, ◌==◌, ◌||◌, ◌++◌, ◌∷◌, ℕ, List, [], OnOk, IfOk, Some, is_some};
+ghost use Rattle.std.specs.Prelude.{◌≡◌, ◌==◌, ◌||◌, ◌++◌, ◌∷◌, ℕ, List, [], OnOk, IfOk, IsTrue, Some, is_some};
 ghost use Rattle.std.specs.Prelude.{None, if◌then◌else◌, nat_eq};
 ghost use Rattle.indexmap.specs.IndexMap.{get};
 ghost use Rattle.bpf_helpers.specs.Promise.{Promise};
@@ -7,9 +7,10 @@ ghost use Rattle.acdm_step.specs.Commands.{History, changes_flight, flight_of, i
 ghost use Rattle.acdm_step.specs.Summaries.{flights};
 ghost use Rattle.acdm_step.specs.History.{replay};
 ghost use Rattle.std.specs.List.{list_any};
-ghost use Rattle.acdm_feed.specs.Knowing.{IsNamed, Knows, KnowsFlights, Puts, word_of};
+ghost use Rattle.acdm_feed.specs.Knowing.{AreKnown, IsNamed, Knows, KnowsFlights, Puts, word_of};
 ghost use Rattle.acdm_feed.specs.Naming.{journal_name};
 
+use crate::day::Day;
 use crate::name::journal_name;
 use acdm_record::Field;
 use acdm_step::{Command, Core, Entry};
@@ -18,11 +19,23 @@ use std::alloc::{AllocError, Global};
 
 /// The name of a board's journal, if it has an entry; the flights in order of creation, and the alerts of
 /// each as they were told last.
-#[derive(Drop)]
 pub struct Known {
     pub(crate) name: Option<String>,
     pub(crate) flights: Vec<u64>,
     pub(crate) words: IndexMap<u64, u64>,
+    // The day of the last entry.
+    pub(crate) day: Day,
+}
+
+impl Drop for Known {
+    fn drop(self) {
+        let Known {
+            name: _,
+            flights: _,
+            words: _,
+            day: _,
+        } = self;
+    }
 }
 
 /// The alert word of a flight that is on the board.
@@ -64,6 +77,7 @@ impl Known {
             name: None,
             flights: Vec::new(alloc),
             words: IndexMap::new(alloc),
+            day: Day::first(),
         }
     }
 
@@ -82,6 +96,50 @@ impl Known {
         ensures { result ≡ get nat_eq self.now.words flight }
     {
         self.words.get(&flight).copied()
+    }
+
+    /// The same, of a flight that most likely stands at this place.
+    pub(crate) fn word_at(&self, place: usize, flight: u64) -> Option<u64>
+        ensures { result ≡ get nat_eq self.now.words flight }
+    {
+        let Some((there, word)) = self.words.get_index(place) else {
+            return self.word(flight);
+        };
+        if *there == flight {
+            return Some(*word);
+        }
+        self.word(flight)
+    }
+
+    // Whether the alert word of a flight is that on a board.
+    fn is_known(&self, board: &Core, place: usize, flight: u64) -> bool
+        ensures { IsTrue result → (sigs : List (ℕ × Promise)) (K : History) → board.now ≡ replay sigs K
+            → get nat_eq self.now.words flight ≡ word_of K flight }
+    {
+        let Some(now) = word_on(board, flight) else {
+            return false;
+        };
+        let Some(before) = self.word_at(place, flight) else {
+            return false;
+        };
+        before == now
+    }
+
+    // Whether the alert words of all flights are those on a board.
+    fn is_up_to_date(&self, board: &Core) -> bool
+        ensures { IsTrue result → (sigs : List (ℕ × Promise)) (K : History) → board.now ≡ replay sigs K
+            → AreKnown self.now.flights.items K self.now }
+    {
+        let mut place = 0;
+        let mut rest = self.flights.as_slice();
+        while let Some((flight, more)) = rest.split_first() {
+            if !self.is_known(board, place, *flight) {
+                return false;
+            }
+            place = place.saturating_add(1);
+            rest = more;
+        }
+        true
     }
 
     // Puts the alert word of a flight, which is the last where it was not there.
@@ -117,13 +175,16 @@ impl Known {
         }
     }
 
-    // Reads all alert words from a board with the same flights, into the memory that they have.
+    // Reads all alert words from a board with the same flights, into the memory that they have, unless they are these.
     fn read_all(&mut self, board: &Core) -> Result<(), AllocError>
-        ensures knows { OnOk result ((sigs : List (ℕ × Promise)) (K : History)
-            → board.now ≡ replay sigs K → self.old.flights.items ≡ flights K
+        ensures knows { OnOk result ((sigs : List (ℕ × Promise)) (J K : History)
+            → board.now ≡ replay sigs K → KnowsFlights J self.old → flights J ≡ flights K
             → KnowsFlights K self.new) }
         ensures name { self.new.name ≡ self.old.name }
     {
+        if self.is_up_to_date(board) {
+            return Ok(());
+        }
         let Known { flights, words, .. } = self;
         words.clear();
         put_words(words, flights.as_slice(), board)?;
@@ -168,12 +229,22 @@ impl Known {
         Ok(())
     }
 
+    // Keeps the day of an entry, by which the next one is told.
+    fn follow_day(&mut self, entry: &Entry)
+        ensures name { self.new.name ≡ self.old.name }
+        ensures flights { self.new.flights ≡ self.old.flights }
+        ensures words { self.new.words ≡ self.old.words }
+    {
+        self.day = self.day.followed(entry.moment / 1_440);
+    }
+
     /// Follows an entry, after which the board is this.
     pub fn follow(&mut self, board: &Core, entry: &Entry) -> Result<(), AllocError>
         ensures { OnOk result ((sigs : List (ℕ × Promise)) (J : History)
             → board.now ≡ replay sigs (entry.now ∷ J) → Knows J self.old
             → Knows (entry.now ∷ J) self.new) }
     {
+        self.follow_day(entry);
         self.follow_name(entry)?;
         self.follow_flights(board, entry)?;
         Ok(())

@@ -2,10 +2,13 @@
 #![tactic(auto)]
 
 mod command;
+mod day;
 mod known;
+mod line;
 mod minute;
 mod name;
 mod record;
+mod room;
 mod standing;
 mod telling;
 mod tokens;

@@ -72,7 +72,7 @@ fn push_in_era(text: &mut ArrayString<48>, era: u64, day: u64)
 }
 
 // The year of an era on its day.
-fn year_of_era(day: u64) -> u64
+pub(crate) fn year_of_era(day: u64) -> u64
     requires { day < 146_097 }
     ensures value { result ≡ year_of_era day }
     ensures bound { result < 400 }
@@ -81,7 +81,7 @@ fn year_of_era(day: u64) -> u64
 }
 
 // The day of a year of an era.
-fn day_of_year(day: u64, year: u64) -> u64
+pub(crate) fn day_of_year(day: u64, year: u64) -> u64
     requires day_bound { day < 146_097 }
     requires year_is { year ≡ year_of_era day }
     ensures value { result ≡ day_of_year day year }

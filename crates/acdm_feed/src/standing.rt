@@ -1,5 +1,5 @@
 //! The lines of a board and of its journal.
-ghost use Rattle.std.specs.Prelude.{◌≡◌, ◌++◌, ℕ, List, OnOk, codes, length};
+ghost use Rattle.std.specs.Prelude.{◌≡◌, ◌++◌, ℕ, List, OnErr, OnOk, codes, length};
 ghost use Rattle.std.specs.List.{flat_map};
 ghost use Rattle.bpf_helpers.specs.Promise.{Promise};
 ghost use Rattle.acdm_step.specs.Commands.{History};
@@ -11,15 +11,17 @@ ghost use Rattle.acdm_feed.specs.Resumed.{board_text, board_tokens, head_members
 ghost use Rattle.acdm_feed.specs.Resumed.{named_line};
 ghost use Rattle.acdm_feed.specs.Told.{flight_tokens};
 
+use crate::day::Day;
 use crate::known::Known;
-use crate::tokens::{push_number, push_text};
+use crate::line::FeedLine;
+use crate::tokens::{key, push_number, push_text};
 use crate::told::push_flight;
 use acdm_step::Core;
-use json::Writer;
 use std::alloc::AllocError;
+use std::mem;
 
 // Adds the records of all flights.
-fn push_flights(line: &mut Writer, known: &Known, board: &Core) -> Result<(), AllocError>
+fn push_flights(line: &mut FeedLine, known: &Known, board: &Core) -> Result<(), AllocError>
     ensures before { line.new.before ≡ line.old.before }
     ensures adds { OnOk result ((sigs : List (ℕ × Promise)) (J : History)
         → board.now ≡ replay sigs J → Knows J known.now
@@ -34,14 +36,14 @@ fn push_flights(line: &mut Writer, known: &Known, board: &Core) -> Result<(), Al
 }
 
 // Adds the list of the records of all flights.
-fn push_list(line: &mut Writer, known: &Known, board: &Core) -> Result<(), AllocError>
+fn push_list(line: &mut FeedLine, known: &Known, board: &Core) -> Result<(), AllocError>
     ensures before { line.new.before ≡ line.old.before }
     ensures adds { OnOk result ((sigs : List (ℕ × Promise)) (J : History)
         → board.now ≡ replay sigs J → Knows J known.now
         → line.new.tokens ≡ line.old.tokens
         ++ list_member (codes "flights") (flat_map (flight_tokens J) (flights J))) }
 {
-    line.key("flights")?;
+    line.key(key!("flights"))?;
     line.begin_array()?;
     push_flights(line, known, board)?;
     line.end_array()?;
@@ -51,19 +53,19 @@ fn push_list(line: &mut Writer, known: &Known, board: &Core) -> Result<(), Alloc
 // Adds the name of a journal, the number of the entry that comes next, and how many entries there is
 // room for.
 #[tactic(auto, unfolding(crate::specs::Resumed::head_members))]
-fn push_head(line: &mut Writer, name: &str, next: u64, room: u64) -> Result<(), AllocError>
+fn push_head(line: &mut FeedLine, name: &str, next: u64, room: u64) -> Result<(), AllocError>
     ensures before { line.new.before ≡ line.old.before }
     ensures adds { OnOk result (line.new.tokens ≡ line.old.tokens ++ head_members name.now next room) }
 {
-    push_text(line, "journal", name)?;
-    push_number(line, "next", next)?;
-    push_number(line, "room", room)?;
+    push_text(line, key!("journal"), name)?;
+    push_number(line, key!("next"), next)?;
+    push_number(line, key!("room"), room)?;
     Ok(())
 }
 
 // Adds all of a board as one object.
 fn push_object(
-    line: &mut Writer,
+    line: &mut FeedLine,
     known: &Known,
     board: &Core,
     entries: u64,
@@ -95,18 +97,22 @@ pub fn push_board(
     ensures stands { OnOk result ((sigs : List (ℕ × Promise)) (J : History)
         → board.now ≡ replay sigs J → Knows J known.now → entries ≡ length J
         → text.new.items ≡ text.old.items ++ board_text room J) }
+    ensures refused { OnErr result (text.new.items ≡ text.old.items) }
 {
-    let mut line = Writer::new(Vec::new(*text.allocator()));
-    push_object(&mut line, known, board, entries, room)?;
-    let mut bytes = line.into_inner();
-    bytes.push(b'\n')?;
-    text.extend_from_slice(bytes.as_slice())?;
-    Ok(())
+    let alloc = *text.allocator();
+    let mut line = FeedLine::new(mem::replace(text, Vec::new(alloc)), known.day);
+    match push_object(&mut line, known, board, entries, room) {
+        Ok(()) => line.end(text),
+        Err(refused) => {
+            line.drop_into(text);
+            Err(refused)
+        }
+    }
 }
 
 // Adds all of a journal as one object.
 fn push_journal_object(
-    line: &mut Writer,
+    line: &mut FeedLine,
     name: &str,
     next: u64,
     room: u64,
@@ -131,12 +137,15 @@ pub fn push_journal_named(
 ) -> Result<(), AllocError>
     ensures { OnOk result (text.new.items ≡ text.old.items ++ named_line name.now next room) }
 {
-    let mut line = Writer::new(Vec::new(*text.allocator()));
-    push_journal_object(&mut line, name, next, room)?;
-    let mut bytes = line.into_inner();
-    bytes.push(b'\n')?;
-    text.extend_from_slice(bytes.as_slice())?;
-    Ok(())
+    let alloc = *text.allocator();
+    let mut line = FeedLine::new(mem::replace(text, Vec::new(alloc)), Day::first());
+    match push_journal_object(&mut line, name, next, room) {
+        Ok(()) => line.end(text),
+        Err(refused) => {
+            line.drop_into(text);
+            Err(refused)
+        }
+    }
 }
 
 /// Adds the same line, with the name of the journal whose board this is what is known of. `Err` only where memory was

@@ -1,5 +1,5 @@
 //! The line of an entry.
-ghost use Rattle.std.specs.Prelude.{◌≡◌, ◌++◌, ◌∷◌, ℕ, List, [], OnOk, codes};
+ghost use Rattle.std.specs.Prelude.{◌≡◌, ◌++◌, ◌∷◌, ℕ, List, [], OnErr, OnOk, codes};
 ghost use Rattle.std.specs.List.{flat_map};
 ghost use Rattle.std.specs.Option.{option_copied};
 ghost use Rattle.json.specs.Token.{key};
@@ -15,18 +15,16 @@ ghost use Rattle.acdm_feed.specs.Told.{other_tokens, told, told_members, told_to
 
 use crate::command::{push_command, push_outcome};
 use crate::known::{Known, flight_changed};
+use crate::line::FeedLine;
 use crate::record::push_record;
-use crate::tokens::{push_number, push_text, push_time};
+use crate::tokens::{key, push_number, push_text, push_time};
 use acdm_record::{Field, Record};
 use acdm_step::{Command, Core, Entry};
-use json::Writer;
 use std::alloc::AllocError;
-
-/// How many bytes the line of an entry has room for at first: more than that of one record takes.
-const LINE: usize = 1_536;
+use std::mem;
 
 // Adds a record that was found.
-fn push_found(line: &mut Writer, found: Option<&Record>) -> Result<(), AllocError>
+fn push_found(line: &mut FeedLine, found: Option<&Record>) -> Result<(), AllocError>
     ensures before { line.new.before ≡ line.old.before }
     ensures adds { OnOk result (line.new.tokens
         ≡ line.old.tokens ++ found_tokens (option_copied found.entry)) }
@@ -39,7 +37,7 @@ fn push_found(line: &mut Writer, found: Option<&Record>) -> Result<(), AllocErro
 
 // Adds a record that was found, where its alerts are others than before.
 fn push_other(
-    line: &mut Writer,
+    line: &mut FeedLine,
     before: Option<u64>,
     found: Option<&Record>,
 ) -> Result<(), AllocError>
@@ -60,7 +58,7 @@ fn push_other(
 }
 
 /// Adds the record of a flight, where it is on the board.
-pub(crate) fn push_flight(line: &mut Writer, board: &Core, flight: u64) -> Result<(), AllocError>
+pub(crate) fn push_flight(line: &mut FeedLine, board: &Core, flight: u64) -> Result<(), AllocError>
     ensures before { line.new.before ≡ line.old.before }
     ensures adds { OnOk result ((sigs : List (ℕ × Promise)) (K : History)
         → board.now ≡ replay sigs K
@@ -70,11 +68,12 @@ pub(crate) fn push_flight(line: &mut Writer, board: &Core, flight: u64) -> Resul
     Ok(())
 }
 
-// Adds the record of a flight that was known, where its alerts are others than they were.
+// Adds the record of a flight that was known, most likely at this place, where its alerts are others than they were.
 fn push_changed_flight(
-    line: &mut Writer,
+    line: &mut FeedLine,
     known: &Known,
     board: &Core,
+    place: usize,
     flight: u64,
 ) -> Result<(), AllocError>
     ensures before { line.new.before ≡ line.old.before }
@@ -82,20 +81,22 @@ fn push_changed_flight(
         → board.now ≡ replay sigs K → Knows J known.now
         → line.new.tokens ≡ line.old.tokens ++ other_tokens J K flight) }
 {
-    push_other(line, known.word(flight), board.record_of(flight))?;
+    push_other(line, known.word_at(place, flight), board.record_of(flight))?;
     Ok(())
 }
 
 // Adds the records of those flights whose alerts are others than they were.
-fn push_ticked(line: &mut Writer, known: &Known, board: &Core) -> Result<(), AllocError>
+fn push_ticked(line: &mut FeedLine, known: &Known, board: &Core) -> Result<(), AllocError>
     ensures before { line.new.before ≡ line.old.before }
     ensures adds { OnOk result ((sigs : List (ℕ × Promise)) (J K : History)
         → board.now ≡ replay sigs K → Knows J known.now
         → line.new.tokens ≡ line.old.tokens ++ flat_map (other_tokens J K) (flights J)) }
 {
+    let mut place = 0;
     let mut rest = known.flights.as_slice();
     while let Some((flight, more)) = rest.split_first() {
-        push_changed_flight(line, known, board, *flight)?;
+        push_changed_flight(line, known, board, place, *flight)?;
+        place = place.saturating_add(1);
         rest = more;
     }
     Ok(())
@@ -109,7 +110,7 @@ fn is_tick(command: &Command) -> bool
 
 // Adds the records that an entry changed.
 fn push_records(
-    line: &mut Writer,
+    line: &mut FeedLine,
     known: &Known,
     board: &Core,
     entry: &Entry,
@@ -137,7 +138,7 @@ fn push_records(
 
 // Adds the list of the records that an entry changed.
 fn push_changed(
-    line: &mut Writer,
+    line: &mut FeedLine,
     known: &Known,
     board: &Core,
     entry: &Entry,
@@ -148,7 +149,7 @@ fn push_changed(
         → line.new.tokens
         ≡ line.old.tokens ++ list_member (codes "changed") (changed_tokens J entry.now)) }
 {
-    line.key("changed")?;
+    line.key(key!("changed"))?;
     line.begin_array()?;
     push_records(line, known, board, entry)?;
     line.end_array()?;
@@ -157,18 +158,18 @@ fn push_changed(
 
 // The number, the minute, the session and the role.
 #[tactic(auto, unfolding(crate::specs::Told::entry_members))]
-fn push_head(line: &mut Writer, entry: &Entry) -> Result<(), AllocError>
+fn push_head(line: &mut FeedLine, entry: &Entry) -> Result<(), AllocError>
     ensures before { line.new.before ≡ line.old.before }
     ensures adds { OnOk result (line.new.tokens ≡ line.old.tokens ++ entry_members entry.now) }
 {
-    push_number(line, "entry", entry.number)?;
-    push_time(line, "minute", entry.moment)?;
-    push_number(line, "session", u64::from(entry.session))?;
-    push_text(line, "role", entry.role.name())?;
+    push_number(line, key!("entry"), entry.number)?;
+    push_time(line, key!("minute"), entry.moment)?;
+    push_number(line, key!("session"), u64::from(entry.session))?;
+    push_text(line, key!("role"), entry.role.name())?;
     Ok(())
 }
 
-fn push_answers(line: &mut Writer, answers: &[u64]) -> Result<(), AllocError>
+fn push_answers(line: &mut FeedLine, answers: &[u64]) -> Result<(), AllocError>
     ensures before { line.new.before ≡ line.old.before }
     ensures adds { OnOk result (line.new.tokens
         ≡ line.old.tokens ++ flat_map answer_token answers.now) }
@@ -182,12 +183,12 @@ fn push_answers(line: &mut Writer, answers: &[u64]) -> Result<(), AllocError>
 }
 
 // Adds the list of the answers.
-fn push_answer_list(line: &mut Writer, answers: &[u64]) -> Result<(), AllocError>
+fn push_answer_list(line: &mut FeedLine, answers: &[u64]) -> Result<(), AllocError>
     ensures before { line.new.before ≡ line.old.before }
     ensures adds { OnOk result (line.new.tokens ≡ line.old.tokens
         ++ list_member (codes "answers") (flat_map answer_token answers.now)) }
 {
-    line.key("answers")?;
+    line.key(key!("answers"))?;
     line.begin_array()?;
     push_answers(line, answers)?;
     line.end_array()?;
@@ -196,13 +197,13 @@ fn push_answer_list(line: &mut Writer, answers: &[u64]) -> Result<(), AllocError
 
 // The command, what came of it, and the answers of helpers that its programs used.
 #[tactic(auto, unfolding(crate::specs::Told::told_members))]
-fn push_told(line: &mut Writer, entry: &Entry) -> Result<(), AllocError>
+fn push_told(line: &mut FeedLine, entry: &Entry) -> Result<(), AllocError>
     ensures before { line.new.before ≡ line.old.before }
     ensures adds { OnOk result (line.new.tokens ≡ line.old.tokens ++ told_members entry.now) }
 {
-    line.key("command")?;
+    line.key(key!("command"))?;
     push_command(line, &entry.command)?;
-    line.key("outcome")?;
+    line.key(key!("outcome"))?;
     push_outcome(line, entry.verdict)?;
     push_answer_list(line, entry.answers.as_slice())?;
     Ok(())
@@ -210,7 +211,7 @@ fn push_told(line: &mut Writer, entry: &Entry) -> Result<(), AllocError>
 
 // Adds all of it as one object.
 fn push_object(
-    line: &mut Writer,
+    line: &mut FeedLine,
     known: &Known,
     board: &Core,
     entry: &Entry,
@@ -240,11 +241,15 @@ pub fn push_line(
     ensures told { OnOk result ((sigs : List (ℕ × Promise)) (J : History)
         → board.now ≡ replay sigs (entry.now ∷ J) → Knows J known.now
         → text.new.items ≡ text.old.items ++ told J entry.now) }
+    ensures refused { OnErr result (text.new.items ≡ text.old.items) }
 {
-    let mut line = Writer::new(Vec::with_capacity(*text.allocator(), LINE)?);
-    push_object(&mut line, known, board, entry)?;
-    let mut bytes = line.into_inner();
-    bytes.push(b'\n')?;
-    text.extend_from_slice(bytes.as_slice())?;
-    Ok(())
+    let alloc = *text.allocator();
+    let mut line = FeedLine::new(mem::replace(text, Vec::new(alloc)), known.day);
+    match push_object(&mut line, known, board, entry) {
+        Ok(()) => line.end(text),
+        Err(refused) => {
+            line.drop_into(text);
+            Err(refused)
+        }
+    }
 }

@@ -2,9 +2,14 @@ use Rattle.std.proofs.Common.{◌≡◌, ap, length, rules, subst, ◌∙◌}
 use Rattle.std.specs.Arc.{arc_value}
 use Rattle.acdm_row.specs.Views.{RowView}
 use Rattle.acdm_displays.specs.Displayed.{SaysEvents}
-use Rattle.acdm_displays.proofs.Within.{took}
+use Rattle.acdm_displays.proofs.Within.{took, within_shown}
 use Rattle.acdm_displays.proofs.Written.{says_events}
 use Rattle.acdm_displays.proofs.browsing.follow_events.Goals as goal
+
+pub send_on-requires-clause-within : goal.send_on-requires-clause-within
+send_on-requires-clause-within g c =
+    within_shown c.in_ok-seen.seen.extent c.most_shown.result c.in_ok-seen.seen.watch.seen c.begin_events.new.watch.seen
+    c.most_shown.ensures c.in_ok-seen.ensures.empty c.in_ok-begin_events.ensures.within
 
 pub returns-clause-sent : goal.returns-clause-sent
 returns-clause-sent g c =

@@ -6,5 +6,5 @@ pub returns-clause-adds : goal.returns-clause-adds
 returns-clause-adds c sigs J K eq k =
     c.in_ok-push_other.ensures.adds
     ∙ ap (λ l. c.args.line.now.tokens ++ l)
-    (other_by J K c.args.flight _ _ (c.word.ensures ∙ k.of_flights.words c.args.flight)
+    (other_by J K c.args.flight _ _ (c.word_at.ensures ∙ k.of_flights.words c.args.flight)
     (c.record_of.ensures.record sigs K eq))

@@ -4,9 +4,8 @@ use Rattle.acdm_feed.proofs.known.Known.follow_flights.Goals as goal
 
 pub returns-then-touches_all-clause-knows : goal.returns-then-touches_all-clause-knows
 returns-then-touches_all-clause-knows c sigs J eq k =
-    c.in_ok-read_all.ensures.knows sigs (c.args.entry.now ∷ J) eq
-    (k.flights_are ∙ sym (same_flights J c.args.entry.now
-    (sym c.touches_all.ensures ∙ c.if-touches_all.true)))
+    c.in_ok-read_all.ensures.knows sigs J (c.args.entry.now ∷ J) eq k
+    (sym (same_flights J c.args.entry.now (sym c.touches_all.ensures ∙ c.if-touches_all.true)))
 
 pub returns-in_ok-follow_flight-in-Some-clause-knows : goal.returns-in_ok-follow_flight-in-Some-clause-knows
 returns-in_ok-follow_flight-in-Some-clause-knows c sigs J eq k =

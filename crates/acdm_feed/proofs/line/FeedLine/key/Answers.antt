@@ -1,0 +1,17 @@
+use Rattle.std.proofs.Common.{◌++◌, ◌∷◌, [], false, refl, sym, ap, ◌∙◌}
+use Rattle.std.proofs.Math.Bool.{and-true}
+use Rattle.json.specs.Token.{key}
+use Rattle.acdm_feed.specs.Lineviews.{name_in}
+use Rattle.acdm_feed.proofs.Adding.{key_text}
+use Rattle.acdm_feed.proofs.Adding.{adds_token, is_line}
+use Rattle.acdm_feed.proofs.line.FeedLine.key.Goals as goal
+
+pub invariant_of-self-2 : goal.invariant_of-self-2
+invariant_of-self-2 c =
+    is_line c.self.inside _ c.self.invariant (key (name_in c.args.quoted.now)) tt c.self.inside.after_value (sym (and-true c.self.inside.after_value)) _ (c.as_bytes.ensures.value ∙ key_text c.args.quoted.now c.requires) refl refl c.in_ok-add.ensures.adds
+
+pub returns-clause-adds : goal.returns-clause-adds
+returns-clause-adds c =
+    adds_token c.self.inside (record c.self.inside { out = c.add.new.self; after_value = false }) c.self.invariant
+    (key (name_in c.args.quoted.now)) tt c.self.inside.after_value (sym (and-true c.self.inside.after_value)) _ (c.as_bytes.ensures.value ∙ key_text c.args.quoted.now c.requires) refl refl c.in_ok-add.ensures.adds
+    ∙ ap (λ v. v.tokens ++ (key (name_in c.args.quoted.now)) ∷ []) c.self.view_is
