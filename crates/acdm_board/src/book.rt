@@ -20,10 +20,18 @@ use std::marker::Model;
 use std::sync::Arc;
 
 /// A core and its journal, whose replay it is.
-#[derive(Drop)]
 pub(crate) struct Book {
     core: Core,
     journal: Publisher,
+}
+
+impl Drop for Book {
+    fn drop(self) {
+        let Book {
+            core: _,
+            journal: _,
+        } = self;
+    }
 }
 
 impl Model for Book {

@@ -29,11 +29,20 @@ pub struct Reply {
 }
 
 /// Helpers, as those of a bank, and a core with its journal, whose replay it is.
-#[derive(Drop)]
 pub struct Desk<H: Helpers + Drop> {
     helpers: H,
     book: Box<Book>,
     passes: Passes,
+}
+
+impl<H: Helpers + Drop> Drop for Desk<H> {
+    fn drop(self) {
+        let Desk {
+            helpers: _,
+            book: _,
+            passes: _,
+        } = self;
+    }
 }
 
 impl<H: Helpers + Drop> Model for Desk<H> {

@@ -12,10 +12,15 @@ use std::sync::Arc;
 const MOST_PASSES: usize = 384;
 
 /// Passes of one row, at most one for each session and role.
-#[derive(Drop)]
 pub(crate) struct Passes {
     row: Arc<Row>,
     items: Vec<Pass>,
+}
+
+impl Drop for Passes {
+    fn drop(self) {
+        let Passes { row: _, items: _ } = self;
+    }
 }
 
 impl Model for Passes {

@@ -22,7 +22,6 @@ struct WaitingReplies {
 
 /// Which entries other boards have said that they keep, for many who ask at once: replies that wait for it, and those who
 /// send the entries.
-#[derive(Drop)]
 pub struct Confirmed {
     terms: ConfirmationTerms,
     waiting: Mutex<WaitingReplies>,
@@ -31,6 +30,18 @@ pub struct Confirmed {
     // A board has said what it keeps, or is late.
     answered: Condvar,
     closing: Arc<AtomicBool>,
+}
+
+impl Drop for Confirmed {
+    fn drop(self) {
+        let Confirmed {
+            terms: _,
+            waiting: _,
+            asked: _,
+            answered: _,
+            closing: _,
+        } = self;
+    }
 }
 
 impl Confirmed {

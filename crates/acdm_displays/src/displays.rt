@@ -325,6 +325,7 @@ impl<K: SystemClock + Threads + Wait + Drop + Send> Task for Admission<K> {
     fn run(self) {
         self.admit();
         self.admit_last();
+        self.shared.admitting.fetch_sub(1, Ordering::SeqCst);
     }
 }
 
@@ -458,7 +459,6 @@ impl<K: SystemClock + Threads + Wait + Drop> Admission<K> {
 #[derive(Drop)]
 pub struct Displays {
     shared: Arc<Shared>,
-    admitting: Vec<JoinHandle<()>>,
 }
 
 impl Displays {
@@ -488,7 +488,6 @@ impl Displays {
         } else {
             1
         };
-        let mut admitting = Vec::with_capacity(alloc, threads)?;
         for _ in 0..threads {
             let admission = Admission {
                 rt: rt.clone()?,
@@ -504,24 +503,22 @@ impl Displays {
                 shared: Arc::try_clone(&shared)?,
                 socket: socket.try_clone()?,
             };
-            let Some(thread) = begin(rt, admission) else {
+            // Nobody waits for its thread, which may send to a board that takes nothing.
+            shared.admitting.fetch_add(1, Ordering::SeqCst);
+            if begin(rt, admission).is_none() {
                 return Err(io::Error::from(ErrorKind::OutOfMemory));
-            };
-            admitting.push(thread)?;
+            }
         }
-        Ok(Displays { shared, admitting })
+        Ok(Displays { shared })
     }
 
     /// Has displays sent what there is yet, those too that have connected by now, and lets them go.
     /// A display that has not taken it after 5 seconds is not waited for.
     pub fn close<Rt: SystemClock + Threads>(self, rt: &Rt) {
-        let Displays { shared, admitting } = self;
+        let Displays { shared } = self;
         shared.closing.store(true, Ordering::SeqCst);
-        for thread in admitting {
-            thread.join(rt);
-        }
         for _ in 0..LAST_PAUSES {
-            if shared.taken.load(Ordering::SeqCst) == 0 {
+            if shared.is_over() {
                 return;
             }
             thread::sleep(rt, Duration::from_millis(PAUSE));

@@ -13,6 +13,8 @@ const MOST_DISPLAYS: u64 = 64;
 pub(crate) struct Shared {
     /// Whether the last entry was made.
     pub(crate) closing: AtomicBool,
+    /// How many threads accept displays still.
+    pub(crate) admitting: AtomicU64,
     /// How many places are taken.
     pub(crate) taken: AtomicU64,
     /// How many milliseconds have passed since displays are accepted, which the thread that accepts them tells.
@@ -32,12 +34,19 @@ impl Shared {
         };
         let shared = Shared {
             closing: AtomicBool::new(false),
+            admitting: AtomicU64::new(0),
             taken: AtomicU64::new(0),
             passed: AtomicU64::new(0),
             seconds: AtomicU64::new(0),
             name,
         };
         Ok(Arc::new(alloc, shared)?)
+    }
+
+    /// Whether no display is accepted any more, and all of them have left.
+    pub(crate) fn is_over(&self) -> bool {
+        // (who accepts one takes a place for it, so that is asked for first)
+        self.admitting.load(Ordering::SeqCst) == 0 && self.taken.load(Ordering::SeqCst) == 0
     }
 
     /// A time that is over after so many milliseconds, from now on.

@@ -41,7 +41,6 @@ impl Receipt {
 /// Who writes the entries of a row, as text, to the place where they are kept. It follows the row by
 /// a sight of its own, and takes no lock. Its text is gathered in a buffer that it takes at its start, with
 /// room for the longest line behind what is gathered, and that is written and used again.
-#[derive(Drop)]
 pub struct Keeper<W: Write> {
     sight: Sight,
     row: Arc<Row>,
@@ -50,6 +49,19 @@ pub struct Keeper<W: Write> {
     has_failed: bool,
     // Whether that was for want of memory.
     lacks_memory: bool,
+}
+
+impl<W: Write + Drop> Drop for Keeper<W> {
+    fn drop(self) {
+        let Keeper {
+            sight: _,
+            row: _,
+            writer: _,
+            text: _,
+            has_failed: _,
+            lacks_memory: _,
+        } = self;
+    }
 }
 
 impl<W: Write> Model for Keeper<W> {
@@ -106,8 +118,15 @@ impl<W: Write + Drop> Keeper<W> {
     pub fn into_writer(self) -> Sink<W>
         ensures { result ≡ self.writer }
     {
-        let Keeper { writer, .. } = self;
-        writer
+        let Keeper {
+            sight: _,
+            row: _,
+            writer: sink,
+            text: _,
+            has_failed: _,
+            lacks_memory: _,
+        } = self;
+        sink
     }
 
     /// Passes over so many entries, which are kept already. `Save` where fewer are in sight, `Memory`

@@ -10,10 +10,15 @@ use std::marker::{Model, PhantomData};
 use std::sync::Wait;
 
 /// How many entries of a board are kept, as it is before a keeper of them is shared. Contracts see which it is.
-#[derive(Drop)]
 pub struct KeptCount {
     cell: Cell,
     pass: CountPass,
+}
+
+impl Drop for KeptCount {
+    fn drop(self) {
+        let KeptCount { cell: _, pass: _ } = self;
+    }
 }
 
 impl Model for KeptCount {

@@ -97,13 +97,24 @@ pub(crate) fn changed() -> io::Error {
 
 /// A file by its path and by what the system knows it by, with the bytes that were written to it, and why it
 /// could not be written.
-#[derive(Drop)]
 pub struct Named {
     path: String,
     device: u64,
     inode: u64,
     bytes: Arc<AtomicU64>,
     failed: Arc<AtomicI32>,
+}
+
+impl Drop for Named {
+    fn drop(self) {
+        let Named {
+            path: _,
+            device: _,
+            inode: _,
+            bytes: _,
+            failed: _,
+        } = self;
+    }
 }
 
 impl Named {

@@ -24,9 +24,14 @@ impl Extent {
 
 /// How far the journal of a row is kept. Who shows entries shows none behind that: what is not kept may be
 /// another entry after the next start. It is asked without a lock.
-#[derive(Drop)]
 pub struct Reach {
     kept: Arc<AtomicUsize>,
+}
+
+impl Drop for Reach {
+    fn drop(self) {
+        let Reach { kept: _ } = self;
+    }
 }
 
 impl Reach {

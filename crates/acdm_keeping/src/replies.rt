@@ -71,7 +71,6 @@ impl<'a, F: Write + Drop> EntryKeeper for &'a mut Keeper<F> {
 /// A writer of replies that hands on nothing before the entries are kept of which it may tell. It holds replies back
 /// until there are many, or until it is flushed, and waits for the entries of all of them at once. Where they can't be
 /// kept, nothing is handed on any more.
-#[derive(Drop)]
 pub struct Replies<K: EntryKeeper + Drop, W: Write + Drop> {
     backed: Backed<K>,
     writer: Sink<W>,
@@ -80,6 +79,18 @@ pub struct Replies<K: EntryKeeper + Drop, W: Write + Drop> {
     last: Option<u64>,
     // The latest receipt.
     receipt: Option<Receipt>,
+}
+
+impl<K: EntryKeeper + Drop, W: Write + Drop> Drop for Replies<K, W> {
+    fn drop(self) {
+        let Replies {
+            backed: _,
+            writer: _,
+            held: _,
+            last: _,
+            receipt: _,
+        } = self;
+    }
 }
 
 impl<K: EntryKeeper + Drop, W: Write + Drop> Replies<K, W> {
@@ -129,7 +140,13 @@ impl<K: EntryKeeper + Drop, W: Write + Drop> Replies<K, W> {
         ensures handed { result.1 ≡ self.backed.handed }
         ensures covered { MatchOption result.1 (Unit {0}) (K.covers result.0) }
     {
-        let Replies { backed, .. } = self;
+        let Replies {
+            backed,
+            writer: _,
+            held: _,
+            last: _,
+            receipt: _,
+        } = self;
         backed.into_parts()
     }
 }

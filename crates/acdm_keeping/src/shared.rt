@@ -27,7 +27,6 @@ use std::time::Clock;
 ///
 /// Where keeping fails it has failed for good: nothing is told to be kept any more, and a word is set
 /// that others may look at.
-#[derive(Drop)]
 pub struct SharedKeeper<F: Write + Drop, J: Opening> {
     reach: Reach,
     shared: SharedCount<J>,
@@ -35,6 +34,19 @@ pub struct SharedKeeper<F: Write + Drop, J: Opening> {
     changed: Condvar,
     writing: Mutex<Writing<F, J>>,
     failed: Arc<AtomicBool>,
+}
+
+impl<F: Write + Drop, J: Opening> Drop for SharedKeeper<F, J> {
+    fn drop(self) {
+        let SharedKeeper {
+            reach: _,
+            shared: _,
+            progress: _,
+            changed: _,
+            writing: _,
+            failed: _,
+        } = self;
+    }
 }
 
 impl<F: Write + Drop, J: Opening> SharedKeeper<F, J> {
@@ -107,8 +119,10 @@ impl<F: Write + Drop, J: Opening> SharedKeeper<F, J> {
         let SharedKeeper {
             reach,
             shared,
+            progress: _,
+            changed: _,
             writing,
-            ..
+            failed: _,
         } = self;
         let mut writing = writing.into_inner();
         let written = writing.write_on(rt, &shared);
@@ -158,7 +172,6 @@ impl<F: Write + Drop, J: Opening> SharedKeeper<F, J> {
 /// A keeper that is shared, if there is one, for a session on a thread of its own, and the latest receipt that it gave.
 /// Where there is none, nothing is kept and nobody waits. Where other boards have to keep an entry too, it waits for them
 /// behind that.
-#[derive(Drop)]
 pub struct Waiter<'r, F: Write + Drop, J: Opening, Rt> {
     rt: &'r Rt,
     keeper: Option<&'r SharedKeeper<F, J>>,
@@ -166,6 +179,18 @@ pub struct Waiter<'r, F: Write + Drop, J: Opening, Rt> {
     receipt: Option<LastingReceipt<J>>,
     // That other boards keep the entries of the receipt, or are late, where they have to.
     confirmation: Option<Confirmation>,
+}
+
+impl<F: Write + Drop, J: Opening, Rt> Drop for Waiter<'_, F, J, Rt> {
+    fn drop(self) {
+        let Waiter {
+            rt: _,
+            keeper: _,
+            confirmed: _,
+            receipt: _,
+            confirmation: _,
+        } = self;
+    }
 }
 
 impl<'r, F: Write + Drop, J: Opening, Rt> Waiter<'r, F, J, Rt> {
@@ -192,8 +217,14 @@ impl<'r, F: Write + Drop, J: Opening, Rt> Waiter<'r, F, J, Rt> {
     pub fn into_receipt(self) -> Option<LastingReceipt<J>>
         ensures { result ≡ self.entry.receipt }
     {
-        let Waiter { receipt, .. } = self;
-        receipt
+        let Waiter {
+            rt: _,
+            keeper: _,
+            confirmed: _,
+            receipt: given,
+            confirmation: _,
+        } = self;
+        given
     }
 }
 

@@ -11,12 +11,22 @@ use std::io::{self, ErrorKind, Write};
 /// fails where the path of the file does not lead to it any more, or where the file has another length than it
 /// had with all that was written: somebody has removed, renamed, replaced, cut or lengthened it. Why a write or a
 /// flush failed first is known by its name.
-#[derive(Drop)]
 pub struct Synced<Rt: Drop> {
     rt: Rt,
     file: File,
     named: Named,
     is_synced: bool,
+}
+
+impl<Rt: Drop> Drop for Synced<Rt> {
+    fn drop(self) {
+        let Synced {
+            rt: _,
+            file: _,
+            named: _,
+            is_synced: _,
+        } = self;
+    }
 }
 
 impl<Rt: Paths + Drop> Synced<Rt> {

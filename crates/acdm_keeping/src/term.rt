@@ -119,11 +119,20 @@ fn term_at<Rt: Files<File = File>>(rt: &Rt, path: &str) -> io::Result<u64> {
 
 /// The term of a board, which all its threads know, and the file in which it stands, where its journal is kept. And the term
 /// of the board that was met last.
-#[derive(Drop)]
 pub struct BoardTerm {
     path: Option<String>,
     own: Arc<AtomicU64>,
     met: Arc<AtomicU64>,
+}
+
+impl Drop for BoardTerm {
+    fn drop(self) {
+        let BoardTerm {
+            path: _,
+            own: _,
+            met: _,
+        } = self;
+    }
 }
 
 impl BoardTerm {

@@ -21,11 +21,20 @@ pub enum Ending {
 }
 
 /// What was read and not yet taken, and what is kept of the line that was taken last.
-#[derive(Drop)]
 pub struct Lines<const MOST: usize> {
     pub window: Window,
     pub line: KeptLine<MOST>,
     pub reads_left: u64,
+}
+
+impl<const MOST: usize> Drop for Lines<MOST> {
+    fn drop(self) {
+        let Lines {
+            window: _,
+            line: _,
+            reads_left: _,
+        } = self;
+    }
 }
 
 impl<const MOST: usize> Lines<MOST> {

@@ -17,13 +17,24 @@ use std::marker::Model;
 /// Clauses also know its `log`, all bytes that its writes took since it was made, whatever writer it
 /// is; `first`, the bytes that it held where they were known when it was made, as those of a
 /// `Vec` are; and `told`, the numbers of the entries that it was told of, in order.
-#[derive(Drop)]
 pub struct Sink<W: Write> {
     inner: W,
     faults: u64,
     waits: bool,
     log: Log,
     told: Announced,
+}
+
+impl<W: Write + Drop> Drop for Sink<W> {
+    fn drop(self) {
+        let Sink {
+            inner: _,
+            faults: _,
+            waits: _,
+            log: _,
+            told: _,
+        } = self;
+    }
 }
 
 impl<W: Write> Model for Sink<W> {
@@ -86,8 +97,14 @@ impl<W: Write> Sink<W> {
         ensures same { result ≡ self.inner }
         ensures known { Appends self.first (W.contents result) self.log }
     {
-        let Sink { inner, .. } = self;
-        inner
+        let Sink {
+            inner: writer,
+            faults: _,
+            waits: _,
+            log: _,
+            told: _,
+        } = self;
+        writer
     }
 }
 

@@ -14,11 +14,20 @@ use std::marker::Model;
 /// Clauses also know its `log`, all bytes that its reads gave since it was made, whatever reader it
 /// is; whether it has `ended`: the last read gave none where there was room; and `first`, the bytes
 /// that it was to give where they were known when it was made, as those of a slice are.
-#[derive(Drop)]
 pub struct Source<R: Read> {
     inner: R,
     faults: u64,
     log: Log,
+}
+
+impl<R: Read + Drop> Drop for Source<R> {
+    fn drop(self) {
+        let Source {
+            inner: _,
+            faults: _,
+            log: _,
+        } = self;
+    }
 }
 
 impl<R: Read> Model for Source<R> {
@@ -74,8 +83,12 @@ impl<R: Read> Source<R> {
         ensures end { self.ended ≡ true → IsAtEnd (R.remaining result) }
         ensures whole { self.ended ≡ true → IfSome self.first (λ all. self.log ≡ all) }
     {
-        let Source { inner, .. } = self;
-        inner
+        let Source {
+            inner: reader,
+            faults: _,
+            log: _,
+        } = self;
+        reader
     }
 }
 

@@ -13,11 +13,20 @@ use std::marker::Model;
 const MOST_HELD: usize = 65_536;
 
 /// The bytes of one read that are still to be taken.
-#[derive(Drop)]
 pub struct Window {
     bytes: Vec<u8>,
     start: usize,
     end: usize,
+}
+
+impl Drop for Window {
+    fn drop(self) {
+        let Window {
+            bytes: _,
+            start: _,
+            end: _,
+        } = self;
+    }
 }
 
 impl Model for Window {

@@ -15,7 +15,6 @@ const LOOKS_A_FILE: u64 = 16;
 
 /// Who accepts partners at all addresses, looks after the file of the journal, tells who comes and leaves and when the journal is nearly full,
 /// and answers at the control address.
-#[derive(Drop)]
 pub struct Acceptor<K: Drop, S: Drop> {
     reporter: Reporter<K>,
     doors: Vec<Door>,
@@ -34,19 +33,41 @@ pub struct Acceptor<K: Drop, S: Drop> {
     done: Arc<AtomicBool>,
 }
 
+impl<K: Drop, S: Drop> Drop for Acceptor<K, S> {
+    fn drop(self) {
+        let Acceptor {
+            reporter: _,
+            doors: _,
+            control: _,
+            standing: _,
+            levels: _,
+            are_late: _,
+            looks: _,
+            is_asked: _,
+            is_replaced: _,
+            first: _,
+            closing: _,
+            done: _,
+        } = self;
+    }
+}
+
 impl<K: Wait + Clock + Drop, S: Standing + Drop> Acceptor<K, S> {
     /// One for these addresses, and for this control address, if there is one; or for a board that follows another one,
     /// and has no partners meanwhile. What is to be told of them and of the journal goes to the reporter. The word tells
-    /// that the board closes.
+    /// that the board closes. Who is connected at the control address already has ten seconds for a line from then on.
     pub fn new(
         reporter: Reporter<K>,
         doors: Vec<Door>,
-        control: Option<Control>,
+        mut control: Option<Control>,
         standing: S,
         first: Option<FollowedBoard>,
         closing: Arc<AtomicBool>,
     ) -> Result<Acceptor<K, S>, AllocError> {
         let done = Arc::new(reporter.alloc, AtomicBool::new(false))?;
+        if let Some(control) = &mut control {
+            control.begin_anew();
+        }
         Ok(Acceptor {
             reporter,
             doors,
@@ -88,7 +109,20 @@ impl<K: Wait + Clock + Drop, S: Standing + Drop> Acceptor<K, S> {
         self.serve();
         self.close();
         self.finish();
-        let Acceptor { control, .. } = self;
+        let Acceptor {
+            reporter: _,
+            doors: _,
+            control,
+            standing: _,
+            levels: _,
+            are_late: _,
+            looks: _,
+            is_asked: _,
+            is_replaced: _,
+            first: _,
+            closing: _,
+            done: _,
+        } = self;
         control
     }
 
@@ -265,10 +299,15 @@ impl<K: Wait + Clock + Drop, S: Standing + Drop> Acceptor<K, S> {
 }
 
 /// The thread of an acceptor.
-#[derive(Drop)]
 pub struct Reception {
     done: Arc<AtomicBool>,
     thread: JoinHandle<Option<Control>>,
+}
+
+impl Drop for Reception {
+    fn drop(self) {
+        let Reception { done: _, thread: _ } = self;
+    }
 }
 
 impl Reception {

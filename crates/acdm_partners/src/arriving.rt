@@ -10,7 +10,6 @@ use std::thread;
 use std::time::{Clock, Duration};
 
 /// Who connects at a place, one after the other.
-#[derive(Drop)]
 pub struct Arriving<'r, Rt> {
     rt: &'r Rt,
     place: Arc<PartnerPlace>,
@@ -19,6 +18,18 @@ pub struct Arriving<'r, Rt> {
     // How many lines are taken in a minute, if that is bounded, and what that is measured by.
     pace: Option<Pace>,
     stopwatch: Stopwatch,
+}
+
+impl<Rt> Drop for Arriving<'_, Rt> {
+    fn drop(self) {
+        let Arriving {
+            rt: _,
+            place: _,
+            heard: _,
+            pace: _,
+            stopwatch: _,
+        } = self;
+    }
 }
 
 impl<'r, Rt: Wait + Clock> Arriving<'r, Rt> {

@@ -11,7 +11,6 @@ use std::sync::{Arc, Wait};
 /// One connection of a place, from its first line on. It ends where its partner ends it, where a newer one is there, and where the
 /// board closes. Where its session serves no further one, a last line that lacks its line feed is given
 /// one.
-#[derive(Drop)]
 pub struct Connection<'r, Rt> {
     rt: &'r Rt,
     place: Arc<PartnerPlace>,
@@ -22,6 +21,20 @@ pub struct Connection<'r, Rt> {
     given: usize,
     // Whether a line was begun and has not ended.
     in_line: bool,
+}
+
+impl<Rt> Drop for Connection<'_, Rt> {
+    fn drop(self) {
+        let Connection {
+            rt: _,
+            place: _,
+            stream: _,
+            number: _,
+            text: _,
+            given: _,
+            in_line: _,
+        } = self;
+    }
 }
 
 impl<'r, Rt: Wait> Connection<'r, Rt> {

@@ -127,10 +127,18 @@ struct ControlCaller {
 }
 
 /// The control address.
-#[derive(Drop)]
 pub struct Control {
     listener: TcpListener,
     callers: Vec<ControlCaller>,
+}
+
+impl Drop for Control {
+    fn drop(self) {
+        let Control {
+            listener: _,
+            callers: _,
+        } = self;
+    }
 }
 
 // An address: an IP address and a port, or a port of the loopback interface.
@@ -324,6 +332,14 @@ impl Control {
         listener.set_nonblocking(true)?;
         let callers = Vec::with_capacity(alloc, MOST_CALLERS)?;
         Ok(Control { listener, callers })
+    }
+
+    /// Has the ten seconds of all who are connected begin anew, at 0 milliseconds: who answers from then on counts from
+    /// there.
+    pub(crate) fn begin_anew(&mut self) {
+        for caller in self.callers.as_mut_slice() {
+            caller.since = 0;
+        }
     }
 
     /// Where it listens.

@@ -28,7 +28,6 @@ struct Here {
 }
 
 /// An address where the partner of one session connects.
-#[derive(Drop)]
 pub struct Door {
     number: usize,
     role: &'static str,
@@ -46,6 +45,25 @@ pub struct Door {
     // How often a bad line is logged, and how many were bad when one was.
     logging: Pace,
     logged: u64,
+}
+
+impl Drop for Door {
+    fn drop(self) {
+        let Door {
+            number: _,
+            role: _,
+            place: _,
+            listener: _,
+            longest: _,
+            newcomers: _,
+            judged: _,
+            here: _,
+            telling: _,
+            untold: _,
+            logging: _,
+            logged: _,
+        } = self;
+    }
 }
 
 impl Door {

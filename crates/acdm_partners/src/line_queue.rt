@@ -53,9 +53,14 @@ struct SharedQueue {
 
 /// What lines are handed to. Nobody waits for them to be written: 65,536 bytes of lines are held at most, and what
 /// finds no room is dropped, counted, and told behind those that found some.
-#[derive(Drop)]
 pub struct LineQueue {
     shared: Arc<SharedQueue>,
+}
+
+impl Drop for LineQueue {
+    fn drop(self) {
+        let LineQueue { shared: _ } = self;
+    }
 }
 
 // How many lines a text has.
@@ -162,6 +167,13 @@ impl LineQueue {
             Ok(_thread) => Ok(LineQueue { shared }),
             Err(_) => Err(AllocError),
         }
+    }
+
+    /// The same once more, for another thread. `Err` only where memory was refused.
+    pub(crate) fn copy(&self) -> Result<LineQueue, AllocError> {
+        Ok(LineQueue {
+            shared: Arc::try_clone(&self.shared)?,
+        })
     }
 
     /// Holds a line, which ends with its line feed, for the thread that writes.

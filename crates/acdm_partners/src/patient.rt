@@ -11,9 +11,14 @@ const MOST_REFUSALS: u32 = 120;
 
 /// A writer that is made to write again where a signal interrupted it, as a connection with a time limit
 /// tells of each stop of the program; and where it took nothing in its time, up to 120 times in a row.
-#[derive(Drop)]
 pub struct Patient<W> {
     stream: W,
+}
+
+impl<W: Drop> Drop for Patient<W> {
+    fn drop(self) {
+        let Patient { stream: _ } = self;
+    }
 }
 
 impl<W> Patient<W> {

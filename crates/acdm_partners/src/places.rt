@@ -20,13 +20,23 @@ pub struct Terms {
 
 /// Where the partner of one session connects. Each thread takes its lock, has one event happen, and does what it is
 /// told. Where the board closes that happens before.
-#[derive(Drop)]
 pub struct PartnerPlace {
     closing: Arc<AtomicBool>,
     pub(crate) terms: Terms,
     held: Mutex<HeldPlace>,
     // What came of the lines of its session, whoever was here.
     counts: Mutex<SessionCounts>,
+}
+
+impl Drop for PartnerPlace {
+    fn drop(self) {
+        let PartnerPlace {
+            closing: _,
+            terms: _,
+            held: _,
+            counts: _,
+        } = self;
+    }
 }
 
 impl PartnerPlace {

@@ -16,7 +16,6 @@ use std::marker::Model;
 /// line feeds, and nothing else. What stands behind the last line feed of a connection is dropped.
 /// Of a line that is longer than `MOST` bytes so many are given, and its line feed. A read gives bytes of
 /// one line at most, and ends the input where no further line is admitted or no further connection comes.
-#[derive(Drop)]
 pub struct WholeLines<A: Drop, R: Read + Drop, const MOST: usize> {
     arrivals: A,
     hearing: Hearing<R, MOST>,
@@ -25,6 +24,18 @@ pub struct WholeLines<A: Drop, R: Read + Drop, const MOST: usize> {
     is_admitted: bool,
     at: usize,
     ghost inside: { in_hand ≡ true → at ≤ length hearing.line },
+}
+
+impl<A: Drop, R: Read + Drop, const MOST: usize> Drop for WholeLines<A, R, MOST> {
+    fn drop(self) {
+        let WholeLines {
+            arrivals: _,
+            hearing: _,
+            in_hand: _,
+            is_admitted: _,
+            at: _,
+        } = self;
+    }
 }
 
 impl<A: Drop, R: Read + Drop, const MOST: usize> Model for WholeLines<A, R, MOST> {

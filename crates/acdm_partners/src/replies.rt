@@ -13,11 +13,20 @@ use std::sync::{Arc, Wait};
 /// Where the replies of a session go: to the connection whose lines they answer. A connection that
 /// fails, or takes nothing for 30 seconds, is cut off; what is left for it is dropped. Where the session
 /// serves no further one, the writer fails then, unless the board closes.
-#[derive(Drop)]
 pub struct PartnerReplies<'r, Rt> {
     rt: &'r Rt,
     place: Arc<PartnerPlace>,
     outlet: Outlet<TcpStream>,
+}
+
+impl<Rt> Drop for PartnerReplies<'_, Rt> {
+    fn drop(self) {
+        let PartnerReplies {
+            rt: _,
+            place: _,
+            outlet: _,
+        } = self;
+    }
 }
 
 impl<'r, Rt: Wait> PartnerReplies<'r, Rt> {

@@ -22,7 +22,6 @@ pub(crate) struct SessionName {
 
 /// Tells who comes and leaves and how full the journal is, each in a line with its moment: on standard error, and in the
 /// log of an operator, if there is one.
-#[derive(Drop)]
 pub struct Reporter<K: Drop> {
     pub(crate) rt: K,
     pub(crate) alloc: Global,
@@ -31,6 +30,19 @@ pub struct Reporter<K: Drop> {
     // Whether it was told that the log can't be written.
     is_log_failed: bool,
     stopwatch: Stopwatch,
+}
+
+impl<K: Drop> Drop for Reporter<K> {
+    fn drop(self) {
+        let Reporter {
+            rt: _,
+            alloc: _,
+            errors: _,
+            log: _,
+            is_log_failed: _,
+            stopwatch: _,
+        } = self;
+    }
 }
 
 impl<K: Wait + Clock + Drop> Reporter<K> {
@@ -45,6 +57,17 @@ impl<K: Wait + Clock + Drop> Reporter<K> {
             is_log_failed: false,
             stopwatch,
         }
+    }
+
+    /// One for another thread of the board, with this runtime, that hands its lines to the same queues. Whether the log can
+    /// be written is told by this one, which is the one that ends. `Err` only where memory was refused.
+    pub fn beside(&self, rt: K) -> Result<Reporter<K>, AllocError> {
+        let errors = self.errors.copy()?;
+        let log = match &self.log {
+            Some(log) => Some(log.copy()?),
+            None => None,
+        };
+        Ok(Reporter::new(rt, self.alloc, errors, log))
     }
 
     /// The milliseconds since it was made, where the clock tells time.
@@ -347,7 +370,7 @@ impl<K: Wait + Clock + Drop> Reporter<K> {
     }
 
     /// Has what waits written, and waits for that, a second at most for either.
-    pub fn end(&self) {
+    pub(crate) fn end(&self) {
         if let Some(log) = &self.log {
             log.end(&self.rt);
         }

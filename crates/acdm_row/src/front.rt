@@ -15,10 +15,15 @@ use std::marker::Model;
 use std::sync::Arc;
 
 /// What is known of the first cells of a row.
-#[derive(Drop)]
 pub struct Front {
     of: Arc<Row>,
     notes: Vec<Note<Published>>,
+}
+
+impl Drop for Front {
+    fn drop(self) {
+        let Front { of: _, notes: _ } = self;
+    }
 }
 
 impl Model for Front {

@@ -16,12 +16,22 @@ use std::marker::Model;
 use std::sync::Arc;
 
 /// Whose calls are made, what was seen by them of the journal, and which of its entries they made.
-#[derive(Drop)]
 pub struct Pass {
     session: u8,
     role: Role,
     pub(crate) front: Front,
     pub(crate) own: Vec<u64>,
+}
+
+impl Drop for Pass {
+    fn drop(self) {
+        let Pass {
+            session: _,
+            role: _,
+            front: _,
+            own: _,
+        } = self;
+    }
 }
 
 impl Model for Pass {

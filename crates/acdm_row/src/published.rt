@@ -11,17 +11,30 @@ pub type Past = Vec<Snapshot<Entry>>;
 
 /// An entry, and in proofs alone those before it. So a note of one cell knows the whole journal up
 /// to it.
-#[derive(Drop)]
 pub struct Published {
     pub entry: Entry,
     pub before: Snapshot<Past>,
 }
 
+impl Drop for Published {
+    fn drop(self) {
+        let Published {
+            entry: _,
+            before: _,
+        } = self;
+    }
+}
+
 /// Memory for what is published next, taken before it is known. Until then a tick stands there that
 /// nobody made.
-#[derive(Drop)]
 pub struct EntryPlace {
     value: Box<Published>,
+}
+
+impl Drop for EntryPlace {
+    fn drop(self) {
+        let EntryPlace { value: _ } = self;
+    }
 }
 
 impl EntryPlace {

@@ -19,12 +19,22 @@ use std::snapshot::Snapshot;
 use std::sync::Arc;
 
 /// Publishes entries, each in the next cell of a row, and knows those that it published.
-#[derive(Drop)]
 pub struct Publisher {
     row: Arc<Row>,
     front: Front,
     past: Past,
     alloc: Global,
+}
+
+impl Drop for Publisher {
+    fn drop(self) {
+        let Publisher {
+            row: _,
+            front: _,
+            past: _,
+            alloc: _,
+        } = self;
+    }
 }
 
 impl Model for Publisher {

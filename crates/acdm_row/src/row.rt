@@ -9,10 +9,15 @@ use std::marker::Model;
 
 /// Cells that are set once, in order, and the signatures against which the programs of their
 /// entries were checked.
-#[derive(Drop)]
 pub struct Row {
     cells: Vec<OnceBox<Published>>,
     sigs: Sigs,
+}
+
+impl Drop for Row {
+    fn drop(self) {
+        let Row { cells: _, sigs: _ } = self;
+    }
 }
 
 impl Model for Row {

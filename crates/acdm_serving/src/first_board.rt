@@ -82,7 +82,7 @@ fn follower_of<'r, J: Opening, Rt: Host>(
         ticks: None,
     };
     let reporter = reporter_of(rt, alloc, text_of(alloc, &operation.log)?)?;
-    let own = reporter_of(rt, alloc, text_of(alloc, &operation.log)?)?;
+    let own = reporter.beside(rt.clone()?)?;
     let closing = Arc::try_clone(&operation.closing)?;
     let same = flags.copy()?;
     let control = operation.control.take();
@@ -169,7 +169,7 @@ pub fn follow_first<'r, J: Opening + Send + Sync, Rt: Host, H: Helpers + Drop>(
         confirming,
     };
     let followed = follow_by(alloc, &mut board, &mut keeper, desk);
-    board.end();
+    // (all that was told of the first board is written by then too)
     operation.control = reception.end(rt);
     match followed {
         Ok(()) => {}

@@ -405,11 +405,6 @@ impl<'r, Rt: Clock + Wait + Drop, M: Connects<C> + Drop, C: Drop> FirstBoardAt<'
         }
     }
 
-    /// Has all written that was told.
-    pub(crate) fn end(&self) {
-        self.reporter.end();
-    }
-
     // Waits a second, or until this board is not to follow any more.
     fn pause(&self) {
         for _ in 0..PAUSES_BETWEEN {

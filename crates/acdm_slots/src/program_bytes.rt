@@ -4,9 +4,14 @@ ghost use Rattle.std.specs.Prelude.{◌≡◌};
 use std::marker::Model;
 
 /// The bytes of a program that is to be loaded, whether they encode one or not.
-#[derive(Drop)]
 pub struct ProgramBytes {
     items: Vec<u8>,
+}
+
+impl Drop for ProgramBytes {
+    fn drop(self) {
+        let ProgramBytes { items: _ } = self;
+    }
 }
 
 impl Model for ProgramBytes {

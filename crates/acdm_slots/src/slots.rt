@@ -21,11 +21,20 @@ pub(crate) const PLACES: usize = 32;
 /// helpers, and the length of its records. Each program was checked under exactly these signatures
 /// and beside records of this length. Contracts see a map from milestone and kind by the words of
 /// `specs/Loaded.antt`.
-#[derive(Drop)]
 pub struct Slots {
     sigs: Sigs,
     record_length: Length,
     programs: Vec<Option<Checked>>,
+}
+
+impl Drop for Slots {
+    fn drop(self) {
+        let Slots {
+            sigs: _,
+            record_length: _,
+            programs: _,
+        } = self;
+    }
 }
 
 impl Model for Slots {

@@ -20,10 +20,18 @@ use std::alloc::{AllocError, Global};
 use std::marker::Model;
 
 /// The records in order of creation, with room for all that a board may have.
-#[derive(Drop)]
 pub(crate) struct Flights {
     records: IndexMap<u64, Record>,
     marks: Marks,
+}
+
+impl Drop for Flights {
+    fn drop(self) {
+        let Flights {
+            records: _,
+            marks: _,
+        } = self;
+    }
 }
 
 impl Model for Flights {

@@ -15,12 +15,22 @@ use std::marker::Model;
 pub const MINUTES_OF_DAY: u64 = 1_440;
 
 /// What is planned for a flight.
-#[derive(Drop)]
 pub struct FlightPlan {
     pub callsign: Text<8>,
     pub aircraft: Text<4>,
     pub registration: Text<8>,
     pub destination: Text<4>,
+}
+
+impl Drop for FlightPlan {
+    fn drop(self) {
+        let FlightPlan {
+            callsign: _,
+            aircraft: _,
+            registration: _,
+            destination: _,
+        } = self;
+    }
 }
 
 /// How long the stages of a turn-round take, in minutes.
@@ -38,7 +48,6 @@ pub struct Durations {
 ///
 /// The flight is at least 1, SOBT is a minute since 1970-01-01T00:00Z and at least 1, MTTT and EXOT
 /// are at most `MINUTES_OF_DAY`, EXIT is in minutes.
-#[derive(Drop)]
 pub struct Schedule {
     pub(crate) flight: FlightNumber,
     pub(crate) plan: FlightPlan,
@@ -47,6 +56,20 @@ pub struct Schedule {
     pub(crate) exit: u8,
     pub(crate) exot: u16,
     pub(crate) stand: u16,
+}
+
+impl Drop for Schedule {
+    fn drop(self) {
+        let Schedule {
+            flight: _,
+            plan: _,
+            sobt: _,
+            mttt: _,
+            exit: _,
+            exot: _,
+            stand: _,
+        } = self;
+    }
 }
 
 impl Model for Schedule {
@@ -161,12 +184,22 @@ impl Schedule {
 ///
 /// The flight is at least 1. The time is in minutes since 1970-01-01T00:00Z, and 0 (no time) with
 /// milestones 2 and 9 alone. A plan comes with milestone 1, and with it alone.
-#[derive(Drop)]
 pub struct Report {
     pub(crate) flight: FlightNumber,
     pub(crate) milestone: Milestone,
     pub(crate) time: u32,
     pub(crate) plan: Option<FlightPlan>,
+}
+
+impl Drop for Report {
+    fn drop(self) {
+        let Report {
+            flight: _,
+            milestone: _,
+            time: _,
+            plan: _,
+        } = self;
+    }
 }
 
 impl Model for Report {
@@ -276,11 +309,20 @@ impl FlightNumber {
 }
 
 /// Puts a checked program into a slot, in place of what stands there.
-#[derive(Drop)]
 pub struct Load {
     pub milestone: Milestone,
     pub kind: Kind,
     pub program: Checked,
+}
+
+impl Drop for Load {
+    fn drop(self) {
+        let Load {
+            milestone: _,
+            kind: _,
+            program: _,
+        } = self;
+    }
 }
 
 impl Load {

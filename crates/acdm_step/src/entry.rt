@@ -33,9 +33,14 @@ impl Verdict {
 
 /// The answers of helpers that the programs of one command used, the first one first. It takes memory
 /// only where there are any.
-#[derive(Drop)]
 pub struct Answers {
     items: Option<Box<Vec<u64>>>,
+}
+
+impl Drop for Answers {
+    fn drop(self) {
+        let Answers { items: _ } = self;
+    }
 }
 
 impl Model for Answers {
@@ -112,7 +117,6 @@ impl Answers {
 /// told by `outcome`, from the board before it.
 ///
 /// The moment is in minutes since 1970-01-01T00:00Z.
-#[derive(Drop)]
 pub struct Entry {
     pub number: u64,
     pub session: u8,
@@ -121,6 +125,20 @@ pub struct Entry {
     pub moment: u32,
     pub command: Command,
     pub answers: Answers,
+}
+
+impl Drop for Entry {
+    fn drop(self) {
+        let Entry {
+            number: _,
+            session: _,
+            role: _,
+            verdict: _,
+            moment: _,
+            command: _,
+            answers: _,
+        } = self;
+    }
 }
 
 impl Entry {

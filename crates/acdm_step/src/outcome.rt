@@ -18,9 +18,14 @@ pub struct Alerted {
 }
 
 /// Flights with their alerts, in order of creation.
-#[derive(Drop)]
 pub struct AlertList {
     items: Vec<Alerted>,
+}
+
+impl Drop for AlertList {
+    fn drop(self) {
+        let AlertList { items: _ } = self;
+    }
 }
 
 impl Model for AlertList {
@@ -58,9 +63,14 @@ impl AlertList {
 
 /// Programs that a migrate has taken out of their slots, by milestone, and of one milestone the
 /// program for TOBT first.
-#[derive(Drop)]
 pub struct UnloadedList {
     items: Vec<Unloaded>,
+}
+
+impl Drop for UnloadedList {
+    fn drop(self) {
+        let UnloadedList { items: _ } = self;
+    }
 }
 
 impl Model for UnloadedList {

@@ -32,10 +32,18 @@ use std::marker::Model;
 
 /// The board of a history: the record of each flight, in order of creation, and the programs in the
 /// slots.
-#[derive(Drop)]
 pub struct Core {
     flights: Flights,
     slots: Slots,
+}
+
+impl Drop for Core {
+    fn drop(self) {
+        let Core {
+            flights: _,
+            slots: _,
+        } = self;
+    }
 }
 
 impl Model for Core {

@@ -16,10 +16,15 @@ use std::sync::Arc;
 
 /// Notes of the first cells of a row, and a front that knows the first of them to go on from each
 /// other.
-#[derive(Drop)]
 pub struct Sight {
     front: Front,
     notes: Vec<Note<Published>>,
+}
+
+impl Drop for Sight {
+    fn drop(self) {
+        let Sight { front: _, notes: _ } = self;
+    }
 }
 
 impl Model for Sight {

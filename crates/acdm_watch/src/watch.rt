@@ -15,10 +15,15 @@ use std::marker::Model;
 use std::sync::Arc;
 
 /// What was seen of a row, and the board of it.
-#[derive(Drop)]
 pub struct Watch {
     sight: Sight,
     core: Core,
+}
+
+impl Drop for Watch {
+    fn drop(self) {
+        let Watch { sight: _, core: _ } = self;
+    }
 }
 
 impl Model for Watch {

@@ -8,9 +8,14 @@ use std::marker::Model;
 pub const MOST_SLOTS: usize = 4_096;
 
 /// A program of 1 to `MOST_SLOTS` slots, each of them an instruction but the second slot of a wide load.
-#[derive(Drop)]
 pub struct Program {
     ops: Vec<Op>,
+}
+
+impl Drop for Program {
+    fn drop(self) {
+        let Program { ops: _ } = self;
+    }
 }
 
 impl Model for Program {

@@ -11,13 +11,22 @@ pub type HelperCode = Box<dyn Fn(u64, u64, u64, u64, u64) -> u64 + Send>;
 /// A number, by which programs call the helper, a signature, and code that keeps it: the code may
 /// be called on all arguments of the signature, and answers as the signature promises. Contracts
 /// see the number and the promise by the word `entry_of`.
-#[derive(Drop)]
 pub struct Helper {
     number: u32,
     signature: Signature,
     code: HelperCode,
     ghost callable: { IsCallable signature (HelperCode.pre code) },
     ghost promised: { KeepsPromise signature (HelperCode.post code) },
+}
+
+impl Drop for Helper {
+    fn drop(self) {
+        let Helper {
+            number: _,
+            signature: _,
+            code: _,
+        } = self;
+    }
 }
 
 impl Helper {

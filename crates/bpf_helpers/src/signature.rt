@@ -16,11 +16,20 @@ pub const MAX_ARGUMENTS: usize = 5;
 /// What a helper takes and answers: a range for each of its arguments, at most five, the range of
 /// its answers, and a table of the answers that its first argument fixes. Contracts see it as its
 /// `Promise`.
-#[derive(Drop)]
 pub struct Signature {
     args: Vec<Range>,
     answer: Range,
     table: Vec<(u64, u64)>,
+}
+
+impl Drop for Signature {
+    fn drop(self) {
+        let Signature {
+            args: _,
+            answer: _,
+            table: _,
+        } = self;
+    }
 }
 
 impl Model for Signature {

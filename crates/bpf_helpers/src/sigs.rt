@@ -11,9 +11,14 @@ use std::marker::Model;
 
 /// The signatures of the helpers that programs may call, each with the number of its helper.
 /// Contracts see them as pairs of a number and a promise.
-#[derive(Drop)]
 pub struct Sigs {
     entries: Vec<(u32, Signature)>,
+}
+
+impl Drop for Sigs {
+    fn drop(self) {
+        let Sigs { entries: _ } = self;
+    }
 }
 
 impl Model for Sigs {

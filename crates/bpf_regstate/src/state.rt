@@ -25,11 +25,20 @@ use std::marker::Model;
 
 /// What is known before an instruction: of each register, which bytes of the stack were written on
 /// every way there, and of aligned words of the stack. Contracts see it as a `Shape`.
-#[derive(Drop)]
 pub struct State {
     registers: [Reg; 11],
     marks: [u64; 8],
     words: Vec<Reg>,
+}
+
+impl Drop for State {
+    fn drop(self) {
+        let State {
+            registers: _,
+            marks: _,
+            words: _,
+        } = self;
+    }
 }
 
 impl Model for State {

@@ -10,9 +10,14 @@ use std::marker::Model;
 
 /// For each slot what the edges so far have brought to it, until that is taken. It has memory for
 /// the states alone that wait. Contracts see the list of what waits.
-#[derive(Drop)]
 pub struct Waiting {
     rows: Vec<Option<Box<State>>>,
+}
+
+impl Drop for Waiting {
+    fn drop(self) {
+        let Waiting { rows: _ } = self;
+    }
 }
 
 impl Model for Waiting {

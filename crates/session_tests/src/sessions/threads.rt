@@ -688,13 +688,18 @@ fn entries_of<H: Helpers + Drop>(desk: &mut Desk<H>, session: u8) -> usize {
     count
 }
 
+// The session and the role of a pass, how many entries it made and how many it has seen.
+fn told_by(pass: &Pass) -> (u8, Role, u64, u64) {
+    let made = pass.own_len() as u64;
+    let seen = pass.len() as u64;
+    (pass.session(), pass.role(), made, seen)
+}
+
 // Whether a session is told by its pass as it is by its calls.
 fn is_shown(left: &Left) -> bool {
-    !left.torn
-        && left.pass.session() == left.number
-        && left.pass.role() == left.role
-        && left.pass.own_len() as u64 == left.calls
-        && left.pass.len() as u64 >= left.calls
+    let (session, role, made, seen) = told_by(&left.pass);
+    let is_same = session == left.number && role == left.role && made == left.calls;
+    is_same && !left.torn && seen >= left.calls
 }
 
 // A session made 200 entries, and each of these stands in the journal.
