@@ -137,7 +137,7 @@ class Looking:
         if self.link:
             for line in self.link.lines():
                 self.board.take(line)
-                self.heard = time.strftime("%H:%M:%S")
+                self.heard = time.strftime("%H:%M:%S", time.gmtime())
 
     def begin(self, seconds: float | None = None) -> None:
         """Connects; the board comes first then, whatever was there before."""
@@ -155,7 +155,7 @@ class Looking:
         return [flight for flight in found if flight["flight"] in self.named] if self.named else found
 
     def title(self, count: int) -> str:
-        alerted = sum(bool(flight["alerts"]) for flight in self.board.flights.values())
+        alerted = len(self.board.shown(alerted=True))
         title = f"acdm {self.where[0]}:{self.where[1]}  flights {count} of {len(self.board.flights)}, alerted {alerted}"
         return title + (f", entry {self.board.next - 1} at {self.heard}" if self.heard and self.board.next else "")
 

@@ -13,6 +13,12 @@ from pathlib import Path
 from feed import Address
 from words import ROLES
 
+try:
+    import tomllib
+except ImportError:
+    # (before Python 3.11: Debian's python3-tomli is the same library)
+    import tomli as tomllib  # type: ignore[no-redef]
+
 LISTENS = "0A"
 LOOKS = 3
 PURPOSES = {
@@ -30,6 +36,16 @@ class Listener:
     process: int
     words: list[str]
 
+    def meant(self) -> list[str]:
+        """Its words, with those that a file of settings stands for in the place of `--config FILE`."""
+        place = self.words.index("--config") if "--config" in self.words[:-1] else len(self.words)
+        named = self.words[place + 1 : place + 2]
+        try:
+            found = [word for name in named for word in words_of_settings(Path(f"/proc/{self.process}/cwd") / name)]
+        except (OSError, ValueError):
+            return self.words
+        return [*self.words[:place], *found, *self.words[place + 2 :]]
+
     def is_board(self) -> bool:
         """Whether it was started as `acdm serve` or `acdm follow` is, with a partner at least."""
         serves = any(word in ("serve", "follow") for word in self.words[1:])
@@ -37,7 +53,7 @@ class Listener:
 
     def ports(self) -> list[tuple[str, str]]:
         """Each option and role with the port that it names; 0 is one that the system chose."""
-        words = [part for word in self.words for part in (word.split("=", 1) if word.startswith("--") else [word])]
+        words = [part for word in self.meant() for part in (word.split("=", 1) if word.startswith("--") else [word])]
         found = [(option, value) for option, value in zip(words, words[1:]) if option in PURPOSES]
         found += [(role, value) for role, _, value in (word.partition("=") for word in words) if role in ROLES]
         return [(name, value.rpartition(":")[2]) for name, value in found]
@@ -54,6 +70,16 @@ class Listener:
         ports = self.ports()
         named = [name for name, value in ports if value == str(port)]
         return wanted in named if named else (wanted, "0") in ports
+
+
+def words_of_settings(file: Path) -> list[str]:
+    """The words that a file of settings stands for (docs/FORMATS.md). ValueError where it is no TOML."""
+    found = tomllib.loads(file.read_text(encoding="utf-8"))
+    words = [str(word) for word in found.pop("partners", [])]
+    for name, value in found.items():
+        if value is not False:
+            words.append(f"--{name}" if value is True else f"--{name}={value}")
+    return words
 
 
 def purpose(word: str) -> str:

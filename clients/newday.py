@@ -5,16 +5,17 @@
 
 The address is the control address of `acdm serve --keep FILE --control ADDR` on this machine, whose words it takes
 from the process. The old journal is kept in FOLDER (beside FILE: `old`), under the day and moment at which it ended,
-and FILE then has the open flights (all with --departed). COMMAND begins the board, as `systemctl start acdm`; without
-it the board is begun with the same words, and what it says goes to FILE.log. Then it is waited, 60 seconds at most,
-until the partners are back that were here, and the report of the old journal is made beside it. Until FILE is replaced
-whole, the old journal stands there: where a step fails, the board goes on from it. Status 0 where all is done, 1 where
-something is missing that is named, 2 where nothing was changed. Outside what is proved.
+with its tables beside it, and FILE then has the open flights (all with --departed). COMMAND begins the board, as
+`systemctl start acdm`; without it the board is begun with the same words, and what it says goes to FILE.log. Then it is
+waited, 60 seconds at most, until the partners are back that were here, and the report of the old journal is made beside
+it. Until FILE is replaced whole, the old journal stands there: where a step fails, the board goes on from it. Status 0
+where all is done, 1 where something is missing that is named, 2 where nothing was changed. Outside what is proved.
 """
 import os
 import re
 import resource
 import shlex
+import shutil
 import socket
 import subprocess
 import sys
@@ -31,7 +32,7 @@ from programs import TOP, NoAnswer
 
 BEGINS = 60.0
 HERE = re.compile(r"session (\d+) ([A-Z]+) here")
-LIMITS = (resource.RLIMIT_AS, resource.RLIMIT_NOFILE)
+LIMITS = {"Max address space": resource.RLIMIT_AS, "Max open files": resource.RLIMIT_NOFILE}
 
 
 class Stop(Exception):
@@ -40,19 +41,25 @@ class Stop(Exception):
 
 @dataclass
 class Running:
-    """A board that serves: the words, the folder and the environment of its process, and its journal."""
+    """A board that serves: the words, the folder, the environment and the user of its process, and its journal.
+
+    `meant` are its words with those of its file of settings. `rights` are a user, a group, more groups, and the mask of
+    what it makes.
+    """
 
     words: list[str]
+    meant: list[str]
     folder: Path
     environment: dict[str, str]
-    limits: list[tuple[int, int]]
+    limits: dict[int, tuple[int, int]]
+    rights: tuple[int, int, list[int], int]
     journal: Path
 
     def value(self, option: str) -> str | None:
         """The value of an option of its command line."""
-        for place, word in enumerate(self.words):
-            if word == option and self.words[place + 1 :]:
-                return self.words[place + 1]
+        for place, word in enumerate(self.meant):
+            if word == option and self.meant[place + 1 :]:
+                return self.meant[place + 1]
             if word.startswith(f"{option}="):
                 return word.partition("=")[2]
         return None
@@ -78,6 +85,30 @@ def script_above(listener: Listener) -> list[str] | None:
     return words if is_script else None
 
 
+def limits_of(process: int) -> dict[int, tuple[int, int]]:
+    """The limits of a process, soft and hard, by their kinds."""
+    text = Path(f"/proc/{process}/limits").read_text(encoding="ascii")
+    found = re.findall(r"^(Max [a-z ]+?) {2,}(\w+) +(\w+)", text, re.M)
+    ends = {name: [resource.RLIM_INFINITY if it == "unlimited" else int(it) for it in pair] for name, *pair in found}
+    return {kind: (ends[name][0], ends[name][1]) for name, kind in LIMITS.items()}
+
+
+def at_most(limit: int, most: int) -> int:
+    """A limit, and no more than another one."""
+    if resource.RLIM_INFINITY in (limit, most):
+        return most if limit == resource.RLIM_INFINITY else limit
+    return min(limit, most)
+
+
+def rights_of(process: int) -> tuple[int, int, list[int], int]:
+    """The user, the group and the other groups as which a process runs, and its mask of what it makes."""
+    status = Path(f"/proc/{process}/status").read_text(encoding="utf-8")
+    found = {name: words.split() for name, _, words in (line.partition(":") for line in status.splitlines())}
+    # (Linux before 4.7 does not tell the mask: then nobody else reads what the board makes)
+    mask = int(found.get("Umask", ["0077"])[0], 8)
+    return int(found["Uid"][1]), int(found["Gid"][1]), [int(it) for it in found["Groups"]], mask
+
+
 def running_at(where: Address) -> Running:
     """The board at a control address of this machine. Stop where there is none that keeps a journal."""
     listener = control.checked(where)
@@ -87,14 +118,15 @@ def running_at(where: Address) -> Running:
     try:
         data = Path(f"{place}/environ").read_bytes().decode("utf-8", "surrogateescape")
         environment = dict(pair.split("=", 1) for pair in data.split("\0") if "=" in pair)
-        limits = [resource.prlimit(listener.process, kind) for kind in LIMITS]
+        limits = limits_of(listener.process)
         folder = Path(os.readlink(f"{place}/cwd"))
+        rights = rights_of(listener.process)
         words = script_above(listener) or listener.words
     except OSError as error:
         raise Stop(f"is of process {listener.process}, of which nothing can be read: {error.strerror}") from None
     if "follow" in listener.words[1:]:
         raise Stop("is of a board that was begun by `follow`: close it, and begin the next day by `serve`")
-    found = Running(words, folder, environment, limits, Path())
+    found = Running(words, listener.meant(), folder, environment, limits, rights, Path())
     kept = found.value("--keep")
     if not kept:
         raise Stop("is of a board that keeps no journal: begin it with --keep FILE")
@@ -122,10 +154,21 @@ def free_name(folder: Path, journal: Path) -> Path:
     return next(folder / name for name in names if not (folder / name).exists())
 
 
+def tables_beside(journal: Path) -> Path:
+    """The file of the tables by which a journal is made."""
+    return journal.with_name(journal.name + ".tables")
+
+
+def remove(made: Path) -> None:
+    """Removes a journal and its tables, where they are there."""
+    for file in (made, tables_beside(made)):
+        file.unlink(missing_ok=True)
+
+
 def make_next(board: Running, departed: bool) -> tuple[Path, int]:
     """Makes the journal of the next day beside that of this one, from its open flights; its file and its entries."""
     made = board.journal.with_name(board.journal.name + ".next")
-    made.unlink(missing_ok=True)
+    remove(made)
     try:
         lines = carried(board.journal, departed, board.tables())
     except (Faulty, NoAnswer, NoFeed, OSError) as fault:
@@ -142,7 +185,7 @@ def make_next(board: Running, departed: bool) -> tuple[Path, int]:
         or len(replies) != len(lines)
         or any(not reply.startswith(("ok ", "migrated ", "alerts ")) for reply in replies)
     ):
-        made.unlink(missing_ok=True)
+        remove(made)
         why = done.stderr.strip().splitlines()[-1:] or [
             next((it for it in replies if it[:2] in ("no", "ba")), "no reply")
         ]
@@ -168,14 +211,22 @@ def begin(board: Running, command: str | None) -> None:
         return
 
     def bound() -> None:
-        for kind, limit in zip(LIMITS, board.limits):
-            resource.setrlimit(kind, limit)
+        for kind, ends in board.limits.items():
+            # (who may not raise a limit begins the board with that of his own)
+            soft, hard = (at_most(it, resource.getrlimit(kind)[1]) for it in ends)
+            resource.setrlimit(kind, (soft, hard))
 
-    with open(board.journal.with_name(board.journal.name + ".log"), "ab") as log:
+    user, group, groups, mask = board.rights
+    # (root alone begins a board as another user)
+    is_root = os.geteuid() == 0
+    said = board.journal.with_name(board.journal.name + ".log")
+    with open(said, "ab") as log:
+        give_to_owner(said, board.journal)
         # (it serves on when this has ended, with SIGXFSZ ignored, as Python has it: so it bears a limit of file sizes)
         subprocess.Popen(  # pylint: disable=consider-using-with,subprocess-popen-preexec-fn
             board.words, cwd=board.folder, env=board.environment, stdin=subprocess.DEVNULL, stdout=log, stderr=log,
-            start_new_session=True, preexec_fn=bound, restore_signals=False,
+            start_new_session=True, preexec_fn=bound, restore_signals=False, umask=mask,
+            user=user if is_root else None, group=group if is_root else None, extra_groups=groups if is_root else None,
         )  # fmt: skip
 
 
@@ -222,12 +273,22 @@ def say(text: str) -> None:
 
 
 def give_to_owner(made: Path, journal: Path) -> None:
-    """Gives a file that root has made to the owner of the journal."""
+    """Gives what root has made to the owner of the journal, and a file the rights of that."""
     like = journal.stat()
     if os.geteuid() == 0:
         os.chown(made, like.st_uid, like.st_gid)
-        if made.is_file():
-            os.chmod(made, like.st_mode & 0o777)
+    if made.is_file():
+        os.chmod(made, like.st_mode & 0o777)
+
+
+def keep_tables(journal: Path, old: Path) -> None:
+    """Keeps the tables of the old journal beside it, on the disk; they stay beside the next one too."""
+    tables, copy = tables_beside(journal), tables_beside(old)
+    if tables.is_file():
+        shutil.copyfile(tables, copy)
+        give_to_owner(copy, journal)
+        with open(copy, "rb") as file:
+            os.fsync(file.fileno())
 
 
 def swap(board: Running, folder: Path, departed: bool) -> Path:
@@ -236,10 +297,12 @@ def swap(board: Running, folder: Path, departed: bool) -> Path:
     for file in (made, folder):
         give_to_owner(file, board.journal)
     old = free_name(folder, board.journal)
+    keep_tables(board.journal, old)
     # (its file has two names until the next one takes its place)
     os.link(board.journal, old)
     synced(folder)
     os.replace(made, board.journal)
+    tables_beside(made).unlink(missing_ok=True)
     synced(board.journal.parent)
     say(f"kept: {old}; {board.journal} has {entries} entries of open flights")
     return old

@@ -18,6 +18,9 @@ SYSTEM = Path("/usr/bin/python3")
 PYTHON = str(SYSTEM) if SYSTEM.exists() else sys.executable
 LIBRARIES = {"amqp": "proton", "kafka": "confluent_kafka", "mqtt": "paho.mqtt.client", "postgresql": "psycopg2"}
 PASSWORD = "a pass-word"
+# (on this machine it is half past five where it is midnight in UTC: a local time is no time of the board)
+os.environ["TZ"] = "Asia/Kolkata"
+time.tzset()
 
 sys.path.insert(0, str(BRIDGES))
 

@@ -5,6 +5,7 @@ import os
 import socket
 import subprocess
 import sys
+import time
 import unittest
 from collections.abc import Callable, Sequence
 from pathlib import Path
@@ -14,6 +15,9 @@ TOP = Path(__file__).resolve().parents[2]
 CLIENTS = TOP / "clients"
 PROGRAM = Path(os.environ.get("ACDM", TOP / "crates" / "acdm" / "out" / "acdm"))
 LIMIT = 60
+# (on this machine it is half past five where it is midnight in UTC: a local time is no time of the board)
+os.environ["TZ"] = "Asia/Kolkata"
+time.tzset()
 Test = TypeVar("Test", bound=Callable[..., Any])
 
 sys.path.insert(0, str(CLIENTS))

@@ -2,6 +2,7 @@
 import json
 import os
 import pty
+import select
 import subprocess
 import sys
 import tempfile
@@ -28,7 +29,7 @@ FLIGHTS = [
         alerts=["CDM08"],
     ),
     record(12, callsign="SWR12", eobt="2025-02-20T09:30:00Z", stand=0, reached=[1], alerts=["LOC03"]),
-    record(20, callsign="GONE20", reached=[0, 1, 16]),
+    record(20, callsign="GONE20", reached=[0, 1, 16], alerts=["CDM11"]),
 ]
 
 
@@ -36,7 +37,7 @@ def until(terminal: int, wanted: bytes) -> bytes:
     """What a terminal was sent, up to a text."""
     found = b""
     end = time.monotonic() + LIMIT
-    while wanted not in found and time.monotonic() < end:
+    while wanted not in found and select.select([terminal], [], [], max(0, end - time.monotonic()))[0]:
         found += os.read(terminal, 1 << 16)
     assert wanted in found, found[-2000:]
     return found
@@ -49,6 +50,8 @@ class Board(unittest.TestCase):
         self.assertEqual((0, ""), (done.returncode, done.stderr))
         title, heads, first, second = done.stdout.splitlines()
         self.assertIn(f"acdm 127.0.0.1:{server.port}  flights 2 of 3, alerted 2, entry 30 at ", title)
+        moments = [time.strftime("at %H:%M", time.gmtime(time.time() - ago)) for ago in (0, LIMIT)]
+        self.assertTrue(any(moment in title for moment in moments), title)
         self.assertEqual(
             ["FLIGHT", "CALLSIGN", "STND", "EOBT", "TOBT", "TSAT", "S1234567890123456", "ALERTS"], heads.split()
         )

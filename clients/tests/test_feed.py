@@ -3,12 +3,15 @@ import itertools
 import tempfile
 import unittest
 from pathlib import Path
+from types import SimpleNamespace
+from typing import Any
 from unittest.mock import patch
 
 from boards import LIMIT
 from feed import BadAddress, Board, NoFeed, OtherJournal, Place, alert_names, entries, parse_address, parsed
 from feeds import NAME, OTHER, Answering, Sending, board_line, entry, journal_line
-from partner import minute_of
+import partner
+from partner import is_same, minute_of, reply_of
 
 TICK = {"cmd": "tick"}
 
@@ -69,6 +72,78 @@ def numbers_of(server: Answering, place: Place, most: int) -> list[int]:
 
 
 class Entries(unittest.TestCase):
+    def test_trials_go_on_while_there_is_patience(self) -> None:
+        """Both addresses are tried in turn, at first at once and never late, until the patience is over."""
+        moment, pauses = [100.0], list[float]()
+
+        def sleep(seconds: float) -> None:
+            pauses.append(seconds)
+            moment[0] += seconds
+
+        clock = SimpleNamespace(monotonic=lambda: moment[0], sleep=sleep)
+        refused = ConnectionRefusedError(111, "Connection refused")
+        with patch.object(partner, "time", clock), patch.object(partner.socket, "create_connection") as connecting:
+            connecting.side_effect = refused
+            connection = partner.Connection([("one", 1), ("two", 2)], 60)
+            with self.assertRaisesRegex(partner.Stop, "^(one|two):[12]: Connection refused$"):
+                connection.connect()
+            asked = [call.args[0] for call in connecting.call_args_list]
+        self.assertEqual([("one", 1), ("two", 2)] * (len(asked) // 2), asked[: len(asked) // 2 * 2])
+        self.assertTrue(160 <= moment[0] <= 170 and pauses[0] <= 0.5 and max(pauses) <= 10, pauses)
+
+    def test_commands_that_are_the_same(self) -> None:
+        """The feed tells of a load how many instructions it has, and the length that no load names as 128."""
+        load: dict[str, Any] = {"cmd": "load", "milestone": 9, "kind": "alert", "program": "95"}
+        told: dict[str, Any] = {"cmd": "load", "milestone": 9, "kind": "alert", "instructions": 1, "length": 128}
+        report: dict[str, Any] = {"cmd": "report", "flight": 7, "milestone": 9, "time": "2025-02-20T10:00:00Z"}
+        for entered, sent, same in (
+            (told, load, True),
+            (told, {**load, "length": 128, "remark": 1}, True),
+            (told, {**load, "length": 160}, False),
+            ({**told, "length": 160}, load, False),
+            ({**told, "length": 160, "layout": 2}, {**load, "length": 160}, True),
+            (told, {**load, "kind": "tobt"}, False),
+            (report, {**report, "time": "2025-02-20T11:00:59+01:00"}, True),
+            (report, {**report, "time": "2025-02-20T10:01:00Z"}, False),
+            (report, {**report, "time": None}, False),
+            ({**report, "time": None}, {**report, "time": None}, True),
+            ({**report, "time": None}, report, False),
+            (report, {**report, "flight": 8}, False),
+        ):
+            self.assertEqual(same, is_same(entered, sent), (entered, sent))
+
+    def test_entries_of_others_are_not_ones_own(self) -> None:
+        """Of another session the same command is no reply, nor is the entry that was known before."""
+        command = {"cmd": "report", "flight": 7, "milestone": 9, "time": "2025-02-20T10:00:00Z"}
+        line = {"session": 4, "entry": 9, "command": command}
+        asked: list[tuple[int, int, dict[str, Any]]] = [(4, 8, command), (5, 8, command), (4, 9, command)]
+        asked.append((4, 8, {**command, "flight": 8}))
+        self.assertEqual([True, False, False, False], [partner.is_own(line, *it) for it in asked])
+
+    def test_a_line_that_was_not_handed_over_is_not_uncertain(self) -> None:
+        """And one that was, without a reply, stays so over a connection that breaks before it."""
+        rows: list[tuple[list[Any], bool]] = [([partner.Unsent], False), ([None, partner.Unsent], True)]
+        for exchanged, uncertain in rows:
+            asking = partner.Partner(("h", 1), None, 1)
+            connects = [None] * len(exchanged) + [partner.Stop("no more")]
+            with (
+                patch.object(asking.connection, "connect", side_effect=connects),
+                patch.object(asking.connection, "exchange", side_effect=exchanged),
+                patch.object(asking, "find", return_value=None),
+                self.assertRaisesRegex(partner.Stop, "no more"),
+            ):
+                asking.ask('{"cmd":"report"}')
+            self.assertEqual(uncertain, asking.is_uncertain)
+
+    def test_replies_that_the_feed_tells(self) -> None:
+        refused: Any = {"code": 205, "name": "not_set"}
+        for outcome, name, text in (
+            ("ok", "report", "ok 4"),
+            ("ok", "migrate", "migrated 4"),
+            (refused, "migrate", "no 4 205"),
+        ):
+            self.assertEqual(text, reply_of({"entry": 4, "outcome": outcome, "command": {"cmd": name}}))
+
     def test_a_break(self) -> None:
         """After a break the feed is asked from the next entry on, and the connection before is closed."""
         place = Place(NAME, 3)

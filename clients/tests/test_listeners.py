@@ -1,9 +1,11 @@
 """Who listens at an address of this machine, of either kind, and what a board's words say of a port."""
 import os
 import socket
+import tempfile
 import unittest
+from pathlib import Path
 
-from boards import free_port
+from boards import TOP, free_port
 from listeners import Listener, host_of, listener_at, purpose
 
 WORDS = ["acdm", "serve", "--again", "--control=[::1]:4199", "--changes", "127.0.0.1:0", "APT=127.0.0.1:4001"]
@@ -58,6 +60,37 @@ class Listeners(unittest.TestCase):
         self.assertEqual(
             ("the control address (--control)", "the address of NM"), (purpose("--control"), purpose("NM"))
         )
+
+    def test_words_of_a_file_of_settings(self) -> None:
+        """They are those that docs/FORMATS.md gives for each key, in the place of the two words that name the file."""
+        with tempfile.TemporaryDirectory() as folder:
+            file = Path(folder) / "board.toml"
+            file.write_text(
+                'again = true\nsync = false\njournal = 5\nkeep = "a b"\ncontrol = "[::1]:4199"\n'
+                'changes = "127.0.0.1:0" # chosen\npartners = [\n  "APT=127.0.0.1:4001",\n]\n',
+                encoding="utf-8",
+            )
+            board = Listener(os.getpid(), ["acdm", "serve", "NM=127.0.0.1:4002", "--config", str(file), "--pace", "9"])
+            wanted = {"--again", "--journal=5", "--keep=a b", "--control=[::1]:4199", "--changes=127.0.0.1:0"}
+            wanted |= {"acdm", "serve", "NM=127.0.0.1:4002", "APT=127.0.0.1:4001", "--pace", "9"}
+            self.assertEqual((wanted, 11), (set(board.meant()), len(board.meant())))
+            self.assertTrue(board.is_board())
+            asked = [
+                ("--control", 4199),
+                ("APT", 4001),
+                ("NM", 4002),
+                ("--changes", 5),
+                ("APT", 5),
+                ("--control", 4001),
+            ]
+            self.assertEqual([True, True, True, True, False, False], [board.may_be(*it) for it in asked])
+            file.write_text("no settings\n", encoding="utf-8")
+            self.assertFalse(Listener(os.getpid(), ["acdm", "serve", "--config", str(file)]).is_board())
+            file.unlink()
+            self.assertFalse(Listener(os.getpid(), ["acdm", "serve", "--config", str(file)]).is_board())
+        shipped = os.path.relpath(TOP / "examples" / "board.toml")
+        self.assertTrue(Listener(os.getpid(), ["acdm", "serve", "--config", shipped]).may_be("--control", 4199))
+        self.assertFalse(Listener(os.getpid(), ["acdm", "serve", "--config"]).is_board())
 
 
 if __name__ == "__main__":

@@ -39,6 +39,14 @@ class Report(unittest.TestCase):
         for row in rows:
             self.assertIn(row, text)
 
+    @needs_program
+    def test_the_shipped_report(self) -> None:
+        """The page beside the shipped journal is the one that is made of it."""
+        shipped = TOP / "examples" / "journal"
+        done = ran("report.py", shipped / "day.journal")
+        self.assertEqual((0, ""), (done.returncode, done.stderr))
+        self.assertEqual((shipped / "day.html").read_text(encoding="utf-8").splitlines(), done.stdout.splitlines())
+
     def test_flights_by_name(self) -> None:
         lines = [
             entry(it, "09:00", "1 APT", {**SCHEDULE, "flight": it}, record(it, callsign=f"AB{it}X")) for it in (7, 8)

@@ -1,18 +1,25 @@
 """What control.py, load.py, partner.py and carry.py do at a board that serves, and at addresses that are none."""
 import json
+import os
 import re
 import shutil
+import signal
 import socket
 import subprocess
+import sys
 import tempfile
 import threading
 import time
 import unittest
 from pathlib import Path
 from typing import Any
+from unittest.mock import patch
 
 from boards import LIMIT, PROGRAM, TOP, Caller, Serving, free_port, needs_program, ran
 from feeds import Sending
+
+import control as asking
+from listeners import Listener
 
 RULES = TOP / "examples" / "rules"
 TWO = """#include "helpers.h"
@@ -132,6 +139,45 @@ class Elsewhere(unittest.TestCase):
         said = f"control.py: 127.0.0.1:{server.port} closes, and when its program has ended can't be seen from here\n"
         self.assertEqual((1, "closing\n", said), (done.returncode, done.stdout, done.stderr))
 
+    def test_what_is_answered_to_promote(self) -> None:
+        """As docs/RULES.md has the answers; a board that serves, or was replaced, is told so."""
+        status = b"following 10.0.0.1:4100\nentries 0 of 10\nlast none\n"
+        later = "is not promoted: a board with another journal and the later term 29000580 has taken over"
+        for answer, code, told in (
+            (b"promoting\n", 0, ""),
+            (b"serving\n", 2, "follows no board: it serves already"),
+            (b"replaced 29000580\n", 2, later),
+            (b"closing\n", 2, "did not say that the board serves"),
+            (b"", 2, "did not say that the board serves"),
+        ):
+            with Sending(status + answer) as server:
+                done = ran("control.py", server.port, "promote")
+            said = f"control.py: 127.0.0.1:{server.port} {told}\n" if told else ""
+            self.assertEqual((code, "" if code else "promoting\n", said), (done.returncode, done.stdout, done.stderr))
+        with Sending(status + b"promoting\n") as server:
+            done = ran("control.py", server.port, "close")
+        said = f"control.py: 127.0.0.1:{server.port} did not say that the board closes\n"
+        self.assertEqual((2, "", said), (done.returncode, done.stdout, done.stderr))
+
+    def test_a_long_line_of_the_state(self) -> None:
+        """A bad line is told by its first 200 bytes, each of which may take six."""
+        here = "session 1 APT here 127.0.0.1:5 since 2026-11-26T17:40:12Z lines 1 entries 0 refused - bad 101:1 "
+        text = here + "\\u{ff}" * 200 + "\nentries 0 of 10\nlast none\n"
+        with Sending(text.encode()) as server:
+            done = ran("control.py", server.port, "status")
+        self.assertEqual((0, text, ""), (done.returncode, done.stdout, done.stderr))
+
+    def test_a_program_that_has_not_ended(self) -> None:
+        """The end of its process is waited for, and one that does not come is told."""
+        with subprocess.Popen(["sleep", "60"]) as process:
+            listener, handle = Listener(process.pid, []), os.pidfd_open(process.pid)
+            told = f"process {process.pid}, has not ended after 0.1 seconds"
+            with patch.object(asking, "END", 0.1), self.assertRaisesRegex(asking.Unseen, told):
+                asking.wait_for_end(listener, handle)
+            process.kill()
+            asking.wait_for_end(listener, handle)
+            os.close(handle)
+
     def test_words(self) -> None:
         for given in ("", "4199", "4199 stop", "nowhere status", "4199 status now"):
             done = ran("control.py", *given.split())
@@ -160,6 +206,56 @@ class Elsewhere(unittest.TestCase):
             with Sending(b"ok 0\n", stays=True) as server:
                 done = ran(name, f"127.0.0.1:1,127.0.0.1:{server.port}", given='{"cmd":"tick"}\n')
             self.assertEqual((0, "ok 0\n", ""), (done.returncode, done.stdout, done.stderr), "the second is tried too")
+
+    def test_an_interrupt_names_the_line(self) -> None:
+        """One that waits for its reply may have been entered, and it is said which."""
+        for name in ["partner.py", "partner.mjs"] if shutil.which("node") else ["partner.py"]:
+            with self.subTest(client=name), socket.create_server(("127.0.0.1", 0)) as server:
+                command = ["node"] if name.endswith(".mjs") else [sys.executable]
+                command += [str(TOP / "clients" / name), f"127.0.0.1:{server.getsockname()[1]}"]
+                pipes = {"stdin": subprocess.PIPE, "stdout": subprocess.PIPE, "stderr": subprocess.PIPE}
+                with subprocess.Popen(command, text=True, **pipes) as process:  # type: ignore[call-overload]
+                    for number in range(2):
+                        print(f'{{"cmd":"unload","n":{number}}}', file=process.stdin, flush=True)
+                    with server.accept()[0] as stream, stream.makefile("rb") as lines:
+                        lines.readline()
+                        stream.sendall(b"no 7 201\n")
+                        lines.readline()
+                        process.send_signal(signal.SIGINT)
+                        out, said = process.communicate(timeout=LIMIT)
+                told = f"{name}: line 2 has no reply and may have been entered, the last reply told of entry 7: "
+                self.assertEqual((2, "no 7 201\n", told), (process.returncode, out, said[: len(told)]))
+
+    def test_who_wants_no_more_replies_ends_it(self) -> None:
+        """As `head` does: nothing is said of it."""
+        with socket.create_server(("127.0.0.1", 0)) as server:
+            command = [sys.executable, str(TOP / "clients" / "partner.py"), f"127.0.0.1:{server.getsockname()[1]}"]
+            pipes = {"stdin": subprocess.PIPE, "stdout": subprocess.PIPE, "stderr": subprocess.PIPE}
+            with subprocess.Popen(command, text=True, **pipes) as process:  # type: ignore[call-overload]
+                print('{"cmd":"tick"}\n{"cmd":"tick"}', file=process.stdin, flush=True)
+                with server.accept()[0] as stream, stream.makefile("rb") as lines:
+                    lines.readline()
+                    stream.sendall(b"ok 0\n")
+                    self.assertEqual("ok 0\n", process.stdout.readline())
+                    process.stdout.close()
+                    lines.readline()
+                    stream.sendall(b"ok 1\n")
+                    self.assertEqual((-signal.SIGPIPE, ""), (process.wait(LIMIT), process.stderr.read()))
+
+    def test_lines_and_replies_of_any_length(self) -> None:
+        """White space around a line is none of it; a reply of all flights with all their alerts is whole."""
+        for name in ["partner.py", "partner.mjs"] if shutil.which("node") else ["partner.py"]:
+            reply = b"alerts 0 " + b";".join(b"%d:CDM13" % flight for flight in range(200_000)) + b"\n"
+            with Sending(reply, stays=True) as server:
+                done = ran(name, f"127.0.0.1:{server.port}", given=b'\r\n\t{"cmd":"alerts"} \r\n')
+            self.assertEqual((0, reply.decode(), ""), (done.returncode, done.stdout, done.stderr))
+            with Sending(b"migrated 4 7:tobt:308:2\n", stays=True) as server:
+                done = ran(name, f"127.0.0.1:{server.port}", given='{"cmd":"migrate"}\n')
+            self.assertEqual((0, "migrated 4 7:tobt:308:2\n"), (done.returncode, done.stdout), "it was accepted")
+            for line in ('{"cmd":NaN}', '{"cmd":-Infinity}', '{"cmd":"tick"}}', "{'cmd':1}"):
+                done = ran(name, "127.0.0.1:1", given=f"\n{line}\n")
+                told = f"{name}: line 2 is no JSON: "
+                self.assertEqual((2, "", told), (done.returncode, done.stdout, done.stderr[: len(told)]), line)
 
     def test_patience_counts_for_each_line(self) -> None:
         """A break is tried anew, however long ago an earlier one was."""
@@ -304,6 +400,60 @@ class Carry(unittest.TestCase):
         done = ran("carry.py", "/nowhere/day")
         self.assertEqual((2, "", 1), (done.returncode, done.stdout, done.stderr.count("\n")))
         self.assertIn("/nowhere/day", done.stderr)
+
+    def test_programs_and_times_of_deicing(self) -> None:
+        """All that loaded programs are of goes over, each with its length; what was refused and asked stays behind."""
+        taxi = "69113c000000000057010000ff01000085000000020000009500000000000000"
+        load = {"cmd": "load", "milestone": 9, "kind": "alert", "program": taxi}
+        plan = {"cmd": "report", "flight": 7, "milestone": 1, "time": "2025-02-20T10:00:00Z"}
+        plan |= {name: SCHEDULE[name] for name in ("callsign", "type", "reg", "dest")}
+        target = {"cmd": "report", "flight": 7, "milestone": 9, "time": "2025-02-20T10:00:00Z"}
+        deice = {"cmd": "deice", "flight": 7, "field": "eczt", "time": "2025-02-20T09:50:00Z"}
+        rows: list[tuple[str, dict[str, Any], bool]] = [
+            ("1 APT", load, True),
+            ("1 APT", {**load, "milestone": 7}, True),
+            ("1 APT", {"cmd": "unload", "milestone": 7, "kind": "alert"}, True),
+            ("2 NM", load, False),
+            ("1 APT", SCHEDULE, True),
+            ("2 NM", plan, True),
+            ("4 AO", target, True),
+            ("4 AO", {**target, "time": None}, True),
+            ("1 APT", {"cmd": "alerts"}, False),
+            ("1 APT", {"cmd": "migrate"}, True),
+            ("6 DIC", deice, True),
+            ("6 DIC", {**deice, "field": "eezt"}, True),
+            ("6 DIC", {**deice, "field": "eezt", "time": None}, True),
+            ("1 APT", {**load, "milestone": 6, "kind": "tobt", "length": 160}, True),
+        ]
+        asked = '1 29000800 APT {"cmd":"show","flight":7}\n'
+        given = "".join(
+            f"{who.split()[0]} {29000700 + place} {who.split()[1]} {json.dumps(command)}\n"
+            for place, (who, command, _) in enumerate(rows)
+        )
+        with tempfile.TemporaryDirectory() as folder:
+            journal = Path(folder) / "day"
+            words = [str(PROGRAM), "run", "--save", str(journal)]
+            made = subprocess.run(words, input=given + asked, capture_output=True, text=True, check=True).stdout
+            done = ran("carry.py", journal)
+            found = [line.split(" ", 3) for line in done.stdout.splitlines()[1:]]
+            wanted = [(place, *row[:2]) for place, row in enumerate(rows) if row[2]]
+            self.assertEqual(
+                [[*who.split(), 29000700 + place, command] for place, who, command in wanted],
+                [
+                    [
+                        session,
+                        role,
+                        int(minute),
+                        {k: v for k, v in json.loads(text).items() if (k, v) != ("length", 128)},
+                    ]
+                    for session, minute, role, text in found
+                ],
+            )
+            words = [str(PROGRAM), "run"]
+            again = subprocess.run(words, input=done.stdout + asked, capture_output=True, text=True, check=True).stdout
+            replies = [text.splitlines()[-1].split() for text in (made, again)]
+            self.assertEqual("rec", replies[0][0])
+            self.assertEqual(replies[0][2], replies[1][2], "the record is the same")
 
 
 if __name__ == "__main__":

@@ -145,8 +145,9 @@ def main(arguments: list[str]) -> int:
         if not given.command:
             words().error("a command is missing: run, check, password, factor, token, log, or --demo")
         return int(given.work(given, read_settings(given.settings)))
-    except BadSettings as why:
-        print(f"desk: {why}", file=sys.stderr)
+    except (BadSettings, OSError) as why:
+        told = f"{why.filename or ''}: {why.strerror}" if isinstance(why, OSError) else str(why)
+        print(f"desk: {told}", file=sys.stderr)
         return 2
     except KeyboardInterrupt:
         return 130

@@ -33,6 +33,9 @@ from kevotranjy_desk.settings import read_settings  # noqa: E402
 accounts_module.HASHER = PasswordHasher(time_cost=1, memory_cost=64, parallelism=1)
 PLACES = [TOP / "crates/acdm/out/acdm", TOP / "target/unproved/acdm"]
 PROGRAM = Path(os.environ["ACDM"]) if os.environ.get("ACDM") else next((it for it in PLACES if it.is_file()), PLACES[0])
+# (on this machine it is half past five where it is midnight in UTC: a local time is no time of the board)
+os.environ["TZ"] = "Asia/Kolkata"
+time.tzset()
 ROLES = ("APT", "NM", "ATC", "AO", "GH", "DIC")
 PASSWORD = "a long pass-word"
 LIMIT = 60.0

@@ -128,26 +128,31 @@ log = "desk.log"
 [board]
 changes = "127.0.0.1:1"
 [partners]
-lines = "127.0.0.1:{port}"
+lines = "{host}:{port}"
 authorities = "{folder}/partners.pem"
 [[partner]]
 name = "tower"
 role = "ATC"
 see = "all"
 send = "all"
-lines = ["127.0.0.1:{board}"]
+lines = ["{host}:{board}"]
 certificate = "{print}"
 """
 
 
+def front_command(certificates: Certificates, folder: Path, host: str, port: int, board: int) -> list[str]:
+    """What begins the process in front alone, at a port of a host, before another one."""
+    file = folder / "front.toml"
+    names = {"folder": certificates.folder, "host": host, "port": port, "board": board}
+    file.write_text(FRONT.format(**names, print=certificates.prints["tower"]), encoding="utf-8")
+    return [sys.executable, str(TOP / "desk" / "desk"), "front", str(file)]
+
+
 @contextmanager
-def front_of(certificates: Certificates, folder: Path, board: int) -> Iterator[int]:
+def front_of(certificates: Certificates, folder: Path, board: int, host: str = "127.0.0.1") -> Iterator[int]:
     """The process in front alone, before an address: its port."""
     (port,) = free_ports(1)
-    file = folder / "front.toml"
-    names = {"folder": certificates.folder, "port": port, "board": board, "print": certificates.prints["tower"]}
-    file.write_text(FRONT.format(**names), encoding="utf-8")
-    command = [sys.executable, str(TOP / "desk" / "desk"), "front", str(file)]
+    command = front_command(certificates, folder, host, port, board)
     with subprocess.Popen(command, stdin=subprocess.PIPE, stdout=subprocess.PIPE) as process:
         assert process.stdout and process.stdin and b"listens" in process.stdout.readline()
         try:
@@ -239,3 +244,57 @@ def test_any_bytes_pass_both_ways(certificates: Certificates, folder: Path) -> N
                     found += piece
         server.join()
     assert b"".join(taken) == data and found == data[::-1]
+
+
+def test_it_listens_and_connects_by_ipv6(certificates: Certificates, folder: Path) -> None:
+    try:
+        listener = socket.create_server(("::1", 0), family=socket.AF_INET6)
+    except OSError:
+        pytest.skip("there is no IPv6 here")
+    listener.settimeout(20)
+    with listener, front_of(certificates, folder, listener.getsockname()[1], "[::1]") as port:
+        link = socket.create_connection(("::1", port), 60)
+        with certificates.context("tower").wrap_socket(link, server_hostname="localhost") as partner:
+            partner.sendall(b"{}\n")
+            board = listener.accept()[0]
+            with board:
+                assert board.recv(10) == b"{}\n"
+                board.sendall(b"bad 102\n")
+                assert partner.recv(10) == b"bad 102\n"
+
+
+def test_a_board_that_does_not_answer_is_given_up(certificates: Certificates, folder: Path) -> None:
+    """Its connections are not taken: the client is let go after three seconds."""
+    with socket.socket() as listener:
+        listener.bind(("127.0.0.1", 0))
+        listener.listen(0)
+        board = listener.getsockname()[1]
+        waiting = []
+        for _ in range(8):
+            stream = socket.socket()
+            stream.setblocking(False)
+            stream.connect_ex(("127.0.0.1", board))
+            waiting.append(stream)
+        with front_of(certificates, folder, board) as port:
+            link = socket.create_connection(("127.0.0.1", port), LIMIT)
+            begun = time.monotonic()
+            with certificates.context("tower").wrap_socket(link, server_hostname="localhost") as partner:
+                try:
+                    assert partner.recv(1) == b""
+                except OSError:
+                    pass
+            assert 2.5 < time.monotonic() - begun < 15
+        for stream in waiting:
+            stream.close()
+
+
+def test_an_address_that_is_taken_is_told(certificates: Certificates, folder: Path) -> None:
+    with socket.create_server(("127.0.0.1", 0)) as listener:
+        port = listener.getsockname()[1]
+        command = front_command(certificates, folder, "127.0.0.1", port, 1)
+        done = subprocess.run(command, stdin=subprocess.DEVNULL, capture_output=True, text=True, check=False)
+    assert (done.returncode, done.stdout) == (2, "")
+    assert (
+        done.stderr.startswith(f"desk: lines: 127.0.0.1:{port}: Address already in use")
+        and done.stderr.count("\n") == 1
+    )

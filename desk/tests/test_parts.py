@@ -1,21 +1,26 @@
 """Parts that need no board: clock times, second factors, shares of a minute, records, names."""
 import asyncio
+import json
 import time
 from datetime import datetime, timedelta, timezone
 from pathlib import Path
+from types import SimpleNamespace
 from typing import Any
 
 import pytest
+from aiohttp.test_utils import make_mocked_request
 from harness import TOP  # noqa: F401  pylint: disable=unused-import
 
-from kevotranjy_desk.accounts import code_at, step_of
-from kevotranjy_desk.guard import host_name
+from kevotranjy_desk import front, guard
+from kevotranjy_desk.accounts import IDLE_SECONDS, SESSION_SECONDS, code_at, step_of
+from kevotranjy_desk.guard import Patient, Watch, host_name, is_navigation, is_own_origin
 from kevotranjy_desk.ledger import REPLIED, Author, Ledger
 from kevotranjy_desk.mirror import Mirror
 from kevotranjy_desk.moments import BadTime, instant
 from kevotranjy_desk.rates import Rate
 from kevotranjy_desk.records import alerted, instant_of, shown_record, unloaded
 from kevotranjy_desk.scopes import ALL, NONE, Clause, Scope
+from kevotranjy_desk.settings import Limits
 from kevotranjy_desk.streams import Stream, Told, page_change, page_event, partner_event
 from kevotranjy_desk.wording import change_words, command_words, event_of, refusal_words
 
@@ -111,6 +116,184 @@ def test_replies_are_read_by_name() -> None:
 )
 def test_a_host_is_told_without_its_port(text: str, name: str) -> None:
     assert host_name(text) == name
+
+
+def test_bounds_are_those_of_the_page() -> None:
+    """What desk/README.md says of times, sizes and shares of a minute."""
+    page, limits = " ".join((TOP / "desk" / "README.md").read_text(encoding="utf-8").split()), Limits()
+    heads, bodies, held = guard.LONGEST_HEAD >> 10, guard.LONGEST_BODY >> 10, int(guard.HEAD_SECONDS)
+    stalled = int(guard.STALLED_SECONDS)
+    for text in (
+        f"heads of {heads} KiB, bodies of {bodies} KiB (partners: 1 MiB), {held} seconds for each, {stalled} for what",
+        f"{limits.connections} from one address, {guard.MOST_CONNECTIONS:,} in all; of a stranger's events 30 a minute",
+        f"{SESSION_SECONDS // 3600} hours, {IDLE_SECONDS // 3600} without a request",
+        f"`lines` of a person ({limits.lines}), `partner_lines` ({limits.partner_lines}) and `sign_ins`",
+        f"one address ({limits.sign_ins}); `connections` of one address at a time ({limits.connections})",
+        f"an `Idempotency-Key` is known ({limits.key_days})",
+    ):
+        assert text in page, text
+    assert guard.BODY_SECONDS == guard.HEAD_SECONDS and front.STALLED_SECONDS == guard.STALLED_SECONDS
+    assert front.HANDSHAKE_SECONDS == guard.HANDSHAKE_SECONDS == 5
+
+
+def test_a_link_of_another_site_opens_the_page_alone() -> None:
+    """A browser says that it comes by a link; a form that is sent from there is none."""
+    own = {"Host": "desk.example:8443", "Sec-Fetch-Site": "cross-site", "Sec-Fetch-Mode": "navigate"}
+    rows = (("GET", own, True), ("POST", own, False), ("GET", {**own, "Sec-Fetch-Mode": "cors"}, False))
+    for method, headers, wanted in rows:
+        request = make_mocked_request(method, "/", headers=headers)
+        assert is_navigation(request) is wanted and not is_own_origin(request), (method, headers)
+    for origin, wanted in (
+        ("https://desk.example:8443", True),
+        ("HTTPS://Desk.Example:8443", True),
+        ("http://desk.example:8443", False),
+        ("https://desk.example", False),
+        ("null", False),
+        ("", False),
+    ):
+        request = make_mocked_request("POST", "/", headers={**own, "Origin": origin})
+        assert is_own_origin(request) is wanted, origin
+
+
+class Transport:
+    """A connection of which so much is not sent yet."""
+
+    def __init__(self, client: str = "192.0.2.1") -> None:
+        self.client, self.unsent, self.is_aborted = client, 0, False
+
+    def get_extra_info(self, _name: str) -> tuple[str, int]:
+        return self.client, 1
+
+    def get_write_buffer_size(self) -> int:
+        return self.unsent
+
+    def abort(self) -> None:
+        self.is_aborted = True
+
+
+def connected(watch: Watch, client: str = "192.0.2.1") -> Patient:
+    """A connection of a client that a watch looks after."""
+    inner: Any = SimpleNamespace(
+        connection_made=lambda _it: None, data_received=lambda _it: None, connection_lost=lambda _it: None
+    )
+    transport: Any = Transport(client)
+    patient = Patient(inner, watch)
+    patient.connection_made(transport)
+    return patient
+
+
+def test_who_is_too_slow_is_told_from_who_is_slow(monkeypatch: pytest.MonkeyPatch) -> None:
+    """A head has 10 seconds, also the second one of a connection; what is sent may wait for 30, while some is taken."""
+    moment = [100.0]
+    monkeypatch.setattr(time, "monotonic", lambda: moment[0])
+    patient = connected(Watch(5))
+    transport: Any = patient.transport
+    assert not patient.is_too_slow(110) and patient.is_too_slow(110.1)
+    patient.begin()
+    assert not patient.is_too_slow(200), "an answer may take its time"
+    patient.end()
+    assert not patient.is_too_slow(300), "a connection may be kept"
+    moment[0] = 300
+    patient.data_received(b"G")
+    moment[0] = 309
+    patient.data_received(b"E")
+    assert not patient.is_too_slow(310) and patient.is_too_slow(310.1)
+    patient.begin()
+    patient.data_received(b"more of the body")
+    assert not patient.is_too_slow(400)
+    for later, unsent, is_slow in (
+        (401, 9, False),
+        (430, 9, False),
+        (431, 8, False),
+        (461, 8, False),
+        (461.1, 8, True),
+    ):
+        transport.unsent = unsent
+        assert patient.is_too_slow(later) is is_slow, later
+    transport.unsent = 0
+    assert not patient.is_too_slow(500)
+
+
+def test_connections_of_a_client_are_counted_while_they_are_there() -> None:
+    watch = Watch(3)
+    own = [connected(watch) for _ in range(3)]
+    one_more, other = connected(watch), connected(watch, "192.0.2.2")
+    aborted: Any = [it.transport for it in (*own, one_more, other)]
+    assert [it.is_aborted for it in aborted] == [False, False, False, True, False] and watch.let_go == 1
+    one_more.connection_lost(None)
+    for _ in range(100):
+        own.pop().connection_lost(None)
+        own.append(connected(watch))
+    assert watch.let_go == 1 and dict(watch.of_client) == {"192.0.2.1": 3, "192.0.2.2": 1}
+    for patient in (*own, other):
+        patient.connection_lost(None)
+        patient.connection_lost(None)
+    assert not watch.connections and not watch.of_client
+
+
+def test_the_front_lets_go_who_takes_nothing(monkeypatch: pytest.MonkeyPatch) -> None:
+    """Of either end, behind 30 seconds; a handshake and the connection to the board have their time."""
+    closed: list[tuple[Any, str]] = []
+    monkeypatch.setattr(front, "tell", lambda *_, **__: None)
+    given: Any = SimpleNamespace(fileno=lambda: -1, close=lambda: None)
+    own = front.Front.__new__(front.Front)
+    monkeypatch.setattr(own, "close", lambda pair, why: closed.append((pair, why)))
+
+    def pair(stage: str, until: float, client: float | None = None, board: float | None = None) -> front.Pair:
+        made = front.Pair(given, "192.0.2.1")
+        made.stage, made.until, made.board = stage, until, front.End(made, given, False)
+        for end, since in ((made.client, client), (made.board, board)):
+            if since is not None:
+                end.since = since
+                end.waiting.append(b"x")
+        return made
+
+    slow = [pair("pass", 0, client=69.9), pair("pass", 0, board=69.9), pair("handshake", 99.9), pair("connect", 99.9)]
+    kept = [pair("pass", 0), pair("pass", 0, client=70.1, board=70.1), pair("handshake", 100.1), pair("connect", 100.1)]
+    own.pairs = {*slow, *kept}
+    own.let_go_slow(100)
+    stalled = "nothing was taken for 30 seconds"
+    wanted = dict(zip(slow, (stalled, stalled, "no handshake in time", "the board is away")))
+    assert dict(closed) == wanted
+
+
+def test_an_entry_has_one_line(folder: Path) -> None:
+    """A second line is told, and left without the entry; who did what stays with the first."""
+    ledger, log = Ledger(folder / "desk.sqlite", folder / "desk.log"), folder / "desk.log"
+    numbers = [ledger.begin("journal", Author(name, "person", "h"), "GH", REPORT) for name in ("anna", "otto", "vera")]
+    for number in numbers[:2]:
+        ledger.end(number, REPLIED, 4, "ok 4")
+    assert ledger.who("journal", [4]) == {4: "anna"}
+    assert [(it.who, it.entry, it.state) for it in ledger.lines_of(7, None, 2)] == [
+        ("otto", None, REPLIED),
+        ("vera", None, "sent"),
+    ], "the last ones, the oldest first"
+    assert [it.number for it in ledger.open_lines("journal")] == numbers[2:]
+    events = [json.loads(line) for line in log.read_text(encoding="ascii").splitlines()]
+    assert [(it["event"], it.get("entry")) for it in events] == [
+        ("line", 4),
+        ("an entry has two lines", 4),
+        ("line", 4),
+    ]
+    ledger.close()
+
+
+def test_events_of_a_stranger_that_are_left_out_are_counted(folder: Path, monkeypatch: pytest.MonkeyPatch) -> None:
+    moment = [0.0]
+    monkeypatch.setattr(time, "monotonic", lambda: moment[0])
+    ledger = Ledger(folder / "desk.sqlite", folder / "desk.log")
+    for name in ("a", "a", "b"):
+        for _ in range(20):
+            ledger.tell_of_stranger("refused", name, who="x")
+    moment[0] = 2.1
+    ledger.tell_of_stranger("refused", "a", who="y")
+    ledger.tell_of_stranger("refused", "b", who="y")
+    moment[0] = 4.2
+    ledger.tell_of_stranger("refused", "a", who="z")
+    ledger.close()
+    events = [json.loads(line) for line in (folder / "desk.log").read_text(encoding="ascii").splitlines()]
+    assert [sum(it["client"] == name for it in events) for name in "ab"] == [32, 21]
+    assert [it.get("left_out") for it in events[-3:]] == [10, None, None], "each is counted once"
 
 
 def requested(ledger: Ledger, key: str, moment: str, is_replied: bool = True) -> int:

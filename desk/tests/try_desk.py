@@ -16,7 +16,7 @@ from typing import Any
 
 TESTS = Path(__file__).resolve().parent
 LEFT_OUT = 77
-QUICK = ("test_settings.py", "test_parts.py", "test_people.py", "test_broker_lines.py")
+QUICK = ("test_settings.py", "test_commands.py", "test_parts.py", "test_people.py")
 
 
 class Counted:
