@@ -65,7 +65,7 @@ LACKING = {
         "Patient::new",
         "Reception::begin",
         "Reception::end",
-        "Reporter::end",
+        "Reporter::beside",
         "Reporter::new",
         "Reporter::tell_following",
         "Reporter::tell_parted",

@@ -5,10 +5,10 @@
 
 A partner that comes back 100 times in the middle of lines while 63 others work; newer connections at one address;
 probes before the day and during it; an absent partner; partners that never read, which are let go after 30 seconds or
-when the board closes; `status` and `close`, at an address of either kind; lines whose ends come late; a bounded pace;
-SIGTERM and Ctrl-C through the script `acdm`, at an address of either kind too; a journal that is nearly full, which is
-told; and, with none of these words, sessions whose connections are closed as they end. The last line is `N cases, M
-failed`; status 1 where one failed.
+when the board closes; `status` and `close`, at an address of either kind; lines whose ends come late, and connections
+that fail in the middle of one; a bounded pace; SIGTERM and Ctrl-C through the script `acdm`, at an address of either
+kind too; a journal that is nearly full, which is told; and, with none of these words, sessions whose connections are
+closed as they end. The last line is `N cases, M failed`; status 1 where one failed.
 """
 
 import contextlib
@@ -434,6 +434,7 @@ def once(cases, program):
     status, lines = board.ended()
     cases.expect("ends", (status, lines, board.said) == (0, ["session 1 2 end", "session 2 2 end", "closed 4"], []), lines)
     slow_end(cases, program)
+    failed_end(cases, program)
     done = ran(program, ["serve", "--control", "nowhere", "APT=127.0.0.1:0"])
     told = "acdm: control address\n" + cause("--control nowhere", "neither an IP address with a port nor a port")
     cases.expect("a bad control address", (done.returncode, done.stderr) == (2, told.encode()), done)
@@ -462,6 +463,24 @@ def slow_end(cases, program):
     came = [airport.hears() for _ in range(3)]
     cases.expect("so is a later one behind a line feed, and nothing else", came == ["alerts 1 -", "alerts 2 -", ""], came)
     cases.expect("and its board ends too", board.ended() == (0, ["session 1 3 end", "closed 3"]))
+
+
+def failed_end(cases, program):
+    """Without --again a connection that fails behind a part of a line, or a whole one that lacks its line feed: that is no line."""
+    for part in (ALERTS, ALERTS[:9]):
+        board = Board([program], ["--control", "PORT"], ["APT", "NM"])
+        airport, manager = board.connect(1), board.connect(2)
+        cases.expect("both are served", (airport.asks(ALERTS), manager.asks(ALERTS)) == ("alerts 0 -", "alerts 1 -"))
+        airport.send(part)
+        # (so that it is read before the connection fails)
+        time.sleep(0.2)
+        airport.close(reset=True)
+        gone = board.waits_for(lambda board=board: "session 1 APT gone lines 1 entries 1 " in board.ask("status"), 30)
+        cases.expect(f"behind {part} a connection fails, and nothing of it is a line", gone, board.ask("status"))
+        manager.close()
+        status, lines = board.ended()
+        owed = ["session 1 1 end", "session 2 1 end", "closed 2"]
+        cases.expect("and its board ends with the other partner", (status, lines) == (0, owed), (status, lines))
 
 
 def is_here(host):

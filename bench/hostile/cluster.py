@@ -42,6 +42,7 @@ from clustered import (
     BAD_HERE,
     ERROR,
     LIMIT,
+    MEMORY,
     MISSING,
     NOT_RUNNING,
     OK,
@@ -54,6 +55,7 @@ from clustered import (
     gets,
     is_later,
     is_same,
+    loopback,
     two_boards,
     two_machines,
 )
@@ -69,6 +71,7 @@ def described(cases, program, room):
     with two_boards(room, program, "described") as (one, two):
         describes(cases, one)
         refuses(cases, two, str(room / "nothing"))
+        leaves_others_alone(cases, two)
 
 
 def describes(cases, one):
@@ -84,7 +87,22 @@ def describes(cases, one):
     set_in = dict(re.findall(r'"\$\{OCF_RESKEY_(\w+):=(.+?)\}"', AGENT.read_text()))
     cases.expect("with the values that they have", {name: it for name, it in shown.items() if it} == set_in, (shown, set_in))
     cases.expect("valid parameters", one.act("validate-all") == (OK, ""), one.act("validate-all"))
+    alone = one.act("validate-all", peer="127.0.0.1:4100", watch="[::1]:4101")
+    cases.expect("an address alone, without the name of a machine", alone == (OK, ""), alone)
     cases.expect("no such action", one.act("reload")[0] == UNKNOWN)
+    times_of_actions(cases, tree)
+
+
+def times_of_actions(cases, tree):
+    """The page gives the actions to crm with the times of the description, and these are those that the agent keeps."""
+    told = [{name: it.get(name) for name in it.keys() if name != "depth"} for it in tree.iter("action")]
+    page = (AGENT.parent / "README.md").read_text().replace("\\\n", " ")
+    asked = [dict(it.split("=") for it in f"name={name}{rest}".split()) for name, rest in re.findall(r"\bop (\w+)((?: +\w+=\w+)+)", page)]
+    mine = [it for it in told if it["name"] not in ("meta-data", "validate-all")]
+    cases.expect("the page has their times", sorted(map(str, map(sorted, map(dict.items, asked)))) == sorted(map(str, map(sorted, map(dict.items, mine)))), (asked, mine))
+    due = dict(re.findall(r"^    (\S+)\) due=(\d+) ;;$", AGENT.read_text(), re.M))
+    kept = all(due.get(it["name"], due["*"]) == it["timeout"].replace("s", "000") for it in mine)
+    cases.expect("the agent keeps them", kept, due)
 
 
 def refuses(cases, two, nothing):
@@ -104,6 +122,16 @@ def refuses(cases, two, nothing):
     for name in ("binary", "words"):
         ends = [two.act(it, **{name: nothing})[0] for it in ("monitor", "stop")]
         cases.expect(f"without its {name} nothing is there", ends == [NOT_RUNNING, OK], ends)
+
+
+def leaves_others_alone(cases, two):
+    """The number of a board that has ended is another process's, whose words have its file's name as a part."""
+    two.state.mkdir(exist_ok=True)
+    with subprocess.Popen([sys.executable, "-c", "import time; time.sleep(60)", f"{two.kept}.tables"]) as other:
+        (two.state / "acdm-board.pid").write_text(f"{other.pid}\n")
+        done = [two.act(it)[0] for it in ("monitor", "stop", "monitor")]
+        cases.expect("another process is no board", done == [NOT_RUNNING, OK, NOT_RUNNING] and other.poll() is None, done)
+        other.kill()
 
 
 def day(cases, program, room):
@@ -136,13 +164,15 @@ def taken_over(cases, one, two):
     cases.expect("it follows", one.act("monitor")[0] == OK and follows(one), one.status())
     cases.expect("it is not to be promoted alone", one.score() is None, one.score())
     cases.expect("it is begun once", one.act("start")[0] == OK)
+    is_bounded(cases, one)
     cases.expect("the second is begun", two.act("start")[0] == OK)
     cases.expect("it has all that there is", gets(two, 100), two.score())
     cases.expect("and the first too", gets(one, 100), one.score())
     cases.expect("the first is promoted", one.act("promote")[0] == OK)
     cases.expect("it serves", one.act("monitor")[0] == PROMOTED and one.score() == 1000, one.score())
     cases.expect("it is promoted once", one.act("promote")[0] == OK)
-    cases.expect("the second follows", two.act("monitor")[0] == OK and follows(two))
+    cuts_what_it_said(cases, one)
+    cases.expect("the second follows", two.act("status")[0] == OK and follows(two))
     airport, network = one.partner(1), one.partner(2)
     cases.expect("partners are answered", [airport.asks(SCHEDULE), network.asks(PLAN)] == ["ok 0", "ok 1"])
     cases.expect("the second has that", two.has(2))
@@ -156,11 +186,38 @@ def taken_over(cases, one, two):
     cases.expect("it serves", two.act("monitor")[0] == PROMOTED)
     airport = two.partner(1)
     cases.expect("a partner goes on", airport.asks(TICK) == "ok 2")
+    with one.kept.open("ab") as file:
+        # (its power was cut while a line was written, which the other one has had otherwise)
+        file.write(b"2 9 9")
     status, text = one.act("start")
     cases.expect("the old first one is begun", status == OK, text)
     cases.expect("it follows the second", follows(one) and one.has(3), one.status())
     cases.expect("and has all", gets(one, 100), one.score())
     cases.expect("both files are the same", one.kept.read_bytes() == two.kept.read_bytes())
+
+
+def is_bounded(cases, one):
+    """A board that runs has the limits of acdm.service, and its files are read by its user alone."""
+    limits = dict(re.findall(r"^(Max [a-z ]+?) {2,}(\d+|unlimited)", one.about("limits").read_text(), re.M))
+    unit = dict(re.findall(r"^(\w+)=(.*)$", (AGENT.parents[1] / "systemd" / "acdm.service").read_text(), re.M))
+    memory = str(1024 * int(one.parameters["memory"]))
+    found = limits["Max open files"], limits["Max address space"]
+    cases.expect("its limits", found == (unit["LimitNOFILE"], memory) == ("4096", memory), found)
+    cases.expect("that of memory is the unit's, where none is given", (unit["LimitAS"], MEMORY) == ("2G", str(2 << 20)))
+    environment = one.about("environ").read_bytes().split(b"\0")
+    cases.expect("one arena of memory", unit["Environment"].encode() in environment, unit["Environment"])
+    seen = os.getsid(one.process()), os.readlink(one.about("cwd")), one.kept.stat().st_mode & 0o777
+    cases.expect("in a session and a folder of its own", seen == (one.process(), str(one.kept.parent), 0o600), seen)
+
+
+def cuts_what_it_said(cases, one):
+    """What a board says in months does not fill the disk: a monitor cuts it once it has a million bytes."""
+    said, sizes = one.state / "acdm-board.said", []
+    for size in (900_000, 1_100_000):
+        os.truncate(said, size)
+        done = one.act("monitor")
+        sizes.append(said.stat().st_size)
+    cases.expect("what it has said is cut", done[0] == PROMOTED and 900_000 <= sizes[0] and sizes[1] < 10_000, (done, sizes))
 
 
 def switched(cases, one, two):
@@ -277,7 +334,7 @@ def next_day(cases, one, two):
 
 def down(cases, program, room):
     """Both were down and are begun; both serve, where nobody fences; the next day; boards that end at once."""
-    with two_boards(room, program, "down") as (one, two):
+    with two_boards(room, program, "down", loopback()) as (one, two):
         begun_anew(cases, program, one, two)
         both_serve(cases, one, two)
         next_day(cases, one, two)
@@ -301,16 +358,32 @@ def ends_at_once(cases, one):
 
 
 def silent(cases, program, room):
-    """A board that does not answer: a monitor says so, and it is stopped all the same."""
+    """A board that does not answer: a monitor says so. Another one is begun in its place, or it is stopped all the same."""
     with two_boards(room, program, "silent") as (one, _):
         status, text = one.act("start")
         cases.expect("one is begun", status == OK, (status, text))
+        before = one.process()
         one.signal(signal.SIGSTOP)
         status, text = one.act("monitor")
         cases.expect("it does not answer", status == ERROR and "does not answer" in text, (status, text))
+        said = one.state / "acdm-board.said"
+        with said.open("a") as file:
+            file.write("following nobody of this start\n")
+        status, text = one.act("start")
+        cases.expect("another one is begun", status == OK and one.process() != before and follows(one), (status, text))
+        cases.expect("what it says is kept from its last start on", "of this start" not in said.read_text(), said.read_text())
+        cases.expect("it is promoted", one.act("promote")[0] == OK and one.act("monitor")[0] == PROMOTED)
+        one.signal(signal.SIGSTOP)
+        status, text = one.act("demote")
+        cases.expect("it is demoted, and killed", status == OK and "killed" in text and follows(one), (status, text))
+        one.signal(signal.SIGSTOP)
+        # (the manager may number the machines, and that is no part of the board's name)
+        one.environment["OCF_RESOURCE_INSTANCE"] = "board:7"
         status, text = one.act("stop")
         cases.expect("it is killed", status == OK and "killed" in text, (status, text))
         cases.expect("it is not there", one.act("monitor")[0] == NOT_RUNNING)
+        cases.expect("no number of it is left", [it.name for it in one.state.iterdir()] == [said.name])
+        cases.expect("each in time", one.longest[0] < LIMIT / 2, one.longest)
 
 
 def as_nobody(cases, program, room):
@@ -326,6 +399,10 @@ def as_nobody(cases, program, room):
         owner = os.stat(f"/proc/{one.process()}").st_uid
         cases.expect("who runs it", owner == pwd.getpwnam("nobody").pw_uid == one.kept.stat().st_uid, owner)
         cases.expect("and alone reads its file", one.kept.stat().st_mode & 0o77 == 0)
+        user, status = pwd.getpwnam("nobody"), one.about("status").read_text()
+        found = [sorted(set(map(int, it.split()))) for it in re.findall(r"^(?:Gid|Groups):(.*)$", status, re.M)]
+        wanted = [[user.pw_gid], sorted(os.getgrouplist("nobody", user.pw_gid))]
+        cases.expect("in the groups of that user", found == wanted, (found, wanted))
         cases.expect("it is stopped", one.act("stop")[0] == OK and one.act("monitor")[0] == NOT_RUNNING)
 
 
@@ -574,7 +651,8 @@ def dribble(server, at_end):
             threading.Thread(target=send, args=(stream,), daemon=True).start()
 
 
-# A program that is no board: it answers nothing, or as a board that follows, whatever it is asked, with --answers.
+# A program that is no board: it answers nothing, or as a board that follows, whatever it is asked, with --answers. With
+# --closes it ends four seconds after it was told to, as a board whose displays take nothing.
 NO_BOARD = r"""#!/usr/bin/env python3
 import socket, sys, time
 if "--answers" not in sys.argv:
@@ -584,6 +662,9 @@ with socket.create_server(("127.0.0.1", int(sys.argv[sys.argv.index("--control")
         with server.accept()[0] as stream:
             asked = stream.makefile("rb").readline()
             stream.sendall(b"following nobody\nlast none\n" if asked == b"status\n" else b"promoting\n")
+        if asked == b"close\n" and "--closes" in sys.argv:
+            time.sleep(4)
+            sys.exit(0)
 """
 
 
@@ -606,6 +687,10 @@ def never_ready(cases, program, room):
         cases.expect("one that answers is begun", two.act("start")[0] == OK)
         ends(cases, "its promotion ends", two.act("promote", **begins), ERROR, "does not serve: promoting")
         ends(cases, "it is stopped, and killed", two.act("stop", CRM_meta_timeout="20000"), OK, "killed")
+        with two.words.open("a") as file:
+            file.write("--closes\n")
+        cases.expect("one that closes late is begun", two.act("start")[0] == OK)
+        cases.expect("it is stopped, and not killed", two.act("stop") == (OK, ""), two.longest)
         cases.expect("each in time", two.longest[0] < 20, two.longest)
 
 

@@ -23,8 +23,9 @@ OK, ERROR, BAD_HERE, UNKNOWN, MISSING, BAD, NOT_RUNNING, PROMOTED = 0, 1, 2, 3, 
 LIMIT = 60
 # A connection in which nothing came for 10 seconds is made anew: so many seconds later it was.
 LATEST = 20
-# The bound of memory that the agent has where none is given.
-MEMORY = "2097152"
+# The bound of memory that the agent has where none is given, in KiB; and one for a build with the checks of a sanitizer,
+# which takes 20 TiB of addresses.
+MEMORY, WIDE = "2097152", str(32 << 30)
 
 
 @functools.cache
@@ -72,7 +73,7 @@ class Machine:
             "watch": " ".join(f"{it}={address}" for it, address in watches.items()),
             "words": str(self.words),
             "user": user or pwd.getpwuid(os.geteuid()).pw_name,
-            "memory": MEMORY if bears_a_bound(program) else "unlimited",
+            "memory": MEMORY if bears_a_bound(program) else WIDE,
             "CRM_meta_on_node": name,
         }
         commands = self.room / "commands"
@@ -153,6 +154,10 @@ class Machine:
     def process(self):
         return int((self.state / "acdm-board.pid").read_text())
 
+    def about(self, name):
+        """A file of /proc on its board."""
+        return pathlib.Path(f"/proc/{self.process()}/{name}")
+
     def signal(self, number):
         os.kill(self.process(), number)
 
@@ -166,12 +171,21 @@ class Machine:
             pass
 
 
+def loopback():
+    """The address of the loopback interface by IPv6, as a command line has it, where that is here; else by IPv4."""
+    try:
+        socket.create_server(("::1", 0), family=socket.AF_INET6).close()
+        return "[::1]"
+    except OSError:
+        return "127.0.0.1"
+
+
 @contextlib.contextmanager
-def two_boards(room, program, name, **how):
+def two_boards(room, program, name, host="127.0.0.1", **how):
     """Two machines of a folder, each with the other one as its peer; at the end nothing of their boards is left."""
     place = room / name
     place.mkdir()
-    watches = {it: f"127.0.0.1:{new_port()}" for it in ("one", "two")}
+    watches = {it: f"{host}:{new_port()}" for it in ("one", "two")}
     machines = [Machine(place, it, program, watches, **how) for it in watches]
     try:
         yield machines

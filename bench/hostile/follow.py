@@ -6,11 +6,13 @@
 A day that is followed, its first board killed and the second promoted, N times; connections that are cut at each byte; a
 follower that is killed and begun again; a chain of two; a first board that comes back; addresses that are no board's; other
 journals, boards that are behind, lines that are not legal; last entries that differ late; the names of two followers; what is
-said again; a promotion and a close while it is connected, and both at once; attempts a second apart; a file that is taken
-away while it follows; words and files that are refused; `close`. The last line is `N cases, M failed`; status 1 where one
+said again, also of a first board that ends each connection; a promotion and a close while it is connected, and both at once;
+who is connected at its control address then; a log that can't be written; attempts a second apart; a file that is taken away
+while it follows; words and files that are refused; `close`. The last line is `N cases, M failed`; status 1 where one
 failed.
 """
 
+import contextlib
 import hashlib
 import json
 import os
@@ -182,6 +184,8 @@ def logged(cases, second, log, watch):
     ]
     cases.expect("its log has what it said", found[: len(owed)] == owed and len(owed) == 4, (found, owed))
     cases.expect("with its moments", all(re.fullmatch(MOMENT, it) for it in moments), moments)
+    closes = [at for at, it in enumerate(found, 1) if it["event"] == "close"]
+    cases.expect("and that it has closed, once, at the end", closes == [len(found)], found)
 
 
 def day(cases, program, room):
@@ -503,6 +507,23 @@ def followed_on(cases, program, room):
     server.close()
 
 
+def flapping(cases, program, room):
+    """A first board that ends each connection behind its journal: what does not change is printed once, and it is tried each second."""
+    server = Server([from_line(JOURNAL)] * 100 + [""])
+    second = Second(program, server.port, room / "flapping")
+    cases.expect("flapping: it has what came", second.has(len(JOURNAL)), second.said)
+    began, before = time.monotonic(), len(server.heard)
+    # (at each try it connects twice: the last entry is compared first)
+    cases.expect("flapping: it is tried again", second.waits_for(lambda: len(server.heard) >= before + 8, 60), server.heard)
+    took, count = time.monotonic() - began, len(server.heard) - before
+    cases.expect("flapping: a second later, and no sooner", count <= 2 * took + 4, (count, took))
+    said = [re.sub(r"(has) (ended|failed)", r"\1 ended", it.rsplit(" ", 1)[0]) for it in second.said]
+    address, parted = f"following 127.0.0.1:{server.port}", "parted the connection has ended"
+    cases.expect("flapping: each is printed once", said == [f"{address} 0", parted, f"{address} 5", parted, f"{address} 5"], said)
+    second.close()
+    server.close()
+
+
 def paced(cases, program, room):
     """A first board that ends each connection at once, and one that is not there: it is tried again a second later, and no sooner."""
     other = [JOURNAL[0], "1 2 29000580 NM 0 0 alerts"]
@@ -546,6 +567,59 @@ def silent(cases, program, room):
     nobody = [it.rsplit(" ", 1)[0] for it in second.said[1::2]]
     cases.expect("silence: for the same reason", len(nobody) == 2 and nobody[0] == nobody[1] and nobody[0].startswith("parted "), nobody)
     second.close()
+
+
+def callers(cases, program, room):
+    """Who is connected at the control address as a board is promoted has asked for nothing for longer than who comes then."""
+    begun, server = room / "callers", Server([from_line(JOURNAL)])
+    second = Second(program, server.port, begun)
+    cases.expect("callers: it follows", second.has(len(JOURNAL)), second.said)
+    # (so long that the time which it counts by is later than what it takes to be promoted)
+    time.sleep(3)
+    with contextlib.ExitStack() as opened:
+
+        def calls():
+            return opened.enter_context(socket.create_connection(("127.0.0.1", second.port), timeout=30))
+
+        def asks(caller, line):
+            try:
+                caller.sendall(line)
+                return caller.recv(4096)
+            except OSError:
+                return b""
+
+        old = [calls() for _ in range(8)]
+        cases.expect("callers: eight are answered", all(b"entries 5 of" in asks(it, b"status\n") for it in old))
+        cases.expect("callers: one promotes it", asks(old[7], b"promote\n") == b"promoting\n")
+        told = [second.ran.stdout.readline().split()[:1] for _ in ROLES]
+        cases.expect("callers: it serves", told == [["listen"]] * len(ROLES), told)
+        new = [calls(), calls()]
+        answers = [asks(it, b"status\n").startswith(b"session 1 ") for it in (*new, *new, old[7], old[2], old[0], old[1])]
+        cases.expect("callers: for two more the first two are let go", answers == [True] * 6 + [False] * 2, answers)
+    second.close()
+    server.close()
+
+
+def unlogged(cases, program, room):
+    """A log that can't be written while a board follows: that is said, once, and what was lost is counted once it can be again."""
+    folder, away, port = room / "logs", room / "logs-away", free_port()
+    folder.mkdir()
+    log = folder / "log"
+    second = Second(program, port, room / "unlogged", "--log", str(log))
+    cases.expect("unlogged: nobody is there", second.says(rf"parted .*refused.* {MOMENT}"), second.said)
+    cases.expect("unlogged: which is logged", second.waits_for(lambda: log.read_bytes().count(b"\n") == 1), log.read_bytes())
+    folder.rename(away)
+    server = Server(["unknown\n"], None, port)
+    cases.expect("unlogged: then who is no board", second.says(rf"parted no board's term is sent there {MOMENT}"), second.said)
+    cases.expect("unlogged: that the log can't be written is said", second.says(rf"log failed {MOMENT}"), second.said)
+    away.rename(folder)
+    lost = second.waits_for(lambda: b'"event":"lost","lines":1}' in log.read_bytes(), 30)
+    cases.expect("unlogged: what was lost is counted", lost, log.read_bytes())
+    second.close()
+    cases.expect("unlogged: it is said once", sum(it.startswith("log failed ") for it in second.said) == 1, second.said)
+    events = [json.loads(line)["event"] for line in log.read_text(encoding="ascii").splitlines()]
+    cases.expect("unlogged: and all else is logged", events == ["parted", "lost", "close"], events)
+    server.close()
 
 
 def taken(cases, program, room):
@@ -704,6 +778,9 @@ def main():
         ends_following(cases, program, room)
         closed_at_once(cases, program, room)
         followed_on(cases, program, room)
+        flapping(cases, program, room)
+        callers(cases, program, room)
+        unlogged(cases, program, room)
         paced(cases, program, room)
         silent(cases, program, room)
         taken(cases, program, room)

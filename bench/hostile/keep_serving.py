@@ -7,8 +7,8 @@
 the same words: every reply that a partner read has its entry in FILE, FILE is a legal journal with the rest of a line at most behind
 it, and the numbers go on. Then a file system that takes no more after so many bytes: no reply without its entry, the board closes by
 itself, with status 2 and its line, and displays are sent what stands in FILE; a board that follows without room; journals with each
-kind of fault, another that has the file, too little room, a journal that is nearly full; and `--watch` beside it, which sends the
-same text. The last line is `N cases, M failed`; status 1 where one failed.
+kind of fault, another that has the file, too little room, a journal that is nearly full; partners whose lines come at once, again and
+again; and `--watch` beside it, which sends the same text. The last line is `N cases, M failed`; status 1 where one failed.
 """
 
 import errno
@@ -28,6 +28,7 @@ from keep import FAULTY, came, legal, limited, numbers_of, whole_of
 
 PARTNERS = 8
 ROLES = ["APT", "NM", *["GH"] * (PARTNERS - 2)]
+TICK = b'{"cmd":"tick"}\n'
 
 
 def free_port():
@@ -227,6 +228,32 @@ def in_use(cases, program, room):
     cases.expect("the next goes on", done[0] == 0 and done[1] == "ok 2\n", done)
 
 
+def all_at_once(cases, program, room):
+    """Eight partners whose lines come at once, again and again: who waits for another one's write is told of it, each of them."""
+    for more in ([], ["--sync"]):
+        board = Board(program, room / f"at-once{len(more)}", more, roles=["APT"] * PARTNERS)
+        streams = board.connect()
+        for turn in range(20):
+            for it in streams:
+                it.sendall(TICK)
+            silent = [at for at, it in enumerate(streams) if not is_told(it)]
+            if silent:
+                break
+        cases.expect(f"each of eight is told whose lines come at once, {more}", not silent, (turn, silent))
+        for it in streams:
+            it.close()
+        ended = board.end()
+        cases.expect(f"and their board ends, {more}", ended[0] == 0 and ended[1].endswith("closed 160\n"), ended)
+
+
+def is_told(stream):
+    """Whether a reply comes that reports an entry."""
+    try:
+        return stream.recv(100).startswith(b"ok ")
+    except OSError:
+        return False
+
+
 def watched(cases, program, room):
     """What displays are sent is the text of the file, from its first entry on."""
     file = room / "watched"
@@ -268,7 +295,7 @@ def main():
     cases = Cases()
     with tempfile.TemporaryDirectory(prefix="acdm-keep-") as folder:
         room = pathlib.Path(folder)
-        for part in (faulty, in_use, watched, nearly_full, full_disk, follower_without_room):
+        for part in (faulty, in_use, all_at_once, watched, nearly_full, full_disk, follower_without_room):
             part(cases, given.program, room)
         kills(cases, given.program, room, given.kills, given.seed)
     return cases.end()

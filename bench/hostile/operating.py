@@ -166,6 +166,12 @@ def bounded(cases, program, room):
         manager.asks(json.dumps({"cmd": "none", "turn": turn}))
         time.sleep(0.03)
     manager.close()
+    board.waits_for(lambda: board.told(2, "gone") == 1)
+    manager = board.connect(2)
+    manager.asks(TICK)
+    back = board.waits_for(lambda: board.told(2, "here") == 2)
+    cases.expect("who comes back behind many bad lines is told all the same", back, board.said[-3:])
+    manager.close()
     cases.expect("ends", board.close()[1] == 0)
     found = events(log)
     here = [it for it in found if it["event"] == "here" and it["session"] == 1]
@@ -352,14 +358,15 @@ def kept(cases, program, room):
 
 
 def limited(cases, program, room):
-    """A kept file that can grow no further: the log says why, by the system's reason."""
+    """A kept file that can grow no further: the board ends, also beside a partner that is silent, and the log says why."""
     log, journal = room / "limited-log", room / "limited"
     board = Board(
         ["bash", "-c", 'trap "" XFSZ; ulimit -f 2; exec "$0" "$@"', program],
         ["--again", "--keep", str(journal), "--log", str(log)],
-        ["APT"],
+        ["APT", "NM"],
     )
-    airport, replies = board.connect(1), []
+    airport, manager, replies = board.connect(1), board.connect(2), []
+    cases.expect("a partner is there that is silent then", manager.asks("{}") == "bad 102")
     while len(replies) < 200 and (reply := airport.asks(TICK)):
         replies.append(reply)
     status, _ = board.ended()
@@ -369,6 +376,7 @@ def limited(cases, program, room):
     why = f"{os.strerror(errno.EFBIG)} (os error {errno.EFBIG})"
     cases.expect("and the log says why", [it["why"] for it in found] == [why], found)
     airport.close()
+    manager.close()
 
 
 def moved(cases, program, room):

@@ -6,8 +6,8 @@
 A partner that reads late and little, under each word that keeps partners, of a program that is stopped meanwhile; a second connection
 at an address that is taken; `close` with 2,000 lines in hand; replies that an older connection has not taken; a pace after silence;
 levels of rooms that do not divide; moments beside the machine's clock; a display that reads late, one that reads nothing, and those
-that connect at the end; a partner that reads, and a display that does not, once the board closes; who stays at the end; ticks of the
-board's own, also seldom ones and where it slept. The last line is `N cases, M failed`; status 1 where one failed.
+that connect at the end; a partner that reads, and a display that does not, once the board closes; who stays at the end, and has a
+second there; ticks of the board's own, also seldom ones and where it slept. The last line is `N cases, M failed`; status 1 where one failed.
 """
 
 import datetime
@@ -489,6 +489,24 @@ def slept(cases, program):
     cases.expect("it ends", board.close()[1] == 0)
 
 
+def by_its_start(cases, program):
+    """Of a board that slept the next tick comes by the moment at which it began, and not so long behind the last one."""
+    board, port = opened(program, ["--tick", "4", "--again", "--control", "PORT", "--watch", "DISPLAY"], ["GH"])
+    with socket.create_connection(("127.0.0.1", port), timeout=30) as display, display.makefile("rb") as entries:
+        came = [entries.readline()]
+        board.ran.send_signal(signal.SIGSTOP)
+        # (from 4 seconds behind its start to 10: the tick of the eighth second comes then, and the next in the twelfth)
+        time.sleep(6)
+        board.ran.send_signal(signal.SIGCONT)
+        came.append(entries.readline())
+        begun = time.monotonic()
+        came.append(entries.readline())
+        took = time.monotonic() - begun
+    cases.expect("three ticks come", all(it.endswith(b" tick\n") for it in came), came)
+    cases.expect("the last one sooner than a period behind the one that was missed", took < 3, took)
+    cases.expect("it ends", board.close()[1] == 0)
+
+
 def stopped_display(cases, program):
     """A display that takes nothing for half a minute is let go, and another one is sent all."""
     with tempfile.TemporaryDirectory() as room:
@@ -519,6 +537,32 @@ def stopped_display(cases, program):
         cases.expect("the other display has all", heard == [text], [len(it) for it in heard])
 
 
+def deaf_board(cases, program):
+    """A client that follows as a board, and takes nothing of what it is sent, delays the end by five seconds, as a display does."""
+    with tempfile.TemporaryDirectory() as room:
+        kept = pathlib.Path(room) / "kept"
+        load = f"1 29000580 APT 0 0 load 9 alert {'b700000000000000' * 3000}b7000000010000009500000000000000"
+        kept.write_text("".join(f"{number} {load}\n" for number in range(6)), encoding="ascii")
+        options = ["--again", "--control", "PORT", "--keep", str(kept), "--watch", "DISPLAY", "--second", "1"]
+        board, port = opened(program, options, ["APT"])
+        with socket.socket() as client:
+            # (with the least pieces a system holds little of a connection, and not all of this journal)
+            client.setsockopt(socket.IPPROTO_TCP, socket.TCP_MAXSEG, 536)
+            client.setsockopt(socket.SOL_SOCKET, socket.SO_RCVBUF, 4096)
+            client.settimeout(30)
+            client.connect(("127.0.0.1", port))
+            client.sendall(b"from 0 as 5\n")
+            cases.expect("it is sent the journal", client.recv(12, socket.MSG_PEEK) == b'{"journal":"')
+            begun = time.monotonic()
+            answer, status, lines = board.close(60)
+            took = time.monotonic() - begun
+            data = rest_of(client)
+        ended = (answer, status, lines) == ("closing\n", 0, ["session 1 0 end", "closed 6"])
+        cases.expect("a board ends beside it", ended, (answer, status, lines))
+        cases.expect("and it had not taken all", len(data) < kept.stat().st_size, len(data))
+        cases.expect("soon", took < 20, took)
+
+
 def staying(cases, program):
     """At the end a display that was sent all, and stays, has a second, and a browser that has asked for nothing has none."""
     for word, kind, sent in (("--watch", "display", b""), ("--changes", "client of the feed", b"from 0\n"), ("--web", "browser", b"GET / HTTP/1.1\r\n")):
@@ -533,6 +577,35 @@ def staying(cases, program):
         cases.expect(f"a {kind} is there", came)
         cases.expect(f"a board ends beside a {kind}", (answer, status, lines[-1:]) == ("closing\n", 0, ["closed 1"]), (answer, status, lines))
         cases.expect(f"soon, although the {kind} stays", took < 4, took)
+
+
+def last_second(cases, program):
+    """At the end each kind of display sees that no more comes, and has a second from then on."""
+    for name, word, first in (
+        ("display", "--watch", b""),
+        ("reader from an entry on", "--watch", b"from 0\n"),
+        ("client of the feed", "--changes", b"from 0\n"),
+        ("browser", "--web", b"GET /events HTTP/1.1\r\n\r\n"),
+    ):
+        # (on a busy machine the second may be over too soon, so it may be tried more than once)
+        is_well = any(is_waited_for(cases, program, name, word, first) for _ in range(3))
+        cases.expect(f"a {name} that has seen the end is waited for", is_well)
+
+
+def is_waited_for(cases, program, name, word, first):
+    """Whether a display's connection is still there once it has seen the end."""
+    board, port = opened(program, ["--again", "--control", "PORT", word, "DISPLAY"], ["APT"])
+    cases.expect(f"a partner is served beside a {name}", board.connect(1).asks(TICK) == "ok 0")
+    with socket.create_connection(("127.0.0.1", port), timeout=30) as viewer:
+        viewer.sendall(first)
+        cases.expect(f"a {name} is sent something", received(viewer, 1000) != b"")
+        cases.expect(f"close is answered beside a {name}", board.ask("close") == "closing\n")
+        rest_of(viewer)
+        # (what is sent to a socket that is closed comes back as an error)
+        viewer.send(b"x")
+        is_cut = viewer.getsockopt(socket.SOL_SOCKET, socket.SO_ERROR) != 0
+    cases.expect(f"the board of a {name} ends", board.ended()[0] == 0)
+    return not is_cut
 
 
 def late_callers(cases, program):
@@ -583,7 +656,7 @@ def tried(make, cases, *given):
 
 
 # They wait more than they work, and are made at once.
-TOGETHER = (pace_after_silence, late_display, own_ticks, seldom, slept, stopped_display)
+TOGETHER = (pace_after_silence, late_display, own_ticks, seldom, slept, by_its_start, deaf_board, stopped_display)
 
 
 def main():
@@ -603,7 +676,7 @@ def main():
     for it in waiting:
         it.join()
     # (by themselves, since they look at the time)
-    for it in (taken_late, last_display, staying):
+    for it in (taken_late, last_display, staying, last_second):
         tried(it, cases, program)
     return cases.end()
 

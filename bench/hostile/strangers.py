@@ -3,10 +3,11 @@
 
     python3 bench/hostile/strangers.py [--program PATH]
 
-A newcomer takes a place by a first line that may be a command, and by nothing else; one partner alone is served under each
-combination of the words; who does not read standard error, or holds the control address, holds up nobody; a pace counts lines
-and not connections; levels of the room are told once each; the page and its events are refused to other names and other sites;
-what `--save` and `--keep` name is left alone where it is something else's; and a journal is gone on from in a new file. The last
+A newcomer takes a place by a first line that may be a command, and by nothing else, also where twelve come at one look; who
+connects while the program has no further descriptor is served later; one partner alone is served under each combination of
+the words; who does not read standard error, or holds the control address, holds up nobody; a pace counts lines and not
+connections; levels of the room are told once each; the page and its events are refused to other names and other sites; what
+`--save` and `--keep` name is left alone where it is something else's; and a journal is gone on from in a new file. The last
 line is `N cases, M failed`; status 1 where one failed.
 """
 
@@ -16,6 +17,7 @@ import itertools
 import os
 import pathlib
 import re
+import resource
 import signal
 import socket
 import subprocess
@@ -168,6 +170,16 @@ def ninth(program, cases):
     for number, at in enumerate([8, 7, 1]):
         came = asked(waiting[at], TICK)
         cases.expect(f"newcomer {at + 1} of nine is served", came == f"ok {number}\n", came)
+    # (five of these still wait, the third one for the longest time, and four more come)
+    waiting += [board.connect(timeout=5) for _ in range(4)]
+    try:
+        came = waiting[2].recv(10)
+    except OSError as error:
+        came = error
+    cases.expect("then for a ninth the one is closed that waits longest", came == b"", came)
+    for number, at in enumerate([12, 6, 3], 3):
+        came = asked(waiting[at], TICK)
+        cases.expect(f"and newcomer {at + 1} of thirteen is served", came == f"ok {number}\n", came)
     for connection in waiting:
         connection.close()
     cases.expect("the board closes", board.close() == 0)
@@ -186,6 +198,75 @@ def alone(program, cases, room):
             else:
                 board.process.terminate()
                 board.end()
+
+
+def at_one_look(program, cases):
+    """Twelve whose first lines are there at one look: nobody waits, so each takes the place, and the last one has it."""
+    board = Board(program, ["--again", "--control", "PORT"])
+    cases.expect("a board is there", "entries 0 of" in board.ask("status"))
+    board.process.send_signal(signal.SIGSTOP)
+    partners = [board.connect(timeout=30) for _ in range(12)]
+    for partner in partners:
+        partner.sendall(TICK.encode() + b"\n")
+    board.process.send_signal(signal.SIGCONT)
+    came = replied(partners[-1])
+    cases.expect("the last of twelve is served", came.startswith("ok "), came)
+    began = time.monotonic()
+    while sum(line.startswith("here ") for line in board.said) < 12 and time.monotonic() - began < 30:
+        time.sleep(0.02)
+    told = [line.split()[0] for line in board.said]
+    cases.expect("each of twelve is told, and as gone before the next", told == ["here", "gone"] * 11 + ["here"], told)
+    for partner in partners:
+        partner.close()
+    cases.expect("the board closes", board.close() == 0)
+
+
+def without_descriptors(program, cases):
+    """Where the program has no further descriptor, who connects waits, at each kind of address, and is served once there is one."""
+    ports = {word: free_port() for word in ("--watch", "--changes", "--web")}
+    options = [part for word, port in ports.items() for part in (word, f"127.0.0.1:{port}")]
+    board = Board(program, ["--again", "--control", "PORT", *options], ("APT", "APT"))
+    first, number = board.connect(), board.process.pid
+    cases.expect("a partner is there", asked(first, TICK) == "ok 0\n")
+    before = resource.prlimit(number, resource.RLIMIT_NOFILE)
+    taken = {int(it) for it in os.listdir(f"/proc/{number}/fd")}
+    resource.prlimit(number, resource.RLIMIT_NOFILE, (min({*range(len(taken) + 1)} - taken), before[1]))
+    late = {
+        "partner": (board.ports[1], TICK.encode() + b"\n", b"ok 2\n"),
+        "display": (ports["--watch"], b"", b"0 1 "),
+        "client of the feed": (ports["--changes"], b"from 0\n", b'{"journal":"'),
+        "browser": (ports["--web"], b"HEAD / HTTP/1.1\r\n\r\n", b"HTTP/1.1 200 "),
+        "caller": (board.control, b"status\n", b"session 1 APT here "),
+    }
+    waiting = {name: sent(port, line) for name, (port, line, _) in late.items()}
+    # (so long that the board looks several times for who connects)
+    time.sleep(0.5)
+    cases.expect("who was there is served on", asked(first, TICK) == "ok 1\n")
+    resource.prlimit(number, resource.RLIMIT_NOFILE, before)
+    for name, (_, _, wanted) in late.items():
+        came = heard(waiting[name])
+        cases.expect(f"a {name} that has waited for a descriptor is served", came.startswith(wanted), came)
+    for connection in filter(None, (first, *waiting.values())):
+        connection.close()
+    cases.expect("the board closes", board.close() == 0)
+
+
+def sent(port, line):
+    """A connection at which a line was sent; none where nobody listens."""
+    try:
+        connection = socket.create_connection(("127.0.0.1", port), timeout=30)
+        connection.sendall(line)
+    except OSError:
+        return None
+    return connection
+
+
+def heard(connection):
+    """What comes first; nothing where nothing does."""
+    try:
+        return connection.recv(4096) if connection else b""
+    except OSError:
+        return b""
 
 
 def silent_terminal(program, cases):
@@ -285,9 +366,12 @@ def held_control(program, cases):
         except TimeoutError:
             asker.sendall(b"status\n")
             cases.expect("another caller is answered meanwhile", b"entries 0 of" in asker.recv(4096))
+            # (a byte more gives it no further time)
+            caller.sendall(b"u")
+            caller.settimeout(20)
             caller.recv(1)
         took = time.monotonic() - began
-        cases.expect("half a line is waited for ten seconds", 9 < took < 13, took)
+        cases.expect("half a line is waited for ten seconds, also where a byte comes", 9 < took < 13, took)
         try:
             asker.sendall(b"status\n")
             came = asker.recv(4096)
@@ -464,6 +548,8 @@ def main():
     signal.alarm(600)
     newcomers(program, cases)
     ninth(program, cases)
+    at_one_look(program, cases)
+    without_descriptors(program, cases)
     silent_terminal(program, cases)
     full_pipe(program, cases)
     held_control(program, cases)

@@ -257,7 +257,12 @@ def behind(cases, program, room):
     cases.expect("it says so", first.says(rf"parted there are only 1 entries {MOMENT}"), first.said)
     cases.expect("and stays in its own term", (told_by(first), term_of(kept)) == (1, 1), told_by(first))
     cases.expect("in which it is not promoted", first.ask("promote") == "replaced 7\n", first.ask("promote"))
-    first.close()
+    server.close()
+    server = Server([from_line(JOURNAL)], 1, server.port)
+    cases.expect("where a board of its own term is there it follows that", first.has(len(JOURNAL)), first.said)
+    answer = first.ask("promote\nclose")
+    cases.expect("and is promoted then", answer.startswith("promoting\n"), answer)
+    cases.expect("and closed", first.ended()[0] == 0, first.said)
     server.close()
     for term, why in ((7, "in its term"), (LAST, "in the last one")):
         kept = room / f"ends {term}"

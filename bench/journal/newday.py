@@ -5,14 +5,19 @@
 
 Each partner sends line by line, 100 a second, each with a number that no other line has, and comes back where its
 connection breaks; a line without a reply is not sent again. At the end each reply that was read has to stand in one of the journals, at the
-number that it names, with the command that it answers, and no line in two of them. Then what newday.py refuses is
-tried: a board without a kept journal, an address that is none of a board, flights that can't be carried. The last line
-is `N cases, M failed`; the status is 1 where one failed.
+number that it names, with the command that it answers, and no line in two of them. What is kept has its tables, its
+report and the rights of the journal, and nothing else is left. So it is for a board that a file of settings begins, with
+tables of its own, and as root for one of another user. Then what newday.py refuses is tried: a board without a kept
+journal, an address that is none of a board, flights that can't be carried. The last line is `N cases, M failed`; the
+status is 1 where one failed.
 """
 import argparse
 import json
 import os
 import pathlib
+import pwd
+import re
+import resource
 import socket
 import subprocess
 import sys
@@ -91,15 +96,19 @@ class Partner(threading.Thread):
 class Board:
     """A board of eight partners, and of two more, in the roles APT and NM, who make the flights."""
 
-    def __init__(self, program, folder, *words):
+    def __init__(self, program, folder, *words, settings=None, **how):
         self.program, self.folder = program, folder
         self.control, *self.ports = free_ports(3 + len(ROLES))
         self.journal = folder / "day.journal"
-        command = [program, "serve", "--again", "--journal", "1000000", "--control", str(self.control), *words]
-        command += [f"{role}=127.0.0.1:{port}" for role, port in zip((*ROLES, "APT", "NM"), self.ports)]
-        self.process = subprocess.Popen(
-            command, cwd=folder, stdin=subprocess.DEVNULL, stdout=subprocess.DEVNULL, stderr=subprocess.DEVNULL
-        )
+        partners = [f"{role}=127.0.0.1:{port}" for role, port in zip((*ROLES, "APT", "NM"), self.ports)]
+        command = [program, "serve", "--again", "--journal", "1000000", "--control", str(self.control), *words, *partners]
+        if settings is not None:
+            told = {**settings, "again": True, "journal": 1000000, "control": f"127.0.0.1:{self.control}", "partners": partners}
+            text = "".join(f"{name} = {json.dumps(value)}\n" for name, value in told.items())
+            (folder / "board.toml").write_text(text, encoding="ascii")
+            command = [program, "serve", "--config", "board.toml"]
+        null = subprocess.DEVNULL
+        self.process = subprocess.Popen(command, cwd=folder, stdin=null, stdout=null, stderr=null, **how)
         if not until(lambda: listens(self.control)):
             raise SystemExit("the board does not begin")
 
@@ -122,13 +131,13 @@ class Board:
 
 
 def newday(program, *words):
-    environment = {**os.environ, "ACDM": str(program)}
+    environment = {**os.environ, "ACDM": str(program), "TZ": "Asia/Kolkata"}
     command = [sys.executable, str(NEWDAY), *map(str, words)]
     return subprocess.run(command, capture_output=True, text=True, env=environment, timeout=300, check=False)
 
 
-def told(program, journal):
-    lines = subprocess.run([program, "tell", journal], capture_output=True, text=True, check=True).stdout.splitlines()
+def told(program, journal, *words):
+    lines = subprocess.run([program, "tell", *words, journal], capture_output=True, text=True, check=True).stdout.splitlines()
     return [json.loads(line) for line in lines]
 
 
@@ -152,6 +161,7 @@ def carried_count(said):
 def days(program, folder, count, seconds):
     """The days, and what each reply of theirs says."""
     board = Board(program, folder, "--keep", "day.journal")
+    board.journal.chmod(0o640)
     yield "the flights are there", board.make_flights()
     partners = [Partner(number, port) for number, port in enumerate(board.ports[: len(ROLES)])]
     for it in partners:
@@ -174,8 +184,74 @@ def days(program, folder, count, seconds):
     board.end()
     old = sorted((folder / "old").glob("*.journal"), key=lambda it: it.stat().st_mtime)
     yield "each old journal is kept", len(old) == count
+    yield from left(program, folder, old)
     journals = [told(program, it) for it in [*old, board.journal]]
     yield from judged(partners, journals, first)
+
+
+def left(program, folder, old):
+    """What stands there behind days: each journal with its tables, the reports, the log, all with the rights of the first journal."""
+    moments = [time.strftime("%Y-%m-%dT%H%MZ", time.gmtime(it.stat().st_mtime + 60 * later)) for it in old for later in range(-2, 6)]
+    yield "each is named by its moment, in UTC", all(any(moment in it.name for moment in moments) for it in old)
+    beside = [f"{it.name}{end}" for it in old for end in ("", ".html", ".tables")]
+    names = [{it.name for it in place.iterdir()} for place in (folder, folder / "old")]
+    yield f"nothing else is left: {names}", names == [{"day.journal", "day.journal.tables", "day.journal.log", "old"}, set(beside)]
+    modes = {it.name: it.stat().st_mode & 0o777 for it in [*folder.glob("old/*"), folder / "day.journal", folder / "day.journal.log"]}
+    yield f"with the rights of the journal: {modes}", set(modes.values()) == {0o640}
+    for it in old:
+        words = [program, "audit", "--tables", f"{it}.tables", it]
+        yield "an old journal is audited by its tables", subprocess.run(words, capture_output=True, check=False).returncode == 0
+
+
+def by_settings(program, folder):
+    """A board that a file of settings begins, with tables of its own, where those of another day were left."""
+    tables = (TOP / "examples" / "tables.toml").read_text(encoding="ascii")
+    (folder / "tables.toml").write_text(tables, encoding="ascii")
+    (folder / "day.journal.next.tables").write_text("# others\n", encoding="ascii")
+    board = Board(program, folder, settings={"keep": "day.journal", "tables": "tables.toml"})
+    yield "by settings: the flights are there", board.make_flights()
+    done = newday(program, board.control, "--wait", 0)
+    yield f"by settings: the next day is begun: {done.stderr}", done.returncode == 0
+    (old,) = [*(folder / "old").glob("*.journal")] or [folder / "none"]
+    yield "by settings: with its flights", len(flights_of(told(program, board.journal, "--tables", folder / "tables.toml"))) == 8
+    kept = pathlib.Path(f"{old}.tables")
+    yield "by settings: the old tables are kept", kept.is_file() and kept.read_text(encoding="ascii") == tables
+    yield "by settings: nothing else is left", not [*folder.glob("*.next*")]
+    command = [sys.executable, str(TOP / "clients" / "control.py"), str(board.control), "close"]
+    done = subprocess.run(command, capture_output=True, text=True, check=False)
+    yield f"by settings: its end is seen: {done.stderr}", (done.returncode, done.stdout) == (0, "closing\n")
+
+
+def of_another_user(program, folder):
+    """Root goes to the next day for a board of another user: that board is begun as this user again, in whose groups it is."""
+    reached = ["setpriv", "--reuid=nobody", "--clear-groups", "test", "-x", str(program)]
+    if os.geteuid() or subprocess.run(reached, check=False, capture_output=True).returncode:
+        print("left out: a board of another user, which takes root, and a program that all may start")
+        return
+    user = pwd.getpwnam("nobody")
+    os.chown(folder, user.pw_uid, user.pw_gid)
+    own = {"user": user.pw_uid, "group": user.pw_gid, "extra_groups": [user.pw_gid], "umask": 0o077}
+    own |= {"env": {**os.environ, "OWN": "of this board"}, "preexec_fn": lambda: resource.setrlimit(resource.RLIMIT_NOFILE, (300, 400))}
+    board = Board(program, folder, "--keep", "day.journal", **own)
+    yield "of another user: the flights are there", board.make_flights()
+    done = newday(program, board.control, "--wait", 0)
+    yield f"of another user: the next day is begun: {done.stderr}", done.returncode == 0
+    board.process.wait(LIMIT)
+    owners = {it.name: (it.stat().st_uid, it.stat().st_mode & 0o777) for it in folder.rglob("*") if it.is_file()}
+    yield f"of another user: all is his alone: {owners}", set(owners.values()) == {(user.pw_uid, 0o600)}
+    found = []
+    for it in pathlib.Path("/proc").glob("[0-9]*"):
+        try:
+            words, status = (it / "cmdline").read_bytes().split(b"\0"), (it / "status").read_text() + (it / "limits").read_text()
+            environment = (it / "environ").read_bytes().split(b"\0")
+        except OSError:
+            continue
+        if str(board.control).encode() in words and str(program).encode() in words[:1]:
+            told = re.findall(r"^(?:Uid:|Gid:|Groups:|Umask:|Max open files)\s+(\w+(?: +400)?)", status, re.M)
+            found.append([*map(str.split, told), b"OWN=of this board" in environment])
+    wanted = [[["0077"], [str(user.pw_uid)], [str(user.pw_gid)], [str(user.pw_gid)], ["300", "400"], True]]
+    yield f"of another user: it runs as before: {found}", found == wanted
+    board.end()
 
 
 def judged(partners, journals, first):
@@ -210,6 +286,19 @@ def judged(partners, journals, first):
         yield f"and with the targets that were reported {day}", len(tobts) >= 2
 
 
+def of_a_follower(program, folder):
+    """A board that follows another one has no next day of its own."""
+    control, partner = free_ports(2)
+    words = ["--again", "--control", str(control), "--keep", str(folder / "followed"), f"APT=127.0.0.1:{partner}"]
+    null = subprocess.DEVNULL
+    with subprocess.Popen([program, "follow", "127.0.0.1:1", *words], stdin=null, stdout=null, stderr=null) as follower:
+        until(lambda: listens(control))
+        done = newday(program, control)
+        yield "a board that follows is refused", done.returncode == 2 and "begun by `follow`" in done.stderr
+        yield "and goes on", follower.poll() is None
+        follower.kill()
+
+
 def refusals(program, folder):
     """What is refused, and that a day that can't be carried goes on."""
     (port,) = free_ports(1)
@@ -233,6 +322,17 @@ def refusals(program, folder):
     yield "where the next journal can't be made, the board goes on", done.returncode == 1 and "goes on with the old journal" in done.stderr
     yield "with its flights", len(flights_of(told(program, board.journal))) == 8 and until(lambda: listens(board.control), 5)
     (kept / "day.journal.next").rmdir()
+    elsewhere = pathlib.Path("/dev/shm")
+    if elsewhere.is_dir() and elsewhere.stat().st_dev != kept.stat().st_dev:
+        with tempfile.TemporaryDirectory(dir=elsewhere) as other:
+            done = newday(program, board.control, "--old", other)
+        yield "a folder on another disk is refused", done.returncode == 2 and "on another disk" in done.stderr and listens(board.control)
+    with socket.create_connection(("127.0.0.1", board.ports[-1]), timeout=LIMIT) as partner:
+        partner.sendall(b'{"cmd":"alerts"}\n')
+        partner.recv(100)
+        done = newday(program, board.control, "--wait", 0.2)
+    yield "a partner who does not come back is told", done.returncode == 1 and "not back after 0 s: NM (session 10)" in done.stderr
+    yield from of_a_follower(program, folder)
     done = newday(program, board.control, "--start", "false")
     yield "a command that does not begin the board is told", done.returncode == 1 and "is not begun" in done.stderr
     yield "and the next day's journal is there", len(flights_of(told(program, board.journal))) == 8
@@ -247,9 +347,12 @@ def main():
     cases = failed = 0
     with tempfile.TemporaryDirectory(prefix="acdm-newday-") as room:
         folder = pathlib.Path(room)
-        (folder / "days").mkdir()
+        folder.chmod(0o755)
+        for name in ("days", "settings", "another"):
+            (folder / name).mkdir()
         program = asked.program.resolve()
-        for found in (days(program, folder / "days", asked.days, asked.seconds), refusals(program, folder)):
+        more = (by_settings(program, folder / "settings"), of_another_user(program, folder / "another"))
+        for found in (days(program, folder / "days", asked.days, asked.seconds), *more, refusals(program, folder)):
             for name, is_well in found:
                 cases += 1
                 if not is_well:

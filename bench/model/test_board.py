@@ -2,10 +2,14 @@
 """Worked lines with the replies that the rules give by hand: `python3 bench/model/test_board.py`."""
 
 import json
+import sys
 import unittest
 from pathlib import Path
 
-from board import Board, Flight, alerts_of, names_of, replies
+sys.path.insert(0, str(Path(__file__).resolve().parents[1] / "rows"))
+
+import rows  # noqa: E402
+from board import Board, Flight, alerts_of, names_of, replies  # noqa: E402
 
 SCHEDULE = {
     "cmd": "schedule", "flight": 7, "callsign": "DLH7", "type": "A320", "reg": "DAIBC", "dest": "EDDM",
@@ -106,6 +110,14 @@ class Replies(unittest.TestCase):
             given = lines.read_bytes().splitlines(keepends=True)
             found = [reply + "\n" for reply in replies(given, 100_000)]
             self.assertEqual(found, lines.with_suffix(".out").read_text().splitlines(keepends=True), lines.name)
+
+    def test_the_rows_of_the_rules(self):
+        """Each cell of the tables of docs/RULES.md has rows there, whose replies were found by hand."""
+        made = [row for _, row in rows.all_rows()]
+        self.assertGreater(len(made), 300)
+        for row in made:
+            lines = rows.joined(row.lines).encode().splitlines(keepends=True)
+            self.assertEqual(list(replies(iter(lines), row.capacity)), list(row.replies), row.name)
 
     def test_sums_do_not_wrap(self):
         flight = Flight(0, reached=2)

@@ -6,7 +6,7 @@ import random
 import unittest
 from pathlib import Path
 
-from journal import audit, written
+from journal import Unreadable, audit, read, written
 
 EXAMPLES = Path(__file__).resolve().parents[2] / "examples"
 PROGRAM = "69113c000000000057010000ff01000085000000020000009500000000000000"
@@ -100,6 +100,37 @@ class Journals(unittest.TestCase):
         self.assertEqual(self.said(FIVE, "alerts\n", "alerts"), "entry 4 401")
         self.assertEqual(self.said(FIVE, "4 1 29000580 APT 0 0 alerts", ""), "entry 4 401")
         self.assertEqual(self.said(FIVE, "DLH7 A320 DAIBC EDDM 29000760", "DLH7 A320 DAIBC EDDM 0"), "entry 1 401")
+
+    def test_the_ranges_of_a_line(self):
+        """docs/FORMATS.md, "The journal's text": each number at its least and its greatest, and beside them; each text."""
+        word, minute = 2**64 - 1, 2**32 - 1
+        schedule, head = "schedule 7 A B C D 5 0 0 0 0", "0 1 5 APT 0 0 "
+        rows = [
+            ("{} 1 5 APT 0 0 alerts", 0, word), ("0 {} 5 APT 0 0 alerts", 1, 64), ("0 1 {} APT 0 0 alerts", 1, minute),
+            ("0 1 5 APT {} 0 alerts", 0, word), ("0 1 5 APT 0 1 {} alerts", 0, word), (head + "show {}", 1, word),
+            (head + schedule.replace("7", "{}"), 1, word), (head + schedule.replace("5", "{}"), 1, minute),
+            (head + "schedule 7 A B C D 5 {} 0 0 0", 0, 1440), (head + "schedule 7 A B C D 5 0 {} 0 0", 0, 255),
+            (head + "schedule 7 A B C D 5 0 0 {} 0", 0, 1440), (head + "schedule 7 A B C D 5 0 0 0 {}", 0, 65535),
+            (head + "report {} 3 5", 1, word), (head + "report 7 {} 5", 2, 16), (head + "report 7 3 {}", 1, minute),
+            (head + "report 7 2 {}", 0, minute), (head + "report 7 9 {}", 0, minute), (head + "report 7 1 {} A B C D", 1, minute),
+            (head + "load {} tobt 95", 1, 16), (head + "load 7 tobt 95 {}", 160, 160), (head + "unload {} alert", 1, 16),
+            (head + "deice {} eczt 5", 1, word), (head + "deice 7 aezt {}", 0, minute),
+        ]  # fmt: skip
+        for form, least, most in rows:
+            for number, is_read in ((least - 1, False), (least, True), (most, True), (most + 1, False)):
+                self.assertEqual(self.is_read(form.format(number)), is_read, form.format(number))
+        for place, most in enumerate((8, 4, 8, 4)):
+            texts = ["A", "B", "C", "D"]
+            for text, is_read in (("~" * most, True), ("!", True), ("~" * (most + 1), False), ("", False), ("\x7f", False)):
+                line = head + " ".join(["schedule 7", *texts[:place], text, *texts[place + 1 :], "5 0 0 0 0"])
+                self.assertEqual(self.is_read(line), is_read, line)
+
+    def is_read(self, line):
+        """Whether a line states an entry, which is the one that it is written as."""
+        try:
+            return read(line.encode() + b"\n").line() == line.encode() + b"\n"
+        except Unreadable:
+            return False
 
     def test_times_that_may_be_missing(self):
         self.assertEqual(self.said(FIVE, "9 29000760\n", "9 0\n"), "legal 5")

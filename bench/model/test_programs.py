@@ -5,7 +5,7 @@ import unittest
 from pathlib import Path
 
 from board import Flight
-from programs import Fault, accepted, decode, run, verify
+from programs import HELPERS, Fault, Insn, accepted, decode, holds, run, verify, word_result
 
 EXIT = "9500000000000000"
 ZERO = "b700000000000000"
@@ -45,6 +45,67 @@ def verdict(digits, length=128):
 def ended(digits, milestone=1, now=29_000_700):
     found = run(accepted(bytes.fromhex(digits)), flight(), now, milestone)
     return found.r0, found.steps
+
+
+class Words(unittest.TestCase):
+    """Arithmetic on words, by RFC 9669, sections 4.1 to 4.3."""
+
+    def test_results(self):
+        most, low, high = 2**64 - 1, 2**32 - 1, 2**63
+        rows = (
+            ("add", 64, 0, most, 1, 0), ("add", 32, 0, low, 1, 0), ("add", 32, 0, most, 0, low), ("sub", 64, 0, 0, 1, most),
+            ("sub", 32, 0, 0, 1, low), ("mul", 64, 0, high, 3, high), ("mul", 32, 0, 0x10000, 0x10003, 0x30000),
+            ("div", 64, 0, 7, 2, 3), ("div", 64, 0, most, 2, high - 1), ("div", 64, 0, 7, 0, 0), ("div", 32, 0, most, 2, low // 2),
+            ("div", 64, 1, most - 6, 2, most - 2), ("div", 64, 1, 7, most - 1, most - 2), ("div", 64, 1, high, most, high),
+            ("div", 32, 1, low - 6, 2, low - 2), ("div", 32, 1, 2**31, low, 2**31), ("div", 64, 1, most - 6, 0, 0),
+            ("mod", 64, 0, 7, 2, 1), ("mod", 64, 0, most, 0, most), ("mod", 32, 0, most, 0, low), ("mod", 32, 0, most, 16, 15),
+            ("mod", 64, 1, most - 6, 2, most), ("mod", 64, 1, 7, most - 1, 1), ("mod", 64, 1, high, most, 0),
+            ("or", 64, 0, 12, 10, 14), ("and", 64, 0, 12, 10, 8), ("xor", 64, 0, 12, 10, 6), ("and", 32, 0, most, most, low),
+            ("lsh", 64, 0, 3, 65, 6), ("lsh", 32, 0, 3, 33, 6), ("lsh", 32, 0, 3, 31, 2**31), ("rsh", 64, 0, most, 63, 1),
+            ("rsh", 32, 0, most, 31, 1), ("arsh", 64, 0, most - 7, 1, most - 3), ("arsh", 32, 0, 2**31, 31, low),
+            ("arsh", 64, 0, 8, 1, 4), ("neg", 64, 0, 1, 0, most), ("neg", 32, 0, 1, 0, low), ("mov", 64, 0, 1, most, most),
+            ("mov", 32, 0, 1, most, low), ("mov", 64, 8, 1, 0x180, most - 127), ("mov", 64, 16, 1, 0x8000, most - 0x7FFF),
+            ("mov", 64, 32, 1, 2**31, most - low // 2), ("mov", 64, 8, 1, 0x17F, 0x7F), ("mov", 32, 8, 1, 0x80, low - 127),
+        )  # fmt: skip
+        for kind, width, off, left, right, wanted in rows:
+            self.assertEqual(word_result(Insn(kind, 1, 2, off, 0, width, True), left, right), wanted, (kind, width, off, left, right))
+        word = 0x1122334455667788
+        for kind, bits, wanted in (
+            ("little", 16, 0x7788), ("little", 32, 0x55667788), ("little", 64, word), ("big", 16, 0x8877),
+            ("big", 32, 0x88776655), ("swap", 16, 0x8877), ("swap", 64, 0x8877665544332211),
+        ):  # fmt: skip
+            self.assertEqual(word_result(Insn(kind, 1, 0, 0, bits), word, 0), wanted, (kind, bits))
+
+    def test_comparisons(self):
+        """Each with a smaller, the same and a greater word, unsigned and signed; of 32 bits the upper half counts not."""
+        orders = {
+            "jeq": "nyn", "jne": "yny", "jgt": "nny", "jge": "nyy", "jlt": "ynn", "jle": "yyn",
+            "jsgt": "nny", "jsge": "nyy", "jslt": "ynn", "jsle": "yyn",
+        }  # fmt: skip
+        for kind, wanted in orders.items():
+            for width in (32, 64):
+                minus = 2**width - 1
+                words = ((minus, 0), (0, 0), (0, minus)) if kind.startswith("js") else ((0, minus), (minus, minus), (minus, 0))
+                found = "".join("ny"[holds(Insn(kind, 1, 2, 0, 0, width, True), *pair)] for pair in words)
+                self.assertEqual(found, wanted, (kind, width))
+        for left, right, wanted in ((6, 1, False), (6, 2, True), (2**32, 2**32, True)):
+            self.assertEqual(holds(Insn("jset", 1, 2, 0, 0, 64, True), left, right), wanted)
+        self.assertFalse(holds(Insn("jset", 1, 2, 0, 0, 32, True), 2**32, 2**32))
+
+    def test_the_helpers_of_the_page(self):
+        """docs/FORMATS.md, "Helpers": arguments, answers, tables, and the answers otherwise."""
+        most = 2**32 - 1
+        ranges = {number: (it.arguments, it.answer) for number, it in HELPERS.items()}
+        minutes = ((0, most), (0, 10_000)), (0, 4_294_977_295)
+        self.assertEqual(ranges, {1: (((0, most),), (1, 1440)), 2: (((0, 999),), (1, 60)), 3: minutes})
+        tables = {1: {808596289: 45, 942880578: 45, 943207233: 120}, 2: {12: 10, 120: 15, 900: 20}, 3: {}}
+        self.assertEqual({number: it.table for number, it in HELPERS.items()}, tables)
+        for stand, taxi in ((0, 10), (12, 10), (99, 10), (100, 15), (120, 15), (499, 15), (500, 20), (900, 20), (999, 20)):
+            self.assertEqual(HELPERS[2].code(stand), taxi, stand)
+        self.assertEqual([HELPERS[1].code(kind) for kind in (0, 808596289, most)], [60, 45, 60])
+        self.assertEqual(HELPERS[3].code(most, 10_000), 4_294_977_295)
+        for stand, answer, wanted in ((13, 1, True), (13, 60, True), (13, 0, False), (13, 61, False), (12, 10, True), (12, 11, False)):
+            self.assertEqual(HELPERS[2].promises((stand,), answer), wanted, (stand, answer))
 
 
 class Encoding(unittest.TestCase):
@@ -141,6 +202,14 @@ class Verdicts(unittest.TestCase):
             listing = source.with_suffix(".lst").read_text().splitlines()
             found = verdict(source.read_text(), 160 if source.stem == "hold-over" else 128)
             self.assertEqual(found if found.startswith("accepted") else f"refused {found}", listing[-1], source.name)
+
+    def test_the_shipped_pairs(self):
+        """Each pair of a refused rule and a mended one has the verdict that stands beside it."""
+        rows = [line.split(" ", 1) for line in (EXAMPLES / "pairs" / "verdicts.txt").read_text().splitlines()]
+        self.assertEqual(len(rows), len([*EXAMPLES.glob("pairs/*.hex")]))
+        for name, wanted in rows:
+            found = verdict((EXAMPLES / "pairs" / f"{name}.hex").read_text())
+            self.assertEqual(found if found.startswith("accepted") else f"refused {found}", wanted, name)
 
     def test_records_of_both_lengths(self):
         rows = (

@@ -32,6 +32,9 @@ except ImportError:
         os.execv(DEBIAN, [DEBIAN, *sys.argv])
     webdriver = By = None
 
+# (on this machine it is half past five where it is midnight in UTC: a local time is no time of the board)
+os.environ["TZ"] = "Asia/Kolkata"
+time.tzset()
 TOP = pathlib.Path(__file__).resolve().parents[2]
 ROLES = ("NM", "ATC", "APT", "AO", "GH")
 INSTANT = re.compile(r'"(\d{4}-\d\d-\d\dT\d\d:\d\d:\d\dZ)"')

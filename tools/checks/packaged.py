@@ -25,6 +25,7 @@ from collections.abc import Iterator
 from pathlib import Path
 
 from checkout import LEFT_OUT, TOP, built_program
+from units import boards, facts
 
 Case = tuple[str, bool]
 ENVIRONMENT = {"PATH": "/usr/bin:/bin"}
@@ -90,6 +91,15 @@ def day(place: Installed) -> Iterator[Case]:
     yield "a limit of file sizes is an error of writing", (done.returncode, done.stderr) == (2, told)
     report = place.ran("clients/report.py", "morning.journal")
     yield "a report is made of it", report.returncode == 0 and "DLH4PK" in report.stdout
+    kinds = [reply.split()[0] for reply in wanted.splitlines()]
+    played = place.ran("examples/serve/play.py").stdout.splitlines()
+    # (its moments are those of now, so that other lines may be refused than in the morning that is shipped)
+    replies = re.findall(r"^    (ok|no|rec|alerts|bad) \d+", "\n".join(played), re.M)
+    entries = len(kinds) - kinds.count("bad")
+    ended = len(replies), replies.count("bad"), played[-1:]
+    yield "five partners play it", ended == (len(kinds), kinds.count("bad"), [f"closed {entries}"])
+    watched = place.ran("examples/serve/watch.py", "--partners", "4", "--displays", "2", "--lines", "20")
+    yield "displays are sent what is saved", watched.returncode == 0 and "2 of 2 displays were sent" in watched.stdout
 
 
 def served(place: Installed) -> Iterator[Case]:
@@ -146,6 +156,9 @@ def units(place: Installed) -> Iterator[Case]:
             (place.top / name).is_file() for name in started
         )
         yield f"{file.name} gains no privileges", "NoNewPrivileges=yes" in text and "ProtectSystem=strict" in text
+    yield from facts(place.top)
+    with tempfile.TemporaryDirectory(prefix="acdm-units-") as room:
+        yield from boards(place.top, Path(room), free_port, ENVIRONMENT)
     if not shutil.which("systemd-analyze"):
         return
     with tempfile.TemporaryDirectory() as room:

@@ -1,6 +1,11 @@
 """Holds the checks of documents against pages and sources with a fault in them, which each has to name."""
 from __future__ import annotations
 
+import argparse
+import contextlib
+import io
+import os
+import shutil
 import subprocess
 import sys
 import tempfile
@@ -15,7 +20,9 @@ import checkout  # noqa: E402
 import commands  # noqa: E402
 import embedding  # noqa: E402
 import figures  # noqa: E402
+import layout  # noqa: E402
 import names  # noqa: E402
+import quick  # noqa: E402
 import sentences  # noqa: E402
 import trusted  # noqa: E402
 import where  # noqa: E402
@@ -96,6 +103,15 @@ class Names(Folder):
     def test_links_lead_to_a_file_and_a_heading(self) -> None:
         self.assertEqual(self.faults("[a](GONE.md)\n"), ["docs/PAGE.md: no file for the link GONE.md"])
         self.assertEqual(self.faults("[a](RULES.md#gone)\n"), ["docs/PAGE.md: no heading for the link RULES.md#gone"])
+
+    def test_what_begins_as_a_script_can_be_started(self) -> None:
+        subprocess.run(["git", "init", "-q", self.top], check=True)
+        for name in ("plain.py", "one.py", "other.py"):
+            self.write(name, "#!/bin/sh\n" if name != "plain.py" else "import sys\n")
+        (self.top / "other.py").chmod(0o755)
+        subprocess.run(["git", "add", "."], cwd=self.top, check=True)
+        with mock.patch.object(names, "TOP", self.top):
+            self.assertEqual(names.unstartable(), ["one.py: it begins with #! and is not executable"])
 
 
 class Embedding(Folder):
@@ -180,6 +196,24 @@ class Sentences(Folder):
             page.write_text(f"# A\n\n**{sentences.HEADLINE}**\n".replace("every", "each"), encoding="utf-8")
             self.assertIn("README.md: the headline does not stand there word for word", sentences.faults_of(page))
 
+    def test_a_sentence_and_a_line_that_are_too_long_are_named(self) -> None:
+        """30 words and 120 characters are none: on a page that is read first, at the top and in docs."""
+        with mock.patch.object(sentences, "TOP", self.top):
+            for name, text, wanted in (
+                ("SECURITY.md", "word " * 15 + "\n" + "word " * 14 + "word.\n", 0),
+                ("SECURITY.md", "word " * 15 + "\n" + "word " * 15 + "word. One two.\n", 1),
+                ("docs/RULES.md", "word " * 15 + "\n" + "word " * 15 + "word.\n", 0),
+                ("docs/RULES.md", "x" * 120 + "\n", 0),
+                ("docs/RULES.md", "x" * 121 + "\n", 1),
+                ("SECURITY.md", "x" * 121 + "\n", 1),
+                ("bench/README.md", "x" * 121 + "\n", 0),
+                ("docs/RULES.md", "    " + "x" * 121 + "\n", 0),
+            ):
+                with self.subTest(name=name, text=text[-20:]):
+                    found = sentences.faults_of(self.write(name, text))
+                    self.assertEqual(wanted, len(found), found)
+                    self.assertTrue(all(it.startswith(f"{name}: a ") for it in found), found)
+
     def test_tables_code_and_headings_are_no_prose(self) -> None:
         text = "# Head\n\nOne two. Three `a.b c` four:\n\n    ./acdm run\n\n| a | b |\n\n- five\n- six\n"
         found = sentences.sentences_of(text)
@@ -260,6 +294,102 @@ class Commands(Folder):
             page.run("cat slot.o > slot.bin")
             page.run("cat slot.bin")
         self.assertEqual((page.counts.ran, page.counts.skipped, page.counts.faults), (0, 3, []))
+
+
+class Layout(Folder):
+    """The layout of a crate's sources, by a stand-in of the kit."""
+
+    def test_what_is_laid_out_otherwise_is_named(self) -> None:
+        rt_ = self.write("bin/rt", "#!/bin/sh\n[ $1 = fmt ] && sed -i 's/  */ /g' src/*.rt\n[ ! -e src/broken.rt ]\n")
+        rt_.chmod(0o755)
+        crate = self.top / "crates" / "acdm_record"
+        for name, text in (("one", "fn one() {}\n"), ("two", "fn  two() {}\n")):
+            self.write(f"crates/acdm_record/src/{name}.rt", text)
+        path = f"{self.top / 'bin'}:{os.environ['PATH']}"
+        with mock.patch.object(layout, "TOP", self.top), mock.patch.dict(os.environ, {"PATH": path}):
+            wanted = "crates/acdm_record/src/two.rt is not in the layout: run rt fmt in crates/acdm_record"
+            self.assertEqual(layout.changed(crate, layout.copied(crate, self.top / "copy")), [wanted])
+            self.assertEqual((crate / "src" / "two.rt").read_text(encoding="ascii"), "fn  two() {}\n", "it is left")
+            self.write("crates/acdm_record/src/broken.rt", "fn")
+            self.assertEqual(layout.changed(crate, layout.copied(crate, self.top / "other")), ["acdm_record: "])
+
+
+class Schemas(Folder):
+    """The examples and the schemas."""
+
+    def test_a_line_that_fits_otherwise_than_its_reply_is_named(self) -> None:
+        for name in ("tools/checks", "docs", "examples", "bench/feed", "bench/model"):
+            shutil.copytree(checkout.TOP / name, self.top / name)
+        for name in ("CHANGELOG.md", "README.md"):
+            shutil.copy(checkout.TOP / name, self.top)
+        subprocess.run(["git", "init", "-q", self.top], check=True)
+        replies = self.top / "examples" / "turn-round.out"
+        text = replies.read_text(encoding="ascii")
+        self.assertTrue(text.startswith("ok 0\nok 1\n"), text)
+        self.write("docs/PAGE.md", 'Send `{"cmd":"show","flight":0}`.\n')
+        for wrong, status in ((text, "docs/PAGE.md: the schema refuses"), (text.replace("ok 1", "bad 104"), "line 2")):
+            replies.write_text(wrong, encoding="ascii")
+            done = subprocess.run(
+                [self.top / "tools/checks/schemas.py"], capture_output=True, text=True, timeout=60, check=False
+            )
+            if done.returncode == checkout.LEFT_OUT:
+                self.skipTest(done.stdout)
+            self.assertEqual((1, ""), (done.returncode, done.stderr))
+            self.assertIn(status, done.stdout)
+            self.assertEqual(2 - (wrong == text), len(done.stdout.splitlines()), done.stdout)
+
+
+class Quick(Folder):
+    """How the quick gate counts its checks."""
+
+    def ran(self, *checks: quick.Check, rest: bool = False) -> tuple[int, list[str]]:
+        """The status of some checks, and what was said of them."""
+        asked = argparse.Namespace(list=False, rest=rest, program=None, no_build=True)
+        said = io.StringIO()
+        with contextlib.ExitStack() as patched:
+            for name, value in (("CHECKS", checks), ("SECONDS", 3), ("TOP", self.top)):
+                patched.enter_context(mock.patch.object(quick, name, value))
+            patched.enter_context(mock.patch.object(quick, "asked_words", lambda: asked))
+            patched.enter_context(mock.patch.object(quick, "program_for", lambda _asked: (None, "no program")))
+            patched.enter_context(contextlib.redirect_stdout(said))
+            status = quick.main()
+        return status, said.getvalue().splitlines()
+
+    def test_what_passed_what_failed_and_what_was_left_out(self) -> None:
+        status, said = self.ran(quick.Check("one", "echo fine"), quick.Check("two", "echo why; exit 77"))
+        self.assertEqual((0, "1 passed, 0 failed"), (status, said[-1]))
+        self.assertRegex("\n".join(said), r"(?m)^left out +\d+\.\d s  two: why$")
+        status, said = self.ran(
+            quick.Check("one", "true"),
+            quick.Check("two", "echo told; exit 3"),
+            quick.Check("late", "echo begun; sleep 50"),
+            quick.Check("file", "true", "nothing.py"),
+            quick.Check("tool", "true", "", "no-such-tool"),
+            quick.Check("piped", "false | cat"),
+        )
+        self.assertEqual((1, "1 passed, 3 failed"), (status, said[-1]))
+        text = "\n".join(said)
+        for told in ("two\ntold\n", "late\nbegun\nno end within 3 s\n", "file: there is no nothing.py"):
+            self.assertIn(told, text)
+        self.assertIn("left out          tool: no-such-tool is not installed", said)
+
+    def test_the_rest_leaves_out_what_is_made_whole(self) -> None:
+        checks = quick.Check("whole", "false", is_whole_there=True), quick.Check("one", "true")
+        self.assertEqual(
+            (0, "1 passed, 0 failed"), (status_of := self.ran(*checks, rest=True))[:1] + (status_of[1][-1],)
+        )
+        self.assertEqual(1, self.ran(*checks)[0])
+
+    def test_each_check_is_one_that_can_be_made(self) -> None:
+        """What a check names as its file is there, and so is each script of its command."""
+        self.assertEqual(len(quick.CHECKS), len({check.name for check in quick.CHECKS}))
+        for check in quick.CHECKS:
+            scripts = [word for word in check.command.split() if word.endswith(".py")]
+            for name in [*scripts, *([check.file] if not check.file.startswith("/") else [])]:
+                self.assertTrue((checkout.TOP / name.split("{")[0]).exists(), name)
+        gate = (checkout.TOP / ".ci" / "run").read_text(encoding="utf-8")
+        for word in ("bench/rows/listing.py", "bench/walks/run.py", "desk/tests/try_desk.py"):
+            self.assertIn(f"'{word}", gate, "what --rest leaves out is there")
 
 
 class Where(Folder):
