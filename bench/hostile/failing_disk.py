@@ -7,10 +7,11 @@ Linux holds a page of a file whose writing failed as if it were on the disk, and
 from a kept journal in a new file. First part: each of the first syncs fails once, by failing_disk.c, preloaded; the
 board ends, and the calls of one that goes on have the order that a power cut can't harm, also those of a promotion and
 of `--save`. Reads fail, there are no locks, and another file takes the place of the journal before it is locked. Writes
-take a part, or signals interrupt them, and the board goes on. Second part, where file systems may be mounted: `run
---keep FILE --sync` on ext4 in an image that loses its room, until a sync fails and the board ends; there is room again,
-the board goes on by the same words, and then the power is cut (a copy of the image at that moment) or the file system
-is unmounted and mounted. FILE has the entry of every reply that was read. And files of one number on two disks are two.
+take a part, or signals interrupt them, and the board goes on; terms and tables are whole all the same. Second part,
+where file systems may be mounted: `run --keep FILE --sync` on ext4 in an image that loses its room, until a sync fails
+and the board ends; there is room again, the board goes on by the same words, and then the power is cut (a copy of the
+image at that moment) or the file system is unmounted and mounted. FILE has the entry of every reply that was read. And
+files of one number on two disks are two.
 A part that is left out is told, and is no failure. The last line is `N cases, M failed`; status 1 where one failed.
 """
 
@@ -18,6 +19,7 @@ import errno
 import json
 import os
 import pathlib
+import re
 import shutil
 import signal
 import socket
@@ -591,6 +593,41 @@ def made_again(cases: Cases, recorded: Recorded, word: str) -> None:
     cases.expect(f"{word}: the log says nothing else", is_all, told)
 
 
+def put_whole(cases: Cases, recorded: Recorded, word: str) -> None:
+    """A term and tables whose writes take a part, or that signals interrupt, are whole where they take their place."""
+    recorded.renew()
+    with socket.create_server(("127.0.0.1", 0)) as control, socket.create_server(("127.0.0.1", 0)) as nobody:
+        ports = control.getsockname()[1], nobody.getsockname()[1]
+    following = ["follow", f"127.0.0.1:{ports[1]}", "--keep", str(recorded.file), "--control", str(ports[0])]
+    with recorded.begin(*following, "APT=127.0.0.1:0", **{word: f"{recorded.file}.term.part"}) as board:
+        answer = answered(ports[0], "promote")
+        listening = board.read()
+        answered(ports[0], "close")
+        ended = board.end()
+    cases.expect(
+        f"{word}: a board is promoted", (answer, listening[:9]) == ("promoting\n", "listen 1 "), (answer, listening)
+    )
+    cases.expect(f"{word}: and it ends", ended[0] == 0, ended)
+    term = recorded.folder / "day.term"
+    text = term.read_text(encoding="ascii") if term.exists() else ""
+    cases.expect(f"{word}: its term is there, whole", re.fullmatch(r"term [1-9]\d{9}\n", text), text)
+    with recorded.begin("serve", "--keep", str(recorded.file), "APT=127.0.0.1:0") as board:
+        listening = board.read()
+        replies = replied(listening.rpartition(":")[2], 1) if listening else []
+        ended = board.end()
+    cases.expect(f"{word}: a board begins with it", (replies, ended[0]) == (["ok 0\n"], 0), (replies, ended))
+
+    file, tables, texts = recorded.folder / "saved", recorded.folder / "saved.tables", list[bytes]()
+    for path in ("", f"{tables}.part"):
+        recorded.renew()
+        with recorded.begin("run", "--save", str(file), **{word: path}) as board:
+            reply = board.ask(line(0))
+            ended = board.end()
+        cases.expect(f"{word}: a journal is saved", (reply, ended) == ("ok 0", (0, b"", b"")), (reply, ended))
+        texts.append(tables.read_bytes() if tables.exists() else b"")
+    cases.expect(f"{word}: its tables are those of whole writes", len(texts[0]) > 1 and texts[0] == texts[1], texts)
+
+
 def saved(cases: Cases, recorded: Recorded) -> None:
     """A saved journal is on the disk before it takes the place of an older one, and its tables are before that."""
     file = recorded.folder / "saved"
@@ -649,6 +686,7 @@ def failing_calls(cases: Cases, program: pathlib.Path, room: pathlib.Path) -> No
         try_it(cases, recorded)
     for word in ("PIECES", "SIGNALS"):
         made_again(cases, recorded, word)
+        put_whole(cases, recorded, word)
     for number, left in ((1, ["saved"]), (2, ["saved", "saved.tables"]), (3, ["saved", "saved.tables"])):
         failed_save(cases, recorded, number, left)
 

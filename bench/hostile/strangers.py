@@ -3,12 +3,13 @@
 
     python3 bench/hostile/strangers.py [--program PATH]
 
-A newcomer takes a place by a first line that may be a command, and by nothing else, also where twelve come at one look; who
-connects while the program has no further descriptor is served later; one partner alone is served under each combination of
-the words; who does not read standard error, or holds the control address, holds up nobody; a pace counts lines and not
-connections; levels of the room are told once each; the page and its events are refused to other names and other sites; what
-`--save` and `--keep` name is left alone where it is something else's; and a journal is gone on from in a new file. The last
-line is `N cases, M failed`; status 1 where one failed.
+A newcomer takes a place by a first line that may be a command, and by nothing else, also where twelve come at one look;
+who connects while the program has no further descriptor is served later; one partner alone is served under each
+combination of the words; who does not read standard error, or holds the control address, holds up nobody; a standard
+error that is read at the end has all that was held; a pace counts lines and not connections; levels of the room are
+told once each; the page and its events are refused to other names and other sites; what `--save` and `--keep` name is
+left alone where it is something else's; and a journal is gone on from in a new file. The last line is `N cases, M
+failed`; status 1 where one failed.
 """
 
 import contextlib
@@ -183,6 +184,32 @@ def ninth(program, cases):
     for connection in waiting:
         connection.close()
     cases.expect("the board closes", board.close() == 0)
+
+
+def last_lines(program, cases, room):
+    """A standard error that nobody reads until the board ends: what is held behind a slow write is written too."""
+    log, places, turns = room / "log", 16, 8
+    board = Board(program, ["--again", "--control", "PORT", "--log", log], ("APT",) * places, is_heard=False)
+    # (with the least pipe, what is told of 16 places finds no room in it, and all of it in what is held)
+    fcntl.fcntl(board.process.stderr, fcntl.F_SETPIPE_SZ, 4096)
+    for _ in range(turns):
+        with contextlib.ExitStack() as opened:
+            partners = [opened.enter_context(board.connect(at)) for at in range(places)]
+            for partner in partners:
+                partner.sendall(TICK.encode() + b"\n")
+            for partner in partners:
+                replied(partner)
+    board.ask("close")
+    began = time.monotonic()
+    while b'"close"' not in log.read_bytes() and time.monotonic() - began < 20:
+        time.sleep(0.01)
+    # (a board that ends waits for a second until its lines are written)
+    time.sleep(0.3)
+    board.hear()
+    cases.expect("a board whose errors are read at its end ends", board.end() == 0)
+    told = [sum(line.startswith(word) for line in board.said) for word in ("here ", "gone ")]
+    logged = [log.read_bytes().count(word) for word in (b'"event":"here"', b'"event":"gone"')]
+    cases.expect("and each line is there", told == logged == [places * turns] * 2, (told, logged, board.said[-1:]))
 
 
 def alone(program, cases, room):
@@ -556,7 +583,7 @@ def main():
     pace(program, cases)
     levels(program, cases)
     web(program, cases)
-    for part in (late_terminal, alone, files, going_on):
+    for part in (late_terminal, last_lines, alone, files, going_on):
         with tempfile.TemporaryDirectory(prefix="acdm-") as room:
             part(program, cases, pathlib.Path(room))
     return cases.end()
