@@ -63,6 +63,8 @@ from follow import TICK
 from link import FIRST, SECOND, reason_against
 from terms import file_of, term_of
 
+# So many scenes at once: all seventeen, with two boards each, are late on a machine with other work.
+TOGETHER = 6
 ACTIONS = {"start", "stop", "monitor", "promote", "demote", "meta-data", "validate-all"}
 
 
@@ -704,7 +706,7 @@ def main():
     if why:
         print(f"left out: all that takes two machines: {why}")
     parts = {it: Cases() for it in (*ON_LOOPBACK, *(() if why else ON_MACHINES))}
-    with tempfile.TemporaryDirectory() as made, ThreadPoolExecutor(len(parts)) as pool:
+    with tempfile.TemporaryDirectory() as made, ThreadPoolExecutor(TOGETHER) as pool:
         room = pathlib.Path(made)
         room.chmod(0o755)
         running = [pool.submit(part, counted, program, room) for part, counted in parts.items()]

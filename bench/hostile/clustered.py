@@ -20,6 +20,8 @@ from terms import term_of
 
 AGENT = TOP / "examples" / "pacemaker" / "acdm"
 OK, ERROR, BAD_HERE, UNKNOWN, MISSING, BAD, NOT_RUNNING, PROMOTED = 0, 1, 2, 3, 5, 6, 7, 8
+# For how many seconds an action may take at most where a cluster manager asks for it; here it is waited for three times as
+# long, so that one that is late is a failed case, and the scene goes on.
 LIMIT = 60
 # A connection in which nothing came for 10 seconds is made anew: so many seconds later it was.
 LATEST = 20
@@ -100,7 +102,7 @@ class Machine:
                 env=self.environment | given,
                 capture_output=True,
                 text=True,
-                timeout=LIMIT,
+                timeout=3 * LIMIT,
                 check=False,
             )
         self.longest = max(self.longest, (time.monotonic() - began, action))

@@ -204,7 +204,7 @@ def last_lines(program, cases, room):
     while b'"close"' not in log.read_bytes() and time.monotonic() - began < 20:
         time.sleep(0.01)
     # (a board that ends waits for a second until its lines are written)
-    time.sleep(0.3)
+    time.sleep(0.1)
     board.hear()
     cases.expect("a board whose errors are read at its end ends", board.end() == 0)
     told = [sum(line.startswith(word) for line in board.said) for word in ("here ", "gone ")]
