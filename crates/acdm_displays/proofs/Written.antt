@@ -1,9 +1,10 @@
 -- What was told, as it is written entry by entry behind what was written before.
 use Rattle.std.proofs.Common.{◌≡◌, ◌≢◌, ◌≤◌, ◌<◌, ◌+◌, ◌==◌, ℕ, List, [], ◌∷◌, ◌++◌, refl, sym, ap, subst, ◌∙◌}
-use Rattle.std.proofs.Common.{append_assoc, append-nil, arith, length, lt-ltb, nat_lt, if◌then◌else◌}
-use Rattle.std.proofs.Common.{Bool, true, false, inl, inr}
+use Rattle.std.proofs.Common.{append_assoc, append-nil, arith, length, lt-ltb, nat_lt, if◌then◌else◌, zero, suc}
+use Rattle.std.proofs.Common.{Bool, true, false, inl, inr, Ok, Err, OnOk, Result}
 use Rattle.std.proofs.Math.Dec.{eqb-suc-zero}
-use Rattle.std.specs.Prelude.{Option, Some, reverse}
+use Rattle.std.specs.Prelude.{Option, None, Some, reverse}
+use Rattle.std.proofs.lemmas.Bool.{le-ltb}
 use Rattle.std.proofs.lemmas.List.{append_cancel_left, length-append, length-reverse, reverse-append}
 use Rattle.acdm_step.specs.declared.entry.Entry.{Entry}
 use Rattle.acdm_watch.specs.Watching.{WatchView}
@@ -18,10 +19,10 @@ use Rattle.acdm_feed.specs.Telling.{Tells}
 use Rattle.acdm_feed.proofs.Heading.{line_since, none_since, same_line, since_stays}
 use Rattle.acdm_step.specs.Commands.{History}
 use Rattle.acdm_web.specs.Events.{event_text}
-use Rattle.acdm_displays.specs.Displayed.{Begins, BeginsEvents, Begun, EventsFrom, SaysEvents, SaysFeed}
+use Rattle.acdm_displays.specs.Displayed.{Begun, EventsFrom, IsBegun, SaysEvents, SaysFeed, start_of}
 use Rattle.acdm_displays.specs.Displayed.{TellsFrom, at_board, at_board_event, at_entry, at_event}
-use Rattle.acdm_displays.specs.Displayed.{board_event, board_feed, events_since, feed_since, journal_event}
-use Rattle.acdm_displays.specs.Displayed.{journal_event_since, named_feed}
+use Rattle.acdm_displays.specs.Displayed.{board_event, board_events, board_feed, events_since, feed_since, journal_event}
+use Rattle.acdm_displays.specs.Displayed.{journal_event_since, named_events, named_feed}
 use Rattle.acdm_displays.specs.Displayed.{events_from, IsPast}
 use Rattle.acdm_displays.specs.declared.asked.Start.{Start}
 use Rattle.acdm_displays.specs.declared.asked.Start.TheVariants as starts
@@ -69,15 +70,14 @@ nothing_since room K =
     ∙ none_from (length K) K (omega arith)
 
 -- the line of the board of what was seen was written
-pub board_told : (room : ℕ) (seen : List Entry) (known : Known) (before text log : List ℕ) (entries : ℕ)
-    → Knows (reverse seen) known → entries ≡ length (reverse seen)
-    → text ≡ board_text room (reverse seen) → log ≡ before ++ text
-    → TellsFrom known entries room seen (at_board room before (reverse seen)) log
-board_told room seen known before text log entries knows count is wrote =
+pub board_told : (room : ℕ) (seen : List Entry) (known : Known) (before text log : List ℕ)
+    → Knows (reverse seen) known → text ≡ board_text room (reverse seen) → log ≡ before ++ text
+    → TellsFrom known room seen (at_board room before (reverse seen)) log
+board_told room seen known before text log knows is wrote =
     let line = board_text room (reverse seen) in
     record {
       knows = knows;
-      from_is = count;
+      passed = omega arith;
       room_is = refl;
       front = ([], refl);
       told = wrote ∙ ap (λ t. before ++ t) is ∙ sym (append-nil (before ++ line))
@@ -94,15 +94,14 @@ line_of_some n room [] some = absurd (some refl)
 line_of_some n room (e ∷ K) some = refl
 
 -- it was told of what was seen
-pub entry_told : (room : ℕ) (seen : List Entry) (known : Known) (before log : List ℕ) (entries : ℕ)
-    → Knows (reverse seen) known → entries ≡ length (reverse seen)
-    → log ≡ before ++ journal_line (length (reverse seen)) room (reverse seen)
-    → TellsFrom known entries room seen (at_entry room before (reverse seen)) log
-entry_told room seen known before log entries knows count wrote =
+pub entry_told : (room : ℕ) (seen : List Entry) (known : Known) (before log : List ℕ)
+    → Knows (reverse seen) known → log ≡ before ++ journal_line (length (reverse seen)) room (reverse seen)
+    → TellsFrom known room seen (at_entry room before (reverse seen)) log
+entry_told room seen known before log knows wrote =
     let line = journal_line (length (reverse seen)) room (reverse seen) in
     record {
       knows = knows;
-      from_is = count;
+      passed = omega arith;
       room_is = refl;
       front = ([], refl);
       told = wrote ∙ sym (append-nil (before ++ line))
@@ -156,41 +155,53 @@ one_more F (g ∷ J) e n room front =
     ∙ ap (λ l. l ++ (feed_from n (g ∷ J) ++ entry_line n (g ∷ J) e))
     (sym (since_stays F n room (e ∷ []) g J))
 
-pub feed_more : (from room : ℕ) (old new : WatchView) (known known_after : Known) (e : Entry)
-    (line text text_mid text_after : List ℕ) (number : ℕ) → Tells from old new known known_after [] line
+-- it is the same from whichever of the entries that were seen on it is told
+name_same : (number n room : ℕ) (K : History) → n ≤ number → name_line number 0 room K ≡ name_line number n room K
+name_same zero n room K past = ap (λ m. journal_text m room K) (let none : 0 ≡ n = omega (arith, past) in none)
+name_same (suc number) n room K past =
+    ap (λ b. if b then journal_text 0 room K else []) (eqb-suc-zero number)
+    ∙ sym (ap (λ b. if b then journal_text n room K else []) (eqb-suc-zero number))
+
+entry_same : (n : ℕ) (J : History) (e : Entry) → n ≤ length J → entry_line 0 J e ≡ entry_line n J e
+entry_same n J e past = ap (λ b. if b then [] else told J e)
+    (le-ltb (length J) 0 (omega arith) ∙ sym (le-ltb (length J) n past))
+
+pub feed_more : (room : ℕ) (old new : WatchView) (known known_after : Known) (e : Entry)
+    (line text text_mid text_after : List ℕ) (number : ℕ) → Tells 0 old new known known_after [] line
     → new.seen ≡ old.seen ++ e ∷ [] → number ≡ length old.seen
-    → ((J : History) → Knows J known_after → text_mid ≡ text ++ name_line number from room J)
+    → ((J : History) → Knows J known_after → text_mid ≡ text ++ name_line number 0 room J)
     → text_after ≡ text_mid ++ line → (before : List ℕ) (start : Begun)
-    → TellsFrom known from room old.seen start (before ++ text)
-    → TellsFrom known_after from room new.seen start (before ++ text_after)
-feed_more from room old new known known_after e line text text_mid text_after number tells took at named added before start k =
+    → TellsFrom known room old.seen start (before ++ text)
+    → TellsFrom known_after room new.seen start (before ++ text_after)
+feed_more room old new known known_after e line text text_mid text_after number tells took at named added before start k =
     let J = reverse old.seen in
     let K_is : reverse new.seen ≡ e ∷ J = ap reverse took ∙ reverse-append old.seen (e ∷ []) in
     let count : number ≡ length J = at ∙ sym (length-reverse old.seen) in
     let knows = tells.passes.knows k.knows in
     let F = start.front in
-    let more = name_line (length J) from room (e ∷ J) ++ entry_line from J e in
+    let n = start.from in
+    let more = name_line (length J) n room (e ∷ J) ++ entry_line n J e in
     let is : text_after ≡ text ++ more =
     added ∙ ap (λ l. l ++ line) (named (reverse new.seen) knows
-    ∙ ap (λ m. text ++ name_line m from room (reverse new.seen)) count
-    ∙ ap (λ K. text ++ name_line (length J) from room K) K_is)
-    ∙ append_assoc text (name_line (length J) from room (e ∷ J)) line
-    ∙ ap (λ l. text ++ (name_line (length J) from room (e ∷ J) ++ l))
-    (line_of from old new known known_after e line k.knows tells took) in
-    let told_before : before ++ text ≡ start.before ++ feed_since F from room J =
-    k.told ∙ ap (λ n. start.before ++ feed_since F n start.room J) (sym k.from_is)
-    ∙ ap (λ r. start.before ++ feed_since F from r J) (sym k.room_is) in
+    ∙ ap (λ m. text ++ name_line m 0 room (reverse new.seen)) count
+    ∙ ap (λ K. text ++ name_line (length J) 0 room K) K_is)
+    ∙ append_assoc text (name_line (length J) 0 room (e ∷ J)) line
+    ∙ ap (λ l. text ++ (name_line (length J) 0 room (e ∷ J) ++ l))
+    (line_of 0 old new known known_after e line k.knows tells took ∙ entry_same n J e k.passed)
+    ∙ ap (λ l. text ++ (l ++ entry_line n J e)) (name_same (length J) n room (e ∷ J) k.passed) in
+    let told_before : before ++ text ≡ start.before ++ feed_since F n room J =
+    k.told ∙ ap (λ r. start.before ++ feed_since F n r J) (sym k.room_is) in
     record {
       knows = knows;
-      from_is = k.from_is;
+      passed = subst (λ (K : History). n ≤ length K) (sym K_is)
+          (let past : n ≤ length J = k.passed in let more : n ≤ length (e ∷ J) = omega (arith, past) in more);
       room_is = k.room_is;
       front = later_front F old.seen new.seen tells.passes.grows.0 tells.passes.grows.1 k.front;
       told = ap (λ l. before ++ l) is
-          ∙ behind before text start.before (feed_since F from room J) more told_before
-          ∙ ap (λ l. start.before ++ l) (one_more F J e from room k.front)
-          ∙ ap (λ n. start.before ++ feed_since F n room (e ∷ J)) k.from_is
-          ∙ ap (λ r. start.before ++ feed_since F start.from r (e ∷ J)) k.room_is
-          ∙ ap (λ K. start.before ++ feed_since F start.from start.room K) (sym K_is);
+          ∙ behind before text start.before (feed_since F n room J) more told_before
+          ∙ ap (λ l. start.before ++ l) (one_more F J e n room k.front)
+          ∙ ap (λ r. start.before ++ feed_since F n r (e ∷ J)) k.room_is
+          ∙ ap (λ K. start.before ++ feed_since F n start.room K) (sym K_is);
     }
 
 -- ---- what was begun as a display asked was gone on with
@@ -211,39 +222,53 @@ named_told K J room before log front is =
     ∙ ap (λ l. before ++ l) (sym (append_assoc line since rest)
     ∙ ap (λ l. l ++ rest) (line_since K J (length K) room front))
 
+-- what was told since it has begun so
+entry_log : (room : ℕ) (K J : History) (before log : List ℕ) (b : Begun) → b ≡ at_entry b.room before K → room ≡ b.room
+    → log ≡ b.before ++ feed_since b.front b.from b.room J
+    → log ≡ (before ++ journal_line (length K) room K) ++ feed_since K (length K) room J
+entry_log room K J before log b is same told =
+    subst (λ r. log ≡ (before ++ journal_line (length K) r K) ++ feed_since K (length K) r J) (sym same)
+    (told ∙ ap (λ (b : Begun). b.before ++ feed_since b.front b.from b.room J) is)
+
+board_log : (room : ℕ) (K J : History) (before log : List ℕ) (b : Begun) → b ≡ at_board b.room before K → room ≡ b.room
+    → log ≡ b.before ++ feed_since b.front b.from b.room J
+    → log ≡ (before ++ board_text room K) ++ feed_since K (length K) room J
+board_log room K J before log b is same told =
+    subst (λ r. log ≡ (before ++ board_text r K) ++ feed_since K (length K) r J) (sym same)
+    (told ∙ ap (λ (b : Begun). b.before ++ feed_since b.front b.from b.room J) is)
+
 board_since : (K J : History) (room : ℕ) (before log : List ℕ)
     → log ≡ (before ++ board_text room K) ++ feed_since K (length K) room J
     → log ≡ before ++ board_feed K room J
 board_since K J room before log is =
     is ∙ append_assoc before (board_text room K) (feed_since K (length K) room J)
 
-pub says_feed : (room : ℕ) (start : Start) (known later_known : Known) (from later_from told later_told : ℕ)
-    (seen later : List Entry) (before old new : List ℕ) → Begins room start known from told seen before old
-    → ((begun : Begun) → TellsFrom known from told seen begun old
-    → TellsFrom later_known later_from later_told later begun new)
+pub says_feed : (room : ℕ) (start : Start) (known : Known) (later : List Entry) (before new : List ℕ) (begun : Begun)
+    → IsBegun at_entry at_board before start begun → TellsFrom known room later begun new
     → SaysFeed room start later before new
-says_feed room (starts.Entry n) known later_known from later_from told later_told seen later before old new (inl (all, k)) follows =
-    let K = reverse seen in
-    let t = follows (at_entry room before K) k in
-    let count : length K ≡ n = length-reverse seen ∙ all in
+says_feed room (starts.Entry n) known later before new begun (K, inl (all, is)) t =
+    let J = reverse later in
+    let front : IsFront K J = subst (λ (b : Begun). IsFront b.front J) is t.front in
     inl (
-      subst (λ m. m ≤ length later) count
-          (subst (λ m. length K ≤ m) (length-reverse later) (front_length K (reverse later) t.front)),
-      named_told K (reverse later) room before new t.front t.told
-          ∙ ap (λ m. before ++ named_feed m room (reverse later)) count,
+      subst (λ m. m ≤ length later) all
+          (subst (λ m. length K ≤ m) (length-reverse later) (front_length K J front)),
+      named_told K J room before new front (entry_log room K J before new begun is t.room_is t.told)
+          ∙ ap (λ m. before ++ named_feed m room J) all,
     )
-says_feed room (starts.Entry n) known later_known from later_from told later_told seen later before old new (inr (few, k)) follows =
-    let K = reverse seen in
-    let t = follows (at_board room before K) k in
+says_feed room (starts.Entry n) known later before new begun (K, inr (few, is)) t =
+    let J = reverse later in
     inr (
       K,
-      t.front,
-      subst (λ m. m < n) (sym (length-reverse seen)) few,
-      board_since K (reverse later) room before new t.told,
+      subst (λ (b : Begun). IsFront b.front J) is t.front,
+      few,
+      board_since K J room before new (board_log room K J before new begun is t.room_is t.told),
     )
-says_feed room starts.Board known later_known from later_from told later_told seen later before old new k follows =
-    let t = follows (at_board room before (reverse seen)) k in
-    (reverse seen, t.front, board_since (reverse seen) (reverse later) room before new t.told)
+says_feed room starts.Board known later before new begun (K, is) t =
+    let J = reverse later in (
+      K,
+      subst (λ (b : Begun). IsFront b.front J) is t.front,
+      board_since K J room before new (board_log room K J before new begun is t.room_is t.told),
+    )
 
 -- ---- events for browsers
 
@@ -251,20 +276,14 @@ says_feed room starts.Board known later_known from later_from told later_told se
 abbrev event_from : ℕ → History → Entry → List ℕ
 event_from n J e = if nat_lt (length J) n then [] else event_text (1 + length J) (told J e)
 
-event_is : (from number next : ℕ) (J : History) (e : Entry) (line : List ℕ) → number ≡ length J
-    → next ≡ 1 + length J → line ≡ (if nat_lt (length J) from then [] else told J e)
-    → (if nat_lt number from then [] else event_text next line) ≡ event_from from J e
-event_is from number next J e line at then_is is =
-    ap (λ n. if nat_lt n from then [] else event_text next line) at
-    ∙ ap (λ n. if nat_lt (length J) from then [] else event_text n line) then_is
-    ∙ either (nat_lt (length J) from) refl
+event_line : (J : History) (e : Entry) (line : List ℕ) → line ≡ entry_line 0 J e
+    → event_text (1 + length J) line ≡ event_from 0 J e
+event_line J e line is = ap (λ l. event_text (1 + length J) l)
+    (is ∙ ap (λ b. if b then [] else told J e) none)
+    ∙ ap (λ b. if b then [] else event_text (1 + length J) (told J e)) (sym none)
   where
-    either : (b : Bool) → nat_lt (length J) from ≡ b
-        → (if b then [] else event_text (1 + length J) line)
-        ≡ (if b then [] else event_text (1 + length J) (told J e))
-    either true less = refl
-    either false less = ap (λ l. event_text (1 + length J) l)
-        (is ∙ ap (λ b. if b then [] else told J e) less)
+    none : nat_lt (length J) 0 ≡ false
+    none = le-ltb (length J) 0 (omega arith)
 
 -- the event of the journal before the first entry
 abbrev name_event : ℕ → ℕ → ℕ → History → List ℕ
@@ -287,16 +306,28 @@ one_event_more F (g ∷ J) e n room front =
     ∙ append_assoc (journal_event_since F n room (g ∷ J)) (events_from n (g ∷ J)) (event_from n (g ∷ J) e)
     ∙ ap (λ l. l ++ (events_from n (g ∷ J) ++ event_from n (g ∷ J) e)) (sym (event_stays F n room e g J))
 
--- one entry more was seen, and its event added, where it is none of those before the one that is told first
-pub event_more : (from room : ℕ) (old new : WatchView) (known known_after : Known) (e : Entry)
-    (line text text_mid text_after : List ℕ) (number next : ℕ) → Tells from old new known known_after [] line
+name_event_same : (number n room : ℕ) (K : History) → n ≤ number
+    → name_event number 0 room K ≡ name_event number n room K
+name_event_same zero n room K past =
+    ap (λ m. event_text m (journal_text m room K)) (let none : 0 ≡ n = omega (arith, past) in none)
+name_event_same (suc number) n room K past =
+    ap (λ b. if b then event_text 0 (journal_text 0 room K) else []) (eqb-suc-zero number)
+    ∙ sym (ap (λ b. if b then event_text n (journal_text n room K) else []) (eqb-suc-zero number))
+
+event_same : (n : ℕ) (J : History) (e : Entry) → n ≤ length J → event_from 0 J e ≡ event_from n J e
+event_same n J e past = ap (λ b. if b then [] else event_text (1 + length J) (told J e))
+    (le-ltb (length J) 0 (omega arith) ∙ sym (le-ltb (length J) n past))
+
+-- one entry more was seen, and its event added
+pub event_more : (room : ℕ) (old new : WatchView) (known known_after : Known) (e : Entry)
+    (line text text_mid text_after : List ℕ) (number next : ℕ) → Tells 0 old new known known_after [] line
     → new.seen ≡ old.seen ++ e ∷ [] → number ≡ length old.seen → next ≡ length new.seen
-    → ((J : History) → Knows J known_after → text_mid ≡ text ++ name_event number from room J)
-    → text_after ≡ text_mid ++ (if nat_lt number from then [] else event_text next line)
+    → ((J : History) → Knows J known_after → text_mid ≡ text ++ name_event number 0 room J)
+    → text_after ≡ text_mid ++ event_text next line
     → (before : List ℕ) (start : Begun)
-    → EventsFrom known from room old.seen start (before ++ text)
-    → EventsFrom known_after from room new.seen start (before ++ text_after)
-event_more from room old new known known_after e line text text_mid text_after number next tells took at next_is named added before start k =
+    → EventsFrom known room old.seen start (before ++ text)
+    → EventsFrom known_after room new.seen start (before ++ text_after)
+event_more room old new known known_after e line text text_mid text_after number next tells took at next_is named added before start k =
     let J = reverse old.seen in
     let K_is : reverse new.seen ≡ e ∷ J = ap reverse took ∙ reverse-append old.seen (e ∷ []) in
     let count : number ≡ length J = at ∙ sym (length-reverse old.seen) in
@@ -304,30 +335,31 @@ event_more from room old new known known_after e line text text_mid text_after n
     next_is ∙ ap length took ∙ length-append old.seen (e ∷ []) ∙ omega arith in
     let knows = tells.passes.knows k.knows in
     let F = start.front in
-    let more = name_event (length J) from room (e ∷ J) ++ event_from from J e in
-    let event = if nat_lt number from then [] else event_text next line in
+    let n = start.from in
+    let more = name_event (length J) n room (e ∷ J) ++ event_from n J e in
     let is : text_after ≡ text ++ more =
-    added ∙ ap (λ l. l ++ event) (named (reverse new.seen) knows
-    ∙ ap (λ m. text ++ name_event m from room (reverse new.seen)) count
-    ∙ ap (λ K. text ++ name_event (length J) from room K) K_is)
-    ∙ append_assoc text (name_event (length J) from room (e ∷ J)) event
-    ∙ ap (λ l. text ++ (name_event (length J) from room (e ∷ J) ++ l))
-    (event_is from number next J e line count then_is
-    (line_of from old new known known_after e line k.knows tells took)) in
-    let told_before : before ++ text ≡ start.before ++ events_since F from room J =
-    k.told ∙ ap (λ n. start.before ++ events_since F n start.room J) (sym k.from_is)
-    ∙ ap (λ r. start.before ++ events_since F from r J) (sym k.room_is) in
+    added ∙ ap (λ l. l ++ event_text next line) (named (reverse new.seen) knows
+    ∙ ap (λ m. text ++ name_event m 0 room (reverse new.seen)) count
+    ∙ ap (λ K. text ++ name_event (length J) 0 room K) K_is)
+    ∙ append_assoc text (name_event (length J) 0 room (e ∷ J)) (event_text next line)
+    ∙ ap (λ l. text ++ (name_event (length J) 0 room (e ∷ J) ++ l))
+    (ap (λ m. event_text m line) then_is
+    ∙ event_line J e line (line_of 0 old new known known_after e line k.knows tells took)
+    ∙ event_same n J e k.passed)
+    ∙ ap (λ l. text ++ (l ++ event_from n J e)) (name_event_same (length J) n room (e ∷ J) k.passed) in
+    let told_before : before ++ text ≡ start.before ++ events_since F n room J =
+    k.told ∙ ap (λ r. start.before ++ events_since F n r J) (sym k.room_is) in
     record {
       knows = knows;
-      from_is = k.from_is;
+      passed = subst (λ (K : History). n ≤ length K) (sym K_is)
+          (let past : n ≤ length J = k.passed in let more : n ≤ length (e ∷ J) = omega (arith, past) in more);
       room_is = k.room_is;
       front = later_front F old.seen new.seen tells.passes.grows.0 tells.passes.grows.1 k.front;
       told = ap (λ l. before ++ l) is
-          ∙ behind before text start.before (events_since F from room J) more told_before
-          ∙ ap (λ l. start.before ++ l) (one_event_more F J e from room k.front)
-          ∙ ap (λ n. start.before ++ events_since F n room (e ∷ J)) k.from_is
-          ∙ ap (λ r. start.before ++ events_since F start.from r (e ∷ J)) k.room_is
-          ∙ ap (λ K. start.before ++ events_since F start.from start.room K) (sym K_is);
+          ∙ behind before text start.before (events_since F n room J) more told_before
+          ∙ ap (λ l. start.before ++ l) (one_event_more F J e n room k.front)
+          ∙ ap (λ r. start.before ++ events_since F n r (e ∷ J)) k.room_is
+          ∙ ap (λ K. start.before ++ events_since F n start.room K) (sym K_is);
     }
 
 -- no event is that of an entry before the one that is told first
@@ -352,10 +384,10 @@ no_event_since room K =
 pub board_event_told : (room : ℕ) (seen : List Entry) (known : Known) (before line text log : List ℕ) (entries : ℕ)
     → Knows (reverse seen) known → entries ≡ length (reverse seen) → line ≡ board_text room (reverse seen)
     → text ≡ event_text entries line → log ≡ before ++ text
-    → EventsFrom known entries room seen (at_board_event room before (reverse seen)) log
+    → EventsFrom known room seen (at_board_event room before (reverse seen)) log
 board_event_told room seen known before line text log entries knows count is event wrote = record {
   knows = knows;
-  from_is = count;
+  passed = omega arith;
   room_is = refl;
   front = ([], refl);
   told = wrote
@@ -377,15 +409,14 @@ event_of_some n room [] some = absurd (some refl)
 event_of_some n room (e ∷ K) some = refl
 
 -- it was told of what was seen
-pub entry_event_told : (room : ℕ) (seen : List Entry) (known : Known) (before log : List ℕ) (entries : ℕ)
-    → Knows (reverse seen) known → entries ≡ length (reverse seen)
-    → log ≡ before ++ journal_event (length (reverse seen)) room (reverse seen)
-    → EventsFrom known entries room seen (at_event room before (reverse seen)) log
-entry_event_told room seen known before log entries knows count wrote =
+pub entry_event_told : (room : ℕ) (seen : List Entry) (known : Known) (before log : List ℕ)
+    → Knows (reverse seen) known → log ≡ before ++ journal_event (length (reverse seen)) room (reverse seen)
+    → EventsFrom known room seen (at_event room before (reverse seen)) log
+entry_event_told room seen known before log knows wrote =
     let event = journal_event (length (reverse seen)) room (reverse seen) in
     record {
       knows = knows;
-      from_is = count;
+      passed = omega arith;
       room_is = refl;
       front = ([], refl);
       told = wrote ∙ sym (append-nil (before ++ event))
@@ -405,34 +436,165 @@ event_since (e ∷ K) J n room (later, is) =
     stays [] = refl
     stays (f ∷ more) = ap (λ l. event_text n l) (same_line n room (f ∷ more) e K)
 
+-- what was told since it has begun so
+event_log : (room : ℕ) (K J : History) (before log : List ℕ) (b : Begun) → b ≡ at_event b.room before K → room ≡ b.room
+    → log ≡ b.before ++ events_since b.front b.from b.room J
+    → log ≡ (before ++ journal_event (length K) room K) ++ events_since K (length K) room J
+event_log room K J before log b is same told =
+    subst (λ r. log ≡ (before ++ journal_event (length K) r K) ++ events_since K (length K) r J) (sym same)
+    (told ∙ ap (λ (b : Begun). b.before ++ events_since b.front b.from b.room J) is)
+
+board_event_log : (room : ℕ) (K J : History) (before log : List ℕ) (b : Begun) → b ≡ at_board_event b.room before K
+    → room ≡ b.room → log ≡ b.before ++ events_since b.front b.from b.room J
+    → log ≡ before ++ board_events K room J
+board_event_log room K J before log b is same told =
+    subst (λ r. log ≡ (before ++ board_event r K) ++ events_since K (length K) r J) (sym same)
+    (told ∙ ap (λ (b : Begun). b.before ++ events_since b.front b.from b.room J) is)
+    ∙ append_assoc before (board_event room K) (events_since K (length K) room J)
+
 -- what was begun for a browser was gone on with
-pub says_events : (room : ℕ) (last : Option ℕ) (known later_known : Known) (from later_from told later_told : ℕ)
-    (seen later : List Entry) (before old new : List ℕ)
-    → BeginsEvents room last known from told seen before old
-    → ((begun : Begun) → EventsFrom known from told seen begun old
-    → EventsFrom later_known later_from later_told later begun new)
+pub says_events : (room : ℕ) (last : Option ℕ) (known : Known) (later : List Entry) (before new : List ℕ) (begun : Begun)
+    → IsBegun at_event at_board_event before (start_of last) begun → EventsFrom known room later begun new
     → SaysEvents room last later before new
-says_events room last known later_known from later_from told later_told seen later before old new (inl (is, k)) follows =
-    let K = reverse seen in
+says_events room (Some n) known later before new begun (K, inl (all, is)) t =
     let J = reverse later in
-    let t = follows (at_event room before K) k in
+    let front : IsFront K J = subst (λ (b : Begun). IsFront b.front J) is t.front in
     let event = journal_event (length K) room K in
     let since = journal_event_since K (length K) room J in
     let rest = events_from (length K) J in
     inl (
-      length K,
-      is ∙ ap Some (sym (length-reverse seen)),
-      subst (λ m. length K ≤ m) (length-reverse later) (front_length K J t.front),
-      t.told ∙ append_assoc before event (since ++ rest)
+      n,
+      refl,
+      subst (λ m. m ≤ length later) all
+          (subst (λ m. length K ≤ m) (length-reverse later) (front_length K J front)),
+      event_log room K J before new begun is t.room_is t.told ∙ append_assoc before event (since ++ rest)
           ∙ ap (λ l. before ++ l) (sym (append_assoc event since rest)
-          ∙ ap (λ l. l ++ rest) (event_since K J (length K) room t.front)),
+          ∙ ap (λ l. l ++ rest) (event_since K J (length K) room front))
+          ∙ ap (λ m. before ++ named_events m room J) all,
     )
-says_events room last known later_known from later_from told later_told seen later before old new (inr (past, k)) follows =
-    let K = reverse seen in
-    let t = follows (at_board_event room before K) k in
+says_events room (Some n) known later before new begun (K, inr (few, is)) t =
+    let J = reverse later in
     inr (
       K,
-      t.front,
-      subst (λ l. IsPast last l) (sym (length-reverse seen)) past,
-      t.told ∙ append_assoc before (board_event room K) (events_since K (length K) room (reverse later)),
+      subst (λ (b : Begun). IsFront b.front J) is t.front,
+      few,
+      board_event_log room K J before new begun is t.room_is t.told,
     )
+says_events room None known later before new begun (K, is) t =
+    let J = reverse later in
+    inr (
+      K,
+      subst (λ (b : Begun). IsFront b.front J) is t.front,
+      tt,
+      board_event_log room K J before new begun is t.room_is t.told,
+    )
+
+-- ---- what is known of a board has been told of all of it
+
+pub all_feed : (room count : ℕ) (seen : List Entry) (known : Known) → room ≡ count → Knows (reverse seen) known
+    → (b : Begun) × (log : List ℕ) × (b.room ≡ count) × TellsFrom known room seen b log
+all_feed room count seen known same knows = (
+  record { before = []; from = 0; room = room; front = [] },
+  feed_since [] 0 room (reverse seen),
+  same,
+  record {
+    knows = knows;
+    passed = omega arith;
+    room_is = refl;
+    front = (reverse seen, sym (append-nil (reverse seen)));
+    told = refl;
+  },
+)
+
+pub all_events : (room count : ℕ) (seen : List Entry) (known : Known) → room ≡ count → Knows (reverse seen) known
+    → (b : Begun) × (log : List ℕ) × (b.room ≡ count) × EventsFrom known room seen b log
+all_events room count seen known same knows = (
+  record { before = []; from = 0; room = room; front = [] },
+  events_since [] 0 room (reverse seen),
+  same,
+  record {
+    knows = knows;
+    passed = omega arith;
+    room_is = refl;
+    front = (reverse seen, sym (append-nil (reverse seen)));
+    told = refl;
+  },
+)
+
+-- ---- it was begun as one asked, after what was seen
+
+pub begun_journal : (room count number : ℕ) (seen : List Entry) (known : Known) (start : Start) (before log : List ℕ)
+    → room ≡ count → start ≡ starts.Entry number → length seen ≤ number → number ≤ length seen
+    → TellsFrom known room seen (at_entry room before (reverse seen)) log
+    → (b : Begun) × IsBegun at_entry at_board before start b × (b.room ≡ count) × TellsFrom known room seen b log
+begun_journal room count number seen known start before log same is next all t =
+    let K = reverse seen in
+    let all_seen : length K ≡ number = length-reverse seen ∙ (let is_all : length seen ≡ number = omega (arith, next, all) in is_all) in (
+      at_entry room before K,
+      subst (λ s. IsBegun at_entry at_board before s (at_entry room before K)) (sym is) (K, inl (all_seen, refl)),
+      same,
+      t,
+    )
+
+pub begun_board : (room count : ℕ) (seen : List Entry) (known : Known) (start : Start) (before log : List ℕ)
+    → room ≡ count → ((number : ℕ) → start ≡ starts.Entry number → length seen < number)
+    → TellsFrom known room seen (at_board room before (reverse seen)) log
+    → (b : Begun) × IsBegun at_entry at_board before start b × (b.room ≡ count) × TellsFrom known room seen b log
+begun_board room count seen known (starts.Entry n) before log same few t =
+    let K = reverse seen in (
+      at_board room before K,
+      (K, inr (subst (λ m. m < n) (sym (length-reverse seen)) (few n refl), refl)),
+      same,
+      t,
+    )
+begun_board room count seen known starts.Board before log same few t =
+    let K = reverse seen in
+    (at_board room before K, (K, refl), same, t)
+
+pub begun_events : (room count number : ℕ) (seen : List Entry) (known : Known) (start : Start) (before log : List ℕ)
+    → room ≡ count → start ≡ starts.Entry number → length seen ≤ number → number ≤ length seen
+    → EventsFrom known room seen (at_event room before (reverse seen)) log
+    → (b : Begun) × IsBegun at_event at_board_event before start b × (b.room ≡ count) × EventsFrom known room seen b log
+begun_events room count number seen known start before log same is next all t =
+    let K = reverse seen in
+    let all_seen : length K ≡ number = length-reverse seen ∙ (let is_all : length seen ≡ number = omega (arith, next, all) in is_all) in (
+      at_event room before K,
+      subst (λ s. IsBegun at_event at_board_event before s (at_event room before K)) (sym is) (K, inl (all_seen, refl)),
+      same,
+      t,
+    )
+
+pub begun_board_event : (room count : ℕ) (seen : List Entry) (known : Known) (start : Start) (before log : List ℕ)
+    → room ≡ count → ((number : ℕ) → start ≡ starts.Entry number → length seen < number)
+    → EventsFrom known room seen (at_board_event room before (reverse seen)) log
+    → (b : Begun) × IsBegun at_event at_board_event before start b × (b.room ≡ count) × EventsFrom known room seen b log
+begun_board_event room count seen known (starts.Entry n) before log same few t =
+    let K = reverse seen in (
+      at_board_event room before K,
+      (K, inr (subst (λ m. m < n) (sym (length-reverse seen)) (few n refl), refl)),
+      same,
+      t,
+    )
+begun_board_event room count seen known starts.Board before log same few t =
+    let K = reverse seen in
+    (at_board_event room before K, (K, refl), same, t)
+
+-- an entry that is asked for was not seen yet
+abbrev number_of : Start → ℕ
+number_of (starts.Entry n) = n
+number_of starts.Board = 0
+
+pub few_entry : (start : Start) (number count n : ℕ) (seen : List Entry) → start ≡ starts.Entry number
+    → count < number → count ≡ length seen → start ≡ starts.Entry n → length seen < n
+few_entry start number count n seen is past counted other =
+    let same : number ≡ n = sym (ap number_of is) ∙ ap number_of other in
+    subst (λ m. length seen < m) same (subst (λ m. m < number) counted past)
+
+pub few_board : (start : Start) (n : ℕ) (seen : List Entry) → start ≡ starts.Board → start ≡ starts.Entry n
+    → length seen < n
+few_board start n seen is other = absurd (cc)
+
+-- what a call says where it went well, of another thing
+pub on_ok : {X E P Q : Type 0} (r : Result X E) → (P → Q) → OnOk r P → OnOk r Q
+on_ok (Ok x) f p = f p
+on_ok (Err e) f p = p

@@ -70,10 +70,10 @@ abbrev pub feed_since : History → ℕ → ℕ → History → List ℕ
 feed_since K n room J = journal_since K n room J ++ feed_from n J
 
 -- That was told, since it has begun so, and what is known is that of the board.
-pub record TellsFrom (known : Known) (from room : ℕ) (seen : List Entry) (start : Begun) (log : List ℕ)
+pub record TellsFrom (known : Known) (room : ℕ) (seen : List Entry) (start : Begun) (log : List ℕ)
     : Type 0 where
   pub knows : Knows (reverse seen) known
-  pub from_is : from ≡ start.from
+  pub passed : start.from ≤ length (reverse seen)
   pub room_is : room ≡ start.room
   pub front : IsFront start.front (reverse seen)
   pub told : log ≡ start.before ++ feed_since start.front start.from start.room (reverse seen)
@@ -96,14 +96,19 @@ at_board room before K = record {
   front = K;
 }
 
--- A teller has begun: with the entry of a number, where all before it were seen, or with the line of the board
--- of what was seen, in a row with room for so many entries.
-abbrev pub Begins : ℕ → Start → Known → ℕ → ℕ → List Entry → List ℕ → List ℕ → Type 0
-Begins room (starts.Entry n) known from room_told seen before log =
-    ((length seen ≡ n) × TellsFrom known from room_told seen (at_entry room before (reverse seen)) log)
-    ⊎ ((length seen < n) × TellsFrom known from room_told seen (at_board room before (reverse seen)) log)
-Begins room starts.Board known from room_told seen before log =
-    TellsFrom known from room_told seen (at_board room before (reverse seen)) log
+-- It asks for no entry of so many.
+abbrev pub IsNext : Start → ℕ → Type 0
+IsNext (starts.Entry n) count = count ≤ n
+IsNext starts.Board count = ⊤
+
+-- It has begun as one asked, behind some first entries: with the entry of a number, where these are all before it; else
+-- with their board.
+abbrev pub IsBegun : (ℕ → List ℕ → History → Begun) → (ℕ → List ℕ → History → Begun) → List ℕ → Start → Begun
+    → Type 0
+IsBegun entry board before (starts.Entry n) begun = (K : History)
+    × (((length K ≡ n) × (begun ≡ entry begun.room before K))
+    ⊎ ((length K < n) × (begun ≡ board begun.room before K)))
+IsBegun entry board before starts.Board begun = (K : History) × (begun ≡ board begun.room before K)
 
 -- the line of the journal, as soon as it has an entry, and the feed from the entry of a number on
 abbrev pub named_feed : ℕ → ℕ → History → List ℕ
@@ -128,9 +133,6 @@ WasSent = Took SaysJournal
 
 abbrev pub WasTold : {W X : Type 0} → Start → RowView → Option X → List ℕ → Shown W → Type 0
 WasTold start row = Took (SaysFeed (length row.cells) start) row
-
-abbrev pub WasToldSome : {W X : Type 0} → RowView → Option X → List ℕ → Shown W → Type 0
-WasToldSome row reach before shown = (start : Start) × WasTold start row reach before shown
 
 -- ---- the journal for who has its first entries
 
@@ -210,10 +212,10 @@ abbrev pub events_since : History → ℕ → ℕ → History → List ℕ
 events_since K n room J = journal_event_since K n room J ++ events_from n J
 
 -- That was told, since it has begun so, and what is known is that of the board.
-pub record EventsFrom (known : Known) (from room : ℕ) (seen : List Entry) (start : Begun) (log : List ℕ)
+pub record EventsFrom (known : Known) (room : ℕ) (seen : List Entry) (start : Begun) (log : List ℕ)
     : Type 0 where
   pub knows : Knows (reverse seen) known
-  pub from_is : from ≡ start.from
+  pub passed : start.from ≤ length (reverse seen)
   pub room_is : room ≡ start.room
   pub front : IsFront start.front (reverse seen)
   pub told : log ≡ start.before ++ events_since start.front start.from start.room (reverse seen)
@@ -241,14 +243,10 @@ abbrev pub IsPast : Option ℕ → ℕ → Type 0
 IsPast None k = ⊤
 IsPast (Some n) k = k < n
 
--- Events have begun after what was seen: with those that come next for a browser, where that has had what was
--- seen; else with the board of what was seen.
-abbrev pub BeginsEvents : ℕ → Option ℕ → Known → ℕ → ℕ → List Entry → List ℕ → List ℕ → Type 0
-BeginsEvents room last known from room_told seen before log =
-    ((last ≡ Some (length seen))
-    × EventsFrom known from room_told seen (at_event room before (reverse seen)) log)
-    ⊎ (IsPast last (length seen)
-    × EventsFrom known from room_told seen (at_board_event room before (reverse seen)) log)
+-- What a browser asks for that names an entry, or none.
+abbrev pub start_of : Option ℕ → Start
+start_of None = starts.Board
+start_of (Some n) = starts.Entry n
 
 -- the event of the journal, as soon as it has an entry, and the events from the entry of a number on
 abbrev pub named_events : ℕ → ℕ → History → List ℕ

@@ -1,4 +1,5 @@
 pub mod Asked
 pub mod Displayed
 pub mod Leaving
+pub mod Viewing
 pub mod Within

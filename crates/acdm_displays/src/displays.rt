@@ -1,16 +1,22 @@
 //! Displays, which are sent the journal as text while partners are served.
-ghost use Rattle.std.specs.Prelude.{[], IfOk};
+ghost use Rattle.std.specs.Prelude.{◌≡◌, [], IfOk, OnOk, length};
 ghost use Rattle.std.specs.Arc.{arc_value};
-ghost use Rattle.acdm_displays.specs.Displayed.{WasSentSome, WasToldEvents, WasToldSome};
+ghost use Rattle.acdm_displays.specs.Displayed.{WasSentSome, WasTold, WasToldEvents, start_of};
+ghost use Rattle.acdm_displays.specs.Viewing.{AreTold};
+ghost use Rattle.acdm_displays.specs.Within.{IsWithin};
 
-use crate::asked::{DisplayRequest, FollowerStart, asked_with_term, feed_start, first_asked};
-use crate::browsing::{answer, follow_events};
+use crate::asked::{
+    DisplayRequest, FollowerStart, Start, asked_with_term, feed_start, first_asked,
+};
+use crate::browsing::{answer, follow_events, start_of};
 use crate::confirming::{FollowerPlace, FollowingBoard};
 use crate::entries::Entries;
 use crate::following::{MOST_REFUSALS, Shown, follow_changes};
 use crate::leaving::has_left;
 use crate::places::{DisplayPlace, Shared};
 use crate::resuming::follow_asked;
+use crate::sharing::{FeedRequest, FeedViewers, catch_up, look_after, nobody, take_in, tell_some};
+use crate::telling::{Changes, Events, Sharing};
 use acdm_confirming::{Confirmed, MOST_FOLLOWERS};
 use acdm_failures::Failure;
 use acdm_keeping::{BoardTerm, Reach};
@@ -20,8 +26,9 @@ use acdm_web::{BrowserRequest, PAGE, Wanted, first_wanted};
 use httpdate::HttpDate;
 use std::alloc::{AllocError, Global};
 use std::io::{self, ErrorKind};
+use std::mem;
 use std::net::{Shutdown, TcpListener, TcpStream};
-use std::sync::atomic::Ordering;
+use std::sync::atomic::{AtomicBool, Ordering};
 use std::sync::{Arc, Wait};
 use std::thread::{self, JoinHandle, Threads};
 use std::time::{Clock as SystemClock, Duration, Instant, SystemTime};
@@ -43,6 +50,9 @@ const LAST_PAUSES: u64 = 200;
 
 /// How often it is looked at the end for displays that wait to be accepted, at most.
 const LAST_LOOKS: u64 = 256;
+
+/// How many displays are accepted at once at most, while others are sent what there is.
+const MOST_AT_ONCE: u64 = 16;
 
 /// For how many pauses a display that was sent all is waited for, until it is let go: a second.
 const PARTING_PAUSES: u64 = 40;
@@ -83,13 +93,12 @@ fn begin<Rt: Threads, T: Task + 'static>(rt: &Rt, task: T) -> Option<JoinHandle<
     thread::spawn(rt, move || task.run()).ok()
 }
 
-// The serving of a display. What it has asked for first is there where it was heard.
+// The serving of a display that is sent the journal. What it has asked for first is there where it was heard.
 #[derive(Drop)]
 struct Showing {
     alloc: Global,
     row: Arc<Row>,
     reach: Option<Reach>,
-    kind: DisplayKind,
     term: BoardTerm,
     asked: Option<DisplayRequest>,
     place: DisplayPlace,
@@ -102,7 +111,6 @@ impl Task for Showing {
             alloc,
             row,
             reach,
-            kind,
             term,
             asked,
             place,
@@ -113,18 +121,107 @@ impl Task for Showing {
             reach: reach.as_ref(),
             closing: &place.shared.closing,
         };
-        match kind {
-            DisplayKind::Journal => {
-                let _ = show_journal(alloc, &entries, term.own(), asked, stream);
-            }
-            DisplayKind::Changes => {
-                let _ = show_changes(alloc, &entries, stream);
-            }
-            DisplayKind::Web => {
-                let _ = show_web(alloc, &entries, &place.shared, stream);
-            }
+        let _ = show_journal(alloc, &entries, term.own(), asked, stream);
+        drop(place);
+    }
+}
+
+// The serving of one that asks for entries which others were sent before.
+#[derive(Drop)]
+struct Resuming {
+    alloc: Global,
+    row: Arc<Row>,
+    reach: Option<Reach>,
+    kind: DisplayKind,
+    asked: FeedRequest,
+}
+
+impl Task for Resuming {
+    fn run(self) {
+        let Resuming {
+            alloc,
+            row,
+            reach,
+            kind,
+            asked,
+        } = self;
+        let FeedRequest {
+            start,
+            place,
+            reader,
+            stream,
+        } = asked;
+        let entries = Entries {
+            row: &row,
+            reach: reach.as_ref(),
+            closing: &place.shared.closing,
+        };
+        if kind == DisplayKind::Web {
+            let _ = show_events(alloc, &entries, last_of(start), reader, stream);
+        } else {
+            let _ = show_changes(alloc, &entries, start, reader, stream);
         }
         drop(place);
+    }
+}
+
+// The hearing of one that may be sent what others are sent. Once it is heard, the thread is joined.
+#[derive(Drop)]
+struct FeedHearing {
+    alloc: Global,
+    kind: DisplayKind,
+    is_over: Arc<AtomicBool>,
+    place: DisplayPlace,
+    stream: TcpStream,
+}
+
+// What a thread does that hears one.
+trait HearingTask: Drop + Send {
+    // What was asked for, if it is something that is sent on and on.
+    fn hear(self) -> Option<FeedRequest>;
+}
+
+// Starts a thread that hears one, if one can be made.
+fn begin_hearing<Rt: Threads, T: HearingTask + 'static>(
+    rt: &Rt,
+    task: T,
+) -> Option<JoinHandle<Option<FeedRequest>>> {
+    thread::spawn(rt, move || task.hear()).ok()
+}
+
+impl HearingTask for FeedHearing {
+    fn hear(self) -> Option<FeedRequest> {
+        let FeedHearing {
+            alloc,
+            kind,
+            is_over,
+            place,
+            stream,
+        } = self;
+        let heard = if kind == DisplayKind::Web {
+            hear_browser(alloc, place, stream)
+        } else {
+            hear_display(place, stream)
+        };
+        is_over.store(true, Ordering::SeqCst);
+        heard.unwrap_or(None)
+    }
+}
+
+// One that is heard.
+#[derive(Drop)]
+struct Heard {
+    thread: JoinHandle<Option<FeedRequest>>,
+    is_over: Arc<AtomicBool>,
+}
+
+// The number of the entry that comes next for a browser that asks for this, if it names one.
+fn last_of(start: Start) -> Option<u64>
+    ensures { start_of result ≡ start }
+{
+    match start {
+        Start::Entry(number) => Some(number),
+        Start::Board => None,
     }
 }
 
@@ -194,18 +291,30 @@ fn show_journal(
     Ok(shown)
 }
 
-// Sends a display the feed, as it asked by its first line. One that asked for nothing is let go.
+// Hears what a display asks for by its first line. One that asked for nothing is let go.
+fn hear_display(place: DisplayPlace, stream: TcpStream) -> Result<Option<FeedRequest>, Failure> {
+    let mut reader = reader_of(&stream)?;
+    let Some(start) = feed_start(first_asked(&mut reader)) else {
+        return Ok(None);
+    };
+    Ok(Some(FeedRequest {
+        start,
+        place,
+        reader,
+        stream,
+    }))
+}
+
+// Sends a display the feed, as it has asked.
 fn show_changes(
     alloc: Global,
     entries: &Entries<'_>,
+    start: Start,
+    mut reader: TcpStream,
     stream: TcpStream,
 ) -> Result<Shown<TcpStream>, Failure>
-    ensures { IfOk result (WasToldSome (arc_value entries.now.row.now) entries.now.reach []) }
+    ensures { IfOk result (WasTold start (arc_value entries.now.row.now) entries.now.reach []) }
 {
-    let mut reader = reader_of(&stream)?;
-    let Some(start) = feed_start(first_asked(&mut reader)) else {
-        return Err(Failure::Watch);
-    };
     let shown = follow_changes(alloc, entries, start, &mut reader, Sink::new(stream))?;
     part(&mut reader);
     Ok(shown)
@@ -260,28 +369,30 @@ fn refuse_browser(
     Ok(writer)
 }
 
-// Answers a browser what it asks for. One that asks for nothing in its time is let go.
-fn show_web(
+// Hears what a browser asks for, and answers it where that is no event. One that asks for nothing in its time is let go.
+fn hear_browser(
     alloc: Global,
-    entries: &Entries<'_>,
-    shared: &Shared,
+    place: DisplayPlace,
     stream: TcpStream,
-) -> Result<(), Failure> {
+) -> Result<Option<FeedRequest>, Failure> {
     let mut reader = Source::new(reader_of(&stream)?);
-    let limit = shared.limit(HEARING);
-    let Some(request) = first_wanted(alloc, &mut reader, shared.name(), &limit) else {
-        return Err(Failure::Watch);
+    let limit = place.shared.limit(HEARING);
+    let Some(request) = first_wanted(alloc, &mut reader, place.shared.name(), &limit) else {
+        return Ok(None);
     };
     let reader = reader.into_inner();
     match request.wanted {
-        Wanted::Events(last) if !request.is_head => {
-            let _shown = show_events(alloc, entries, last, reader, stream)?;
-        }
+        Wanted::Events(last) if !request.is_head => Ok(Some(FeedRequest {
+            start: start_of(last),
+            place,
+            reader,
+            stream,
+        })),
         _ => {
-            let _writer = show_page(alloc, request, shared.date(), reader, stream)?;
+            let _writer = show_page(alloc, request, place.shared.date(), reader, stream)?;
+            Ok(None)
         }
     }
-    Ok(())
 }
 
 // Tells a display that no more comes, and waits a little for it to leave. A connection that is
@@ -323,8 +434,14 @@ struct Admission<K: Drop> {
 
 impl<K: SystemClock + Threads + Wait + Drop + Send> Task for Admission<K> {
     fn run(self) {
-        self.admit();
-        self.admit_last();
+        match self.kind {
+            DisplayKind::Journal => {
+                self.admit();
+                self.admit_last();
+            }
+            DisplayKind::Changes => self.share::<Changes>(),
+            DisplayKind::Web => self.share::<Events>(),
+        }
         self.shared.admitting.fetch_sub(1, Ordering::SeqCst);
     }
 }
@@ -387,16 +504,11 @@ impl<K: SystemClock + Threads + Wait + Drop> Admission<K> {
     // Starts a thread for a display, where a place is left.
     fn admit_one(&self, stream: TcpStream) -> Result<(), Failure> {
         let Some(place) = DisplayPlace::take(&self.shared)? else {
-            if self.kind == DisplayKind::Web {
-                let _writer = refuse_browser(self.alloc, self.shared.date(), stream)?;
-            }
             return Ok(());
         };
         match &self.confirmed {
-            Some(confirmed) if self.kind == DisplayKind::Journal => self.hear_one(
-                confirmed, place, stream,
-            ),
-            _ => self.show(None, place, stream),
+            Some(confirmed) => self.hear_one(confirmed, place, stream),
+            None => self.show(None, place, stream),
         }
     }
 
@@ -444,13 +556,158 @@ impl<K: SystemClock + Threads + Wait + Drop> Admission<K> {
             alloc: self.alloc,
             row: Arc::try_clone(&self.row)?,
             reach: copy_of(self.reach.as_ref())?,
-            kind: self.kind,
             term: self.term.copy(self.alloc)?,
             asked,
             place,
             stream,
         };
         let _ = begin(&self.rt, showing);
+        Ok(())
+    }
+}
+
+impl<K: SystemClock + Threads + Wait + Drop> Admission<K> {
+    // Accepts displays and sends all of them the same, until the last entry was made and they have left. Where memory is
+    // refused, those are let go who were sent it.
+    fn share<T: Sharing + Drop>(&self) {
+        let begun = Instant::now(&self.rt).ok();
+        for _ in 0..u64::MAX {
+            if self.share_with::<T>(begun).is_ok() {
+                return;
+            }
+        }
+    }
+
+    // Does so from now on.
+    fn share_with<T: Sharing + Drop>(&self, begun: Option<Instant>) -> Result<(), Failure> {
+        let entries = Entries {
+            row: &self.row,
+            reach: self.reach.as_ref(),
+            closing: &self.shared.closing,
+        };
+        let mut heard = Vec::new(self.alloc);
+        let mut viewers: FeedViewers<T> = nobody(self.alloc, &entries)?;
+        let mut is_busy = false;
+        for _ in 0..u64::MAX {
+            self.tell_time(begun);
+            let is_last = self.shared.closing.load(Ordering::SeqCst);
+            let has_accepted = self.accept_some(&mut heard)?;
+            let has_come = self.take_heard(&mut heard, &mut viewers, &entries)?;
+            let has_more = tell_some(self.alloc, &mut viewers, &entries)?;
+            look_after(self.alloc, &mut viewers, !is_busy, is_last)?;
+            if is_last && !has_accepted && heard.is_empty() && viewers.list.is_empty() {
+                return Ok(());
+            }
+            is_busy = has_accepted || has_come || has_more;
+            if !is_busy {
+                thread::sleep(&self.rt, Duration::from_millis(PAUSE));
+            }
+        }
+        Ok(())
+    }
+
+    // Accepts some of the displays that have connected, and says whether there was one. One for which no place is left
+    // is refused, and then no other is accepted at once.
+    fn accept_some(&self, heard: &mut Vec<Heard>) -> Result<bool, Failure> {
+        for at in 0..MOST_AT_ONCE {
+            let Ok((stream, _)) = self.socket.accept() else {
+                return Ok(at > 0);
+            };
+            let Some(place) = DisplayPlace::take(&self.shared)? else {
+                if self.kind == DisplayKind::Web {
+                    let _ = refuse_browser(self.alloc, self.shared.date(), stream);
+                }
+                return Ok(true);
+            };
+            self.begin_to_hear(heard, place, stream)?;
+        }
+        Ok(true)
+    }
+
+    // Has a thread hear a display.
+    fn begin_to_hear(
+        &self,
+        heard: &mut Vec<Heard>,
+        place: DisplayPlace,
+        stream: TcpStream,
+    ) -> Result<(), AllocError> {
+        let is_over = Arc::new(self.alloc, AtomicBool::new(false))?;
+        let hearing = FeedHearing {
+            alloc: self.alloc,
+            kind: self.kind,
+            is_over: Arc::try_clone(&is_over)?,
+            place,
+            stream,
+        };
+        if let Some(thread) = begin_hearing(&self.rt, hearing) {
+            heard.push(Heard { thread, is_over })?;
+        }
+        Ok(())
+    }
+
+    // Takes those in who were heard by now, and says whether there was one.
+    fn take_heard<T: Sharing + Drop>(
+        &self,
+        heard: &mut Vec<Heard>,
+        viewers: &mut FeedViewers<T>,
+        entries: &Entries<'_>,
+    ) -> Result<bool, Failure>
+        requires row { arc_value entries.now.row.now ≡ viewers.old.seen.watch.row }
+        requires within { IsWithin viewers.old.seen.extent viewers.old.seen.watch.seen }
+        requires told { AreTold T.tells (T.begun T.head) (length viewers.old.seen.watch.row.cells)
+            viewers.old.teller viewers.old.seen.watch.seen viewers.old.list.items }
+        ensures row { OnOk result (viewers.new.seen.watch.row ≡ viewers.old.seen.watch.row) }
+        ensures within { OnOk result (IsWithin viewers.new.seen.extent viewers.new.seen.watch.seen) }
+        ensures told { OnOk result (AreTold T.tells (T.begun T.head) (length viewers.new.seen.watch.row.cells)
+            viewers.new.teller viewers.new.seen.watch.seen viewers.new.list.items) }
+    {
+        let mut has_come = false;
+        let mut left = mem::replace(heard, Vec::new(self.alloc));
+        for _ in 0..left.len() {
+            let Some(one) = left.pop() else {
+                break;
+            };
+            if !one.is_over.load(Ordering::SeqCst) {
+                heard.push(one)?;
+                continue;
+            }
+            has_come = true;
+            let Heard { thread, is_over: _ } = one;
+            if let Some(asked) = thread.join(&self.rt) {
+                self.take_request(asked, viewers, entries)?;
+            }
+        }
+        Ok(has_come)
+    }
+
+    // Takes one in, or starts a thread for it where it asks for entries that others were sent before.
+    fn take_request<T: Sharing + Drop>(
+        &self,
+        asked: FeedRequest,
+        viewers: &mut FeedViewers<T>,
+        entries: &Entries<'_>,
+    ) -> Result<(), Failure>
+        requires row { arc_value entries.now.row.now ≡ viewers.old.seen.watch.row }
+        requires within { IsWithin viewers.old.seen.extent viewers.old.seen.watch.seen }
+        requires told { AreTold T.tells (T.begun T.head) (length viewers.old.seen.watch.row.cells)
+            viewers.old.teller viewers.old.seen.watch.seen viewers.old.list.items }
+        ensures row { OnOk result (viewers.new.seen.watch.row ≡ viewers.old.seen.watch.row) }
+        ensures within { OnOk result (IsWithin viewers.new.seen.extent viewers.new.seen.watch.seen) }
+        ensures told { OnOk result (AreTold T.tells (T.begun T.head) (length viewers.new.seen.watch.row.cells)
+            viewers.new.teller viewers.new.seen.watch.seen viewers.new.list.items) }
+    {
+        catch_up(viewers, entries)?;
+        let Some(asked) = take_in(self.alloc, viewers, asked)? else {
+            return Ok(());
+        };
+        let resuming = Resuming {
+            alloc: self.alloc,
+            row: Arc::try_clone(&self.row)?,
+            reach: copy_of(self.reach.as_ref())?,
+            kind: self.kind,
+            asked,
+        };
+        let _ = begin(&self.rt, resuming);
         Ok(())
     }
 }

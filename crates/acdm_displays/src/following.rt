@@ -8,12 +8,11 @@ ghost use Rattle.acdm_displays.specs.Within.{IsNoLess, IsWithin, StaysWithin};
 ghost use Rattle.acdm_step.specs.History.{IsLegal};
 
 use crate::asked::Start;
-use crate::beginning::begin;
-use crate::entries::{Entries, Prefix, Seen, most_shown, seen_of};
+use crate::beginning::{pass_to_start, send_first};
+use crate::entries::{Entries, Seen, most_shown, seen_of};
 use crate::leaving::has_left;
-use crate::telling::{Changes, Journal, Telling};
+use crate::telling::{Changes, Journal, Sharing, Telling};
 use acdm_failures::Failure;
-use acdm_feed::Known;
 use acdm_keeping::Extent;
 use acdm_lines::{Sink, write_whole};
 use acdm_row::Row;
@@ -23,7 +22,7 @@ use std::io::{Read, Write};
 use std::sync::atomic::Ordering;
 
 /// How many bytes are gathered until they are sent, where more entries are in sight.
-const BUFFER: usize = 65_536;
+pub(crate) const BUFFER: usize = 65_536;
 
 /// How often in a row a writer may take nothing in its time, until it is given up.
 pub(crate) const MOST_REFUSALS: u64 = 120;
@@ -95,24 +94,10 @@ pub fn follow_changes<R: Read, W: Write + Drop>(
     ensures failed { IfErr result CutsShort }
 {
     let mut seen = seen_of(alloc, entries)?;
-    let mut teller = Changes {
-        known: Known::new(alloc),
-        from: 0,
-        room: entries.row.len() as u64,
-        line: Vec::new(alloc),
-    };
-    let prefix = Prefix {
-        row: entries.row,
-        most: most_shown(seen.extent),
-    };
-    begin(
-        alloc,
-        start,
-        &mut teller,
-        &mut seen.watch,
-        prefix,
-        &mut writer,
-    )?;
+    let mut teller = Changes::new(alloc, entries.row.len() as u64);
+    let most = most_shown(seen.extent);
+    pass_to_start(&mut teller, &mut seen.watch, entries.row, start, most)?;
+    send_first(alloc, &teller, &seen.watch, start, &mut writer)?;
     send_on(alloc, &mut teller, &mut seen, entries, reader, &mut writer)?;
     Ok(shown_of(seen, writer))
 }

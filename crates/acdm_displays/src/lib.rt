@@ -11,7 +11,9 @@ mod following;
 mod leaving;
 mod places;
 mod resuming;
+mod sharing;
 mod telling;
+mod viewers;
 
 pub use asked::{FollowerStart, Start, follower_named, start_named};
 pub use browsing::{answer, follow_events};
