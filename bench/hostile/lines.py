@@ -4,9 +4,10 @@
     python3 bench/hostile/lines.py [--program PATH] [--seed S] [--lines N] [--stride N]
 
 Each change of one byte of thirteen worked lines, and each cut of them; bytes that are no UTF-8, of each kind; keys twice; numbers at each
-limit and beside it; JSON nested 1 to 200 deep; lines of 70,000 bytes and of more; N lines with changes by chance; and 10,000,000
-bytes without a line feed, in bounded memory, in `run` and in a session. A case is a line. `--stride` takes every N-th of the lines with
-a changed byte alone. The last line is `N cases, M failed`; status 1 where one failed. The same words send the same lines.
+limit and beside it; JSON nested 1 to 200 deep, and of each length below 2,100; lines of 70,000 bytes and of more; N lines with changes by
+chance; and 10,000,000 bytes without a line feed, in bounded memory, in `run` and in a session. A case is a line. `--stride` takes every
+N-th of the lines with a changed byte alone. The last line is `N cases, M failed`; status 1 where one failed. The same words send the same
+lines.
 """
 
 import itertools
@@ -172,6 +173,14 @@ def padded():
             yield b" " * (length - len(line)) + line
 
 
+def lengths():
+    """JSON of each length below 2,100, and then of some: with ample memory there is room for each."""
+    front, text = b"1 29000580 APT ", b'{"cmd":"show","flight":9'
+    powers = (2**power + beside for power in range(11, 17) for beside in (-1, 0, 1))
+    for length in (*range(len(text) + 1, 2_100), *powers, *range(2_100, 69_900, 509)):
+        yield front + text.ljust(length - 1, b" ") + b"}"
+
+
 def by_chance(chance, count):
     """Lines with some bytes changed, put in, taken out, or taken from another line."""
     for _ in range(count):
@@ -249,7 +258,7 @@ def main():
     chance = random.Random(given.seed)
     for name, lines in (
         ("no text", no_text()), ("twice", twice()), ("numbers", numbers()), ("nested", nested()), ("padded", padded()),
-        ("by chance", by_chance(chance, given.lines)),
+        ("lengths", lengths()), ("by chance", by_chance(chance, given.lines)),
     ):  # fmt: skip
         compare(cases, program, name, [*START, *lines])
     endless_line(cases, program)
