@@ -7,7 +7,7 @@ Five partners play examples/day.txt and then send N lines more (400). Meanwhile 
 two from entries that are not there yet, one that begins with the board, one that is cut off at 40 moments by chance and goes on `from N`
 each time, and one that never reads; at the end some from an entry in the middle, from the one that comes next and from one behind it.
 What they were sent is held against `acdm tell` of the saved journal, with its name by its first line; a board against what its lines made
-of the records before it. A first line that asks for nothing is let go. The clients of
+of the records before it. A first line that asks for nothing is let go. A board ends right behind a burst of entries, and has all sent. The clients of
 clients/ are run against the same server. The last line is `N cases, M failed`; the status is 1 where one failed.
 """
 
@@ -192,6 +192,36 @@ def other_clients(cases, port, ports, room):
     cases.case("board.py: flights", "" if "DLH4PK" in shown.stdout or "EWG6CA" in shown.stdout else shown.stdout + shown.stderr)
 
 
+def schedule(number):
+    """The line of a schedule of one of 400 flights."""
+    names = '"callsign":"KVT1","type":"A320","reg":"DAIBC","dest":"EGLL","sobt":"2026-12-02T10:00:00Z"'
+    return f'{{"cmd":"schedule","flight":{1 + number % 400},{names},"mttt":45,"exit":5,"exot":12,"stand":{1 + number % 89}}}\n'
+
+
+def burst(cases, program, count=30_000):
+    """Displays are sent all entries where the board ends right behind a burst of them, in the order of the entries."""
+    port, changes = free_port(), free_port()
+    words = [str(program), "serve", "--journal", str(ENTRIES), "--changes", f"127.0.0.1:{changes}", f"APT=127.0.0.1:{port}"]
+    with subprocess.Popen(words, stdout=subprocess.DEVNULL) as server:
+        partner = connect(port)
+        displays = [Listener(changes, first) for first in (b"board\n", b"from 0\n", b"from 9\n")]
+        for it in displays:
+            it.start()
+        time.sleep(1)
+        reader = threading.Thread(target=lambda: partner.makefile("rb").readlines())
+        reader.start()
+        partner.sendall("".join(map(schedule, range(count))).encode("ascii"))
+        partner.shutdown(socket.SHUT_WR)
+        reader.join(60)
+        for it in displays:
+            it.join(60)
+        cases.same("a burst at the end: status", str(server.wait(60)), "0")
+        partner.close()
+    for name, it in zip(("board", "from 0", "from 9"), displays):
+        numbers = [json.loads(line)["entry"] for line in it.data.splitlines() if not is_head(line)]
+        cases.case(f"a burst at the end: {name}", "" if numbers == [*range(count)] else f"{len(numbers)} of {count}")
+
+
 def main():
     parser = argparse.ArgumentParser(description=__doc__, formatter_class=argparse.RawDescriptionHelpFormatter)
     parser.add_argument("--program", type=pathlib.Path, default=TOP / "crates" / "acdm" / "out" / "acdm")
@@ -253,6 +283,7 @@ def main():
         cases.same(f"{name}: as many lines as entries since", str(rest), str(len(lines) - begun))
         cases.case(f"{name}: records then", json.loads(it.data.splitlines()[0])["flights"] != [*known(lines, begun).values()])
         cases.case(f"{name}: records at the end", flights != known(lines))
+    burst(cases, words.program)
     print(f"{cases.count} cases, {cases.failed} failed")
     return 1 if cases.failed else 0
 

@@ -15,7 +15,9 @@ use crate::following::{MOST_REFUSALS, Shown, follow_changes};
 use crate::leaving::has_left;
 use crate::places::{DisplayPlace, Shared};
 use crate::resuming::follow_asked;
-use crate::sharing::{FeedRequest, FeedViewers, catch_up, look_after, nobody, take_in, tell_some};
+use crate::sharing::{
+    FeedRequest, FeedViewers, catch_up, is_any_ready, look_after, nobody, take_in, tell_some,
+};
 use crate::telling::{Changes, Events, Sharing};
 use acdm_confirming::{Confirmed, MOST_FOLLOWERS};
 use acdm_failures::Failure;
@@ -594,11 +596,12 @@ impl<K: SystemClock + Threads + Wait + Drop> Admission<K> {
             let has_accepted = self.accept_some(&mut heard)?;
             let has_come = self.take_heard(&mut heard, &mut viewers, &entries)?;
             let has_more = tell_some(self.alloc, &mut viewers, &entries)?;
-            look_after(self.alloc, &mut viewers, !is_busy, is_last)?;
+            // (who is told that no more comes has to be told all before)
+            look_after(self.alloc, &mut viewers, !is_busy, is_last && !has_more)?;
             if is_last && !has_accepted && heard.is_empty() && viewers.list.is_empty() {
                 return Ok(());
             }
-            is_busy = has_accepted || has_come || has_more;
+            is_busy = has_accepted || has_come || has_more && is_any_ready(viewers.list.as_slice());
             if !is_busy {
                 thread::sleep(&self.rt, Duration::from_millis(PAUSE));
             }

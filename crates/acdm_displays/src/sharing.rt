@@ -189,8 +189,8 @@ pub(crate) fn look_after<T: Sharing + Drop>(
     Ok(())
 }
 
-// Whether one of them may take more at once.
-fn is_any_ready(list: &[Viewer<ViewerConnection, TcpStream>]) -> bool {
+/// Whether one of them may take more at once.
+pub(crate) fn is_any_ready(list: &[Viewer<ViewerConnection, TcpStream>]) -> bool {
     for viewer in list {
         if viewer.waiting() == 0 {
             return true;
@@ -244,7 +244,7 @@ pub(crate) fn tell_some<T: Sharing + Drop>(
     ensures failed { IfErr result CutsShort }
 {
     if !is_any_ready(viewers.list.as_slice()) {
-        return Ok(false);
+        return Ok(!viewers.list.is_empty());
     }
     let extent = entries.later(viewers.seen.extent);
     viewers.seen.extent = extent;
