@@ -2,7 +2,7 @@
 use Rattle.std.proofs.Common.{◌≡◌, ◌≤◌, ◌==◌, ℕ, List, [], ◌∷◌, ◌++◌, refl, sym, ap, subst, ◌∙◌}
 use Rattle.std.proofs.Common.{◌<◌, append_assoc, append-nil, arith, length, if◌then◌else◌, Bool, true, false}
 use Rattle.std.proofs.Math.Dec.{eqb-suc-zero}
-use Rattle.std.specs.Prelude.{Option, None, Some, option_map, reverse, String, string_bytes}
+use Rattle.std.specs.Prelude.{None, Some, option_map, reverse, String, string_bytes}
 use Rattle.std.specs.declared.alloc.Global.{Global}
 use Rattle.std.proofs.lemmas.List.{length-reverse, reverse-append}
 use Rattle.acdm_step.specs.declared.entry.Entry.{Entry}

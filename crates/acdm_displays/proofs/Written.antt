@@ -1,7 +1,7 @@
 -- What was told, as it is written entry by entry behind what was written before.
 use Rattle.std.proofs.Common.{◌≡◌, ◌≢◌, ◌≤◌, ◌<◌, ◌+◌, ◌==◌, ℕ, List, [], ◌∷◌, ◌++◌, refl, sym, ap, subst, ◌∙◌}
 use Rattle.std.proofs.Common.{append_assoc, append-nil, arith, length, lt-ltb, nat_lt, if◌then◌else◌, zero, suc}
-use Rattle.std.proofs.Common.{Bool, true, false, inl, inr, Ok, Err, OnOk, Result}
+use Rattle.std.proofs.Common.{false, inl, inr, Ok, Err, OnOk, Result}
 use Rattle.std.proofs.Math.Dec.{eqb-suc-zero}
 use Rattle.std.specs.Prelude.{Option, None, Some, reverse}
 use Rattle.std.proofs.lemmas.Bool.{le-ltb}
@@ -23,7 +23,7 @@ use Rattle.acdm_displays.specs.Displayed.{Begun, EventsFrom, IsBegun, SaysEvents
 use Rattle.acdm_displays.specs.Displayed.{TellsFrom, at_board, at_board_event, at_entry, at_event}
 use Rattle.acdm_displays.specs.Displayed.{board_event, board_events, board_feed, events_since, feed_since, journal_event}
 use Rattle.acdm_displays.specs.Displayed.{journal_event_since, named_events, named_feed}
-use Rattle.acdm_displays.specs.Displayed.{events_from, IsPast}
+use Rattle.acdm_displays.specs.Displayed.{events_from}
 use Rattle.acdm_displays.specs.declared.asked.Start.{Start}
 use Rattle.acdm_displays.specs.declared.asked.Start.TheVariants as starts
 

@@ -2,7 +2,6 @@ use Rattle.std.proofs.Common.{◌≡◌, ap, length, rules, subst, sym, ◌∙�
 use Rattle.std.specs.Arc.{arc_value}
 use Rattle.acdm_row.specs.Views.{RowView}
 use Rattle.acdm_displays.specs.Displayed.{SaysFeed, TellsFrom}
-use Rattle.acdm_displays.specs.Viewing.{IsUpTo}
 use Rattle.acdm_displays.proofs.Within.{took, within_shown}
 use Rattle.acdm_displays.proofs.Written.{says_feed}
 use Rattle.acdm_displays.proofs.following.follow_changes.Goals as goal

@@ -1,5 +1,5 @@
 use Rattle.std.proofs.Common.{◌≡◌, ◌∷◌, ◌++◌, [], false, ap, append-nil, append_assoc, rules, sym, ◌∙◌}
-use Rattle.acdm_displays.proofs.Viewing.{kept_one, of_ok}
+use Rattle.acdm_displays.proofs.Viewing.{kept_one}
 use Rattle.acdm_displays.proofs.sharing.those_who_stay.Goals as goal
 
 pub loop-preserved : goal.loop-preserved

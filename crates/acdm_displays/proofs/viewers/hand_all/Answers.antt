@@ -1,4 +1,4 @@
-use Rattle.std.proofs.Common.{◌≡◌, ◌∷◌, ◌++◌, [], ap, append-nil, append_assoc, rules, sym, ◌∙◌}
+use Rattle.std.proofs.Common.{◌≡◌, ◌∷◌, ◌++◌, [], ap, append_assoc, sym, ◌∙◌}
 use Rattle.acdm_displays.proofs.Viewing.{kept_one, of_ok}
 use Rattle.acdm_displays.proofs.viewers.hand_all.Goals as goal
 

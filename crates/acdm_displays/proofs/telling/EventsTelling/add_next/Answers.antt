@@ -1,4 +1,4 @@
-use Rattle.std.proofs.Common.{◌≡◌, ◌++◌, [], subst}
+use Rattle.std.proofs.Common.{◌≡◌, ◌++◌, subst}
 use Rattle.acdm_web.specs.Events.{event_text}
 use Rattle.acdm_feed.specs.Telling.{Tells}
 use Rattle.acdm_displays.proofs.Written.{event_more}

@@ -1,4 +1,4 @@
-use Rattle.std.proofs.Common.{◌≡◌, length, subst, sym, ◌∙◌}
+use Rattle.std.proofs.Common.{length, subst, sym, ◌∙◌}
 use Rattle.acdm_displays.proofs.Viewing.{joined, told_one}
 use Rattle.acdm_displays.proofs.viewers.Viewers.join.Goals as goal
 
